@@ -404,11 +404,11 @@ def check_docstrings(tally):
 def check_parts(tally):
     """Each test is a part of ./check, or of this script, or is run by hand, and has a row in TESTING.md. What tests share says what it is."""
     check, page = (ROOT / "check").read_text(), (ROOT / "docs" / "TESTING.md").read_text()
-    for test in sorted([*(ROOT / "tests").glob("*.py"), *(ROOT / "tests").glob("*.sh")]):
-        found = [line for line in page.splitlines() if line.startswith("|") and f"`tests/{test.name}`" in line]
-        is_run = re.search(rf'"tests/{re.escape(test.name)}[" ]', check) or any("by hand" in row for row in found)
+    for test in sorted([*(ROOT / "tests").glob("*.py"), *(ROOT / "tests").glob("*.sh"), *(ROOT / "tests" / "python").glob("test_*.py")]):
+        found = [line for line in page.splitlines() if line.startswith("|") and f"`{told(test)}`" in line]
+        is_run = re.search(rf'"{re.escape(str(told(test)))}[" ]', check) or any("by hand" in row for row in found)
         is_other = test.name in ("believe.py", "packages.sh")
-        tally.expect(is_other or found and is_run, f"tests/{test.name} is no part of ./check, or has no row in TESTING.md")
+        tally.expect(is_other or found and is_run, f"{told(test)} is no part of ./check, or has no row in TESTING.md")
     for path in sorted([*(ROOT / "tests" / "oracles").glob("*.*"), *(ROOT / "tests" / "helpers").glob("*.*")]):
         tally.expect(re.match(r'(#!.*\n)?("""|//|/\*)', path.read_text()), f"{told(path)} does not say in its first line what it is")
 

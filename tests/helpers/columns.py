@@ -1,4 +1,6 @@
 """For the test of networks that are made of arrays: random graphs with right answers, columns of every form, and columns that are refused."""
+from typing import NamedTuple
+
 # The most nodes of a graph that is drawn.
 MOST = 30
 
@@ -97,3 +99,25 @@ def refusals():
         ({"scale": 10**30}, "weights", 0, "too large"), ({"scale": 2**60 / 2.5}, "weights", 0, "too large"),
     ):
         yield (*ends, weights, more), column, row, told
+
+
+class RandomGraph(NamedTuple):
+    """A small graph: the seed and the source of its randomness, its arcs by nodes from 0 on, and labels and distances of its nodes."""
+
+    seed: int
+    draw: object
+    tails: object
+    heads: object
+    weights: object
+    labels: object
+    least: object
+
+
+def random_graphs(count):
+    """So many graphs, each drawn from its own seed, with labels of one kind and all distances by scipy."""
+    import numpy
+
+    for seed in range(count):
+        draw = numpy.random.default_rng(seed)
+        nodes, tails, heads, weights = drawn(draw)
+        yield RandomGraph(seed, draw, tails, heads, weights, labels_drawn(draw, nodes), least_of(tails, heads, weights, nodes))

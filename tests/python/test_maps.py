@@ -1,9 +1,6 @@
-#!/usr/bin/python3
 """Tests the making of graphs from maps (python/chtab/maps): each rule of docs/MAPS.md by a map of its own, the forms of files, the
 example, and random maps against oracles/mapping.py; turns.py has the turns. What needs pyosmium is left out, and told, where it isn't
 there.
-
-The last line is 'N passed, N failed'.
 """
 import bz2
 import gzip
@@ -14,11 +11,10 @@ import random
 import re
 import subprocess
 
-# First of all, since it puts the package on the path.
-from helpers.maps import BLOCK, COUNTRY, ROAD, arcs_of, converted, fault_of, in_line, noted, osm, random_map, refused, tool, weights
-
 from helpers import tables
-from helpers.packages import PYTHON, run_checks
+from helpers.maps import BLOCK, COUNTRY, ROAD, arcs_of, converted, fault_of, in_line, noted, osm, random_map, refused, tool, weights
+from helpers.marks import needs
+from helpers.packages import PYTHON
 from helpers.running import ROOT
 from oracles import mapping
 from chtab import files
@@ -26,7 +22,7 @@ from chtab.maps import converting, profiles
 from chtab.roads.sphere import RADIUS
 
 
-def barriers_leave_dead_ends():
+def test_barriers_leave_dead_ends():
     bollard = {"barrier": "bollard"}
     made, report = converted(in_line(3, at={2: bollard}))
     assert made.arcs == [(1, 2, BLOCK), (2, 1, BLOCK), (3, 4, BLOCK), (4, 3, BLOCK)] and made.names == [1, 2, 2, 3]
@@ -50,7 +46,7 @@ def barriers_leave_dead_ends():
     assert len(arcs_of(in_line(3, at={2: {"barrier": "cycle_barrier", "bicycle": "dismount"}}), profile="bicycle")) == 2
 
 
-def lists_in_tags_are_sets():
+def test_lists_in_tags_are_sets():
     for value, is_open in [
         ("forestry;agricultural", False), ("agricultural; forestry", False), ("psv;taxi", False), ("private;destination", True),
         ("destination;private", True), ("no;permissive", True), ("bus", False), ("yes", True), ("never heard of", True),
@@ -70,7 +66,7 @@ def lists_in_tags_are_sets():
     assert noted(in_line(2, ROAD | {"motorcar": "what?"})) == {"access": {"motorcar=what?": 1}}
 
 
-def deleted_things_are_not_there():
+def test_deleted_things_are_not_there():
     for head in "action='delete'", "visible='false'":
         text = in_line(4)
         assert len(arcs_of(text.replace("<node id='4'", f"<node id='4' {head}"))) == 2
@@ -80,7 +76,7 @@ def deleted_things_are_not_there():
     assert weights(ROAD) == (BLOCK, BLOCK) and arcs_of(in_line(2).replace("<node", "<node action='modify' visible='true'"))
 
 
-def limits_of_speed():
+def test_limits_of_speed():
     def at(speed):
         return round(111.19508 * 3600 / speed)
 
@@ -102,7 +98,7 @@ def limits_of_speed():
     assert cycled == [at(5), at(18)] and weights(ROAD | {"maxspeed": "3"}, profile="foot")[0] == at(5)
 
 
-def directions():
+def test_directions():
     for tags, sides in [
         ({"oneway": "yes"}, "+"), ({"oneway": "1"}, "+"), ({"oneway": "true"}, "+"), ({"oneway": "-1"}, "-"), ({"oneway": "reverse"}, "-"),
         ({"oneway": "no"}, "+-"), ({"oneway": "alternating"}, "+-"), ({"oneway": "perhaps"}, "+-"), ({"junction": "roundabout"}, "+"),
@@ -116,7 +112,7 @@ def directions():
     assert noted(in_line(2, ROAD | {"oneway": "perhaps"})) == {"oneway": {"oneway=perhaps": 1}}
 
 
-def profiles_differ():
+def test_profiles_differ():
     for tags, car, bicycle, foot in [
         ({"highway": "motorway"}, 110, None, None), ({"highway": "trunk"}, 90, 18, 5),
         ({"highway": "trunk", "motorroad": "yes"}, 90, None, None), ({"highway": "cycleway"}, None, 18, 5),
@@ -143,7 +139,7 @@ def profiles_differ():
     assert None not in weights(ROAD | {"oneway": "yes"}, profile="foot") and None in weights(ROAD | {"oneway:foot": "yes"}, profile="foot")
 
 
-def tables_are_sound():
+def test_tables_are_sound():
     """No word stands in two lists, each table names its page, and each kind of way takes the speed of its line."""
     for name in profiles.NAMES:
         profile, text = profiles.profile(name), (profiles.TABLES / f"{name}.toml").read_text()
@@ -159,7 +155,7 @@ def tables_are_sound():
             assert weights({"highway": kind, profile.access.tags[0]: "yes"}, profile=name)[0] == round(111.19508 * 3600 / speed), (name, kind)
 
 
-def the_page_has_the_tables():
+def test_the_page_has_the_tables():
     """docs/MAPS.md has the tables as they are used, and each option of the command."""
     page = (ROOT / "docs" / "MAPS.md").read_text()
     for table in tables.everything():
@@ -168,7 +164,7 @@ def the_page_has_the_tables():
         assert f"| `{option}" in page, option
 
 
-def ferries_take_their_time():
+def test_ferries_take_their_time():
     ferry = {"route": "ferry"}
     nodes = {1: (0, 0), 2: (30, 0), 3: (90, 0)}
     for duration, seconds in {"00:30": 1800, "1:00": 3600, "45": 2700, "00:20:30": 1230, "PT1H30M": 5400, "P1D": 86_400}.items():
@@ -189,7 +185,7 @@ def ferries_take_their_time():
     assert weights(ferry | {"duration": "1"}, metric="metres") == (111, 111)
 
 
-def what_is_left_out_is_told():
+def test_what_is_left_out_is_told():
     nodes = {number: (number, 0) for number in range(1, 10)} | {3: (3, 0, {"barrier": "bollard"}), 4: (4, 0, {"barrier": "dragon"})}
     ways = [
         ([1, 2, 3, 4, 5], ROAD), ([5, 6], {"highway": "footway"}), ([5, 7], {"highway": "footway"}), ([5, 8], {"highway": "steps"}),
@@ -245,7 +241,7 @@ def what_is_left_out_is_logged():
     assert apart and not apart & names - {"3", "4"}, (apart, names)
 
 
-def what_comes_twice_or_lies_nowhere_is_told():
+def test_what_comes_twice_or_lies_nowhere_is_told():
     """Ways and nodes of one number are told; a road's node that lies nowhere is refused with its number."""
     text = osm({1: (1, 0), 2: (2, 0), 3: (3, 0)}, [([1, 2], ROAD), ([2, 3], ROAD)])
     assert noted(text) == {}
@@ -258,7 +254,7 @@ def what_comes_twice_or_lies_nowhere_is_told():
     assert fault_of(osm({1: (1, 0), 2: (2, 0), 9: (999_000, 0)}, [([1, 2], ROAD)])) == ""
 
 
-def parts_are_kept():
+def test_parts_are_kept():
     nodes = {number: (number, 0) for number in range(1, 10)}
     text = osm(nodes, [([1, 2], ROAD), ([3, 4, 5, 6], ROAD), ([4, 9], ROAD), ([7, 8], ROAD | {"oneway": "yes"})])
     assert {name: converted(text, part=name)[0].names for name in ("all", "largest", 1, 2, 3, 4)} == {
@@ -271,7 +267,7 @@ def parts_are_kept():
         tool("osm_to_gr", "--part", word, "parts.osm", "parts", status=2)
 
 
-def files_of_all_forms():
+def test_files_of_all_forms():
     text = in_line(3, at={2: {"barrier": "bollard"}}).encode()
     wanted = "p sp 4 4\na 1 2 13343\na 2 1 13343\na 3 4 13343\na 4 3 13343\n"
     packers = {"osm": bytes, "osm.gz": gzip.compress, "osm.bz2": bz2.compress, "osm.xz": lzma.compress}
@@ -304,7 +300,8 @@ def files_of_all_forms():
     assert "python3-pyosmium" in refused("empty.osm.pbf", "none", env=os.environ | {"PYTHONPATH": "none"})
 
 
-def maps_in_binary():
+@needs("python3-pyosmium")
+def test_maps_in_binary():
     """The same graphs from .osm.pbf as from XML: Liechtenstein, a map with all that is odd, and a file that is cut short."""
     import osmium
 
@@ -342,7 +339,7 @@ def told_by_the_way(*words):
     return re.sub(r" after \d+ s(, some \d+ s left)?", "", done.stderr)
 
 
-def signs_of_life():
+def test_signs_of_life():
     """The bytes that were read, of the ways and then of the nodes, and the roads; with --quiet nothing."""
     text = in_line(3).encode()
     for packer in bytes, gzip.compress, bz2.compress, lzma.compress:
@@ -353,7 +350,7 @@ def signs_of_life():
         assert told_by_the_way("--quiet", "map") == ""
 
 
-def weights_are_rounded_once():
+def test_weights_are_rounded_once():
     """On the equator and on a meridian a degree is 111,195.08 m; no arc is 0 but where two nodes lie at one place."""
     draw = random.Random("weights")
     for _ in range(50):
@@ -374,13 +371,13 @@ def weights_are_rounded_once():
     assert len(arcs_of(osm({1: (0, 0), 2: (1, 0)}, [([1, 1, 2, 2], ROAD)]), nodes="all")) == 2
 
 
-def the_sphere_is_like_the_earth():
+def test_the_sphere_is_like_the_earth():
     """The radii of curvature of the ellipsoid WGS 84, from the least to the greatest, differ from the sphere's by less than 0.6 %."""
     wide, high = 6_378_137, 6_356_752.3142
     assert all(abs(radius / RADIUS - 1) < 0.006 for radius in (high * high / wide, wide, wide * wide / high))
 
 
-def bends_of_arcs():
+def test_bends_of_arcs():
     pathlib.Path("bends.osm").write_text(osm({1: (0, 0), 2: (1, 0), 3: (1, 1), 4: (2, 2)}, [([1, 2, 3, 4], ROAD)]))
     tool("osm_to_gr", "--bends", "--quiet", "bends.osm", "bends")
     assert files.read_bends("bends.bends") == {0: [(0.001, 0), (0.001, 0.001)], 1: [(0.001, 0.001), (0.001, 0)]}
@@ -393,13 +390,13 @@ def items(path):
     return [line for line in open(path) if not line.startswith("c ")]
 
 
-def the_example_is_made_again():
+def test_the_example_is_made_again():
     tool("osm_to_gr", "--quiet", f"{COUNTRY}.osm.bz2", "liechtenstein")
     for name in "gr", "co":
         assert pathlib.Path(f"liechtenstein.{name}").read_bytes() == pathlib.Path(f"{COUNTRY}.{name}").read_bytes(), name
 
 
-def no_package_is_needed():
+def test_no_package_is_needed():
     """The package of maps, and the command, are imported where neither numpy nor pyosmium is there."""
     pathlib.Path("none").mkdir()
     for package in "numpy", "osmium", "scipy":
@@ -416,7 +413,7 @@ def called(made):
     return [{key: text for key, text in found[number - 1]._asdict().items() if text} if number else {} for number in numbers]
 
 
-def streets_have_names():
+def test_streets_have_names():
     """Each tag that a sign shows, for each direction; a street of several arcs stands once, and turns that are split keep theirs."""
     for tags, along, against in [
         ({}, {}, {}), ({"name": " Long Street ", "ref": "16"}, {"name": "Long Street", "ref": "16"}, None), ({"ref": "A13; E43"}, {"ref": "A13, E43"}, None),
@@ -441,7 +438,7 @@ def streets_have_names():
         assert told == ({} if at[tail] == at[head] else ROAD | {"name": {2: "West", 3: "North", 4: "East"}[max(at[tail], at[head])]}), (tail, head, told)
 
 
-def files_of_streets():
+def test_files_of_streets():
     """What is written is read; an older file is removed; that of another graph, or one that is spoilt, is refused with its line."""
     names = ["<b>&amp;\"'", "two\nlines\r\u2028", "\U0001d54f", "x" * 10_000]
     text = osm({number: (number, 0) for number in range(1, 6)}, [([place, place + 1], ROAD | {"name": name}) for place, name in enumerate(names, 1)])
@@ -475,7 +472,7 @@ def files_of_streets():
     assert not pathlib.Path("named.names").exists()
 
 
-def random_maps_agree_with_the_other_converter():
+def test_random_maps_agree_with_the_other_converter():
     """Arc for arc, for each way of travelling, all parts and the largest."""
     draw, compared = random.Random("maps"), 0
     for place in range(250):
@@ -494,21 +491,3 @@ def random_maps_agree_with_the_other_converter():
                 assert (made.arcs, made.names if made.arcs else []) == mapping.numbered(wanted), (place, profile, part, choices, text)
                 compared += len(made.arcs)
     assert compared > 10_000, compared
-
-
-GROUPS = (
-    (
-        (),
-        [
-            barriers_leave_dead_ends, lists_in_tags_are_sets, deleted_things_are_not_there, limits_of_speed, directions, profiles_differ,
-            tables_are_sound, the_page_has_the_tables, ferries_take_their_time, what_is_left_out_is_told,
-            what_comes_twice_or_lies_nowhere_is_told, parts_are_kept,
-            files_of_all_forms, signs_of_life, weights_are_rounded_once, the_sphere_is_like_the_earth, bends_of_arcs,
-            streets_have_names, files_of_streets, random_maps_agree_with_the_other_converter, the_example_is_made_again, no_package_is_needed,
-        ],
-    ),
-    (("python3-pyosmium",), [maps_in_binary]),
-)
-
-if __name__ == "__main__":
-    run_checks(GROUPS)

@@ -1,8 +1,6 @@
-#!/usr/bin/python3
 """Tests networks that are made of a caller's own arcs: arrays, frames, and graphs of networkx and osmnx.
 
-Answers are compared with scipy's and networkx's own searches. What is refused has to name its row, and to leave nothing behind. What needs
-a package that is missing is told and left out. The last line is 'N passed, N failed'.
+Answers are compared with scipy's and networkx's own searches. What is refused has to name its row, and to leave nothing behind.
 """
 import concurrent.futures
 import gc
@@ -15,19 +13,19 @@ import shutil
 import subprocess
 import sys
 
-# First of all, since it puts the package on the path.
-from helpers.maps import COUNTRY
+import pytest
 
-from helpers import running
-from helpers.columns import drawn, forms_of, labels_drawn, least_of, refusals
+from helpers.columns import drawn, forms_of, labels_drawn, refusals
 from helpers.commands import raises, temporary
+from helpers.maps import COUNTRY
+from helpers.marks import each_way, needs
 from helpers.moods import STANDIN, lives_on, mood, noted
-from helpers.packages import PYTHON, run_checks
+from helpers.packages import PYTHON
 from helpers.running import PROGRAM, ROOT
-from helpers.ways import both
 import chtab
 from chtab import files
 
+pytestmark = [needs("python3-numpy", "python3-scipy"), pytest.mark.usefixtures("program")]
 PATIENCE = 120
 # Graphs that are drawn at random.
 GRAPHS = 40
@@ -42,15 +40,14 @@ def of_arrays(*columns, **more):
     return chtab.Network.from_arrays(*columns, program=PROGRAM, **more)
 
 
-def random_arcs_answer_as_scipy():
+@needs("python3-pandas")
+@each_way
+def test_random_arcs_answer_as_scipy(random_graphs):
     """Distances, tables within limits and routes, by labels of each kind, from columns of each form."""
     import numpy
 
-    for seed in range(GRAPHS):
-        draw = numpy.random.default_rng(seed)
-        count, tails, heads, weights = drawn(draw)
-        labels = labels_drawn(draw, count)
-        wanted = least_of(tails, heads, weights, count)
+    for seed, draw, tails, heads, weights, labels, wanted in random_graphs(GRAPHS):
+        count = len(labels)
         columns = [forms_of(draw, column) for column in (labels[tails], labels[heads], weights)]
         with of_arrays(*columns, nodes=forms_of(draw, labels)) as network:
             assert network.nodes == count and network.labels.tolist() == labels.tolist() and network.rounding == 0.0
@@ -64,7 +61,9 @@ def random_arcs_answer_as_scipy():
                 assert weight < 0 or (route.nodes[0], route.nodes[-1], sum(route.weights)) == (*pair, weight), (seed, route)
 
 
-def labels_come_from_the_ends():
+@needs("python3-pandas")
+@each_way
+def test_labels_come_from_the_ends():
     """Without a list of nodes the labels are those of both ends, in ascending order."""
     with of_arrays([30, 10], [-20, 30], [1, 2]) as network:
         assert network.labels.tolist() == [-20, 10, 30] and network.distances([(10, -20)]).tolist() == [3]
@@ -93,7 +92,9 @@ def labels_come_from_the_ends():
 # Weights.
 
 
-def rounding_is_told():
+@needs("python3-pandas")
+@each_way
+def test_rounding_is_told():
     """Weights are rounded once, to the nearest whole number, and the most that one differs is told."""
     import fractions
 
@@ -119,7 +120,8 @@ def rounding_is_told():
 # What is refused.
 
 
-def what_is_refused_names_its_row_and_writes_nothing():
+@needs("python3-pandas")
+def test_what_is_refused_names_its_row_and_writes_nothing():
     import numpy
 
     with temporary() as left:
@@ -133,7 +135,8 @@ def what_is_refused_names_its_row_and_writes_nothing():
         assert os.listdir() == [] and left() == []
 
 
-def faults_of_the_program_leave_nothing():
+@needs("python3-pandas")
+def test_faults_of_the_program_leave_nothing():
     """A program that fails, one that is not there, and words that it refuses."""
     pathlib.Path("fails").write_text("#!/bin/sh\n[ $1 = save ] || exit 0\necho p ch 1 1\necho 'chtab: out of memory' >&2\nexit 3\n")
     os.chmod("fails", 0o755)
@@ -152,7 +155,9 @@ def faults_of_the_program_leave_nothing():
 # Files.
 
 
-def a_folder_is_opened_again():
+@needs("python3-pandas")
+@each_way
+def test_a_folder_is_opened_again():
     """With labels, places and rounding; the folder that is there is not written over."""
     places = {"nodes": ["a", "b", "c"], "x": [9.5, 9.6, 9.7], "y": [47.0, 47.1, 47.2]}
     with of_arrays(SOURCES, TARGETS, [4, 5, 1, 10.25], scale=10, folder="own", **places) as made:
@@ -180,7 +185,9 @@ def a_folder_is_opened_again():
         assert sorted(os.listdir("empty")) == ["network.ch", "network.gr", "network.json"]
 
 
-def a_folder_that_is_made_anew_is_another_network():
+@needs("python3-pandas")
+@each_way
+def test_a_folder_that_is_made_anew_is_another_network():
     """Where a network of one folder was unpickled before, one that was made there later is not taken for it."""
     of_arrays(SOURCES, TARGETS, WEIGHTS, folder="own").close()
     text = pickle.dumps(chtab.Network.open("own", program=PROGRAM))
@@ -191,7 +198,9 @@ def a_folder_that_is_made_anew_is_another_network():
     assert pickle.loads(pickle.dumps(again)).distances([("a", "c")]).tolist() == [2]
 
 
-def what_a_caller_changes_later_changes_nothing():
+@needs("python3-pandas")
+@each_way
+def test_what_a_caller_changes_later_changes_nothing():
     """The labels are a copy, which can't be written to."""
     import numpy
 
@@ -202,7 +211,9 @@ def what_a_caller_changes_later_changes_nothing():
         raises(ValueError, network.labels.__setitem__, 0, "x", told="read-only")
 
 
-def labels_of_another_graph_are_refused():
+@needs("python3-pandas")
+@each_way
+def test_labels_of_another_graph_are_refused():
     """Labels that were changed, and those of another network, are faults of their file."""
     for name, weights in ("one", WEIGHTS), ("other", [1, 1, 1, 1]):
         of_arrays(SOURCES, TARGETS, weights, folder=name).close()
@@ -224,7 +235,9 @@ def labels_of_another_graph_are_refused():
     raises(FileNotFoundError, lambda: chtab.Network.open("none", program=PROGRAM), told="network.gr")
 
 
-def temporary_files_go_with_the_network():
+@needs("python3-pandas")
+@each_way
+def test_temporary_files_go_with_the_network():
     """They are gone once it is closed, dropped, or the interpreter ends; a process that was forked leaves them alone."""
     with temporary() as left:
         with of_arrays(SOURCES, TARGETS, WEIGHTS) as network:
@@ -265,7 +278,9 @@ def wrong_answers_here(seed):
     return wrong_answers(NETWORK, seed)
 
 
-def it_is_shared_as_any_network():
+@needs("python3-pandas")
+@each_way
+def test_it_is_shared_as_any_network():
     """Threads, forked processes, and those that unpickle it: each gives and takes labels."""
     global NETWORK
     names = [f"n{number}" for number in range(100)]
@@ -283,7 +298,8 @@ def it_is_shared_as_any_network():
         assert routes[0].nodes == ["n99", "n0", "n1", "n2"]
 
 
-def one_run_builds_and_another_reads():
+@needs("python3-pandas")
+def test_one_run_builds_and_another_reads():
     """The hierarchy is built once: runs read it, also the one that tells routes."""
     with mood(), chtab.Network.from_arrays(SOURCES, TARGETS, WEIGHTS, program=STANDIN) as network:
         assert network.distances([("a", "c")]).tolist() == [9] and network.routes([("a", "c")])[0].weight == 9
@@ -295,7 +311,8 @@ def one_run_builds_and_another_reads():
 # Large ones.
 
 
-def half_a_million_arcs():
+@needs("python3-pandas")
+def test_half_a_million_arcs():
     """A grid of 180,000 nodes with names of their own, in both directions, against scipy."""
     import numpy
     from scipy.sparse import csr_matrix
@@ -347,7 +364,8 @@ def lines_that_run(arcs, kind):
     return count[0]
 
 
-def no_line_runs_for_each_arc():
+@needs("python3-pandas")
+def test_no_line_runs_for_each_arc():
     """Whatever is done with each arc is done by numpy, or by a call of Python that is no line of its own."""
     for kind in "integers", "strings", "lists", "lists of integers":
         few, many = lines_that_run(5_000, kind), lines_that_run(200_000, kind)
@@ -357,7 +375,9 @@ def no_line_runs_for_each_arc():
 # Frames and graphs.
 
 
-def frames():
+@needs("python3-pandas")
+@each_way
+def test_frames():
     import pandas
 
     frame = pandas.DataFrame({"u": SOURCES, "v": TARGETS, "minutes": [0.5, 1, 2, 3]}, index=[7, 7, 7, 9])
@@ -375,7 +395,9 @@ def frames():
     raises(TypeError, lambda: chtab.Network.from_frame(frame[:3], "u", "v", "minutes", scale=60, weights=1, program=PROGRAM), told="weights")
 
 
-def graphs_answer_as_networkx():
+@needs("python3-networkx")
+@each_way
+def test_graphs_answer_as_networkx():
     """Each kind of graph, with several edges between two nodes, against networkx's own search."""
     import networkx
     import numpy
@@ -394,7 +416,8 @@ def graphs_answer_as_networkx():
             raises(chtab.ChtabError, lambda: network.coordinates, told="no file of coordinates")
 
 
-def what_a_graph_lacks_is_named():
+@needs("python3-networkx")
+def test_what_a_graph_lacks_is_named():
     import networkx
 
     graph = networkx.path_graph(3, networkx.DiGraph)
@@ -416,7 +439,8 @@ def what_a_graph_lacks_is_named():
     raises(chtab.DataFault, chtab.Network.from_networkx, networkx.Graph(), told="there is no node")
 
 
-def osmnx_takes_the_map():
+@needs("python3-networkx", "python3-osmnx", "python3-sklearn")
+def test_osmnx_takes_the_map():
     """The shipped map by osmnx, as it is: distances as networkx finds them by whole weights, places and labels as osmnx has them."""
     import networkx
     import numpy
@@ -441,25 +465,3 @@ def osmnx_takes_the_map():
             nodes, metres = network.nearest([9.5209], [47.1410])
             assert nodes[0] == osmnx.nearest_nodes(streets, 9.5209, 47.1410) and metres[0] < 200
             assert len(network.routes([(labels[0], labels[1])]).to_geojson()["features"]) <= 1
-
-
-GROUPS = (
-    (
-        ("python3-numpy", "python3-scipy", "python3-pandas"),
-        [
-            *both(
-                random_arcs_answer_as_scipy, labels_come_from_the_ends, rounding_is_told, a_folder_is_opened_again,
-                a_folder_that_is_made_anew_is_another_network, what_a_caller_changes_later_changes_nothing, labels_of_another_graph_are_refused,
-                temporary_files_go_with_the_network, it_is_shared_as_any_network, frames,
-            ),
-            what_is_refused_names_its_row_and_writes_nothing, faults_of_the_program_leave_nothing, one_run_builds_and_another_reads,
-            half_a_million_arcs, no_line_runs_for_each_arc,
-        ],
-    ),
-    (("python3-numpy", "python3-scipy", "python3-networkx"), [*both(graphs_answer_as_networkx), what_a_graph_lacks_is_named]),
-    (("python3-numpy", "python3-scipy", "python3-networkx", "python3-osmnx", "python3-sklearn"), [osmnx_takes_the_map]),
-)
-
-if __name__ == "__main__":
-    running.build()
-    run_checks(GROUPS)

@@ -1,9 +1,7 @@
-#!/usr/bin/python3
 """Tests the library for C as the Python package calls it: what it would misread, handles in threads, after a fork and after they were closed,
 what is left of them, and when the library is taken in place of the program.
 
-That its answers are those of the program, tests/package.py, tests/arrays.py and tests/sharing.py say. What needs a package that is missing is told
-and left out. The last line is 'N passed, N failed'.
+That its answers are those of the program, tests/python/test_package.py, tests/python/test_arrays.py and tests/python/test_sharing.py say.
 """
 import concurrent.futures
 import contextlib
@@ -19,17 +17,19 @@ import subprocess
 import threading
 import time
 
-# First of all, since it puts the package on the path.
-from helpers.maps import COUNTRY
+import pytest
 
-from helpers import running, ways
+from helpers import ways
 from helpers.commands import raises
 from helpers.in_process import HEADER, declared, growth, make, statuses
+from helpers.maps import COUNTRY
+from helpers.marks import needs
 from helpers.nearness import dense, small_portions
-from helpers.packages import PYTHON, run_checks
+from helpers.packages import PYTHON
 from helpers.running import PROGRAM, ROOT
 import chtab
 
+pytestmark = [needs("python3-numpy"), pytest.mark.usefixtures("program")]
 FIRST, FIRST_SAVED = ROOT / "examples" / "first.gr", ROOT / "examples" / "first.ch"
 GRAPH = f"{COUNTRY}.gr"
 PATIENCE = 120
@@ -58,7 +58,7 @@ def handle_of(graph=FIRST, saved=FIRST_SAVED):
 # What Python says of C.
 
 
-def numbers_are_those_of_the_header():
+def test_numbers_are_those_of_the_header():
     """The version, statuses, kinds of faults and sizes."""
     from chtab.engine import library
 
@@ -72,7 +72,7 @@ def numbers_are_those_of_the_header():
         assert re.findall(r"(\w+);", re.sub(r"/\*.*?\*/", "", body)) == [field for field, _ in kind._fields_], name
 
 
-def calls_are_those_of_the_header():
+def test_calls_are_those_of_the_header():
     """Each call is given as many words as the header says, each of its type."""
     from chtab.engine import library
 
@@ -94,7 +94,7 @@ def calls_are_those_of_the_header():
 # What is refused.
 
 
-def what_c_would_misread_is_refused():
+def test_what_c_would_misread_is_refused():
     """Arrays of other numbers, of other shapes, in pieces, of different lengths, and what is no array: none of them comes to C."""
     import numpy
 
@@ -146,7 +146,7 @@ def what_c_would_misread_is_refused():
     assert handle.route(0, 2)[0] == 9 and handle.route(0, 2)[1].tolist() == [0, 1, 2] and handle.route(2, 0)[0] == -1
 
 
-def nodes_are_those_of_the_network():
+def test_nodes_are_those_of_the_network():
     """Numbers that C would take for other nodes, which a network's own test of labels doesn't let through either."""
     import numpy
 
@@ -167,7 +167,7 @@ def nodes_are_those_of_the_network():
         raises(ValueError, network._engine.tables, [([1], [4])], told="not from 1 to 3")
 
 
-def a_hierarchy_is_built_where_none_is_saved():
+def test_a_hierarchy_is_built_where_none_is_saved():
     """By the library too: its distances, cells and routes are those of the program, and its text is that of the order by depth."""
     from chtab.engine import library
 
@@ -184,7 +184,7 @@ def a_hierarchy_is_built_where_none_is_saved():
     assert built.save() == subprocess.run([PROGRAM, "save", "--deep", GRAPH], capture_output=True, check=True).stdout
 
 
-def faults_are_told_as_by_the_program():
+def test_faults_are_told_as_by_the_program():
     """Of graphs and hierarchies: one text and one status by both ways, and by the library the line or the place, and the kind."""
     graph, saved = FIRST.read_text(), FIRST_SAVED.read_text()
     for texts, line, kind, place in (
@@ -214,7 +214,7 @@ def faults_are_told_as_by_the_program():
 # Handles.
 
 
-def a_closed_handle_answers_nothing():
+def test_a_closed_handle_answers_nothing():
     import numpy
 
     from chtab.engine import library
@@ -241,7 +241,7 @@ def a_closed_handle_answers_nothing():
     raises(chtab.ChtabError, network._engine.load, told="the network is closed")
 
 
-def each_thread_has_a_handle():
+def test_each_thread_has_a_handle():
     """As many as there are threads that ask, the first of which takes that by which the network was opened; they go with their threads."""
     import numpy
 
@@ -267,7 +267,7 @@ def each_thread_has_a_handle():
             assert threads.submit(lambda: other._engine.handle() is other._engine.first).result() and len(other._engine.handles) == 1
 
 
-def near_rows_of_threads_have_handles_of_their_own():
+def test_near_rows_of_threads_have_handles_of_their_own():
     """As many as ask at a time, which the next questions take; a row is never to the places of another question."""
     import numpy
 
@@ -285,7 +285,7 @@ def near_rows_of_threads_have_handles_of_their_own():
         assert 1 <= len(network._engine.spare) <= 4 and len(network._engine.handles) == 1 + len(network._engine.spare)
 
 
-def near_rows_come_in_portions():
+def test_near_rows_come_in_portions():
     """By sweeps and by searches, whatever room one call has: the same rows."""
     import numpy
 
@@ -304,7 +304,7 @@ def near_rows_come_in_portions():
                     assert numpy.array_equal(dense(wanted)[:200], network.table(sources[:200], targets, within)), (within, direction)
 
 
-def threads_ask_while_it_is_closed():
+def test_threads_ask_while_it_is_closed():
     """Each call has its answer, or is told that the network is closed."""
     for _ in range(20):
         network, wrong = of_country(), []
@@ -328,7 +328,7 @@ def threads_ask_while_it_is_closed():
         assert not wrong and not any(thread.is_alive() for thread in threads), wrong
 
 
-def a_forked_process_opens_it_anew():
+def test_a_forked_process_opens_it_anew():
     """It has handles of its own, also where a thread of its parent was in a call, and closes none of its parent's."""
     with of_country() as network:
         wanted, block = network.table(range(1, 200), range(1, 200)), network._engine.first.block
@@ -354,7 +354,7 @@ def a_forked_process_opens_it_anew():
     assert (done.returncode, done.stdout, done.stderr) == (0, "[[9]]\n", ""), done
 
 
-def the_end_of_the_interpreter_waits_for_nothing():
+def test_the_end_of_the_interpreter_waits_for_nothing():
     """Threads that are in a call when the interpreter ends neither crash nor hang it."""
     text = "import sys, threading, time; sys.path.insert(0, sys.argv[1]); import chtab\n"
     text += "network = chtab.Network.open(sys.argv[2], saved=sys.argv[3], program=sys.argv[4], library=sys.argv[5])\n"
@@ -366,7 +366,7 @@ def the_end_of_the_interpreter_waits_for_nothing():
         assert (done.returncode, done.stdout, done.stderr) == (0, "ends\n", ""), done
 
 
-def what_is_dropped_is_freed():
+def test_what_is_dropped_is_freed():
     """Networks that are dropped, closed or never closed after a fault, threads that end, and handles in a ring of references."""
     def dropped():
         network = of_country()
@@ -400,7 +400,7 @@ def what_is_dropped_is_freed():
         assert growth(in_thread, 300) < MOST_GROWTH and len(network._engine.handles) == 1
 
 
-def routes_of_another_graph_are_found_out():
+def test_routes_of_another_graph_are_found_out():
     """Arcs are weighed by the graph's file. Where it is another one since it was opened, no route is told by it, also if the weights of its arcs
     have the same sum. Arcs that were read before go on to be right."""
     import numpy
@@ -431,7 +431,7 @@ def is_by_library(network):
         return type(network._engine).__name__ == "InProcess"
 
 
-def it_is_taken_where_it_fits():
+def test_it_is_taken_where_it_fits():
     """Beside the program, of the package's version, with a hierarchy, one worker and no time; where it must be taken, what lacks is told. One of a
     checkout whose sources are newer is not taken."""
     from chtab.engine import library
@@ -469,7 +469,7 @@ def it_is_taken_where_it_fits():
         raises(kind, lambda: chtab.Network.open(FIRST, **first, library=wrong))
 
 
-def another_library_is_not_taken():
+def test_another_library_is_not_taken():
     """A file that is no library, a library of others, and one of another version."""
     from chtab.engine import library
 
@@ -490,21 +490,3 @@ def another_library_is_not_taken():
     finally:
         library.VERSION -= 1_000
     assert is_by_library(chtab.Network.open(FIRST, **more))
-
-
-GROUPS = (
-    (
-        ("python3-numpy",),
-        [
-            numbers_are_those_of_the_header, calls_are_those_of_the_header, what_c_would_misread_is_refused, nodes_are_those_of_the_network,
-            a_hierarchy_is_built_where_none_is_saved, faults_are_told_as_by_the_program, a_closed_handle_answers_nothing, each_thread_has_a_handle,
-            near_rows_of_threads_have_handles_of_their_own, near_rows_come_in_portions, threads_ask_while_it_is_closed,
-            a_forked_process_opens_it_anew, the_end_of_the_interpreter_waits_for_nothing, what_is_dropped_is_freed,
-            routes_of_another_graph_are_found_out, it_is_taken_where_it_fits, another_library_is_not_taken,
-        ],
-    ),
-)
-
-if __name__ == "__main__":
-    running.build()
-    run_checks(GROUPS)

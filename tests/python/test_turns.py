@@ -1,8 +1,5 @@
-#!/usr/bin/python3
 """Tests turns that maps restrict (osm_to_gr.py --turns): crossroads with each kind of restriction, those that are left out, where trips
 begin and end, the restrictions of Liechtenstein and others set there one by one, and random maps against the search from arc to arc of oracles/mapping.py.
-
-The last line is 'N passed, N failed'.
 """
 import bz2
 import collections
@@ -13,10 +10,7 @@ import pathlib
 import random
 import re
 
-# First of all, since it puts the package on the path.
 from helpers.maps import BLOCK, COUNTRY, ROAD, converted, noted, osm, random_map, tool
-
-from helpers.packages import run_checks
 from oracles import mapping
 from chtab.maps import profiles, restrictions
 
@@ -70,7 +64,7 @@ def turns_forbidden(text, profile="car"):
     return {f"{one}{other}" for one, other in itertools.permutations(range(2, 6), 2) if found.get((one, other)) != plain[one, other]}
 
 
-def turns_hold():
+def test_turns_hold():
     for word, turns in {
         "no_left_turn": {"23"}, "no_right_turn": {"23"}, "no_straight_on": {"23"}, "no_entry": {"23"}, "no_exit": {"23"},
         "no_u_turn": {"23"}, "only_left_turn": {"24", "25"}, "only_straight_on": {"24", "25"}, "no_left_turn;no_u_turn": {"23"},
@@ -93,7 +87,7 @@ def turns_hold():
     assert turns_forbidden(crossroads("only_right_turn", (), ways)) == {"25", "52"}
 
 
-def deleted_restrictions_are_not_there():
+def test_deleted_restrictions_are_not_there():
     for head in "action='delete'", "visible='false'":
         text = crossroads("no_left_turn").replace("<relation id='1'", f"<relation id='1' {head}")
         assert converted(text, turns=True)[0].names == [1, 2, 3, 4, 5] and noted(text, turns=True) == {}
@@ -103,7 +97,7 @@ def back_at(via, way):
     return [(("way", way, "from"), ("node", via, "via"), ("way", way, "to")), {"type": "restriction", "restriction": "no_u_turn"}]
 
 
-def turns_back():
+def test_turns_back():
     """No turning back where the map says so: at a crossing, at a dead end, and on a way that leads through the node."""
     nodes = {1: (0, 0), 2: (1, 0), 3: (2, 0), 4: (1, 1)}
     made, _ = converted(osm(nodes, [([1, 2], ROAD), ([2, 3], ROAD), ([2, 4], ROAD)], [back_at(2, 1)]), turns=True)
@@ -118,7 +112,7 @@ def turns_back():
     assert sorted(map(sorted, outs)) == [[1, 4], [3, 4]]
 
 
-def turns_not_read():
+def test_turns_not_read():
     member = ("way", 1, "from"), ("node", 1, "via"), ("way", 2, "to")
     elsewhere = "without roads that meet at the node"
     for word, members, reason in [
@@ -145,7 +139,7 @@ def turns_not_read():
     assert noted(blocked, turns=True) == {"turns": {elsewhere: 1}, "barriers": {"barrier=bollard": 1}}, noted(blocked, turns=True)
 
 
-def trips_begin_and_end_at_crossings_with_turns():
+def test_trips_begin_and_end_at_crossings_with_turns():
     """`nearest` takes the node where trips begin for the first place of a query, and the one where they end for the second."""
     pathlib.Path("turns.osm").write_text(crossroads("no_left_turn"))
     tool("osm_to_gr", "--turns", "turns.osm", "turns")
@@ -165,7 +159,7 @@ def trips_begin_and_end_at_crossings_with_turns():
     assert pictured == tool("picture", "network", "plain")[0]
 
 
-def trips_on_random_maps():
+def test_trips_on_random_maps():
     """The least weight of each trip, which the other converter searches from arc to arc."""
     draw, longer = random.Random("turns"), 0
     for _ in range(400):
@@ -195,7 +189,7 @@ def same_trips(text, found, never, profile, choices):
     return longer
 
 
-def turns_of_liechtenstein():
+def test_turns_of_liechtenstein():
     """Each restriction of the example whose ways are in it changes the route from the one way over its node to the other, and no other."""
     text = country()
     world = mapping.Map(text, "car")
@@ -252,7 +246,7 @@ def turns_at_ends(text):
     return [(*one, node, *other) for node in ins for one in ins[node] for other in outs[node] if one[1] != other[0] and one[0] != other[1]]
 
 
-def turns_set_on_liechtenstein():
+def test_turns_set_on_liechtenstein():
     """Restrictions of all words set one by one at crossings drawn from the country: just the trips that they forbid are longer."""
     text = re.sub("<relation.*</relation>", "", country(), flags=re.DOTALL)
     plain, _ = converted(text, nodes="all")
@@ -287,12 +281,3 @@ def a_restriction_holds(text, plain, least, turn, word):
             is_forbidden = start == before and (end == after) == word.startswith("no_")
             trips = least(start, end), with_turns(start, end)
             assert (trips[0] < trips[1]) == (is_forbidden and trips[0] == one + more), (turn, word, start, end, trips)
-
-
-CHECKS = [
-    turns_hold, deleted_restrictions_are_not_there, turns_back, turns_not_read, trips_begin_and_end_at_crossings_with_turns,
-    trips_on_random_maps, turns_of_liechtenstein, turns_set_on_liechtenstein,
-]
-
-if __name__ == "__main__":
-    run_checks([((), CHECKS)])

@@ -1,8 +1,4 @@
-#!/usr/bin/python3
-"""Tests the Python package: files, networks over the built program and over one that fails, blocks, and installing.
-
-What needs a package that is missing is told and left out. The last line is 'N passed, N failed'.
-"""
+"""Tests the Python package: files, networks over the built program and over one that fails, blocks, and installing."""
 import inspect
 import os
 import pathlib
@@ -14,16 +10,15 @@ import sys
 import threading
 import time
 
-# First of all, since it puts the package on the path.
-from helpers.maps import COUNTRY
+import pytest
 
-from helpers import running
 from helpers.cases import Case
 from helpers.commands import raises
+from helpers.maps import COUNTRY
+from helpers.marks import each_way, needs
 from helpers.moods import STANDIN, asked, lives_on, living, mood, noted
-from helpers.packages import PYTHON, run_checks
+from helpers.packages import PYTHON
 from helpers.running import PROGRAM, ROOT
-from helpers.ways import both
 from helpers.writing import write_graph
 import chtab
 from chtab import files
@@ -32,12 +27,13 @@ from chtab.engine.progress import Progress
 from chtab.near.accessibility import Near
 from chtab.roads.routes import Routes
 
+pytestmark = pytest.mark.usefixtures("program")
 FIRST = ROOT / "examples" / "first.gr"
 ERRORS = "DataFault", "FileFault", "ProgramFault", "TimedOut", "TooFar"
 VADUZ, MALBUN = (9.5209, 47.1410), (9.6079, 47.1020)
 
 
-def files_are_read_as_written():
+def test_files_are_read_as_written():
     files.write_graph("a.gr", 3, [(1, 2, 5), (2, 3, 0)], ["Weights are metres."])
     graph = files.read_graph("a.gr")
     assert (graph.nodes, [*zip(*graph[1:4])], graph.unit) == (3, [(1, 2, 5), (2, 3, 0)], "metres")
@@ -59,7 +55,7 @@ def files_are_read_as_written():
     raises(chtab.FileFault, lambda: list(files.read_rows("bad.gr", 1)), told="not a text")
 
 
-def weights_are_whole():
+def test_weights_are_whole():
     """A weight that isn't whole is refused with its arc, and no file is begun; a scale rounds it, and the file says so."""
     for arcs, told in (
         ([(1, 2, 3), (1, 2, 1.5)], "arcs[1]: 1.5 is not a whole number"), ([(1, 2, float("nan"))], "arcs[0]: nan"), ([(1.25, 2, 3)], "1.25"),
@@ -77,7 +73,8 @@ def weights_are_whole():
     raises(chtab.FileFault, files.write_graph, "half.gr", 2, [(1, 2, float("nan"))], (), 1000, told="arcs[0]: nan is no weight")
 
 
-def what_is_told_of_the_package():
+@needs("python3-numpy")
+def test_what_is_told_of_the_package():
     """`dir` has the network, `help` nothing that is no caller's, and a network says what it is."""
     import pydoc
 
@@ -94,7 +91,8 @@ def what_is_told_of_the_package():
     assert repr(network).endswith("3 nodes, closed>")
 
 
-def names_of_the_last_version_go_on():
+@needs("python3-numpy")
+def test_names_of_the_last_version_go_on():
     """What documents of version 1.1 named at another place is found there, is the same, and warns the caller's own line."""
     text = "import sys, warnings; sys.path.insert(0, sys.argv[1])\nwith warnings.catch_warnings(record=True) as caught:\n    warnings.simplefilter('always')\n"
     ending = "\nfrom chtab import Near, Routes, Spots\nassert {} is {}\nprint(*{{(each.category.__name__, each.filename) for each in caught}})"
@@ -110,7 +108,8 @@ def names_of_the_last_version_go_on():
     raises(ImportError, lambda: __import__("chtab.nothing"))
 
 
-def each_call_tells_what_it_takes_and_gives():
+@needs("python3-numpy")
+def test_each_call_tells_what_it_takes_and_gives():
     """The text of each call that users see has its parameters by name, with what it gives and what goes wrong, in the form of numpy."""
     calls = [(name, getattr(files, name)) for name in files.__all__ if inspect.isfunction(getattr(files, name))]
     calls += [(name, getattr(chtab.Network, name)) for name in dir(chtab.Network) if name[0] != "_"]
@@ -128,7 +127,9 @@ def each_call_tells_what_it_takes_and_gives():
         assert name == "close" or {"Returns", "Yields", "Raises"} & {*parts}, name
 
 
-def random_graphs_answer_as_dijkstra():
+@needs("python3-numpy")
+@each_way
+def test_random_graphs_answer_as_dijkstra():
     """Distances, tables and routes of random graphs."""
     import numpy
 
@@ -154,7 +155,9 @@ def random_graphs_answer_as_dijkstra():
                     assert (each.nodes[0], each.nodes[-1]) == (each.source, each.target)
 
 
-def roads_answer_as_scipy():
+@needs("python3-numpy", "python3-scipy")
+@each_way
+def test_roads_answer_as_scipy():
     """10,000 pairs of Liechtenstein, and a table, against scipy's own search."""
     import numpy
     from scipy.sparse import csr_matrix
@@ -177,7 +180,9 @@ def roads_answer_as_scipy():
         assert numpy.array_equal(network.table(sources, numpy.arange(1, graph.nodes + 1)), wanted.astype(int))
 
 
-def what_is_not_a_question_is_refused():
+@needs("python3-numpy")
+@each_way
+def test_what_is_not_a_question_is_refused():
     with chtab.Network.open(FIRST, program=PROGRAM) as network:
         for pairs, told in ([(1, 4)], "node 4 is not from 1 to 3"), ([(0, 1)], "node 0"), ([1, 2, 3], "shape (n, 2)"), ([(1.5, 2)], "whole number"):
             raises(ValueError, network.distances, pairs, told=told)
@@ -193,7 +198,8 @@ def what_is_not_a_question_is_refused():
     raises(chtab.ChtabError, lambda: chtab.Network.open("bad.gr", program="no-program"), told="can't be run")
 
 
-def a_program_that_fails_is_told_and_gone():
+@needs("python3-numpy")
+def test_a_program_that_fails_is_told_and_gone():
     """A run that dies, stops, is late or writes what is no answer is an error; the next call begins a new one."""
     for words, kind, told in (
         ("dies=2", chtab.ProgramFault, "ended by signal 11"),
@@ -219,7 +225,8 @@ def a_program_that_fails_is_told_and_gone():
         assert network.distances([(1, 3)]).tolist() == [9]
 
 
-def one_run_answers_all():
+@needs("python3-numpy")
+def test_one_run_answers_all():
     """The run that is there answers. Only the first route ends one that tells no routes, and only another question one for a limit."""
     def every_answer(network):
         assert network.distances([(1, 3)]).tolist() == [9] and network.table([1], [2, 3]).tolist() == [[4, 9]]
@@ -242,7 +249,8 @@ def one_run_answers_all():
         assert network.routes([(1, 3)])[0].nodes == [1, 2, 3] and asked()[4:] == ["--routes"], noted()
 
 
-def more_runs_where_they_are_wanted():
+@needs("python3-numpy")
+def test_more_runs_where_they_are_wanted():
     """One for distances and tables, one for routes and one for limits up to a power of two; where there are as many as may be, those that are
     there answer."""
     with mood(), chtab.Network.open(FIRST, program=STANDIN, runs=4) as network:
@@ -262,7 +270,8 @@ def more_runs_where_they_are_wanted():
     raises(ValueError, lambda: chtab.Network.open(FIRST, program=PROGRAM, runs=0), told="at least one")
 
 
-def answers_are_matched_whole():
+@needs("python3-numpy")
+def test_answers_are_matched_whole():
     """Texts that are no answer to a question, each of which is refused; what is one is taken."""
     import numpy
 
@@ -298,7 +307,8 @@ def answers_are_matched_whole():
         raises(chtab.ProgramFault, question.value_of, right.replace(old, new), told="not asked")
 
 
-def closing_ends_what_is_under_way():
+@needs("python3-numpy")
+def test_closing_ends_what_is_under_way():
     """The question that is under way, and those that wait for their turn, also of another kind; no run is left, and none is begun."""
     with mood("hangs=1"):
         network, faults = chtab.Network.open(FIRST, program=STANDIN), []
@@ -327,7 +337,9 @@ def closing_ends_what_is_under_way():
         assert len(faults) == 1 and lives_on(0), faults
 
 
-def what_is_longer_than_a_pipe_holds():
+@needs("python3-numpy")
+@each_way
+def test_what_is_longer_than_a_pipe_holds():
     """Many questions, and long answers to few: neither side waits for the other."""
     write_graph("line.gr", 5_000, [(node, node + 1, 1) for node in range(1, 5_000)])
     with chtab.Network.open("line.gr", program=PROGRAM, timeout=120) as network:
@@ -338,7 +350,7 @@ def what_is_longer_than_a_pipe_holds():
         assert [len(route.nodes) for route in network.routes([(1, 5_000)] * 100)] == [5_000] * 100
 
 
-def a_signal_leaves_nothing_behind():
+def test_a_signal_leaves_nothing_behind():
     """Ctrl-C and SIGTERM while the program is asked end a command by the signal, without a word and without a child."""
     files.write_list("some.ss", [1, 2, 3])
     command = [PYTHON, ROOT / "tools" / "blocks.py", "--program", STANDIN, "--side", "1", FIRST, "some.ss", "some.ss", "out.csv"]
@@ -353,14 +365,15 @@ def a_signal_leaves_nothing_behind():
         assert not [name for name in os.listdir() if "out.csv" in name], os.listdir()
 
 
-def a_closed_pipe_is_silent():
+def test_a_closed_pipe_is_silent():
     child = subprocess.Popen([PYTHON, ROOT / "tools" / "nearest.py", "--all", f"{COUNTRY}.co"], stdout=subprocess.PIPE, stderr=subprocess.PIPE)
     child.stdout.readline()
     child.stdout.close()
     assert child.stderr.read() == b"" and child.wait() in (0, -signal.SIGPIPE)
 
 
-def signs_of_life():
+@needs("python3-tqdm")
+def test_signs_of_life():
     """A line now and then where standard error is no terminal, and a bar where it is one."""
     text = "import sys; sys.path.insert(0, sys.argv[1]); from chtab.engine.progress import Progress\nimport time\n"
     text += "with Progress('blocks', 4, 'blocks', seconds=0.15) as p:\n for _ in range(4): time.sleep(0.1); p.step()\n"
@@ -376,7 +389,9 @@ def signs_of_life():
     os.close(master)
 
 
-def threads_share_a_network():
+@needs("python3-numpy")
+@each_way
+def test_threads_share_a_network():
     """Calls of distances, routes, tables and tables within limits from eight threads, by more runs than are kept."""
     wrong = []
     with chtab.Network.open(f"{COUNTRY}.gr", program=PROGRAM) as network:
@@ -403,7 +418,7 @@ def threads_share_a_network():
     assert not wrong, wrong
 
 
-def blocks_are_as_wide_as_the_limits_let_them():
+def test_blocks_are_as_wide_as_the_limits_let_them():
     assert blocks.sides(1, 100_000) == (1, 65_536)
     assert len(list(blocks.cut([1], range(100_000)))) == 2
     for height, width in (64, 10**6), (10**6, 64), (3_000, 3_000), (1, 1), (0, 5):
@@ -421,7 +436,9 @@ def blocks_are_as_wide_as_the_limits_let_them():
         assert pathlib.Path("reach.csv").read_text().split("\n")[1] == "1," + ",".join(map(str, range(70_000)))
 
 
-def frames_and_features():
+@needs("python3-numpy", "python3-pandas")
+@each_way
+def test_frames_and_features():
     import pandas
 
     with chtab.Network.open(f"{COUNTRY}.gr", program=PROGRAM) as network:
@@ -452,7 +469,8 @@ def installed(name, has_program):
     return pathlib.Path(f"{name}/bin/python").absolute()
 
 
-def it_installs_without_a_network():
+@needs("python3-numpy", "python3-pip", "python3-setuptools", "python3-wheel", "python3-venv")
+def test_it_installs_without_a_network():
     """By pip: the package takes the program along where it was built, and else tells both ways to name one."""
     elsewhere = {"cwd": "/", "env": {"PATH": "/usr/bin:/bin"}, "capture_output": True, "text": True}
     text = f"import chtab; n = chtab.Network.open('{ROOT}/examples/first.gr'); print(n.distances([(1, 3)])[0], chtab.__file__)"
@@ -470,26 +488,3 @@ def it_installs_without_a_network():
     words = [python.parent / "chtab-blocks", FIRST, os.path.abspath("one.ss"), os.path.abspath("one.ss"), os.path.abspath("one.csv")]
     done = subprocess.run(words, **elsewhere)
     assert done.stdout.startswith("1 by 1 cells"), done
-
-
-GROUPS = (
-    ((), [files_are_read_as_written, weights_are_whole, a_signal_leaves_nothing_behind, a_closed_pipe_is_silent, blocks_are_as_wide_as_the_limits_let_them]),
-    (("python3-tqdm",), [signs_of_life]),
-    (
-        ("python3-numpy",),
-        [
-            *both(
-                random_graphs_answer_as_dijkstra, what_is_not_a_question_is_refused, what_is_longer_than_a_pipe_holds, threads_share_a_network,
-            ),
-            what_is_told_of_the_package, names_of_the_last_version_go_on, each_call_tells_what_it_takes_and_gives, a_program_that_fails_is_told_and_gone, one_run_answers_all,
-            more_runs_where_they_are_wanted, answers_are_matched_whole, closing_ends_what_is_under_way,
-        ],
-    ),
-    (("python3-numpy", "python3-scipy"), both(roads_answer_as_scipy)),
-    (("python3-numpy", "python3-pandas"), both(frames_and_features)),
-    (("python3-numpy", "python3-pip", "python3-setuptools", "python3-wheel", "python3-venv"), [it_installs_without_a_network]),
-)
-
-if __name__ == "__main__":
-    running.build()
-    run_checks(GROUPS)

@@ -1,8 +1,6 @@
-#!/usr/bin/python3
 """Tests near rows of the Python package: the targets near each source, the nearest of them, sums over those within limits, and reach by them.
 
-Rows are compared with those that all distances of scipy's and networkx's own searches make, by runs of the program and by the library for C. What needs a package that is missing is told and
-left out. The last line is 'N passed, N failed'.
+Rows are compared with those that all distances of scipy's and networkx's own searches make, by runs of the program and by the library for C.
 """
 import concurrent.futures
 import gc
@@ -15,20 +13,20 @@ import subprocess
 import threading
 import time
 
-# First of all, since it puts the package on the path.
-from helpers.maps import COUNTRY
+import pytest
 
-from helpers import running
-from helpers.columns import drawn, forms_of, labels_drawn, least_of
+from helpers.columns import forms_of, least_of
 from helpers.commands import raises, temporary
 from helpers.in_process import make
+from helpers.maps import COUNTRY
+from helpers.marks import each_way, needs
 from helpers.moods import STANDIN, asked, lives_on, living, mood, nears, noted
 from helpers.nearness import dense_owed, rows_owed, rows_told, small_blocks, sums_owed
-from helpers.packages import PYTHON, run_checks
+from helpers.packages import PYTHON
 from helpers.running import PROGRAM, ROOT
-from helpers.ways import both
 import chtab
 
+pytestmark = [needs("python3-numpy"), pytest.mark.usefixtures("program")]
 FIRST = ROOT / "examples" / "first.gr"
 PATIENCE = 120
 # Graphs that are drawn at random, and questions of each.
@@ -52,14 +50,11 @@ def asked_at_random(draw, least):
     return sources, targets, None if draw.random() < 0.4 else int(draw.choice([1, 2, 5, 100])), within, ("to", "from")[draw.integers(2)]
 
 
-def random_graphs_answer_as_scipy():
+@needs("python3-scipy", "python3-pandas")
+@each_way
+def test_random_graphs_answer_as_scipy(random_graphs):
     """By labels of each kind, from columns of each form."""
-    import numpy
-
-    for seed in range(GRAPHS):
-        draw = numpy.random.default_rng(seed)
-        count, tails, heads, weights = drawn(draw)
-        labels, least = labels_drawn(draw, count), least_of(tails, heads, weights, count)
+    for _, draw, tails, heads, weights, labels, least in random_graphs(GRAPHS):
         with chtab.Network.from_arrays(labels[tails], labels[heads], weights, nodes=labels, program=PROGRAM, load=False) as network:
             for _ in range(QUESTIONS):
                 answers_as_owed(network, draw, labels, least)
@@ -87,7 +82,9 @@ def answers_as_owed(network, draw, labels, least):
     assert sums.shape == (len(own), 2) and sums.T.tolist() == wanted, (question, sums, wanted)
 
 
-def random_graphs_answer_as_networkx():
+@needs("python3-networkx")
+@each_way
+def test_random_graphs_answer_as_networkx():
     """Of graphs of networkx, whose edges have weights 0 and equal ones."""
     import networkx
     import numpy
@@ -106,7 +103,9 @@ def random_graphs_answer_as_networkx():
             assert rows_told(network.near(targets, range(25), None, 8, "from")) == rows_owed(least.T, targets, range(25), None, 8), seed
 
 
-def forms_of_an_answer():
+@needs("python3-scipy", "python3-pandas")
+@each_way
+def test_forms_of_an_answer():
     """As a table and as a sparse matrix, of labels that are strings; what is asked of it by place."""
     import numpy
 
@@ -133,7 +132,9 @@ def forms_of_an_answer():
             assert network.sum_within([1.0] * len(targets), [5, 9], sources, targets).tolist() == [[0.0, 0.0]] * len(near)
 
 
-def sums_take_values_in_each_form():
+@needs("python3-scipy", "python3-pandas")
+@each_way
+def test_sums_take_values_in_each_form():
     """A value for each target, for all, for each node, and by label; each decay; limits that are numbers and lists."""
     import math
 
@@ -170,7 +171,7 @@ def sums_take_values_in_each_form():
             assert (fault.column, fault.row) == (column, row), (fault.column, fault.row, told)
 
 
-def what_is_no_question_is_refused():
+def test_what_is_no_question_is_refused():
     """Numbers that are out of their range, and other words; nothing is asked then."""
     nan = float("nan")
     with mood(), chtab.Network.open(FIRST, program=STANDIN, load=False) as network:
@@ -193,7 +194,7 @@ def what_is_no_question_is_refused():
     raises(chtab.ChtabError, network.near, [1], [2], told="closed")
 
 
-def one_run_answers_what_is_small():
+def test_one_run_answers_what_is_small():
     """All nodes go by one run, with the options that are asked for; no count where it leaves out nothing."""
     with mood(), chtab.Network.open(FIRST, program=STANDIN, load=False) as network:
         assert rows_told(network.near(None, [3, 1], 1, 9, "from")) == [[(1, 0)], [(1, 4)], [(0, 0)]]
@@ -205,7 +206,9 @@ def one_run_answers_what_is_small():
 # Blocks.
 
 
-def blocks_answer_as_one_run():
+@needs("python3-scipy")
+@each_way
+def test_blocks_answer_as_one_run():
     """Lists that are longer than a run takes, by one run after the other and by several at a time."""
     import numpy
 
@@ -225,7 +228,7 @@ def blocks_answer_as_one_run():
                     assert network.sum_within(values, [1, 6], own, targets, workers=workers).T.tolist() == owed, (length, workers)
 
 
-def blocks_are_within_their_limits():
+def test_blocks_are_within_their_limits():
     import numpy
 
     from chtab.near import row_blocks
@@ -247,7 +250,9 @@ def blocks_are_within_their_limits():
         assert (len(found) == 1 and found[0].question.sources is None) == (sources is None and workers == 1 and targets == 500), (targets, workers)
 
 
-def a_cluster_answers_too():
+@needs("python3-distributed")
+@each_way
+def test_a_cluster_answers_too():
     """The workers of a client of Dask make blocks; a fault of one of them is told, and the client goes on."""
     import distributed
     import numpy
@@ -268,7 +273,7 @@ def a_cluster_answers_too():
 # Faults.
 
 
-def texts_that_are_no_answer_are_refused():
+def test_texts_that_are_no_answer_are_refused():
     """Each text but one is no answer to the question, and none of it is taken."""
     import numpy
 
@@ -311,7 +316,7 @@ def texts_that_are_no_answer_are_refused():
     assert taken(everyone, b"n 1 1 1 %d\nn 2 0\n" % 2**60, b"n 3 0\nn 4 0\nn 5 0\n").weights.tolist() == [2**60]
 
 
-def a_run_that_fails_is_told_and_gone():
+def test_a_run_that_fails_is_told_and_gone():
     """A run that dies, stops, is late, is cut short or writes what is no answer. Nothing of it is left behind."""
     with temporary() as left:
         for words, kind, told in (
@@ -333,7 +338,8 @@ def a_run_that_fails_is_told_and_gone():
         assert left() == []
 
 
-def a_program_without_the_command():
+@needs("python3-scipy")
+def test_a_program_without_the_command():
     """It is told, and reach goes by tables."""
     pathlib.Path("older").write_text(f"#!/bin/sh\n[ \"$1\" = near ] && {{ echo no such command >&2; exit 2; }}\nexec {PROGRAM} \"$@\"\n")
     os.chmod("older", 0o755)
@@ -344,7 +350,7 @@ def a_program_without_the_command():
         assert network.reach(network.snap([9.5], [47.0])).tolist() == [0, 4, 9]
 
 
-def closing_ends_what_is_under_way():
+def test_closing_ends_what_is_under_way():
     """Calls of several threads by one run and by several; no run is left, and none is begun."""
     with mood("hangs=0"):
         network, faults = chtab.Network.open(FIRST, program=STANDIN, load=False), []
@@ -361,7 +367,7 @@ def closing_ends_what_is_under_way():
         assert len(faults) == 4 and len(nears()) == 6 and lives_on(0), (faults, noted())
 
 
-def a_signal_leaves_nothing_behind():
+def test_a_signal_leaves_nothing_behind():
     """Ctrl-C and SIGTERM while runs are under way end a script, and no run and no file is left."""
     text = "import sys; sys.path.insert(0, sys.argv[1]); import chtab\nimport signal; signal.signal(signal.SIGTERM, signal.default_int_handler)\n"
     text += "chtab.Network.open(sys.argv[2], program=sys.argv[3], load=False).near([1, 2, 3], [1, 2], workers=int(sys.argv[4]))\n"
@@ -388,7 +394,8 @@ def owed_there(network):
     return rows_told(network.near(None, [3, 1]))
 
 
-def forked_processes_ask_too():
+@each_way
+def test_forked_processes_ask_too():
     """While threads of their parent ask, and by pickle."""
     global NETWORK
     with chtab.Network.open(FIRST, program=PROGRAM, load=False) as NETWORK:
@@ -415,7 +422,8 @@ def forked_processes_ask_too():
         assert found and all(each == wanted for each in found)
 
 
-def threads_share_a_network():
+@each_way
+def test_threads_share_a_network():
     """Calls of eight threads, while a run of `chtab ask` is kept."""
     with chtab.Network.open(FIRST, program=PROGRAM) as network:
         before = len(os.listdir("/proc/self/fd"))
@@ -430,7 +438,8 @@ def threads_share_a_network():
 # Reach.
 
 
-def reach_goes_by_near_rows():
+@needs("python3-scipy", "python3-shapely")
+def test_reach_goes_by_near_rows():
     """It is told what tables tell, by a network that keeps no run, by one that has its hierarchy saved, and by the library for C."""
     import numpy
 
@@ -459,24 +468,3 @@ def reach_goes_by_near_rows():
                     for within, owed in zip(limits, wanted[place]):
                         assert numpy.array_equal(network.reach(spots[place:place + 1], within), owed), (place, within)
                 assert network.isochrones(spots[:1], [120_000, 300_000]) == polygons and len(nears()) > before
-
-
-GROUPS = (
-    (
-        ("python3-numpy",),
-        [
-            what_is_no_question_is_refused, one_run_answers_what_is_small, blocks_are_within_their_limits, texts_that_are_no_answer_are_refused,
-            a_run_that_fails_is_told_and_gone, closing_ends_what_is_under_way, a_signal_leaves_nothing_behind,
-            *both(forked_processes_ask_too, threads_share_a_network),
-        ],
-    ),
-    (("python3-numpy", "python3-scipy"), [*both(blocks_answer_as_one_run), a_program_without_the_command]),
-    (("python3-numpy", "python3-scipy", "python3-pandas"), both(random_graphs_answer_as_scipy, forms_of_an_answer, sums_take_values_in_each_form)),
-    (("python3-numpy", "python3-networkx"), both(random_graphs_answer_as_networkx)),
-    (("python3-numpy", "python3-distributed"), both(a_cluster_answers_too)),
-    (("python3-numpy", "python3-scipy", "python3-shapely"), [reach_goes_by_near_rows]),
-)
-
-if __name__ == "__main__":
-    running.build()
-    run_checks(GROUPS)

@@ -1,8 +1,5 @@
-#!/usr/bin/python3
 """Tests the Python package by what a hostile caller does: numbers of each kind past each range, files that are changed while they are open, and
 what happens in the middle of a question: a signal, a question in between, a fork, an end of its time, a lack of memory.
-
-What needs a package that is missing is told and left out. The last line is 'N passed, N failed'.
 """
 import contextlib
 import itertools
@@ -15,20 +12,20 @@ import time
 import traceback
 import types
 
-# First of all, since it puts the package on the path.
-from helpers.maps import COUNTRY
+import pytest
 
-from helpers import running, ways
+from helpers import ways
 from helpers.commands import raises
 from helpers.in_process import make
+from helpers.maps import COUNTRY
+from helpers.marks import each_way, needs
 from helpers.moods import STANDIN, mood
 from helpers.nearness import rows_told, small_blocks, small_portions
-from helpers.packages import run_checks
 from helpers.running import PROGRAM, ROOT
-from helpers.ways import both
 import chtab
 from chtab import files
 
+pytestmark = [needs("python3-numpy"), pytest.mark.usefixtures("program")]
 FIRST, FIRST_SAVED = ROOT / "examples" / "first.gr", ROOT / "examples" / "first.ch"
 GRAPH = f"{COUNTRY}.gr"
 PATIENCE = 120
@@ -62,7 +59,8 @@ def interrupt(number, frame):
 # By both ways, and by runs of the program.
 
 
-def nodes_are_whole_numbers():
+@each_way
+def test_nodes_are_whole_numbers():
     """Whole decimal numbers are nodes, of any kind and order of bytes. Truths, times and texts are none; numbers past 2^63 are told as they are."""
     import numpy
 
@@ -86,7 +84,8 @@ def nodes_are_whole_numbers():
         raises(ValueError, network.distances, numpy.array(1), told="shape (n, 2)")
 
 
-def limits_are_exact():
+@each_way
+def test_limits_are_exact():
     """Past 2^53 too, of each kind of number: what is farther by one is left out, and what is just as far is not."""
     import fractions
 
@@ -109,7 +108,8 @@ def limits_are_exact():
                 raises(ValueError, call, told="a limit is from 0 to 2^60")
 
 
-def what_is_out_of_size_is_taken_or_refused():
+@each_way
+def test_what_is_out_of_size_is_taken_or_refused():
     """Counts that no row has and no number of numpy holds, also where rows are put together of parts; a value that is masked; one value of any kind."""
     import numpy
 
@@ -131,7 +131,8 @@ def what_is_out_of_size_is_taken_or_refused():
             raises(chtab.DataFault, network.sum_within, values, 5, told="too large")
 
 
-def labels_are_of_any_size():
+@each_way
+def test_labels_are_of_any_size():
     """Integers past 2^63 are labels, as Python has them or as numpy does, in lists and in arrays; none is taken for another."""
     import numpy
 
@@ -149,7 +150,8 @@ def labels_are_of_any_size():
         raises(chtab.DataFault, lambda: chtab.Network.from_arrays([1], [2], weights, program=PROGRAM), told="too large")
 
 
-def a_graph_that_was_changed_is_not_asked_on():
+@each_way
+def test_a_graph_that_was_changed_is_not_asked_on():
     """A graph that was written anew is refused by whatever would read it later: a process that is forked, and what stands beside the answers. What
     was read of the one before answers on."""
     for change in "a 1 2 5\n", "a 1 2 4 \n":
@@ -174,7 +176,7 @@ def a_graph_that_was_changed_is_not_asked_on():
             raises(chtab.ProgramFault, network.distances, [(1, 3)], told="has changed")
 
 
-def a_signal_may_close_what_is_asked():
+def test_a_signal_may_close_what_is_asked():
     """Its handler closes the network in the middle of a question of the same thread, which then fails. Nothing waits for itself."""
     with mood("slow=5"), chtab.Network.open(FIRST, program=STANDIN, load=False) as slow, of_country() as quick:
         nodes = list(range(1, quick.nodes + 1)) * 8
@@ -185,7 +187,7 @@ def a_signal_may_close_what_is_asked():
                 assert time.monotonic() - begun < 4
 
 
-def a_question_within_a_question_of_a_run_is_refused():
+def test_a_question_within_a_question_of_a_run_is_refused():
     """The handler of a signal asks the run that its thread waits for: it is told so, and the first question is answered."""
     with mood("slow=1.5"), chtab.Network.open(FIRST, program=STANDIN, load=False) as network:
         told = []
@@ -201,7 +203,7 @@ def a_question_within_a_question_of_a_run_is_refused():
 # By the library for C.
 
 
-def a_question_within_another_spoils_none():
+def test_a_question_within_another_spoils_none():
     """The handler of a signal may ask while its thread is in a call: both have their answers."""
     from chtab.engine import library
 
@@ -222,7 +224,7 @@ def a_question_within_another_spoils_none():
         handle.room = room
 
 
-def threads_share_one_handle():
+def test_threads_share_one_handle():
     """Calls of several threads by one handle wait for one another: each has its own answer, also while the handle is closed."""
     import numpy
 
@@ -258,7 +260,7 @@ def threads_share_one_handle():
         assert not wrong and not any(thread.is_alive() for thread in threads), wrong
 
 
-def a_child_asks_on_when_its_parent_has_closed():
+def test_a_child_asks_on_when_its_parent_has_closed():
     """And the parent when its child has closed, or was killed in the middle of a question."""
     for first in "parent", "child", "killed":
         with by_library(FIRST, FIRST_SAVED) as network:
@@ -286,7 +288,7 @@ def a_child_asks_on_when_its_parent_has_closed():
                 assert network.distances([(1, 3)]).tolist() == [9] and network.near([1], [3]).weights.tolist() == [9]
 
 
-def a_lack_of_memory_is_told_and_over():
+def test_a_lack_of_memory_is_told_and_over():
     """Whatever is refused memory says so, and the same question is answered once there is some; threads can't be begun then either."""
     import numpy
 
@@ -330,7 +332,7 @@ def little_memory(spare):
         resource.setrlimit(resource.RLIMIT_AS, before)
 
 
-def a_fork_within_a_question_takes_no_handle():
+def test_a_fork_within_a_question_takes_no_handle():
     """A process that is forked while near rows come ends the question, and its next one by handles of its own."""
     with by_library(FIRST, FIRST_SAVED) as network:
         child = []
@@ -348,7 +350,7 @@ def a_fork_within_a_question_takes_no_handle():
         assert os.waitpid(child[0], 0)[1] == 0 and found == [6.5, 2.5, 0.0] and len(network._engine.spare) == 1, found
 
 
-def a_sweep_without_memory_is_left_out():
+def test_a_sweep_without_memory_is_left_out():
     """Then the rows come by searches, whatever the samples said of them."""
     import numpy
 
@@ -367,7 +369,7 @@ def a_sweep_without_memory_is_left_out():
         assert all(numpy.array_equal(getattr(found, name), getattr(wanted, name)) for name in ("offsets", "places", "weights"))
 
 
-def a_call_of_seconds_hears_ctrl_c():
+def test_a_call_of_seconds_hears_ctrl_c():
     """Each call of the library that may take long is broken off within a second, and what it leaves behind answers on."""
     import hashlib
 
@@ -400,7 +402,7 @@ def a_call_of_seconds_hears_ctrl_c():
             assert (network.table(nodes[:9], nodes[:9]) == wanted).all() and network.near([5], [5]).weights.tolist() == [0], name
 
 
-def a_library_that_gives_nothing_is_no_endless_loop():
+def test_a_library_that_gives_nothing_is_no_endless_loop():
     """One that opens another number of nodes, or gives no row, is not asked on."""
     import numpy
 
@@ -416,7 +418,7 @@ def a_library_that_gives_nothing_is_no_endless_loop():
             setattr(library.Handle, name, own)
 
 
-def what_is_long_hears_ctrl_c():
+def test_what_is_long_hears_ctrl_c():
     """A table and near rows are broken off, long before they would end; the next question is answered."""
     with of_country() as network:
         nodes = list(range(1, network.nodes + 1)) * 8
@@ -428,7 +430,7 @@ def what_is_long_hears_ctrl_c():
             assert took < 3 and network.distances([(5, 5)]).tolist() == [0] and network.near([5], [5]).weights.tolist() == [0], took
 
 
-def time_is_looked_at_between_calls():
+def test_time_is_looked_at_between_calls():
     """By a clock that goes on a second with each look: a question of more calls than it has seconds is broken off, by each kind of call; the next
     one is answered. Other networks have no time."""
     from chtab.engine import child
@@ -448,24 +450,3 @@ def time_is_looked_at_between_calls():
             assert (other.distances(nodes, nodes[::-1]) == wanted).all() and len(other.near(nodes, [1])) == len(nodes)
         finally:
             child.time = clock
-
-
-GROUPS = (
-    (
-        ("python3-numpy",),
-        [
-            *both(
-                nodes_are_whole_numbers, limits_are_exact, what_is_out_of_size_is_taken_or_refused, labels_are_of_any_size,
-                a_graph_that_was_changed_is_not_asked_on,
-            ),
-            a_signal_may_close_what_is_asked, a_question_within_a_question_of_a_run_is_refused, a_question_within_another_spoils_none,
-            threads_share_one_handle, a_child_asks_on_when_its_parent_has_closed, a_lack_of_memory_is_told_and_over,
-            a_fork_within_a_question_takes_no_handle, a_sweep_without_memory_is_left_out, a_library_that_gives_nothing_is_no_endless_loop,
-            what_is_long_hears_ctrl_c, a_call_of_seconds_hears_ctrl_c, time_is_looked_at_between_calls,
-        ],
-    ),
-)
-
-if __name__ == "__main__":
-    running.build()
-    run_checks(GROUPS)

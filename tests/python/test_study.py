@@ -1,8 +1,6 @@
-#!/usr/bin/python3
 """Tests the Python package as a study uses it: units, what no path leads to, lines of arcs, frames of pandas and geopandas, and aggregates.
 
-Expected values are those of scipy, numpy and pandas, or are counted by hand. What needs a package that is missing is told and left out. The last
-line is 'N passed, N failed'.
+Expected values are those of scipy, numpy and pandas, or are counted by hand.
 """
 import datetime
 import fractions
@@ -12,16 +10,15 @@ import subprocess
 import time
 import warnings
 
-# First of all, since it puts the package on the path.
-from helpers import maps  # noqa: F401
+import pytest
 
-from helpers import running
 from helpers.commands import raises, temporary
-from helpers.packages import PYTHON, run_checks
+from helpers.marks import each_way, needs
+from helpers.packages import PYTHON
 from helpers.running import PROGRAM, ROOT
-from helpers.ways import both
 import chtab
 
+pytestmark = [needs("python3-numpy"), pytest.mark.usefixtures("program")]
 # Roads between an inn, a mill, a school and a farm, in minutes, and a house that no road leads to.
 SOURCES, TARGETS, MINUTES = ["inn", "mill", "inn", "school", "house"], ["mill", "school", "farm", "farm", "house"], [2.5, 4, 1.25, 7, 0]
 
@@ -33,7 +30,8 @@ def of_minutes(**more):
 # Units.
 
 
-def answers_are_in_the_unit_of_the_weights():
+@each_way
+def test_answers_are_in_the_unit_of_the_weights():
     """Every call takes limits and gives answers in minutes, and a limit lets through what is just as far."""
     import numpy
 
@@ -52,7 +50,8 @@ def answers_are_in_the_unit_of_the_weights():
         assert network.accessibility({"mill": 10}, 5, ["inn"], decay=lambda minutes: minutes).tolist() == [25.0]
 
 
-def units_are_known_or_told():
+@each_way
+def test_units_are_known_or_told():
     """Files in milliseconds answer in hours and minutes, a scale says what no file says, and raw numbers are those of the file."""
     pathlib.Path("plain.gr").write_text("p sp 2 1\na 1 2 90000\n")
     pathlib.Path("timed.gr").write_text("c Weights are milliseconds.\np sp 2 1\na 1 2 90000\n")
@@ -77,7 +76,7 @@ def units_are_known_or_told():
         assert network.distances([(1, 3)])[0] == 2.5104 and network.rounding < 1e-9
 
 
-def a_limit_lets_through_what_is_just_as_far():
+def test_a_limit_lets_through_what_is_just_as_far():
     """Limits and answers are floats that compare as the arcs did: each distance is within itself, and not within the next float below."""
     import numpy
 
@@ -92,7 +91,8 @@ def a_limit_lets_through_what_is_just_as_far():
             assert abs(fractions.Fraction(weight) * 60_000 - exact) < fractions.Fraction(1, 1_000)
 
 
-def calls_of_the_last_version_go_on():
+@each_way
+def test_calls_of_the_last_version_go_on():
     """A scale without a unit gives whole numbers, as before, and a warning on the caller's line; a unit, or `raw`, gives none."""
     for more, count in (({"scale": 60_000, "unit": None}, 1), ({"scale": 60_000, "unit": None, "raw": True}, 0), ({}, 0), ({"scale": 1_000}, 0)):
         with warnings.catch_warnings(record=True) as caught:
@@ -107,7 +107,9 @@ def calls_of_the_last_version_go_on():
 # What no path leads to.
 
 
-def no_mean_is_over_minus_one():
+@needs("python3-pandas")
+@each_way
+def test_no_mean_is_over_minus_one():
     """A frame has NA where no path leads, so that means and counts are those of the paths; arrays have what is asked for."""
     import numpy
     import pandas
@@ -142,7 +144,7 @@ def placed(**more):
     return of_minutes(**places, **more)
 
 
-def geojson_keeps_each_pair():
+def test_geojson_keeps_each_pair():
     """A pair without a path has a feature without a geometry, at its place, with the properties of all others."""
     with placed() as network:
         routes = network.routes([("inn", "house"), ("farm", "mill"), ("house", "inn")])
@@ -174,7 +176,8 @@ def bent():
     return graph, line
 
 
-def a_simplified_graph_keeps_its_bends():
+@needs("python3-scipy", "python3-shapely", "python3-networkx")
+def test_a_simplified_graph_keeps_its_bends():
     """Routes and snapping follow the lines of edges, of whichever direction these are, and not the chords between crossings."""
     graph, line = bent()
     for case in graph, graph.to_undirected():
@@ -188,7 +191,8 @@ def a_simplified_graph_keeps_its_bends():
             assert 2_300 < trip.weight < 2_400 and trip.line[-1] == (9.52, 47.1)
 
 
-def lines_are_turned_to_their_arcs():
+@needs("python3-scipy", "python3-shapely")
+def test_lines_are_turned_to_their_arcs():
     """Lines that lead from the target to the source are turned round; lists of points, heights and None are taken; others are refused by row."""
     line = [(9.50, 47.10, 400.0), (9.51, 47.12, 410.0), (9.52, 47.10, 420.0)]
     columns, nodes = ([1, 2], [2, 1], [5, 7]), {"nodes": [1, 2], "x": [9.50, 9.52], "y": [47.10, 47.10], "program": PROGRAM}
@@ -210,7 +214,8 @@ def lines_are_turned_to_their_arcs():
     raises(chtab.DataFault, lambda: chtab.Network.from_arrays([1, 2], [2, 3], [1, 1], geometry=[line, None], program=PROGRAM), told="no line leads to the node 3")
 
 
-def geodataframes_go_in_and_out():
+@needs("python3-scipy", "python3-geopandas")
+def test_geodataframes_go_in_and_out():
     """Lines alone, and the two frames of osmnx, make networks; routes, nearness and isochrones come out as frames with labels and shapes."""
     import geopandas
     from shapely.geometry import LineString, Point
@@ -239,7 +244,8 @@ def geodataframes_go_in_and_out():
     assert fault.row == 1
 
 
-def answers_are_shown():
+@needs("python3-scipy", "python3-shapely", "python3-matplotlib")
+def test_answers_are_shown():
     """Maps by matplotlib have a line, polygon or point for each that has a geometry, and tables in notebooks show names as text."""
     import matplotlib
 
@@ -258,7 +264,8 @@ def answers_are_shown():
         assert "&lt;b&gt;a&lt;/b&gt;" in routes._repr_html_() and "b&amp;c" in routes._repr_html_()
 
 
-def maps_to_move():
+@needs("python3-matplotlib", "python3-folium")
+def test_maps_to_move():
     """Maps by folium show names as text."""
     names = ["<script>a</script>", "b"]
     with chtab.Network.from_arrays(names, names[::-1], [1, 2], nodes=names, x=[9.5, 9.6], y=[47.1, 47.2], program=PROGRAM) as network:
@@ -270,7 +277,9 @@ def maps_to_move():
 # Aggregates.
 
 
-def aggregates_are_those_of_numpy():
+@needs("python3-scipy", "python3-pandas")
+@each_way
+def test_aggregates_are_those_of_numpy():
     """Each aggregate, by scipy's distances and numpy's own calls, for random graphs, values, limits, lists with repeated targets, and decays."""
     import numpy
     from scipy.sparse import csr_matrix
@@ -307,7 +316,8 @@ def aggregates_are_those_of_numpy():
             raises(ValueError, lambda: network.accessibility(1, 12, targets=[1], aggregate="mode"), told="aggregate is one of sum, mean")
 
 
-def frames_of_values_make_frames():
+@needs("python3-pandas")
+def test_frames_of_values_make_frames():
     """Columns of a frame are aggregated at once, by the labels of its index, and keep their names."""
     import numpy
     import pandas
@@ -326,7 +336,8 @@ def frames_of_values_make_frames():
 # What callers give, and what they are told.
 
 
-def what_is_common_is_taken():
+@needs("python3-scipy", "python3-pandas")
+def test_what_is_common_is_taken():
     """Ids that are whole floats, tuples, durations, generators, sets and sparse matrices are taken for what they are."""
     import numpy
     import pandas
@@ -353,7 +364,8 @@ def what_is_common_is_taken():
     raises(chtab.DataFault, lambda: chtab.Network.from_sparse(scipy.sparse.csr_matrix((2, 3)), program=PROGRAM), told="as many rows as columns")
 
 
-def errors_name_what_was_given():
+@each_way
+def test_errors_name_what_was_given():
     """Each error names the argument that it is about, and how it is meant."""
     with of_minutes() as network:
         for kind, call, told in (
@@ -368,7 +380,7 @@ def errors_name_what_was_given():
             raises(kind, call, told=told)
 
 
-def how_far_a_call_is():
+def test_how_far_a_call_is():
     """A call that is given is told each block, up to all of them; True writes lines, and False none."""
     from helpers.nearness import small_blocks
 
@@ -381,7 +393,7 @@ def how_far_a_call_is():
 # What is left behind.
 
 
-def a_signal_leaves_no_folder():
+def test_a_signal_leaves_no_folder():
     """A process that SIGTERM or SIGKILL ends leaves no temporary folder, also where processes that were forked from it live on."""
     text = "import os, sys, time; sys.path.insert(0, sys.argv[1]); import chtab\nnetwork = chtab.Network.from_arrays([1], [2], [3], program=sys.argv[2])\n"
     for more in "", "if os.fork() == 0:\n    time.sleep(20); os._exit(0)\n":
@@ -397,25 +409,3 @@ def a_signal_leaves_no_folder():
                         time.sleep(0.05)
                     assert left() == [], (more, number)
                     process.stdout.close()
-
-
-GROUPS = (
-    (
-        ("python3-numpy",),
-        [
-            *both(answers_are_in_the_unit_of_the_weights, units_are_known_or_told, calls_of_the_last_version_go_on, errors_name_what_was_given),
-            a_limit_lets_through_what_is_just_as_far, geojson_keeps_each_pair, how_far_a_call_is, a_signal_leaves_no_folder,
-        ],
-    ),
-    (("python3-numpy", "python3-pandas"), [*both(no_mean_is_over_minus_one), frames_of_values_make_frames]),
-    (("python3-numpy", "python3-scipy", "python3-pandas"), [*both(aggregates_are_those_of_numpy), what_is_common_is_taken]),
-    (("python3-numpy", "python3-scipy", "python3-shapely"), [lines_are_turned_to_their_arcs]),
-    (("python3-numpy", "python3-scipy", "python3-shapely", "python3-networkx"), [a_simplified_graph_keeps_its_bends]),
-    (("python3-numpy", "python3-scipy", "python3-shapely", "python3-matplotlib"), [answers_are_shown]),
-    (("python3-numpy", "python3-scipy", "python3-geopandas"), [geodataframes_go_in_and_out]),
-    (("python3-numpy", "python3-matplotlib", "python3-folium"), [maps_to_move]),
-)
-
-if __name__ == "__main__":
-    running.build()
-    run_checks(GROUPS)

@@ -1,20 +1,15 @@
-#!/usr/bin/python3
-"""Tests trips between places beside roads, and reach, by the Python package and its commands.
-
-What needs a package that is missing is told and left out. The last line is 'N passed, N failed'.
-"""
+"""Tests trips between places beside roads, and reach, by the Python package and its commands."""
 import json
 import math
 import pathlib
 import random
 
-# First of all, since it puts the package on the path.
-from helpers.maps import COUNTRY, random_map
+import pytest
 
-from helpers import running
 from helpers.commands import command, raises
+from helpers.maps import COUNTRY, random_map
+from helpers.marks import needs
 from helpers.moods import STANDIN, asked, mood, noted
-from helpers.packages import run_checks
 from helpers.running import PROGRAM
 from helpers.writing import write_graph
 from oracles import mapping
@@ -22,10 +17,11 @@ import chtab
 from chtab import files
 from chtab.engine import blocks
 
+pytestmark = [needs("python3-numpy", "python3-scipy", "python3-shapely"), pytest.mark.usefixtures("program")]
 VADUZ, MALBUN, RUGGELL = (9.5209, 47.1410), (9.6079, 47.1020), (9.5280, 47.2390)
 
 
-def trips_are_exact_between_places_on_roads():
+def test_trips_are_exact_between_places_on_roads():
     """Places beside roads: trips on the graph of crossings with its bends against those on the graph of all bends, by a search of this
     script over both ends of each road."""
     import numpy
@@ -58,7 +54,7 @@ def trips_are_exact_between_places_on_roads():
     assert (found[0] >= 0).all() and (errors < 5).mean() >= 0.99, sorted(errors)[-10:]
 
 
-def places_on_one_road_and_past_it():
+def test_places_on_one_road_and_past_it():
     """A one-way road and one of both directions, by hand; places that are too far away, or swapped, are refused."""
     degree = 1 / 111_195
     write_graph("road.gr", 3, [(1, 2, 1000), (2, 3, 1000), (3, 2, 3000)])
@@ -77,7 +73,7 @@ def places_on_one_road_and_past_it():
         assert network.snap([0.0], [0.02], 3_000).metres.round().tolist() == [2224]
 
 
-def reach_is_where_its_nodes_are():
+def test_reach_is_where_its_nodes_are():
     """Polygons of reach have all nodes that are reached, but for their smoothed corners, and few of the others."""
     import numpy
     from shapely.geometry import MultiPoint, Point, shape
@@ -113,7 +109,7 @@ def metres_of(places, others):
     return 2 * 6_371_008.8 * math.asin(math.sqrt(math.sin((v - y) / 2) ** 2 + math.cos(y) * math.cos(v) * math.sin((u - x) / 2) ** 2))
 
 
-def lines_in_arrays_are_those_of_the_file():
+def test_lines_in_arrays_are_those_of_the_file():
     """The pieces of all arcs with their parts, which are made at once, against each arc by itself."""
     graph, coordinates, bends = crossings()
     with chtab.Network.open("crossings.gr", program=PROGRAM, load=False) as network:
@@ -134,7 +130,7 @@ def lines_in_arrays_are_those_of_the_file():
             assert all(abs(a - b) < 1e-6 for a, b in zip(part, wanted)), (arc, part, wanted)
 
 
-def places_are_taken_to_the_nearest_road():
+def test_places_are_taken_to_the_nearest_road():
     """Places near roads and far from them, against a search through all pieces of all roads."""
     import numpy
 
@@ -161,7 +157,7 @@ def places_are_taken_to_the_nearest_road():
         assert abs(metres - least) < 0.01 + 1e-6 * least, (x, y, metres, least)
 
 
-def routes_follow_the_bends_of_their_roads():
+def test_routes_follow_the_bends_of_their_roads():
     """Routes between nodes as GeoJSON, against the lines of their arcs one after the other; and without a file of bends from node to node."""
     import numpy
 
@@ -189,7 +185,7 @@ def routes_follow_the_bends_of_their_roads():
         assert len(feature["geometry"]["coordinates"]) == len(network.routes(pairs[:1])[0].nodes)
 
 
-def a_graph_that_was_changed_is_told():
+def test_a_graph_that_was_changed_is_told():
     """The lines of a route are not drawn by the roads of another graph."""
     crossings()
     with chtab.Network.open("crossings.gr", program=PROGRAM) as network:
@@ -199,7 +195,7 @@ def a_graph_that_was_changed_is_told():
         raises(chtab.ChtabError, routes.to_geojson, told="has changed since it was opened")
 
 
-def what_is_no_place_is_refused():
+def test_what_is_no_place_is_refused():
     """NaN, degrees out of range, places that are too far, and two spots where reach begins at one."""
     nan, north = float("nan"), [47.1410]
     with chtab.Network.open(f"{COUNTRY}.gr", program=PROGRAM) as network:
@@ -220,7 +216,7 @@ def what_is_no_place_is_refused():
         raises(ValueError, network.isochrones, spots[:0], [1000], told="one spot, not at 0")
 
 
-def reach_within_a_limit_leaves_out_nothing():
+def test_reach_within_a_limit_leaves_out_nothing():
     """Nodes that lie too far to be reached aren't asked for; the others are all that a search without a limit finds. Also where a road takes
     no time, and where a node has no place."""
     import numpy
@@ -249,7 +245,7 @@ def reach_within_a_limit_leaves_out_nothing():
         same(network, VADUZ, (0, 60_000, 300_000))
 
 
-def commands_tell_trips_and_reach():
+def test_commands_tell_trips_and_reach():
     """The commands `trips` and `reach` write what the package finds, and refuse what lies nowhere near."""
     places = "9.5209 47.1410 Vaduz\n9.6079 47.1020 Malbun\n9.5280 47.2390 Ruggell\n9.5020 47.0660\n"
     words = "--program", PROGRAM, COUNTRY
@@ -276,7 +272,7 @@ def commands_tell_trips_and_reach():
     assert "no place" in command("reach", "--limits", 1000, *words, status=1)
 
 
-def trips_between_roads_with_turns():
+def test_trips_between_roads_with_turns():
     """Places beside roads and at crossings of random maps with restricted turns: each trip is the best of the search from arc to arc."""
     draw, compared, longer = random.Random("places and turns"), 0, 0
     for _ in range(360):
@@ -294,7 +290,7 @@ def trips_between_roads_with_turns():
     assert compared > 2_000 and longer > 100, (compared, longer)
 
 
-def commands_know_graphs_with_turns():
+def test_commands_know_graphs_with_turns():
     """Trips and reach on the example with its restriction of turns, which is far from these places, are those without it."""
     places, told = "9.5209 47.1410 Vaduz\n9.6079 47.1020 Malbun\n9.5280 47.2390 Ruggell\n9.5020 47.0660 Balzers\n", []
     for words in [], ["--turns"]:
@@ -353,7 +349,7 @@ def same_trips(network, spots, ways, found, never):
     return len(pairs), longer
 
 
-def reach_of_more_nodes_than_a_table_has():
+def test_reach_of_more_nodes_than_a_table_has():
     """A road of 70,000 nodes: one run answers two blocks, and those within a limit."""
     degree = 1 / 111_195
     write_graph("long.gr", 70_000, [(node, node + 1, 1) for node in range(1, 70_000)])
@@ -366,20 +362,3 @@ def reach_of_more_nodes_than_a_table_has():
         east = max(place[0] for part in feature["geometry"]["coordinates"] for place in part[0])
         assert 69_000 * degree <= east <= 69_800 * degree, east / degree
         assert asked() == [""], noted()
-
-
-GROUPS = (
-    (
-        ("python3-numpy", "python3-scipy", "python3-shapely"),
-        [
-            trips_are_exact_between_places_on_roads, places_on_one_road_and_past_it, reach_is_where_its_nodes_are, commands_tell_trips_and_reach,
-            lines_in_arrays_are_those_of_the_file, places_are_taken_to_the_nearest_road, routes_follow_the_bends_of_their_roads,
-            a_graph_that_was_changed_is_told, what_is_no_place_is_refused, reach_within_a_limit_leaves_out_nothing,
-            trips_between_roads_with_turns, commands_know_graphs_with_turns, reach_of_more_nodes_than_a_table_has,
-        ],
-    ),
-)
-
-if __name__ == "__main__":
-    running.build()
-    run_checks(GROUPS)

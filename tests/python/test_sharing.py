@@ -1,9 +1,7 @@
-#!/usr/bin/python3
 """Tests that a network may be shared: by threads, by processes of each way to start them, and by pickle; that what breaks a question off
 leaves no answer for the next one; and that a network which is no longer used leaves no run behind.
 
-Each answer is compared with scipy's own search. What needs a package that is missing is told and left out. The last line is
-'N passed, N failed'.
+Each answer is compared with scipy's own search.
 """
 import concurrent.futures
 import contextlib
@@ -21,18 +19,18 @@ import threading
 import time
 import traceback
 
-# First of all, since it puts the package on the path.
-from helpers.maps import COUNTRY
+import pytest
 
-from helpers import running
 from helpers.commands import raises
+from helpers.maps import COUNTRY
+from helpers.marks import each_way, needs
 from helpers.moods import STANDIN, asked, lives_on, living, mood
-from helpers.packages import PYTHON, run_checks
+from helpers.packages import PYTHON
 from helpers.running import PROGRAM, ROOT
-from helpers.ways import both
 import chtab
 from chtab import files
 
+pytestmark = [needs("python3-numpy", "python3-scipy"), pytest.mark.usefixtures("program")]
 FIRST = ROOT / "examples" / "first.gr"
 GRAPH = f"{COUNTRY}.gr"
 # Tables of each way to share, in parts of so many; the seconds after which a way has hung.
@@ -98,7 +96,8 @@ def same_by_pool(call, words, context):
         assert sum(found) == 0 and sum(each.result() for each in here) == 0, found
 
 
-def forked_pools_ask_the_network_of_their_parent():
+@each_way
+def test_forked_pools_ask_the_network_of_their_parent():
     """The network was asked before the pool was made, so its run is there when processes are forked."""
     with network_of_country() as network:
         assert wrong_tables(network, 0) == 0
@@ -106,13 +105,15 @@ def forked_pools_ask_the_network_of_their_parent():
         assert wrong_tables(network, 1) == 0
 
 
-def pools_of_each_way_unpickle_it():
+@each_way
+def test_pools_of_each_way_unpickle_it():
     with network_of_country() as network:
         for way in WAYS:
             same_by_pool(wrong_tables, [(network, seed) for seed in seeds()], multiprocessing.get_context(way))
 
 
-def both_executors():
+@each_way
+def test_both_executors():
     with network_of_country() as network:
         with concurrent.futures.ThreadPoolExecutor(8) as pool:
             assert sum(pool.map(wrong_tables, [network] * len(seeds()), seeds(), timeout=PATIENCE)) == 0
@@ -140,7 +141,8 @@ def forked(work):
     return ended[1] == 0
 
 
-def processes_are_forked_while_threads_ask():
+@each_way
+def test_processes_are_forked_while_threads_ask():
     """A process is forked at any time, also one of a process that was forked; a run of the parent is neither asked nor ended there."""
     with network_of_country() as network, concurrent.futures.ThreadPoolExecutor(4) as threads:
         asking = [threads.submit(wrong_tables, network, seed, 250) for seed in range(4)]
@@ -149,7 +151,7 @@ def processes_are_forked_while_threads_ask():
         assert [each.result() for each in asking] == [0] * 4
 
 
-def a_fork_holds_no_lock_and_no_pipe():
+def test_a_fork_holds_no_lock_and_no_pipe():
     """A process is forked while a thread waits for an answer: it asks at once, has none of its parent's pipes, and ends none of its runs."""
     with mood("slow=1"), chtab.Network.open(FIRST, program=STANDIN) as network:
         held = {os.readlink(f"/proc/self/fd/{stream.fileno()}") for run in network._engine.runs.values() for stream in pipes_of(run)}
@@ -171,7 +173,7 @@ def pipes_of(run):
     return run.child.requests, run.child.answered
 
 
-def a_forked_process_ends_as_any_other():
+def test_a_forked_process_ends_as_any_other():
     """What runs at the end of the interpreter leaves the parent's run alone."""
     text = "import os, sys; sys.path.insert(0, sys.argv[1]); import chtab\n"
     text += "network = chtab.Network.open(sys.argv[2], program=sys.argv[3])\n"
@@ -182,7 +184,7 @@ def a_forked_process_ends_as_any_other():
         assert (done.stdout, done.stderr) == ("[[9]]\n", "") and asked() == [""], (done, asked())
 
 
-def tasks_of_a_process_share_a_run():
+def test_tasks_of_a_process_share_a_run():
     """A pool that pickles the network with each task begins one run a process."""
     with mood(), chtab.Network.open(FIRST, program=STANDIN, load=False) as network:
         with multiprocessing.get_context("spawn").Pool(1) as pool:
@@ -216,7 +218,8 @@ class Stopped(BaseException):
     """A thread is ended from outside."""
 
 
-def what_is_broken_off_leaves_no_answer():
+@each_way
+def test_what_is_broken_off_leaves_no_answer():
     """Ctrl-C at any time, and threads that are ended from outside: the next question gets its own answer, and none hangs."""
     def alarm(number, frame):
         raise KeyboardInterrupt
@@ -253,7 +256,7 @@ def children():
     return count
 
 
-def another_answer_is_found_out():
+def test_another_answer_is_found_out():
     """A run that answers a table of other targets first: its number is not returned, and the run is ended."""
     with mood("doubles=1"), chtab.Network.open(FIRST, program=STANDIN) as network:
         raises(chtab.ProgramFault, network.table, [1], [3], told="not asked")
@@ -262,7 +265,8 @@ def another_answer_is_found_out():
         raises(chtab.ProgramFault, network.routes, [(1, 3)], told="not asked")
 
 
-def errors_and_answers_are_pickled():
+@each_way
+def test_errors_and_answers_are_pickled():
     for fault in (
         chtab.ChtabError("a"), chtab.FileFault("b"), chtab.ProgramFault("c", -11), chtab.TimedOut("d"), chtab.TooFar("e", {3: 1500.0}),
     ):
@@ -273,7 +277,7 @@ def errors_and_answers_are_pickled():
         assert routes[0].nodes == [1, 2, 3]
 
 
-def faults_come_back_from_a_pool():
+def test_faults_come_back_from_a_pool():
     """A fault of the program in a process of a pool is the caller's fault, and hangs nothing."""
     with mood("stops=1"), chtab.Network.open(FIRST, program=STANDIN, load=False) as network:
         with multiprocessing.get_context("fork").Pool(1) as pool:
@@ -285,7 +289,7 @@ def descriptors():
     return len(os.listdir("/proc/self/fd"))
 
 
-def what_is_dropped_is_ended():
+def test_what_is_dropped_is_ended():
     """Twenty networks are opened and dropped: no run is left and no descriptor, also of those that gave routes that are kept."""
     with mood():
         gc.collect()
@@ -302,7 +306,7 @@ def what_is_dropped_is_ended():
         assert lives_on(0)
 
 
-def the_end_of_the_interpreter_ends_all():
+def test_the_end_of_the_interpreter_ends_all():
     """A script that closes nothing, one that fails, and one that a signal ends leave no run behind."""
     text = "import os, sys; sys.path.insert(0, sys.argv[1]); import chtab\n"
     text += "network = chtab.Network.open(sys.argv[2], program=sys.argv[3])\nprint(network.table([1], [3])[0, 0])\n"
@@ -311,22 +315,3 @@ def the_end_of_the_interpreter_ends_all():
             done = subprocess.run([PYTHON, "-uc", text + end, ROOT / "python", FIRST, STANDIN], capture_output=True, text=True, timeout=PATIENCE)
             assert (done.returncode, done.stdout) == (status, "9\n"), done
             assert lives_on(0), (end, living())
-
-
-GROUPS = (
-    (
-        ("python3-numpy", "python3-scipy"),
-        [
-            *both(
-                forked_pools_ask_the_network_of_their_parent, pools_of_each_way_unpickle_it, both_executors, processes_are_forked_while_threads_ask,
-                what_is_broken_off_leaves_no_answer, errors_and_answers_are_pickled,
-            ),
-            a_fork_holds_no_lock_and_no_pipe, a_forked_process_ends_as_any_other, tasks_of_a_process_share_a_run, another_answer_is_found_out,
-            faults_come_back_from_a_pool, what_is_dropped_is_ended, the_end_of_the_interpreter_ends_all,
-        ],
-    ),
-)
-
-if __name__ == "__main__":
-    running.build()
-    run_checks(GROUPS)

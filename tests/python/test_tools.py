@@ -1,25 +1,21 @@
-#!/usr/bin/python3
-"""Tests the tools of tools/ on small files, with no package installed; where pyosmium, scipy or Dask is there, with it too.
-
-The last line is 'N passed, N failed'.
-"""
-import importlib.util
+"""Tests the tools of tools/ on small files, with no package installed; where pyosmium, scipy or Dask is there, with it too."""
 import json
 import math
 import os
 import pathlib
 import random
 import subprocess
-import sys
-import tempfile
 import xml.etree.ElementTree
 
-ROOT = pathlib.Path(__file__).resolve().parent.parent
-# Debian's Python, in which Debian's packages are.
-PYTHON = "/usr/bin/python3"
-PROGRAM = ROOT / "crates" / "chtab" / "out" / "chtab"
+import pytest
+
+from helpers.maps import COUNTRY
+from helpers.marks import needs
+from helpers.packages import PYTHON
+from helpers.running import PROGRAM, ROOT
+
+pytestmark = pytest.mark.usefixtures("program")
 VILLAGE = ROOT / "tests" / "data" / "village.osm"
-COUNTRY = ROOT / "examples" / "liechtenstein"
 
 
 def run(*command, text="", status=0, **more):
@@ -54,7 +50,7 @@ def village():
     tool("osm_to_gr", "--quiet", VILLAGE, "roads")
 
 
-def nearest_nodes():
+def test_nearest_nodes():
     nodes = [tuple(map(int, line.split()[1:])) for line in open(f"{COUNTRY}.co") if line.startswith("v")]
     draw = random.Random("two hundred places")
     places = [(draw.uniform(9.4, 9.7), draw.uniform(47.0, 47.3)) for _ in range(200)]
@@ -87,7 +83,7 @@ def nearest_nodes():
         assert fault.startswith("nearest: Vaduz is 5,467,4") and fault.count("\n") == 1, fault
 
 
-def answers_to_geojson_and_csv():
+def test_answers_to_geojson_and_csv():
     village()
     pathlib.Path("trips.p2p").write_text("p aux sp p2p 3\nq 1 5\nq 5 1\nq 2 2\n")
     text = run(PROGRAM, "dist", "--routes", "roads.gr", "trips.p2p")
@@ -122,7 +118,7 @@ def paths_of(svg):
     return [(path.get("stroke"), path.get("d")) for path in root.iter("{http://www.w3.org/2000/svg}path")]
 
 
-def pictures():
+def test_pictures():
     village()
     network = paths_of(tool("picture", "network", "roads"))
     assert len(network) == 2
@@ -181,15 +177,20 @@ def titles_names_and_shared_roads():
     assert max(shared) > widths["#1f6fb4"] == min(shared), (shared, widths)
 
 
-def tables_in_blocks():
+@pytest.fixture
+def lists():
+    """The graph of the country, and lists of 9 sources and 14 targets."""
     draw = random.Random("blocks")
-    sources, targets = ([draw.randint(1, 3000) for _ in range(count)] for count in (9, 14))
-    write_list("from.ss", sources)
-    write_list("to.ss", targets)
-    graph = f"{COUNTRY}.gr"
-    whole = run(PROGRAM, "table", graph, "from.ss", "to.ss")
+    for name, count in ("from.ss", 9), ("to.ss", 14):
+        write_list(name, [draw.randint(1, 3000) for _ in range(count)])
+    return f"{COUNTRY}.gr", "from.ss", "to.ss"
+
+
+def test_tables_in_blocks(lists):
+    graph = lists[0]
+    whole = run(PROGRAM, "table", *lists)
     words = ["--program", PROGRAM, "--processes", "2", "--side", "4"]
-    assert tool("blocks", *words, graph, "from.ss", "to.ss", "table.csv") == "9 by 14 cells in table.csv, from 12 blocks\n"
+    assert tool("blocks", *words, *lists, "table.csv") == "9 by 14 cells in table.csv, from 12 blocks\n"
     assert pathlib.Path("table.csv").read_text() == tool("to_geojson", "table", "to.ss", text=whole)
     blocks_by_saved_hierarchies(graph)
     write_list("all.ss", [3, 1, 2])
@@ -201,11 +202,7 @@ def tables_in_blocks():
     fault = tool("blocks", *words, graph, "from.ss", "far.ss", "far.csv", status=1)
     assert "targets 5 to 6: status 1" in fault and "node out of range" in fault, fault
     assert not [name for name in os.listdir() if "far.csv" in name]
-    lists = [graph, "from.ss", "to.ss"]
     assert "python3-distributed" in tool("blocks", "--scheduler", "none", *words, *lists, "o.csv", status=1, env=without("distributed"))
-    if importlib.util.find_spec("distributed"):
-        a_worker_is_lost(graph, pathlib.Path("table.csv").read_text())
-        no_worker_comes(lists)
 
 
 def blocks_by_saved_hierarchies(graph):
@@ -241,7 +238,8 @@ def blocks_by_saved_hierarchies(graph):
         assert f"No such file or directory: '{os.getcwd()}/none." in fault and fault.count("\n") == 1, fault
 
 
-def a_worker_is_lost(graph, wanted):
+@needs("python3-distributed")
+def test_a_worker_is_lost(lists):
     """Of three workers of a local cluster one is ended in mid-run: its block is done again."""
     import distributed
 
@@ -250,17 +248,18 @@ def a_worker_is_lost(graph, wanted):
     program.chmod(0o755)
     with distributed.LocalCluster(n_workers=3, threads_per_worker=1, dashboard_address=None) as cluster:
         words = ["--scheduler", cluster.scheduler_address, "--program", program.resolve(), "--side", "4"]
-        blocks = [PYTHON, ROOT / "tools" / "blocks.py", *words, graph, "from.ss", "to.ss", "by-dask.csv"]
+        blocks = [PYTHON, ROOT / "tools" / "blocks.py", *words, *lists, "by-dask.csv"]
         running = subprocess.Popen([str(word) for word in blocks], stdout=subprocess.PIPE, stderr=subprocess.PIPE)
         while not pathlib.Path("workers").exists() or not pathlib.Path("workers").read_text().strip():
             assert running.poll() is None, running.communicate()
         os.kill(int(pathlib.Path("workers").read_text().split()[0]), 9)
         told = running.communicate(timeout=300)
     assert running.returncode == 0, told
-    assert pathlib.Path("by-dask.csv").read_text() == wanted
+    assert pathlib.Path("by-dask.csv").read_text() == tool("to_geojson", "table", "to.ss", text=run(PROGRAM, "table", *lists))
 
 
-def no_worker_comes(lists):
+@needs("python3-distributed")
+def test_no_worker_comes(lists):
     """A scheduler without workers is told."""
     import distributed
 
@@ -269,28 +268,7 @@ def no_worker_comes(lists):
     assert "has no worker, after 10 seconds" in told and told.count("\n") == 1, told
 
 
-def help_is_there():
+def test_help_is_there():
     for path in sorted((ROOT / "tools").glob("*.py")):
         text = tool(path.stem, "--help")
         assert "Example:" in text and len(path.read_text().splitlines()) < 250, path.name
-
-
-def main():
-    subprocess.run([ROOT / "chtab", "--help"], stdout=subprocess.DEVNULL, check=True)
-    checks = [nearest_nodes, answers_to_geojson_and_csv, pictures, tables_in_blocks, help_is_there]
-    failed = 0
-    for check in checks:
-        with tempfile.TemporaryDirectory() as folder:
-            os.chdir(folder)
-            try:
-                check()
-            except Exception as fault:
-                failed += 1
-                print(f"failed: {check.__name__}: {type(fault).__name__} {fault}")
-            os.chdir(ROOT)
-    print(f"{len(checks) - failed} passed, {failed} failed")
-    sys.exit(failed > 0)
-
-
-if __name__ == "__main__":
-    main()

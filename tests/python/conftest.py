@@ -1,0 +1,88 @@
+"""What all tests of Python share: the built program, the library for C, random graphs, the folder and the packages of a test, and the last line.
+
+The last line is 'N passed, N failed', as of each other part of ./check. A test that broke down outside of its own code has failed; one that
+was left out counts as neither, and its reason is printed above.
+"""
+import functools
+import os
+import signal
+import subprocess
+import tempfile
+
+import pytest
+
+from helpers import columns, in_process, packages, running
+
+
+@pytest.fixture(scope="module")
+def program():
+    """The path of the built program, which is built first where that is needed."""
+    if subprocess.run([running.ROOT / "chtab", "--help"], stdout=subprocess.DEVNULL).returncode:
+        pytest.fail("the program could not be built", pytrace=False)
+    return running.PROGRAM
+
+
+@pytest.fixture(scope="module")
+def library(program):
+    """The path of the library for C, which is made first where that is needed."""
+    return in_process.make()
+
+
+@pytest.fixture(params=["program", "library"])
+def way(request):
+    """How the networks of a test are asked that are opened with the built program: by runs of it, or by the library for C."""
+    if request.param == "program":
+        yield request.param
+        return
+    from helpers import ways
+
+    with ways.by_library():
+        yield request.param
+
+
+@pytest.fixture
+def random_graphs():
+    """A call that draws so many small graphs: for each its seed, the source of randomness, the arcs in three columns (`tails`, `heads`,
+    `weights`) of nodes from 0 on, labels of the nodes, and all distances by scipy, -1 where there is no walk."""
+    return columns.random_graphs
+
+
+@pytest.fixture(autouse=True)
+def folder():
+    """A test runs in an empty folder of its own, which goes with it."""
+    with tempfile.TemporaryDirectory() as path:
+        os.chdir(path)
+        yield path
+        os.chdir(running.ROOT)
+
+
+@functools.cache
+def missing(*names):
+    return packages.missing(*names)
+
+
+def pytest_runtest_setup(item):
+    """Leaves out a test whose packages are missing, after they were installed where that may be done."""
+    wanted = sorted({name for mark in item.iter_markers("needs") for name in mark.args})
+    if lacking := missing(*wanted):
+        pytest.skip(f"{item.name} needs {', '.join(lacking)}")
+
+
+class LastLine:
+    """Prints the last line, below pytest's own summary."""
+
+    def __init__(self, config):
+        self.config = config
+
+    @pytest.hookimpl(hookwrapper=True, tryfirst=True)
+    def pytest_sessionfinish(self):
+        yield
+        reporter = self.config.pluginmanager.get_plugin("terminalreporter")
+        passed, *failed = (len(reporter.getreports(kind)) for kind in ("passed", "failed", "error"))
+        reporter.write_line(f"{passed} passed, {sum(failed)} failed")
+
+
+def pytest_configure(config):
+    config.pluginmanager.register(LastLine(config))
+    # What tests start hears Ctrl-C also where this process was started in the background, which has it ignored.
+    signal.signal(signal.SIGINT, signal.default_int_handler)
