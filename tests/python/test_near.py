@@ -164,7 +164,7 @@ def test_sums_take_values_in_each_form():
             ([1, math.nan], {"targets": ["a", "b"]}, "values", 1, "nan is no value"), ([1.0], {"targets": ["a", "b"]}, "values", None, "1 rows, and there are 2 targets"),
             ([1, 2], {}, "values", None, "2 rows, and there are 3 nodes"), ([1, math.inf, 2], {}, "values", 1, "inf is no value"),
             ([1, None, 2], {}, "values", 1, "there is none"), (["1", "2", "3"], {}, "values", 0, "neither an integer nor a float"),
-            (numpy.ones((3, 1)), {}, "values", None, "shape (3, 1)"), ({"x": 1.0}, {}, "targets", 0, "no node has the label 'x'"),
+            (numpy.ones((3, 1, 1)), {}, "values", None, "shape (3, 1, 1)"), ({"x": 1.0}, {}, "targets", 0, "no node has the label 'x'"),
             (numpy.ma.array([1, 2, 3], mask=[0, 0, 1]), {}, "values", 2, "is masked"),
         ):
             fault = raises(chtab.DataFault, lambda: network.sum_within(values, 5, **more), told=told)
