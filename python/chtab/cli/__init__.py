@@ -51,7 +51,7 @@ class Parser(argparse.ArgumentParser):
 
 
 class Formatter(argparse.RawDescriptionHelpFormatter):
-    """Help as it stands in a text, with headings as the program chtab has them, from which manual pages are made."""
+    """Help as a text has it, with headings as the program chtab has them, from which manual pages are made."""
 
     def add_usage(self, usage, actions, groups, prefix=None):
         """The forms of the words, below the heading Usage."""
@@ -78,7 +78,7 @@ def parser_of(name, about):
 
 
 def documents():
-    """What stands before the name of a document: the folder where it was installed along with the package, and else its folder of a checkout."""
+    """What comes before the name of a document: the folder where it was installed along with the package, and else its folder of a checkout."""
     package = os.path.dirname(os.path.dirname(os.path.realpath(__file__)))
     folder = os.path.abspath(os.path.join(package, "../../../../share/doc/chtab/docs"))
     return f"{folder}/" if os.path.isdir(folder) else "docs/"

@@ -16,7 +16,7 @@ LACKING = "the program chtab is neither beside this package nor beside the scrip
 def program_of(path=None):
     """The path of the program.
 
-    It is looked for in this order: the one that was named; that of the checkout or of the installation that the package stands in; the one
+    It is looked for in this order: the one that was named; that of the checkout or of the installation that the package is in; the one
     that was installed along with the package, by pip or by Debian; the one beside the script that runs; `chtab` on the path.
 
     Parameters

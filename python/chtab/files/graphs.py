@@ -152,7 +152,7 @@ def write_graph(target, nodes, arcs, comments=(), scale=None):
     arcs : list of (from, to, weight)
         The arcs, all of whole numbers: nodes from 1 on, and weights from 0 on.
     comments : list of str
-        Lines that stand first, such as `Weights are milliseconds.`, which names the unit.
+        The first lines, such as `Weights are milliseconds.`, which names the unit.
     scale : number, optional
         Weights are multiplied by this and rounded to whole numbers, and a comment says so: 1000 makes milliseconds of seconds.
 
@@ -199,7 +199,7 @@ def write_graph_columns(target, nodes, columns_of_arcs, comments=()):
     columns_of_arcs : three arrays of int64, shape (m,)
         Tails, heads and weights.
     comments : list of str
-        Lines that stand first.
+        The first lines.
 
     Raises
     ------
@@ -279,7 +279,7 @@ def write_coordinates(target, places, comments=(), ends=(), copies=()):
     places : list of (float, float), n of them
         Longitudes and latitudes of nodes 1, 2, .. in degrees; they are rounded to millionths.
     comments : list of str
-        Lines that stand first.
+        The first lines.
     ends : list of (int, int)
         Pairs of nodes as `Coordinates.ends` gives them.
     copies : list of (int, int)
@@ -308,7 +308,7 @@ def write_coordinate_columns(target, columns_of_places, comments=()):
     columns_of_places : two arrays of int64, shape (n,)
         Longitudes and latitudes of nodes 1, 2, .. in millionths of a degree.
     comments : list of str
-        Lines that stand first.
+        The first lines.
 
     Raises
     ------
@@ -357,7 +357,7 @@ def write_bends(target, bends, comments=()):
     bends : dict of int to list of (float, float)
         As `read_bends` gives them.
     comments : list of str
-        Lines that stand first.
+        The first lines.
 
     Raises
     ------

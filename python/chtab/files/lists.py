@@ -103,7 +103,7 @@ def write_queries(target, pairs, notes=None):
     pairs : list of (int, int)
         Pairs of nodes from 1 on.
     notes : list of list of str, optional
-        For each the comments that stand before it.
+        For each the comments before it.
 
     Raises
     ------
@@ -148,7 +148,7 @@ def write_list(target, nodes, notes=None):
     nodes : list of int
         Nodes from 1 on.
     notes : list of str, optional
-        For each a comment that stands before it, or None.
+        For each the comment before it, or None.
 
     Raises
     ------
@@ -183,7 +183,7 @@ def write_list_column(target, nodes):
 
 
 def read_places(source):
-    """Reads places: longitude, latitude and a name a line. Empty lines, and those that begin with #, are left out.
+    """Reads places: longitude, latitude and a name a line. Empty lines, and those that start with #, are left out.
 
     Parameters
     ----------

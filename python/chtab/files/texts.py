@@ -170,7 +170,7 @@ def write_csv(target, targets, rows):
     target : path or open file
         Where it goes to.
     targets : list of int
-        The targets, which stand in the first line.
+        The targets, which the first line names.
     rows : list of (int, list)
         A source and its cells each; None makes an empty cell.
 
@@ -186,7 +186,7 @@ def write_csv(target, targets, rows):
 
 
 def read_row_texts(source, width):
-    """Reads the rows of a text of `chtab table` as they stand there, in a part of the time that their numbers take.
+    """Reads the rows of a text of `chtab table` as texts, in a part of the time that their numbers take.
 
     Parameters
     ----------

@@ -81,7 +81,7 @@ class Builder:
         self.missing = set()
 
     def node_at(self, number, longitude, latitude):
-        """The network's node where a piece of road begins or ends: at a barrier always a new one."""
+        """The network's node where a piece of road starts or ends: at a barrier always a new one."""
         node = self.nodes.get(number)
         if node is None:
             node = self.network.add_node(number, (longitude, latitude))
@@ -124,7 +124,7 @@ class Builder:
             network.add_piece(tail, head, (along, against), road, bends)
 
     def ends_of(self, nodes):
-        """Where the pieces of a run of nodes begin and end."""
+        """Where the pieces of a run of nodes start and end."""
         last = len(nodes) - 1
         return range(last + 1) if self.cuts is None else [0, *[at for at in range(1, last) if nodes[at] in self.cuts], last]
 

@@ -60,7 +60,7 @@ def uncollected():
 @uncollected()
 def convert(path, choices, is_told=False, is_logged=False):
     """Reads a map (`-` is standard input); what comes of it, and the report of what was left out, with its objects where they are wanted.
-    An empty map is a fault. How far it is stands on standard error now and then, where that is wanted."""
+    An empty map is a fault. Standard error gets lines on how far it is, where these are wanted."""
     profile, report = profiles.profile(choices.profile), Report(is_logged)
     survey = Survey(profile, report, choices.ferries, choices.names)
     reading.read_map(path, survey, is_told)

@@ -1,6 +1,6 @@
 """The forms of map files, known by their first bytes: XML of OpenStreetMap, plain or packed by gzip, bzip2 or xz, and .osm.pbf.
 
-A file is read twice: first its ways and relations, then the nodes that roads use. A fault of the file is told in one line.
+A file is read twice: first its ways and relations, then the nodes that roads use. A fault of the file is one line.
 """
 import bz2
 import contextlib

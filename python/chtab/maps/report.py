@@ -40,7 +40,7 @@ class Report:
         self.log = [] if is_logged else None
 
     def note(self, kind, words, thing=None, number=None, count=1):
-        """Counts what is told of a `thing` of the map, `way`, `node` or `relation`, by its number there."""
+        """Counts a note on a `thing` of the map, `way`, `node` or `relation`, by its number there."""
         self.counts[kind][words] += count
         if self.log is not None and thing is not None:
             self.log.append((thing, number, kind, words))

@@ -31,7 +31,7 @@ def one_limit(word):
 
 
 def limit_of(tags, side, notes):
-    """The limit of a way in one direction, `forward` or `backward`, in kilometres an hour; None where no number is told.
+    """The limit of a way in one direction, `forward` or `backward`, in kilometres an hour; None where there is no number.
 
     The least of a list is taken. What can't be read is noted, and says nothing.
     """

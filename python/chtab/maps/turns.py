@@ -1,7 +1,7 @@
 """Nodes split so that forbidden turns are no walks.
 
 At a node where turns are forbidden each arc in from which one is forbidden gets a copy of the node to lead to, which has the arcs out that
-are open from there. All other arcs in lead to the node itself, which has all arcs out: there trips begin. Trips end at one more copy, the
+are open from there. All other arcs in lead to the node itself, which has all arcs out: there trips start. Trips end at one more copy, the
 node's end, to which these arcs in lead too, and from the node itself an arc of weight 0, and which nothing leaves. One node can't be both:
 what ends there could go on by any arc out.
 """

@@ -132,7 +132,7 @@ class Survey:
         return None if self.streets is None else self.streets.add(way)
 
     def add_way(self, number, rule, nodes, longitudes=(), latitudes=(), streets=None):
-        """A road through these nodes, at these places where they are known by now; a node that follows on itself stands once."""
+        """A road through these nodes, at these places where they are known by now; a node that follows on itself is there once."""
         if any(map(operator.eq, nodes, nodes[1:])):
             is_kept = [True, *map(operator.ne, nodes, nodes[1:])]
             nodes, longitudes, latitudes = (list(itertools.compress(part, is_kept)) for part in (nodes, longitudes, latitudes))

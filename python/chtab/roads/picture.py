@@ -15,7 +15,7 @@ WIDE, WIDER, WIDTHS = 3, 3, 5
 
 
 class Network:
-    """The graph's arcs and unit, and where its nodes stand in a drawing whose longer side has `size` pixels."""
+    """The graph's arcs and unit, and the places of its nodes in a drawing whose longer side has `size` pixels."""
 
     def __init__(self, graph, coordinates, size):
         self.graph = graph
@@ -38,7 +38,7 @@ class Network:
         }
 
     def at(self, node):
-        """Where a node stands."""
+        """The place of a node."""
         if node not in self.places:
             raise files.FileFault(f"the coordinate file has no node {node}")
         return self.places[node]
