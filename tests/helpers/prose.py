@@ -6,6 +6,8 @@ from helpers.running import ROOT
 MOST_LINES, MOST_COLUMNS, MOST_WORDS = 5, 100, 30
 # The mean number of words of a page's sentences, and how many sentences in a row may not all be short.
 MEAN, SHORT, RUN = (13, 21), 9, 3
+# What a sentence ends with; a phrase of a list has no such end.
+ENDS = ".", "?", "!", ":", ")", "*"
 # What scripts write into a page, between two marks.
 WRITTEN = re.compile(r"<!-- What stands from here.*?<!-- End of what.*?-->", re.DOTALL)
 CODE = re.compile(r"`([^`]+)`")
@@ -13,8 +15,8 @@ CODE = re.compile(r"`([^`]+)`")
 HARD = r"as ever|of whose|(?:is|are|was|were|be|been|being) told|whoever|hence|thus|thereby|signs? of life"
 # Words that the field has others for: arguments, CPU time, wall time, synthetic, components, workspace, 'is', 'start'.
 FOREIGN = (
-    r"words of the (?:command )?line|processor (?:time|seconds)|\w*(?:seconds|minutes) of processors?|by the clock|made[- ]up|hangs? (?:apart|together)"
-    r"|(?:a|its|the|one|clean|each) rooms? of|stands?(?! for\b)(?!-)|stood|beg(?:in|ins|an|un)"
+    r"words of the (?:command )?line|processor (?:time|seconds)|\w*(?:seconds|minutes) of processors?|by the clock|made[- ]up"
+    r"|hangs? (?:apart|together)|(?:a|its|the|one|clean|each) rooms? of|stands?(?! for\b)(?!-)|stood|beg(?:in|ins|an|un)"
 )
 PLAIN, FIELD = (re.compile(rf"\b(?:{words})\b", re.IGNORECASE) for words in (HARD, f"{HARD}|{FOREIGN}"))
 # In pages for users a hierarchy has edges, and a graph has paths; *walk* is named where its definition is meant.
@@ -74,7 +76,7 @@ def check_layout(tally, page):
 
 def check_rhythm(tally, page):
     """Sentences are neither short throughout nor long, and three in a row are not all short. A phrase of a list is no sentence."""
-    counts = [[count(sentence) for sentence in sentences(paragraph) if sentence.endswith((".", "?", "!", ":", ")", "*"))] for paragraph in paragraphs(page)]
+    counts = [[count(sentence) for sentence in sentences(paragraph) if sentence.endswith(ENDS)] for paragraph in paragraphs(page)]
     every = [words for paragraph in counts for words in paragraph]
     mean = sum(every) / max(1, len(every))
     tally.expect(MEAN[0] <= mean <= MEAN[1], f"{page.relative_to(ROOT)}: sentences have {mean:.1f} words in the mean")
