@@ -45,7 +45,7 @@ def words_of(words):
     )
     parser.add_argument(
         "--part", type=part_of, default="largest", metavar="{largest,all,N}",
-        help="keep the largest part whose nodes all reach each other, or all parts, or the N-th by size (largest)",
+        help="keep the largest strongly connected component, or all of them, or the N-th by size (largest)",
     )
     parser.add_argument("--no-ferries", action="store_false", dest="ferries", help="leave ferries out")
     parser.add_argument("--bends", action="store_true", help="write OUT.bends, to draw roads with their bends")
