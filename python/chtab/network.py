@@ -51,7 +51,7 @@ class Network(FromArcs, BetweenNodes, BetweenPlaces, Accessibility):
         self._measure = self._layers.measure
         self.nodes = files.count_nodes(opened.setting.graph)
         layers = self._layers
-        self._engine = choosing.engine_of(opened.setting, opened.library, lambda: layers.graph)
+        self._engine = choosing.engine_of(opened.setting, opened.library, lambda: layers.arcs)
         self._near = near_of(self._engine)
         self._queries = NodeQueries(self._engine, self._near)
         self._trips = Trips(self._queries, self._layers)
@@ -92,16 +92,16 @@ class Network(FromArcs, BetweenNodes, BetweenPlaces, Accessibility):
         load : bool
             Whether the graph is read now, as it is where this is not given. Without it the first question does so.
         routes : bool
-            Whether the run that is loaded tells routes too. It answers everything, but many distances more slowly.
+            This has no effect: each run answers routes. It is taken because version 1.1 had runs that did not.
         runs : int
-            The most runs that are kept at once, from 1 on; 1 where it is not given. Each of them holds the network in memory. One run answers
-            everything: the first route ends a run that tells no routes, and begins one that does. With more there is one for distances and
-            tables, one for routes, and one for tables within limits up to each power of two, whose searches end at the limit.
+            The most runs that are kept at once, from 1 on; 1 where it is not given. Each of them holds the network in memory, and answers
+            everything. A further one is begun where several threads ask at a time.
         library : "auto", bool or path
             Whether the library for C answers in this process, and no run of the program: sooner, above all one question at a time. It has one
-            worker. "auto", as it is where this is not given: where it fits, `saved` is given, `timeout` is not, and `libchtab.so.1` stands
-            beside the program. True, or the path of the library: it answers, or an error says why it can't. Without `saved` it builds the
-            hierarchy, and nothing can break that off. False: a run of the program, in a process apart, which can be ended at any time.
+            worker. "auto", as it is where this is not given: where `libchtab.so.1` is beside the program, and `workers` and `timeout` are not
+            given. True, or the path of the library: it answers, or an error says why it can't. Without `saved` it builds the hierarchy by depth.
+            Ctrl-C breaks off the wait for a long call, which then ends by itself. False: a run of the program, in a process apart, which can be
+            ended at any time. `answers_by` says who answers.
 
         Returns
         -------
@@ -133,7 +133,7 @@ class Network(FromArcs, BetweenNodes, BetweenPlaces, Accessibility):
 
     def _load(self, running: opening.Running) -> None:
         if running.load:
-            self._engine.load(running.routes)
+            self._engine.load()
 
     def __reduce__(self):
         return reopened, (self._opened,)

@@ -64,7 +64,7 @@ def pass_on(lines, run):
         if words[0] == b"q" and words[1] == words[2]:
             run.stdin.write(line)
             continue
-        if words[0] in (b"q", b"t"):
+        if words[0] in (b"q", b"r", b"t"):
             count += 1
             is_kept = misbehave(count, run)
         if not is_kept:

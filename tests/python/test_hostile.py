@@ -122,7 +122,7 @@ def test_what_is_out_of_size_is_taken_or_refused():
                     assert rows_told(near) == rows_told(network.near(None, ["c", "b", "c"])) and near.offsets.dtype == numpy.int64, (count, length)
         raises(MemoryError, lambda: network.nearest_of(["a"], ["b"], 2**50))
         assert network.nearest_of(["a"], ["b"], 1).weights.tolist() == [[4]]
-        for masked in numpy.ma.masked, numpy.ma.array(5, mask=True), None, "5", True, 5j, float("nan"), numpy.float64("inf"):
+        for masked in numpy.ma.masked, numpy.ma.array(5, mask=True), None, "5", 5j, float("nan"), numpy.float64("inf"):
             for targets in (None, ["b"]):
                 raises(chtab.DataFault, network.sum_within, masked, 5, None, targets, told="values")
         for value in 2, 2.0, numpy.int8(2), numpy.float32(2), numpy.array(2), numpy.array(2.0, ">f4"), numpy.uint64(2):

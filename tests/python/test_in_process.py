@@ -450,8 +450,7 @@ def test_it_is_taken_where_it_fits():
         assert is_by_library(chtab.Network.from_arrays([1, 2], [2, 3], [4, 5], program=program)), program
         assert not is_by_library(chtab.Network.open(FIRST, saved=FIRST_SAVED, program=program, timeout=5))
         assert is_by_library(chtab.Network.open(FIRST, saved=FIRST_SAVED, program=program, timeout=5, library=True))
-        assert not is_by_library(chtab.Network.open(FIRST, program=program))
-        assert is_by_library(chtab.Network.open(FIRST, program=program, library=True))
+        assert is_by_library(chtab.Network.open(FIRST, program=program)) and is_by_library(chtab.Network.open(FIRST, program=program, library=True))
         two = {"saved": FIRST_SAVED, "workers": 2, "program": program}
         assert not is_by_library(chtab.Network.open(FIRST, **two))
         raises(chtab.ChtabError, lambda: chtab.Network.open(FIRST, **two, library=True), told="workers")

@@ -1,4 +1,5 @@
 """Tests the Python package: files, networks over the built program and over one that fails, blocks, and installing."""
+import concurrent.futures
 import inspect
 import os
 import pathlib
@@ -227,46 +228,26 @@ def test_a_program_that_fails_is_told_and_gone():
 
 @needs("python3-numpy")
 def test_one_run_answers_all():
-    """The run that is there answers. Only the first route ends one that tells no routes, and only another question one for a limit."""
-    def every_answer(network):
-        assert network.distances([(1, 3)]).tolist() == [9] and network.table([1], [2, 3]).tolist() == [[4, 9]]
-        assert [network.table([1], [2, 3], within).tolist() for within in (5, 7, 8, 9)] == [[[4, -1]]] * 3 + [[[4, 9]]]
-
-    with mood(), chtab.Network.open(FIRST, program=STANDIN) as network:
-        every_answer(network)
-        assert asked() == [""] and lives_on(2), noted()
-        for _ in range(2):
-            assert network.routes([(1, 3), (3, 1)])[0].nodes == [1, 2, 3]
-            every_answer(network)
-            assert network.distances([(1, 3), (3, 1), (2, 2)]).tolist() == [9, -1, 0]
-        assert asked() == ["", "--routes"] and lives_on(2), noted()
+    """The run that is there answers each kind of question, within each limit, and none is begun for another."""
     with mood(), chtab.Network.open(FIRST, program=STANDIN, load=False) as network:
-        assert network.table([1], [2, 3], 8).tolist() == [[4, -1]] and asked()[2:] == ["--within 8"], noted()
-        assert network.table([1], [2, 3], 9).tolist() == [[4, 9]] and network.table([1], [2, 3], 8).tolist() == [[4, -1]]
-        assert asked()[3:] == [""] and lives_on(2), noted()
-    with mood(), chtab.Network.open(FIRST, program=STANDIN, routes=True) as network:
-        every_answer(network)
-        assert network.routes([(1, 3)])[0].nodes == [1, 2, 3] and asked()[4:] == ["--routes"], noted()
+        for _ in range(2):
+            assert network.table([1], [2, 3], 8).tolist() == [[4, -1]] and network.table([1], [2, 3], 9).tolist() == [[4, 9]]
+            assert network.distances([(1, 3)]).tolist() == [9] and network.table([1], [2, 3]).tolist() == [[4, 9]]
+            assert [network.table([1], [2, 3], within).tolist() for within in (5, 7, 8, 9)] == [[[4, -1]]] * 3 + [[[4, 9]]]
+            assert network.routes([(1, 3), (3, 1)])[0].nodes == [1, 2, 3]
+            assert network.distances([(1, 3), (3, 1), (2, 2)]).tolist() == [9, -1, 0]
+        assert asked() == [""] and lives_on(2), noted()
 
 
 @needs("python3-numpy")
 def test_more_runs_where_they_are_wanted():
-    """One for distances and tables, one for routes and one for limits up to a power of two; where there are as many as may be, those that are
-    there answer."""
-    with mood(), chtab.Network.open(FIRST, program=STANDIN, runs=4) as network:
-        for _ in range(2):
-            assert network.distances([(1, 3)]).tolist() == [9] and network.table([1], [2, 3]).tolist() == [[4, 9]]
-            assert network.routes([(1, 3)])[0].nodes == [1, 2, 3]
-            assert [network.table([1], [2, 3], within).tolist() for within in (5, 7, 8)] == [[[4, -1]]] * 3
-            assert network.table([1], [2, 3], 9).tolist() == [[4, 9]]
-        assert asked() == ["", "--routes", "--within 8", "--within 16"] and lives_on(8), noted()
-        assert network.table([1], [2], 0).tolist() == [[-1]] and network.table([1], [2], 100).tolist() == [[4]]
-        assert len(asked()) == 4 and lives_on(8), noted()
-    with mood(), chtab.Network.open(FIRST, program=STANDIN, runs=2) as network:
-        assert network.table([1], [2, 3], 8).tolist() == [[4, -1]] and network.routes([(1, 3)])[0].nodes == [1, 2, 3]
-        assert asked()[4:] == ["", "--within 8", "--routes"] and lives_on(4), noted()
-        assert network.distances([(1, 3)]).tolist() == [9] and network.table([1], [2, 3], 16).tolist() == [[4, 9]]
-        assert len(asked()) == 7 and lives_on(4), noted()
+    """A further run is begun where the others are asked by other threads, up to as many as may be; then one of these is waited for."""
+    with mood("slow=0.3"), chtab.Network.open(FIRST, program=STANDIN, runs=3) as network:
+        assert network.distances([(1, 3)]).tolist() == [9] and network.routes([(1, 3)])[0].nodes == [1, 2, 3]
+        assert asked() == [""] and lives_on(2), noted()
+        with concurrent.futures.ThreadPoolExecutor(6) as threads:
+            found = list(threads.map(lambda _: network.distances([(1, 3), (3, 1)]).tolist(), range(12)))
+        assert found == [[9, -1]] * 12 and 2 <= len(asked()) <= 3 and lives_on(2 * len(asked())), noted()
     raises(ValueError, lambda: chtab.Network.open(FIRST, program=PROGRAM, runs=0), told="at least one")
 
 
@@ -277,11 +258,10 @@ def test_answers_are_matched_whole():
 
     pairs = numpy.array([[1, 3], [3, 1]])
     cases = (
-        (answers.Distances(pairs, False), b"d 1 3 9\nd 3 1 -\n", (
+        (answers.Distances(pairs), b"d 1 3 9\nd 3 1 -\n", (
             b"", b"d 1 3 9\n", b"d 3 1 -\nd 1 3 9\n", b"d 1 3 9\nd 3 2 -\n", b"d 1 3 9\nd 3 1 x\n", b"d 1 3 9\nd 3 1 5-3\n",
             b"d 1 3 9\nd 3 1 -\nd 1 1 0\n", b"d 1 3 9 d 3 1 -\n", b"d 1 3 9\nd 3 1 " + b"9" * 20 + b"\n",
         )),
-        (answers.Distances(pairs, True), b"d 1 3 9\nr 1\na 1 3 9\nd 3 1 -\n", (b"d 1 3 9\nd 3 1 -\n", b"d 1 3 9\nr 1\na 1 3 9\nt 3 1 -\n")),
         (answers.Table([1, 3], [2, 3]), b"t 1 4 9\nt 3 - 0\n", (
             b"t 1 4 9\n", b"t 3 - 0\nt 1 4 9\n", b"t 1 4\nt 3 - 0\n", b"t 1 4 9 9\nt 3 - 0\n", b"t 1 4 9\nt 31 - 0\n", b"t 1 4  9\nt 3 - 0\n",
             b"t 1 4 9-\nt 3 - 0\n", b"t 1 4 9\nt 3 - 0\nt 3 - 0\n", b"t 1 4 9\nt 3 - 0", b"t 1 4 9 t 3 - 0\n",

@@ -112,9 +112,9 @@ def main(words):
     metrics = Metrics(words.processes)
     sys.setswitchinterval(TURN)
     more = {"program": words.program, "workers": words.workers, "timeout": words.timeout, "load": words.processes == 1}
-    with Network.open(words.out + ".gr", words.saved, routes=True, library=chosen(words), **more) as network:
+    with Network.open(words.out + ".gr", words.saved, library=chosen(words), **more) as network:
         def service(row):
-            network._engine.load(with_routes=True)
+            network._engine.load()
             return Service(network, title, places, words.tiles, limits, words.cors, words.profile, words.proxy, metrics, row)
 
         if words.processes == 1:

@@ -48,10 +48,10 @@ class Guard(NamedTuple):
     answer: bytes
 
 
-def guard(nodes, has_routes):
-    """A guard at one of the nodes from 1 to `nodes`, for a run that tells routes or one that doesn't."""
+def guard(nodes):
+    """A guard at one of the nodes from 1 to `nodes`."""
     node = 1 + secrets.randbelow(nodes)
-    return Guard(b"q %d %d\n" % (node, node), b"d %d %d 0\n" % (node, node) + b"r 0\n" * has_routes)
+    return Guard(b"q %d %d\n" % (node, node), b"d %d %d 0\n" % (node, node))
 
 
 class Answer:
@@ -63,13 +63,11 @@ class Answer:
         What is asked.
     nodes : int
         How many nodes the graph of the run has, at least 1.
-    has_routes : bool
-        Whether the run tells a route after each distance.
     """
 
-    def __init__(self, question, nodes, has_routes):
+    def __init__(self, question, nodes):
         self.question, self.text = question, bytearray()
-        before, behind = (guard(nodes, has_routes) for _ in range(2))
+        before, behind = guard(nodes), guard(nodes)
         self.request = before.request + question.request + behind.request
         self.before, self.behind = before.answer, behind.answer
         self.lacks = question.count + (self.before + self.behind).count(question.mark)
@@ -96,22 +94,22 @@ class Answer:
         return self.question.value_of(bytes(self.text[len(self.before):-len(self.behind)]))
 
 
-def query_lines(pairs):
-    return "".join([f"q {start} {end}\n" for start, end in pairs]).encode()
+def request_lines(kind, pairs):
+    """A request of a kind for each pair: `q` for a distance, `r` for a route."""
+    return "".join([f"{kind} {start} {end}\n" for start, end in pairs]).encode()
 
 
 class Distances(Question):
-    """Asks for the distances of pairs of nodes, an array (n, 2) of int64, of a run that tells routes or one that doesn't. The value is
-    their weights, int64 (n,), -1 where there is no walk."""
+    """Asks for the distances of pairs of nodes, an array (n, 2) of int64. The value is their weights, int64 (n,), -1 where there is no walk."""
 
-    def __init__(self, pairs, has_routes):
-        super().__init__(query_lines(pairs.tolist()), b"d" if has_routes else b"\n", len(pairs))
-        self.pairs, self.has_routes = pairs, has_routes
+    def __init__(self, pairs):
+        super().__init__(request_lines("q", pairs.tolist()), b"\n", len(pairs))
+        self.pairs = pairs
 
     def value_of(self, text):
-        if not (ROUTES if self.has_routes else DISTANCES).fullmatch(text):
+        if not DISTANCES.fullmatch(text):
             raise unasked()
-        rows = numbers(b"".join(re.findall(rb"^d .*\n", text, re.MULTILINE)) if self.has_routes else text, 3)
+        rows = numbers(text, 3)
         if rows.shape[0] != len(self.pairs) or (rows[:, :2] != self.pairs).any():
             raise unasked()
         return rows[:, 2]
@@ -122,7 +120,7 @@ class Routes(Question):
 
     def __init__(self, pairs):
         self.pairs = list(pairs)
-        super().__init__(query_lines(self.pairs), b"d", len(self.pairs))
+        super().__init__(request_lines("r", self.pairs), b"d", len(self.pairs))
 
     def value_of(self, text):
         if not ROUTES.fullmatch(text):
@@ -161,12 +159,13 @@ def route_at(words, at):
 
 
 class Table(Question):
-    """Asks for a table, of a run whose tables leave out what is above the limit. The value is its text: a row for each source."""
+    """Asks for a table, which leaves out what is above the limit. The value is its text: a row for each source."""
 
     def __init__(self, sources, targets, limit=None):
         self.sources, self.width, self.limit = list(sources), len(targets), limit
         nodes = "".join([f"s {node}\n" for part in (self.sources, targets) for node in part])
-        super().__init__(f"t {len(self.sources)} {self.width}\n{nodes}".encode(), b"\n", len(self.sources))
+        own = "" if limit is None else f" {limit}"
+        super().__init__(f"t {len(self.sources)} {self.width}{own}\n{nodes}".encode(), b"\n", len(self.sources))
 
     def value_of(self, text):
         if not ROWS.fullmatch(text) or text.count(b"\n") != len(self.sources):
@@ -180,7 +179,7 @@ class Table(Question):
 
 
 class Tables(Question):
-    """Asks for several small tables, each a pair of lists of nodes, of a run without a limit. The value is all their cells in one column,
+    """Asks for several small tables, each a pair of lists of nodes. The value is all their cells in one column,
     int64, row after row, -1 where there is no walk."""
 
     def __init__(self, parts):

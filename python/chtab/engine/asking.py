@@ -11,17 +11,10 @@ from chtab.engine.child import Child, see_to
 from chtab.engine.stamps import Stamps
 from chtab.errors import ChtabError, ProgramFault
 
-# The options of a run that answers distances and tables, and of one that answers routes too.
-PLAIN, ROUTES = (), ("--routes",)
 # Queries that are sent together: for distances, and for routes, which are as long as they have arcs.
 MANY, FEW = 1 << 16, 1 << 10
 CLOSED = "the network is closed"
 WITHIN = "this thread has asked a question that is not answered yet"
-
-
-def within_options(limit):
-    """The options of a run whose tables leave out what is above the limit."""
-    return "--within", str(limit)
 
 
 @dataclass(frozen=True)
@@ -52,9 +45,9 @@ class Setting:
     runs: int = 1
     within: int | None = None
 
-    def command(self, options):
+    def command(self):
         """The words of a run that answers requests."""
-        return [self.program, "ask", "--deep", *options, *self.words(), self.graph]
+        return [self.program, "ask", "--deep", *self.words(), self.graph]
 
     def near_command(self, options, lists):
         """The words of a run that tells near rows of the nodes in these files."""
@@ -71,26 +64,15 @@ class Setting:
 
 
 class Run:
-    """A place for one child at a time, of one kind: whoever holds the lock asks it.
+    """A place for one child at a time: whoever holds the lock asks it.
 
     The child is begun by the first question. One whose exchange was broken off is ended before the next question, and another is begun.
     """
 
-    def __init__(self, engine, options, before):
+    def __init__(self, engine):
         self.setting, self.nodes, self.stamps, self.tally = engine.setting, engine.nodes, engine.stamps, engine.tally
-        self.options, self.before = options, before
         # The thread that holds the lock may come again: the handler of a signal asks, or closes, in the middle of a question.
-        self.lock, self.is_held, self.child = threading.RLock(), False, None
-        # Whether it made way for another, and whether it was ended at once.
-        self.is_over, self.is_killed = False, False
-
-    @property
-    def has_routes(self):
-        return self.options == ROUTES
-
-    def limit(self):
-        """What its tables leave out is above this; None where they leave out nothing."""
-        return int(self.options[1]) if self.options[:1] == ("--within",) else None
+        self.lock, self.is_held, self.child, self.is_killed = threading.RLock(), False, None, False
 
     @contextlib.contextmanager
     def held(self):
@@ -116,12 +98,9 @@ class Run:
         return None if question is None else self.child.ask(question, deadlines.current(self.setting.timeout))
 
     def begin(self):
-        """Begins a child, when those that made way for it have ended."""
-        while self.before:
-            self.before[-1].end()
-            self.before.pop()
+        """Begins a child."""
         self.stamps.see_that_same()
-        self.child = Child(self.setting.command(self.options), self.nodes, self.has_routes)
+        self.child = Child(self.setting.command(), self.nodes)
         self.tally["begun"] += 1
         if self.is_killed:
             self.child.close()
@@ -133,14 +112,11 @@ class Run:
         child = self.child
         if child is not None:
             child.kill()
-        for run in self.before:
-            run.kill()
 
     def end(self):
-        """Ends the child, as soon as it has answered what is under way."""
-        self.is_over = True
+        """Ends the child that was killed, once the question that is under way has failed."""
         with self.lock:
-            # A question of this thread itself ends the child that is killed.
+            # A question of this thread itself ends it.
             if self.child is not None and not self.is_held:
                 self.child.close()
 
@@ -148,10 +124,9 @@ class Run:
 class Engine:
     """Answers, each matched to its question. Calls may come from several threads, and from processes that were forked.
 
-    A run is begun by the first question that needs it. It loads the network then, which no time is counted for, and is kept. No more than
-    `setting.runs` are kept. While there is room each kind of question gets a run that is made for it. After that those that are there
-    answer, and only a question that none of them can answer ends the one that was not asked for longest. A run that fails is ended; the
-    question that it failed is told why, and the next one begins another run.
+    A run is begun by the first question that needs it. It loads the network then, which no time is counted for, and is kept. Each run answers all
+    questions. Another one is begun where those that are there are asked by other threads, but no more than `setting.runs` in all. A run that fails
+    is ended; the question that it failed is told why, and the next one begins another run.
 
     A run belongs to the process that began it. A process that was forked begins runs of its own, and leaves those of its parent alone.
     """
@@ -168,93 +143,65 @@ class Engine:
 
     def leave_parent(self):
         """Begins with no run, and with a lock that nobody holds: in a process that was forked too."""
-        self.lock, self.runs = threading.RLock(), {}
+        self.lock, self.runs = threading.RLock(), []
         self.owner, self.tally = os.getpid(), collections.Counter()
 
-    def load(self, with_routes=False):
+    def load(self):
         """Begins a run, so that a file that is refused is told now. Of a graph without nodes nothing can be asked."""
         if self.nodes:
-            self.ask([ROUTES if with_routes else self.tabled(None)], lambda run: None)
+            self.ask(None)
 
     def distances(self, pairs):
         """The distances of pairs of nodes, an array (n, 2): int64 (n,), -1 where there is no walk."""
-        return self.ask([PLAIN, ROUTES], lambda run: answers.Distances(pairs, run.has_routes))
-
-    def distances_together(self):
-        """How many distances are best asked for together: fewer where the run that is there tells a route after each."""
-        return FEW if ROUTES in self.runs and PLAIN not in self.runs else MANY
+        return self.ask(answers.Distances(pairs))
 
     def routes(self, pairs):
         """The routes of pairs of nodes, as a list of `files.Answer`."""
-        return self.ask([ROUTES], lambda run: answers.Routes(pairs))
+        return self.ask(answers.Routes(pairs))
 
     def walks(self, pairs):
         """The same, of pairs in an array (n, 2), as `walks.Walks`."""
         from chtab.engine.walks import WalkQuestion
 
-        return self.ask([ROUTES], lambda run: WalkQuestion(pairs))
+        return self.ask(WalkQuestion(pairs))
 
     def table(self, sources, targets, within=None):
-        """What `chtab table` writes for these lists of nodes, with the engine's limit.
-
-        With `within` it may leave out cells of more than that, and the caller leaves out the others.
-        """
-        kinds = [self.tabled(within), self.tabled(None), ROUTES] if self.setting.within is None else [self.tabled(None)]
-        return self.ask(kinds, lambda run: answers.Table(sources, targets, run.limit()))
+        """What `chtab table` writes for these lists of nodes, with this limit or that of the setting."""
+        return self.ask(answers.Table(sources, targets, self.setting.within if within is None else within))
 
     def cells(self, sources, targets, within=None):
         """The numbers of the same, of nodes in columns: int64 (k, l), -1 where there is no walk or a cell is left out."""
         return answers.numbers(self.table(sources.tolist(), targets.tolist(), within), 1 + len(targets))[:, 1:]
 
     def tables(self, parts):
-        """The cells of several small tables, pairs of lists of nodes, in one column. A run that tells routes is asked first, because routes are
-        what callers ask for next."""
-        return self.ask([ROUTES, PLAIN], lambda run: answers.Tables(parts))
+        """The cells of several small tables, pairs of lists of nodes, in one column."""
+        return self.ask(answers.Tables(parts))
 
-    def tabled(self, within):
-        """The options of a run that is made for tables within a limit, or for others."""
-        limit = self.setting.within if within is None else within
-        return PLAIN if limit is None else within_options(limit)
-
-    def ask(self, kinds, question_for):
-        """The value of the answer to the question for a run of one of these kinds, the one that is made for it first."""
+    def ask(self, question):
+        """The value of the answer to a question."""
         if self.owner != os.getpid():
             self.leave_parent()
-        while True:
-            run = self.run_of(kinds)
-            with run.held():
+        run = self.run_for_question()
+        with run.held():
+            if run.is_killed:
+                raise ChtabError(CLOSED)
+            try:
+                return run.ask(question)
+            except ProgramFault:
                 if run.is_killed:
-                    raise ChtabError(CLOSED)
-                if run.is_over:
-                    continue
-                try:
-                    return run.ask(question_for(run))
-                except ProgramFault:
-                    if run.is_killed:
-                        raise ChtabError(CLOSED) from None
-                    raise
+                    raise ChtabError(CLOSED) from None
+                raise
 
-    def run_of(self, kinds):
-        """The run for a question of these kinds."""
+    def run_for_question(self):
+        """A run that nobody asks, or a new one, or the one that was chosen longest ago."""
         with self.lock:
             if self.is_closed:
                 raise ChtabError(CLOSED)
-            has_room = len(self.runs) < self.setting.runs
-            kind = next((kind for kind in (kinds[:1] if has_room else kinds) if kind in self.runs), None)
-            if kind is not None:
-                run = self.runs.pop(kind)
-            else:
-                # Without room a run for tables of any limit is begun, not one for this limit: two limits would take turns.
-                kind = kinds[0] if has_room or len(kinds) < 3 else kinds[1]
-                run = Run(self, kind, [] if has_room else [self.retired()])
-            self.runs[kind] = run
+            place = next((place for place, run in enumerate(self.runs) if not run.is_held), 0)
+            is_new = not self.runs or self.runs[place].is_held and len(self.runs) < self.setting.runs
+            run = Run(self) if is_new else self.runs.pop(place)
+            self.runs.append(run)
             return run
-
-    def retired(self):
-        """The run that was not asked for longest, which makes way for another."""
-        run = self.runs.pop(next(iter(self.runs)))
-        run.is_over = True
-        return run
 
     @property
     def begun(self):
@@ -263,7 +210,7 @@ class Engine:
 
     def living(self):
         """How many runs have a program that answers."""
-        children = [run.child for run in list(self.runs.values())]
+        children = [run.child for run in list(self.runs)]
         return sum(child is not None and child.is_open and child.process.poll() is None for child in children)
 
     def close(self):
@@ -272,7 +219,7 @@ class Engine:
             self.leave_parent()
         with self.lock:
             self.is_closed = True
-            runs, self.runs = [*self.runs.values()], {}
+            runs, self.runs = self.runs, []
         for run in runs:
             run.kill()
             run.end()

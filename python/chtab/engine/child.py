@@ -113,12 +113,10 @@ class Child:
         The words of the run.
     nodes : int
         How many nodes its graph has, at least 1.
-    has_routes : bool
-        Whether it tells a route after each distance.
     """
 
-    def __init__(self, command, nodes, has_routes):
-        self.nodes, self.has_routes = nodes, has_routes
+    def __init__(self, command, nodes):
+        self.nodes = nodes
         # A run whose exchange was broken off anywhere is busy, and can't be asked again.
         self.is_open, self.is_loaded, self.is_busy = True, False, False
         with forks.STEADY:
@@ -143,7 +141,7 @@ class Child:
         """The value of the answer to a question, which has to be there in time. Whatever goes wrong ends the run."""
         self.is_busy = True
         try:
-            answer = answers.Answer(question, self.nodes, self.has_routes)
+            answer = answers.Answer(question, self.nodes)
             self.exchange(answer, deadline)
             value = answer.value()
         except BaseException:

@@ -7,7 +7,7 @@ from chtab.errors import ChtabError
 AUTO = "auto"
 
 
-def engine_of(setting, choice, graph):
+def engine_of(setting, choice, arcs):
     """The engine of a setting: the library in this process where it is chosen and fits, and else runs of the program.
 
     Parameters
@@ -15,17 +15,17 @@ def engine_of(setting, choice, graph):
     setting : asking.Setting
         The files, and how the program would run.
     choice : bool or str
-        True, or the path of the library: the library, and an error where it doesn't fit. False: the program. "auto": the library where it fits,
-        no time is set, and a saved hierarchy is given. Only a run can be ended at once, also while it builds.
-    graph : call
-        What `files.read_graph` gives of the graph, when it is first needed.
+        True, or the path of the library: the library, and an error where it doesn't fit. False: the program. "auto": the library where it fits
+        and no time is set, because only a run can be ended at once.
+    arcs : call
+        The `walks.ArcIndex` of the graph, when it is first needed.
     """
-    if choice is False or choice == AUTO and (setting.timeout is not None or setting.saved is None):
+    if choice is False or choice == AUTO and setting.timeout is not None:
         return asking.Engine(setting)
     path = library.beside(setting.program) if choice in (AUTO, True) else choice
     lack = lack_of(setting, path)
     if lack is None:
-        return InProcess(setting, library.loaded(path), graph)
+        return InProcess(setting, library.loaded(path), arcs)
     if choice == AUTO:
         return asking.Engine(setting)
     raise ChtabError(f"the library can't answer: {lack}")

@@ -8,7 +8,7 @@ import weakref
 import numpy
 
 from chtab import files
-from chtab.engine import asking, deadlines, forks, library
+from chtab.engine import deadlines, forks, library
 from chtab.engine.interruptible import LONG, interruptible
 from chtab.engine.walks import Walks
 from chtab.errors import ChtabError, ProgramFault, unasked
@@ -16,6 +16,8 @@ from chtab.errors import ChtabError, ProgramFault, unasked
 # What one call of the library answers at most: distances, and targets of a table. So few calls take more than a second, none more than some
 # seconds, and time is looked at between them.
 TOGETHER, WIDTH = 1 << 13, 1 << 13
+# The most routes that one call gives, and the nodes of routes for which there is room at first.
+ROUTES, ROOM = 1 << 11, 1 << 16
 # What frees the places of a handle: none are kept in place of them.
 NO_PLACES = numpy.zeros(0, numpy.uint32)
 
@@ -51,11 +53,11 @@ class InProcess:
     A process that was forked opens the network anew with its first question, and leaves the handles of its parent alone.
     """
 
-    def __init__(self, setting, calls, graph):
+    def __init__(self, setting, calls, arcs):
         for path in files_of(setting):
             open(path, "rb").close()
-        self.setting, self.calls, self.graph, self.stamps = setting, calls, graph, setting.stamps()
-        self.nodes, self.is_closed, self.arcs = files.count_nodes(setting.graph), False, None
+        self.setting, self.calls, self.arcs, self.stamps = setting, calls, arcs, setting.stamps()
+        self.nodes, self.is_closed, self.room = files.count_nodes(setting.graph), False, ROOM
         self.leave_parent()
         forks.follow(self)
 
@@ -67,7 +69,7 @@ class InProcess:
 
     # Handles.
 
-    def load(self, with_routes=False):
+    def load(self):
         """Opens the network, so that a file that is refused is told now."""
         if self.owner != os.getpid():
             self.leave_parent()
@@ -179,9 +181,9 @@ class InProcess:
         self.of_thread.deadline.milliseconds()
         return interruptible(searches, call, *words)
 
-    def distances_together(self):
-        """How many distances are best asked for together."""
-        return asking.MANY
+    def few_distances(self, sources, targets):
+        """The distances of at most `library.FEW` pairs of nodes from 1 to `nodes`, two lists; None where they have to be asked for by arrays."""
+        return self.handle().few_distances([node - 1 for node in sources], [node - 1 for node in targets])
 
     @timed
     def distances(self, pairs):
@@ -206,60 +208,48 @@ class InProcess:
         pairs = [(source, target) for sources, targets in parts for source in sources for target in targets]
         return self.distances(numpy.array(pairs, numpy.int64).reshape(-1, 2))
 
-    @timed
     def routes(self, pairs):
         """The routes of pairs of nodes, as a list of `files.Answer`."""
-        found = []
-        for source, target in pairs:
-            if not (0 < source <= self.nodes and 0 < target <= self.nodes):
-                raise ValueError(f"a node is not from 1 to {self.nodes:,}")
-            weight, nodes = self.call(1, self.handle().route, source - 1, target - 1)
-            if weight < 0:
-                found.append(files.Answer(source, target, None, None, None))
-                continue
-            weights = self.arc_weights(nodes[:-1], nodes[1:])
-            if weights.sum() != weight:
-                raise self.changed()
-            found.append(files.Answer(source, target, weight, (nodes + 1).tolist(), weights.tolist()))
-        return found
+        found = self.walks(numpy.array(pairs, numpy.int64).reshape(-1, 2))
+        firsts, heads, weights = found.firsts.tolist(), found.heads.tolist(), found.arc_weights.tolist()
+        return [
+            files.Answer(source, target, None, None, None) if weight < 0
+            else files.Answer(source, target, weight, [source, *heads[first:last]], weights[first:last])
+            for (source, target), weight, first, last in zip(pairs, found.weights.tolist(), firsts, firsts[1:])
+        ]
 
     @timed
     def walks(self, pairs):
         """The same, of pairs in an array (n, 2), as `walks.Walks`."""
-        pairs = library.nodes_of(pairs, self.nodes).tolist()
-        found = [self.call(1, self.handle().route, source, target) for source, target in pairs]
-        weights = numpy.array([weight for weight, _ in found], numpy.int64)
-        counts = [max(len(nodes) - 1, 0) for _, nodes in found]
-        nothing = numpy.zeros(0, numpy.int64)
-        tails, heads = (numpy.concatenate([nothing, *(nodes[part] for _, nodes in found)]) for part in (slice(-1), slice(1, None)))
-        firsts = numpy.append(0, numpy.cumsum(counts, dtype=numpy.int64))
-        walks = Walks(weights, firsts, tails + 1, heads + 1, self.arc_weights(tails, heads))
+        sources, targets = library.nodes_of(pairs, self.nodes).T.copy()
+        found, start = [], 0
+        while start < len(sources):
+            some = slice(start, start + ROUTES)
+            weights, ends, nodes = self.call(len(sources[some]), self.handle().routes, sources[some], targets[some], self.room)
+            if not len(weights):
+                if self.room >= max(self.nodes, ROOM):
+                    raise unasked()
+                self.room = 2 * self.room
+            found.append((weights, numpy.diff(ends, prepend=0), nodes))
+            start += len(weights)
+        columns = zip(*found) if found else numpy.zeros((3, 1, 0), numpy.int64)
+        return self.walks_of(*map(numpy.concatenate, columns))
+
+    def walks_of(self, weights, counts, nodes):
+        """The walks over some nodes from 0 on, so many of each walk."""
+        lasts = numpy.cumsum(counts)
+        is_tail, is_head = numpy.ones((2, len(nodes)), bool)
+        is_tail[lasts[counts > 0] - 1] = is_head[(lasts - counts)[counts > 0]] = False
+        tails, heads = nodes[is_tail].astype(numpy.int64) + 1, nodes[is_head].astype(numpy.int64) + 1
+        arcs = self.arcs()
+        places = arcs.found(tails, heads)
+        if places is None:
+            raise self.changed()
+        walks = Walks(weights, numpy.append(0, numpy.cumsum(numpy.maximum(counts - 1, 0))), tails, heads, arcs.weights[places])
         if (walks.sums(walks.arc_weights)[weights >= 0] != weights[weights >= 0]).any():
             raise self.changed()
         return walks
 
-    def arc_weights(self, tails, heads):
-        """The weights of arcs of routes, between nodes from 0 on. Of several arcs between two nodes a route takes the one of least weight."""
-        if self.arcs is None:
-            self.arcs = least_arcs(self.graph(), self.nodes)
-        keys, weights = self.arcs
-        wanted = tails.astype(numpy.int64) * self.nodes + heads
-        places = keys.searchsorted(wanted)
-        if (keys[places] != wanted).any():
-            raise self.changed()
-        return weights[places]
-
     def changed(self):
         """The fault of a graph whose arcs are not those that the library opened."""
         return ProgramFault(f"{self.setting.graph} has changed since it was opened", 1)
-
-
-def least_arcs(graph, count):
-    """The keys of the pairs of nodes between which a graph has an arc, in order, and the weight of the least arc of each. Behind them stands a
-    key that no pair has, so that each key that is looked for has a place."""
-    tails, heads, weights = (numpy.array(column, numpy.int64) for column in (graph.tails, graph.heads, graph.weights))
-    keys = (tails - 1) * count + heads - 1
-    order = numpy.lexsort([weights, keys])
-    keys, weights = keys[order], weights[order]
-    is_first = numpy.append(True, keys[1:] != keys[:-1])[:len(keys)]
-    return numpy.append(keys[is_first], numpy.iinfo(numpy.int64).max), numpy.append(weights[is_first], 0)

@@ -32,6 +32,8 @@ KINDS = (
 GONE = "the network is closed"
 # Nodes of a route for which there is room at first.
 ROOM = 1_024
+# Pairs whose distances are asked for without arrays.
+FEW = 16
 
 
 class Block(ctypes.Structure):
@@ -153,6 +155,9 @@ class Handle:
     def __init__(self, calls):
         self.calls, self.block, self.lock = calls, Block(), threading.RLock()
         self.at, self.room = ctypes.byref(self.block), ROOM
+        # Room for few distances, which one question at a time has.
+        self.sources, self.targets, self.weights = (ctypes.c_uint32 * FEW)(), (ctypes.c_uint32 * FEW)(), (ctypes.c_int64 * FEW)()
+        self.rooms, self.is_asked = tuple(map(ctypes.addressof, (self.sources, self.targets, self.weights))), False
         # What is opened from here on is closed, whatever breaks this off. At the end of the interpreter threads may still be in a call.
         weakref.finalize(self, close, calls.chtab_close, self.block, os.getpid()).atexit = False
 
@@ -217,6 +222,24 @@ class Handle:
             status = self.calls.chtab_distances(self.at, places[0], len(sources), places[1], len(targets), places[2], len(out))
         see_that_done(status)
         return out
+
+    def few_distances(self, sources, targets):
+        """The same of at most `FEW` pairs, as lists of numbers from 0 to below 2^32. In a tenth of the time, because no array is made or looked at.
+        The handler of a signal that asks in the middle of such a question has to use arrays: then this is None."""
+        count = len(sources)
+        with self.lock:
+            if self.is_asked:
+                return None
+            self.is_asked = True
+            try:
+                self.sources[:count], self.targets[:count] = sources, targets
+                status = self.calls.chtab_distances(self.at, self.rooms[0], count, self.rooms[1], count, self.rooms[2], count)
+                found = self.weights[:count]
+            finally:
+                self.is_asked = False
+        if status:
+            see_that_done(status)
+        return found
 
     def table(self, sources, targets, limit=NO_LIMIT):
         """The distances from each source to each target (k, l), -1 where there is no walk, or none of at most `limit`."""

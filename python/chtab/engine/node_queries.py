@@ -2,7 +2,6 @@
 import numpy
 
 from chtab.engine import asking, blocks
-from chtab.engine.answers import NO_WALK
 from chtab.engine.walks import together
 
 # Beside a run that is kept, near rows of all nodes by a saved hierarchy take as long as a row of a table with this share of the nodes.
@@ -20,7 +19,7 @@ class NodeQueries:
         """The weights of pairs of nodes, an array (n, 2) of int64: int64 (n,), -1 where there is no walk."""
         found, start = numpy.empty(len(pairs), numpy.int64), 0
         while start < len(pairs):
-            end = start + self.runs.distances_together()
+            end = start + asking.MANY
             found[start:end] = self.runs.distances(pairs[start:end])
             start = end
         return found
@@ -29,10 +28,8 @@ class NodeQueries:
         """The weights from each node of one array to each of another, int64 (k, l), -1 where there is no walk, or none of at most `within`."""
         table = numpy.empty((len(sources), len(targets)), numpy.int64)
         for block in blocks.cut(sources, targets):
-            cells = self.runs.cells(block.sources, block.targets, shared_limit(within))
+            cells = self.runs.cells(block.sources, block.targets, within)
             table[block.row:block.row + len(block.sources), block.column:block.column + len(block.targets)] = cells
-        if within is not None:
-            table[table > within] = NO_WALK
         return table
 
     def is_near_best(self, count):
@@ -58,8 +55,3 @@ class NodeQueries:
         """The cells of several small tables in one column, int64, -1 where there is no walk. Each part is a list of sources and one of targets."""
         cells = [self.runs.tables(parts[start:start + asking.FEW]) for start in range(0, len(parts), asking.FEW)]
         return numpy.concatenate([numpy.zeros(0, numpy.int64), *cells])
-
-
-def shared_limit(within):
-    """The limit of the run that makes tables within this one: the next power of two. What lies between is left out afterwards."""
-    return None if within is None else 1 << max(within - 1, 0).bit_length()

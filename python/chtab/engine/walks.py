@@ -48,10 +48,10 @@ def together(parts):
 
 
 class WalkQuestion(answers.Question):
-    """Asks a run that tells routes for those of pairs of nodes, an array (n, 2) of int64. The value is the walks."""
+    """Asks for the routes of pairs of nodes, an array (n, 2) of int64. The value is the walks."""
 
     def __init__(self, pairs):
-        super().__init__(answers.query_lines(pairs.tolist()), b"d", len(pairs))
+        super().__init__(answers.request_lines("r", pairs.tolist()), b"d", len(pairs))
         self.pairs = pairs
 
     def value_of(self, text):
@@ -104,3 +104,31 @@ def ranges(firsts, counts):
     """The numbers from each of the firsts on, so many of each, in one array."""
     ends = numpy.cumsum(counts)
     return numpy.arange(ends[-1] if len(ends) else 0) + numpy.repeat(firsts - (ends - counts), counts)
+
+
+class ArcIndex:
+    """Finds the arcs of a graph by their ends. Of several arcs between two nodes it is the one of least weight, and of these the first.
+
+    Parameters
+    ----------
+    graph : files.Graph
+        The arcs.
+    """
+
+    def __init__(self, graph):
+        self.count = graph.nodes
+        tails, heads, weights = (numpy.array(column, numpy.int64) for column in (graph.tails, graph.heads, graph.weights))
+        keys = (tails - 1) * self.count + heads - 1
+        # A stable order, so that of equal arcs the first stays first.
+        order = numpy.lexsort([weights, keys])
+        keys = keys[order]
+        is_first = numpy.append(True, keys[1:] != keys[:-1])[:len(keys)]
+        self.lines, self.weights = order[is_first], weights[order][is_first]
+        # Behind the keys is one that no pair has, so that each key that is looked for has a place.
+        self.keys = numpy.append(keys[is_first], numpy.iinfo(numpy.int64).max)
+
+    def found(self, tails, heads):
+        """The places of arcs between nodes from 1 on, among all pairs of ends; None where one of them is not there."""
+        wanted = (tails.astype(numpy.int64) - 1) * self.count + heads - 1
+        places = self.keys.searchsorted(wanted)
+        return places if (self.keys[places] == wanted).all() else None

@@ -130,7 +130,8 @@ def whole_limit(name, limit):
     """The greatest whole number up to a limit: no weight lies between. numpy compares it exactly, which it does with few other numbers."""
     if not 0 <= limit <= MOST:
         raise ValueError(f"{name} is {limit!r}: a limit is from 0 to 2^60")
-    return math.floor(limit)
+    # `math.floor` makes a float of a number of numpy first.
+    return int(limit)
 
 
 # Which measure a network has.

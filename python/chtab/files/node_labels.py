@@ -8,6 +8,9 @@ from chtab.errors import DataFault
 from chtab.files import columns
 from chtab.files.columns import INTEGERS, TUPLES, row_of, told
 
+# Labels that are looked up by a dict where few of them are asked for: beyond that it would take too much memory.
+MOST_KEPT = 1 << 20
+
 
 def fixed(values):
     """An array that can't be written to."""
@@ -39,6 +42,11 @@ class Numbers:
         if outside.size:
             raise ValueError(f"node {outside.flat[0]:.17g} is not from 1 to {self.count:,}")
         return column.astype(numpy.int64)
+
+    def few(self, labels):
+        """The nodes of a short list of labels, as a list; None where one of them has to be looked at more closely."""
+        labels = [int(label) if type(label) is numpy.int64 else label for label in labels]
+        return labels if all(type(label) is int and 0 < label <= self.count for label in labels) else None
 
     def of(self, nodes):
         """The labels of an array of nodes."""
@@ -116,6 +124,17 @@ class Labels:
             return numpy.zeros(labels.shape, numpy.int64)
         place = numpy.minimum(numpy.searchsorted(values, labels), len(values) - 1)
         return numpy.where(values[place] == labels, nodes[place], 0)
+
+    def few(self, labels):
+        """The nodes of a short list of labels, as a list; None where one of them has to be looked at more closely."""
+        labels = [int(label) if type(label) is numpy.int64 else label for label in labels]
+        if not all(type(label) is int or type(label) is str for label in labels):
+            return None
+        if len(self.values) <= MOST_KEPT or self.values.dtype == object:
+            nodes = list(map(self.numbers.get, labels))
+            return None if None in nodes else nodes
+        nodes = self.found(columns.labels_in("pairs", labels)).tolist()
+        return None if 0 in nodes else nodes
 
     def of(self, nodes):
         """The labels of an array of nodes."""

@@ -63,6 +63,27 @@ class NearInProcess:
                 yield start, near_rows.Rows(numpy.append(0, ends), places, weights)
                 start += len(ends)
 
+    def sums(self, question, values, limits):
+        """For each source, column and limit the sum of the values of the targets within it, float64 (n, c, m). The values are whole numbers from 0
+        on, an array (l, c) of uint64, the sum of each column no more than is exact as a float."""
+        self.see_that_there()
+        targets = library.nodes_of(question.targets, self.nodes)
+        sources = numpy.arange(self.nodes, dtype=numpy.uint32) if question.sources is None else library.nodes_of(question.sources, self.nodes)
+        columns = [numpy.ascontiguousarray(column) for column in values.T]
+        limits, found = numpy.array(limits, numpy.uint64), numpy.zeros((len(sources), len(columns), len(limits)))
+        with self.engine.near_handle() as handle:
+            deadline = deadlines.current(self.setting.timeout)
+            interruptible(len(targets), handle.keep_places, targets, *limits_of(question), question.is_from)
+            is_swept = len(sources) >= SHARE * self.nodes and self.has_few(handle, len(targets)) and is_swept_by(handle)
+            together = PAIRS if is_swept else TOGETHER
+            for start in range(0, len(sources), together):
+                some = sources[start:start + together]
+                for place, column in enumerate(columns):
+                    self.see_that_there()
+                    deadline.milliseconds()
+                    found[start:start + len(some), place] = interruptible(len(some), handle.near_sums, some, column, limits)
+        return found
+
     def has_few(self, handle, most):
         """Whether the rows of all nodes have few enough pairs for a sweep, each at most so many: by those of some nodes, where there may be more."""
         enough = max(SWEPT, FEW * self.nodes)

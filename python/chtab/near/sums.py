@@ -7,6 +7,7 @@ import numpy
 
 from chtab.errors import DataFault
 from chtab.files import columns
+from chtab.files.measures import EXACT
 from chtab.near import row_blocks
 from chtab.near import rows as near_rows
 
@@ -29,8 +30,8 @@ class Asked(NamedTuple):
         The limits of the graph.
     told : list of number
         The same in the unit of the caller.
-    share : callable
-        Which share of a value counts at each of some weights, within a limit, both in the unit of the caller.
+    share : callable, optional
+        Which share of a value counts at each of some weights, within a limit, both in the unit of the caller; None: all of it.
     measure : measures.Measure
         That unit.
     """
@@ -58,7 +59,7 @@ def share_by(decay, kind, limits):
     if decay in (LINEAR, EXPONENTIAL) and 0 in limits:
         raise ValueError("a limit is above 0 where the decay divides by it")
     if decay is None:
-        return lambda weights, limit: numpy.ones(len(weights))
+        return None
     if decay == LINEAR:
         return lambda weights, limit: 1.0 - weights / float(limit)
     if decay == EXPONENTIAL:
@@ -128,6 +129,8 @@ def aggregates(runs, question, asked, workers=1, progress=None):
     height = question.height(runs.nodes)
     if asked.kind == "median":
         return medians(runs, question, asked, workers, progress)
+    if hasattr(runs, "sums") and workers == 1 and progress is None and are_counted(question, asked):
+        return runs.sums(question, asked.values.astype(numpy.uint64), asked.limits)
 
     def make(block, portions):
         own, of_block = asked.of(slice(block.column, block.column + len(block.question.targets))), block.question.height(runs.nodes)
@@ -143,6 +146,13 @@ def aggregates(runs, question, asked, workers=1, progress=None):
         for part, joined in zip(whole, JOINED[asked.kind]([part[some] for part in whole], state)):
             part[some] = joined
     return ENDED[asked.kind](*whole)
+
+
+def are_counted(question, asked):
+    """Whether values are summed as whole numbers: all of them from 0 on, and all together no more than a float has exactly."""
+    values = asked.values
+    is_plain = asked.kind == "sum" and asked.share is None and len(question.targets) <= row_blocks.LENGTH
+    return is_plain and bool((values >= 0).all() and (values == numpy.floor(values)).all() and values.sum() <= EXACT)
 
 
 def begun(kind, shape):
@@ -162,7 +172,7 @@ def state_of(rows, asked):
         if asked.kind in ("min", "max"):
             extremes(state[0][:, :, place], near, values, numpy.minimum if asked.kind == "min" else numpy.maximum)
             continue
-        shares = asked.share(weights[is_near], told)
+        shares = numpy.ones(len(near)) if asked.share is None else asked.share(weights[is_near], told)
         for column in range(values.shape[1]):
             parts = PARTS[asked.kind](near, values[:, column], shares, len(rows))
             for array, part in zip(state, parts):

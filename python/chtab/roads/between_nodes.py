@@ -15,12 +15,13 @@ if TYPE_CHECKING:
     import pandas
 
 Nodes = ArrayLike | Iterable
+# Pairs that are asked for without arrays.
+FEW = 16
 
 
 class BetweenNodes:
     """The calls of a `Network` that take nodes. It has `_layers`, its files, `_measure`, its unit, and `_queries`, which answers."""
 
-    @whole
     def distances(self, pairs: Nodes, targets: Nodes | None = None, *, missing: float | None = None) -> NDArray:
         """Answers the distances of pairs of nodes.
 
@@ -50,7 +51,25 @@ class BetweenNodes:
         >>> network.distances([(1, 3), (3, 1)])        # doctest: +SKIP
         array([ 9, -1])
         """
-        return self._measure.told(self._queries.distances(self._pairs(pairs, targets)), missing)
+        found = self._few_distances(pairs) if targets is None and type(pairs) is list and 0 < len(pairs) <= FEW else None
+        return self._measure.told(self._all_distances(pairs, targets) if found is None else found, missing)
+
+    @whole
+    def _all_distances(self, pairs, targets):
+        """The distances of any number of pairs."""
+        return self._queries.distances(self._pairs(pairs, targets))
+
+    def _few_distances(self, pairs):
+        """The distances of few pairs, without arrays: a library in this process answers them in microseconds. None where they are no pairs of known
+        labels, or where another engine answers."""
+        if not hasattr(self._engine, "few_distances") or not all(type(pair) is tuple and len(pair) == 2 for pair in pairs):
+            return None
+        sources, targets = zip(*pairs)
+        sources, targets = self._layers.labels.few(sources), self._layers.labels.few(targets)
+        if sources is None or targets is None:
+            return None
+        found = self._engine.few_distances(sources, targets)
+        return None if found is None else numpy.array(found, numpy.int64)
 
     @whole
     def table(self, sources: Nodes, targets: Nodes, within: Limit = None, *, missing: float | None = None) -> NDArray:

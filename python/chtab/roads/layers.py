@@ -5,6 +5,7 @@ import threading
 from chtab import files
 from chtab.engine import forks
 from chtab.engine.stamps import Stamps
+from chtab.engine.walks import ArcIndex
 from chtab.errors import ChtabError
 from chtab.files import measures
 from chtab.roads import nearest
@@ -59,6 +60,11 @@ class Layers:
     def graph(self):
         """The arcs, as `files.read_graph` gives them."""
         return self.read_file("graph", lambda: files.read_graph(self.path))
+
+    @property
+    def arcs(self):
+        """The arcs by their ends, as `walks.ArcIndex` finds them."""
+        return self.read("arcs", lambda: ArcIndex(self.graph))
 
     @property
     def coordinates(self):
