@@ -26,10 +26,11 @@ from chtab.roads.between_nodes import BetweenNodes
 from chtab.roads.between_places import BetweenPlaces
 from chtab.roads.from_arcs import FromArcs, warn_of_scale
 from chtab.roads.layers import layers_of
+from chtab.roads.scenarios import Scenarios
 from chtab.roads.trips import Trips
 
 
-class Network(FromArcs, BetweenNodes, BetweenPlaces, Accessibility):
+class Network(FromArcs, Scenarios, BetweenNodes, BetweenPlaces, Accessibility):
     """Answers on one graph. `Network.open` opens one of files; `Network.from_arrays`, `from_frame`, `from_geodataframe`, `from_networkx` and
     `from_sparse` make one of your own arcs.
 

@@ -154,7 +154,7 @@ def test_processes_are_forked_while_threads_ask():
 def test_a_fork_holds_no_lock_and_no_pipe():
     """A process is forked while a thread waits for an answer: it asks at once, has none of its parent's pipes, and ends none of its runs."""
     with mood("slow=1"), chtab.Network.open(FIRST, program=STANDIN) as network:
-        held = {os.readlink(f"/proc/self/fd/{stream.fileno()}") for run in network._engine.runs.values() for stream in pipes_of(run)}
+        held = {os.readlink(f"/proc/self/fd/{stream.fileno()}") for run in network._engine.runs for stream in pipes_of(run)}
 
         def is_free():
             links = {os.readlink(f"/proc/self/fd/{name}") for name in os.listdir("/proc/self/fd") if os.path.exists(f"/proc/self/fd/{name}")}

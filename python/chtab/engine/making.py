@@ -6,16 +6,18 @@ import os
 import secrets
 import shutil
 import subprocess
+import tempfile
 
 import numpy
 
 from chtab import files
 from chtab.engine.child import fault_of
 from chtab.errors import FileFault
-from chtab.files import measures
+from chtab.files.node_labels import Labels
 
 # The files of a network in its folder.
 GRAPH, SAVED, COORDINATES, BENDS, LABELS = "network.gr", "network.ch", "network.co", "network.bends", "network.json"
+NAMES = "network.nodes"
 
 
 @contextlib.contextmanager
@@ -41,15 +43,37 @@ def see_that_free(folder):
 def write(arcs, folder, program, workers):
     """Writes the files of arcs into a folder, and builds their hierarchy."""
     graph, saved, coordinates, bends, labels = (os.path.join(folder, name) for name in (GRAPH, SAVED, COORDINATES, BENDS, LABELS))
-    base = measures.base_of(arcs.unit, arcs.scale)
-    comments = [f"Weights are {base}."] * bool(base) + ([] if arcs.scale is None else [files.scale_comment(arcs.scale)])
-    files.write_graph_columns(graph, len(arcs.labels.values), (arcs.tails, arcs.heads, arcs.weights), comments)
+    comments = [f"Weights are {arcs.base}."] * bool(arcs.base) + ([] if arcs.scale is None else [files.scale_comment(arcs.scale)])
+    files.write_graph_columns(graph, arcs.labels.count, (arcs.tails, arcs.heads, arcs.weights), comments)
     if arcs.places is not None:
         files.write_coordinate_columns(coordinates, [numpy.rint(part * 1e6).astype(numpy.int64) for part in arcs.places])
+    if arcs.beside is not None:
+        arcs.beside.copy_to(folder)
     if arcs.bends:
         files.write_bends(bends, arcs.bends)
-    files.write_labels(labels, files.Labelling(arcs.labels.values.tolist(), arcs.scale, arcs.rounding, digest_of(graph), arcs.unit))
+    files.write_labels(labels, labelling_of(arcs, digest_of(graph)))
     save(program, graph, saved, workers)
+
+
+def labelling_of(arcs, digest):
+    """What the file of labels has of arcs, whose graph has this SHA-256."""
+    labels = arcs.labels.values.tolist() if isinstance(arcs.labels, Labels) else None
+    rows = None if arcs.arcs is None else arcs.arcs.tolist()
+    return files.Labelling(labels, arcs.scale, arcs.rounding, digest, arcs.unit, arcs.rows, rows, arcs.keys)
+
+
+class Beside:
+    """The files of a network that another one has too: the places of its nodes, and what these are called on the map."""
+
+    def __init__(self, layers):
+        base = os.path.splitext(layers.path)[0]
+        self.paths = {COORDINATES: layers.paths["coordinates"], NAMES: base + ".nodes"}
+
+    def copy_to(self, folder):
+        """Copies them into a folder. Their comments say where trips end, so that they are not written anew."""
+        for name, path in self.paths.items():
+            if path is not None and os.path.exists(path):
+                shutil.copyfile(path, os.path.join(folder, name))
 
 
 def digest_of(path):
@@ -61,15 +85,17 @@ def digest_of(path):
 def save(program, graph, saved, workers):
     """Builds the hierarchy of a graph, and saves it. A fault of the program is a `ProgramFault`."""
     command = [program, "save", "--deep", "--workers", str(workers), graph]
-    with open(saved, "wb") as out:
-        done = subprocess.run(command, stdin=subprocess.DEVNULL, stdout=out, stderr=subprocess.PIPE)
-    if done.returncode:
-        raise fault_of(done.stderr, done.returncode)
+    # Faults come by a file and not by a pipe, which a process that is forked meanwhile would keep open.
+    with open(saved, "wb") as out, tempfile.TemporaryFile() as faults:
+        done = subprocess.run(command, stdin=subprocess.DEVNULL, stdout=out, stderr=faults)
+        faults.seek(0)
+        if done.returncode:
+            raise fault_of(faults.read(), done.returncode)
 
 
 def layers_of(arcs):
     """What the files of arcs hold, as the layers of a network have it: its labels, and the places of its nodes."""
-    layers = {"labels": arcs.labels, "labelling": files.Labelling(arcs.labels.values, arcs.scale, arcs.rounding, "", arcs.unit)}
+    layers = {"labels": arcs.labels, "labelling": labelling_of(arcs, "")}
     if arcs.places is not None:
         layers["coordinates"] = files.Coordinates(*(array.array("d", (numpy.rint(part * 1e6) / 1e6).tobytes()) for part in arcs.places), [])
     return layers
@@ -78,6 +104,6 @@ def layers_of(arcs):
 def read_labelling(path, graph):
     """What `network.labels` and its neighbours answer by: the labels, and the file's other entries. They have to be those of the graph."""
     found = files.read_labels(path)
-    if len(found.labels) != files.count_nodes(graph) or found.graph != digest_of(graph):
+    if found.labels is not None and len(found.labels) != files.count_nodes(graph) or found.graph != digest_of(graph):
         raise FileFault(f"{path}: not the labels of {graph}")
     return found

@@ -30,6 +30,7 @@ class Columns:
     both_ways: bool = False
     geometry: object = None
     names: tuple = NAMES
+    keys: list | None = None
 
 
 @dataclass(frozen=True)
@@ -38,7 +39,8 @@ class Arcs:
 
     Weights are those of the caller times `scale`, rounded by at most `rounding`. `unit` is what the caller's are measured in, None where nobody
     told it. `places` are the longitudes and latitudes of the nodes in degrees, or None. `bends` has the points of arcs between their ends, as
-    `files.read_bends` gives them. The first `rows` arcs are those of the caller's columns, and the others lead back.
+    `files.read_bends` gives them. `rows` is how many rows the caller gave; arc k is of row `arcs[k]`, or of row k modulo `rows`. `keys` has the
+    keys of rows, `base` what the weights of the graph are, and `beside` the files of places that are taken along, or None.
     """
 
     labels: Labels
@@ -51,6 +53,10 @@ class Arcs:
     places: tuple | None
     bends: dict
     rows: int
+    arcs: numpy.ndarray | None = None
+    keys: list | None = None
+    base: str = ""
+    beside: object = None
 
 
 def arcs_of(given):
@@ -70,7 +76,8 @@ def arcs_of(given):
     if given.both_ways:
         bends |= {arc + rows: points[::-1] for arc, points in bends.items()}
         tails, heads, weights = numpy.concatenate([tails, heads]), numpy.concatenate([heads, tails]), numpy.tile(weights, 2)
-    return Arcs(labels, tails, heads, weights, scale, rounding, unit, places, bends, rows)
+    base = measures.base_of(unit, scale)
+    return Arcs(labels, tails, heads, weights, scale, rounding, unit, places, bends, rows, None, given.keys, base)
 
 
 def weights_in(given):

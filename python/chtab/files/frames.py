@@ -37,7 +37,9 @@ def arcs_of_networkx(graph, weight, scale, unit, places, geometry):
     lines = None if geometry is None or x is None else [line for _, _, line in graph.edges(data=geometry)]
     scale = measures.scale_of(unit, None) or scale
     names = "from", "to", str(weight)
-    given = arc_columns.Columns(sources, targets, weights, nodes, x, y, scale, unit, not graph.is_directed(), lines, names)
+    keys = list(graph.edges(keys=True)) if graph.is_multigraph() else []
+    keys = [key for *_, key in keys] if all(type(key) in (int, str) for *_, key in keys) and keys else None
+    given = arc_columns.Columns(sources, targets, weights, nodes, x, y, scale, unit, not graph.is_directed(), lines, names, keys)
     try:
         return arc_columns.arcs_of(given)
     except DataFault as fault:

@@ -13,13 +13,19 @@ class Labelling(NamedTuple):
 
     The caller's weights were multiplied by `scale` (None: they were whole), and rounded by at most `rounding`. `graph` is the SHA-256 of the
     graph's file, in hexadecimal. `unit` is what the caller's weights are measured in, None where nobody told it.
+
+    Labels that are None are the numbers of nodes. `rows` is how many rows of arcs the caller gave, `arcs` has the row of each arc where that is not
+    its number modulo `rows`, and `keys` the key of each row, of a graph with several edges between two nodes.
     """
 
-    labels: list
+    labels: list | None
     scale: float | None
     rounding: float
     graph: str
     unit: str | None = None
+    rows: int | None = None
+    arcs: list | None = None
+    keys: list | None = None
 
 
 def write_labels(target, labelling):
@@ -65,6 +71,8 @@ def read_labels(source):
             found = Labelling(**json.load(file))
         except (ValueError, TypeError, RecursionError):
             raise FileFault(f"{name_of(source)}: not the labels of a network") from None
+    if found.labels is None and is_right(found._replace(labels=[1])):
+        return found
     if isinstance(found.labels, list):
         # JSON has lists in place of tuples.
         found = found._replace(labels=[tuple(label) if type(label) is list else label for label in found.labels])
@@ -80,5 +88,6 @@ def is_right(found):
         return False
     is_scaled = found.scale is None or type(found.scale) in (int, float) and math.isfinite(found.scale) and found.scale > 0
     is_rounded = type(found.rounding) in (int, float) and found.rounding >= 0
-    is_named = isinstance(found.graph, str) and isinstance(found.unit, str | None)
+    is_named = isinstance(found.graph, str) and isinstance(found.unit, str | None) and type(found.rows) in (int, type(None))
+    is_named &= all(each is None or isinstance(each, list) for each in (found.arcs, found.keys)) and set(map(type, found.arcs or ())) <= {int}
     return is_scaled and is_rounded and is_named and len(set(found.labels)) == len(found.labels)

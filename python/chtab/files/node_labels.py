@@ -77,6 +77,7 @@ class Labels:
 
     def __init__(self, values):
         self.values, self.in_order, self.by_label = fixed(values.copy()), None, None
+        self.count = len(values)
         self.kind = columns.kind_of(type(values[0])) if len(values) else INTEGERS
 
     @property

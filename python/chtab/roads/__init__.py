@@ -4,6 +4,7 @@
 |---|---|
 | `between_places` | the calls of a network that take places or spots |
 | `layers` | the files of a network, each read when it is first needed |
+| `scenarios` | the same network with other weights, closed roads and new ones |
 | `snapping` | the roads of a graph, and places that are taken to them |
 | `nearest` | the nodes nearest to places |
 | `lines` | lines on the earth in flat arrays |

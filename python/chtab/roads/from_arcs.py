@@ -268,11 +268,11 @@ class FromArcs:
     @classmethod
     def _made(cls, arcs: arc_columns.Arcs, folder, running: opening.Running) -> Self:
         """The network of these arcs, whose files are written."""
-        if arcs.scale is not None and arcs.unit is None and not running.asked.raw:
+        if arcs.scale is not None and arcs.unit is None and running.asked == Asked():
             warn_of_scale(arcs.scale, 4)
         opened, kept = opening.made(arcs, folder, running)
         try:
-            network = cls(opened, kept, making.layers_of(arcs))
+            network = cls(opened, kept, None if arcs.beside else making.layers_of(arcs))
             network._load(running)
         except BaseException:
             if kept is not None:

@@ -38,7 +38,8 @@ def columns_of_geodataframe(edges, nodes, names, more):
     if weight is None:
         of_arcs = {"unit": "metres"} | {name: value for name, value in of_arcs.items() if value is not None}
     named = (str(source), str(target), "length" if weight is None else str(weight))
-    given = arc_columns.Columns(*ends, weights, geometry=lines, names=named, **of_arcs)
+    keys = column_of(edges, "key").tolist() if "key" in edges.index.names else None
+    given = arc_columns.Columns(*ends, weights, geometry=lines, names=named, keys=keys, **of_arcs)
     return given, {name: value for name, value in more.items() if name not in FURTHER}
 
 

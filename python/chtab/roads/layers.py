@@ -2,6 +2,8 @@
 import os
 import threading
 
+import numpy
+
 from chtab import files
 from chtab.engine import forks
 from chtab.engine.stamps import Stamps
@@ -67,6 +69,28 @@ class Layers:
         return self.read("arcs", lambda: ArcIndex(self.graph))
 
     @property
+    def rows(self):
+        """For each arc the row of the caller's columns that it is of, from 0 on; of a graph of files its line."""
+        def make():
+            labelling, arcs = self.labelling, numpy.arange(len(self.graph.tails))
+            if labelling is not None and labelling.arcs is not None:
+                return numpy.array(labelling.arcs, numpy.int64)
+            return arcs if labelling is None or not labelling.rows else arcs % labelling.rows
+
+        return self.read("rows", make)
+
+    @property
+    def arcs_by_ends(self):
+        """The arcs in the order of their ends, and these ends in order, as tail * (nodes + 1) + head."""
+        def make():
+            tails, heads = (numpy.array(column, numpy.int64) for column in (self.graph.tails, self.graph.heads))
+            ends = tails * (self.graph.nodes + 1) + heads
+            order = numpy.argsort(ends, kind="stable")
+            return order, ends[order]
+
+        return self.read("arcs by ends", make)
+
+    @property
     def coordinates(self):
         """The nodes' places, as `files.read_coordinates` gives them."""
         path = self.paths["coordinates"]
@@ -101,7 +125,7 @@ class Layers:
             from chtab.files import node_labels
 
             found = self.labelling
-            return node_labels.Numbers(files.count_nodes(self.path)) if found is None else node_labels.labels_of_nodes("labels", found.labels)
+            return node_labels.Numbers(files.count_nodes(self.path)) if found is None or found.labels is None else node_labels.labels_of_nodes("labels", found.labels)
 
         return self.read("labels", make)
 

@@ -1,0 +1,227 @@
+"""The same network under other conditions: other weights, closed roads, new ones."""
+from __future__ import annotations
+
+import os
+from collections.abc import Iterable, Mapping
+from typing import TYPE_CHECKING, Any, NamedTuple, Self
+
+import numpy
+from numpy.typing import ArrayLike
+
+from chtab import files
+from chtab.engine import making, opening
+from chtab.errors import DataFault
+from chtab.files import arc_columns, columns, edge_lines, measures
+from chtab.files.columns import told
+
+if TYPE_CHECKING:
+    import pandas
+
+
+class Scenarios:
+    """The call of a `Network` that makes another one of it. It has `_layers`, its files, `_measure`, its unit, and `_opened`, its opening."""
+
+    def changed(
+        self, weights: ArrayLike | Mapping | pandas.Series | None = None, closed: Iterable | ArrayLike | None = None,
+        added: Iterable | pandas.DataFrame | None = None, *, folder: str | os.PathLike | None = None,
+    ) -> Self:
+        """Makes a network with the same nodes, labels, places and bends, and other arcs. This one goes on answering as it did.
+
+        An arc is named by its place, the row of the columns or of the frame that the network was made of (of files the line of the graph), from 0 on;
+        by the pair of its nodes, which is all arcs from the one to the other; or by a triple of these and the key of the edge, of a graph of
+        networkx or osmnx with several edges between two nodes. The place of a row that leads both ways is both arcs.
+
+        Parameters
+        ----------
+        weights : array, Series or dict, optional
+            New weights in the network's `unit`: one for each row, or of some arcs, by a dict or a Series whose index names them.
+        closed : list of arcs, or array of bool, optional
+            The arcs that are no longer there, or for each row whether it is. Nodes stay.
+        added : list of (source, target, weight) or pandas.DataFrame, optional
+            Arcs between nodes of the network that come to the others, with the columns source, target and weight, and geometry where there are
+            lines. Each leads one way. They are the rows behind those that there were.
+        folder : str or path, optional
+            As `Network.from_arrays` takes it.
+
+        Returns
+        -------
+        Network
+            It is built anew, and answers as this one does, by the library or by runs.
+
+        Raises
+        ------
+        DataFault
+            A row or an arc is not there, a node has no such label, or a weight is refused. The text names it, and nothing was written.
+        FileExistsError, ProgramFault, ChtabError, OSError
+            As `Network.from_arrays` raises them.
+
+        Examples
+        --------
+        >>> without_bridge = network.changed(closed=[("inn", "mill"), ("mill", "inn")])      # doctest: +SKIP
+        >>> at_eight = network.changed(weights=frame["minutes at 8:00"])                     # doctest: +SKIP
+        >>> with_tunnel = network.changed(added=[("farm", "school", 2.5)])                   # doctest: +SKIP
+        """
+        given = Given.of(self._layers)
+        scale, most = (None if self._measure.is_whole else self._measure.factor), arc_columns.MOST_WEIGHT // self.nodes
+        changed, rounding = given.reweighted(weights, self._measure, scale, most)
+        kept = ~given.marked("closed", closed)
+        arcs = changed.arcs(kept, given.added(added, self._measure, scale, most), rounding)
+        setting, opened = self._opened.setting, self._opened
+        running = opening.Running(setting.program, setting.workers, setting.timeout, True, False, setting.runs, opened.library, opened.asked)
+        return self._made(arcs, folder, running)
+
+
+class New(NamedTuple):
+    """Arcs that are added: their ends and weights, lines or None, and the most that a weight was rounded by."""
+
+    tails: numpy.ndarray
+    heads: numpy.ndarray
+    weights: numpy.ndarray
+    lines: list | None
+    rounding: float
+
+
+class Given(NamedTuple):
+    """The arcs of a network as they are given to others: in columns, each with its row."""
+
+    layers: Any
+    tails: numpy.ndarray
+    heads: numpy.ndarray
+    weights: numpy.ndarray
+    rows: numpy.ndarray
+    keys: list | None
+
+    @classmethod
+    def of(cls, layers) -> Given:
+        """Those of the files of a network."""
+        graph, labelling = layers.graph, layers.labelling
+        columns_of = (numpy.array(column, numpy.int64) for column in (graph.tails, graph.heads, graph.weights))
+        return cls(layers, *columns_of, layers.rows, None if labelling is None else labelling.keys)
+
+    @property
+    def count(self):
+        """How many rows there are, also those whose arcs are closed."""
+        labelling = self.layers.labelling
+        own = 0 if labelling is None or labelling.rows is None else labelling.rows
+        return max(own, int(self.rows.max(initial=-1)) + 1)
+
+    # Which arcs are meant.
+
+    def marked(self, name, arcs):
+        """Which arcs some names of arcs are, as an array of bool."""
+        is_marked = numpy.zeros(len(self.rows), bool)
+        if arcs is None:
+            return is_marked
+        column = numpy.asarray(arcs) if hasattr(arcs, "__array__") else None
+        if column is not None and column.dtype == bool:
+            self.see_that_rows(name, column)
+            return column[self.rows]
+        for place, arc in enumerate(arcs.tolist() if isinstance(arcs, numpy.ndarray) else list(arcs)):
+            is_marked[self.places(name, place, arc)] = True
+        return is_marked
+
+    def see_that_rows(self, name, column):
+        if column.ndim != 1 or len(column) != self.count:
+            raise DataFault(f"{name} has the shape {column.shape}, and there are {self.count:,} rows of arcs", name)
+
+    def places(self, name, place, arc):
+        """The arcs of a name."""
+        if isinstance(arc, int | numpy.integer) and not isinstance(arc, bool):
+            found = numpy.flatnonzero(self.rows == arc)
+            if not 0 <= arc < self.count:
+                raise columns.refused(name, place, f"there is no row {arc} of arcs; they are from 0 to {self.count - 1:,}")
+            return found
+        if not isinstance(arc, tuple | list) or len(arc) not in (2, 3):
+            raise columns.refused(name, place, f"{told(arc)} is neither a row, nor (source, target), nor (source, target, key)")
+        tail, head = self.layers.labels.nodes_of(name, [tuple(arc[:2])])[0].tolist()
+        found = self.between(tail, head)
+        if len(arc) == 3:
+            if self.keys is None:
+                raise columns.refused(name, place, f"{told(arc)} has a key, and the arcs of the network have none")
+            found = found[[self.keys[row] == arc[2] for row in self.rows[found].tolist()]] if len(found) else found
+        if not len(found):
+            raise columns.refused(name, place, f"there is no arc {told(tuple(arc))}")
+        return found
+
+    def between(self, tail, head):
+        """All arcs from one node to another."""
+        order, ends = self.layers.arcs_by_ends
+        key = tail * (self.layers.graph.nodes + 1) + head
+        return order[ends.searchsorted(key):ends.searchsorted(key, "right")]
+
+    # What is changed.
+
+    def reweighted(self, weights, measure, scale, most):
+        """These arcs with other weights, and the most that one was rounded by."""
+        if weights is None:
+            return self, 0.0
+        names = list(weights.keys()) if hasattr(weights, "keys") and self.are_names(weights) else None
+        given = list(weights.values()) if isinstance(weights, Mapping) else weights
+        numbers = numbers_of("weights", given, measure)
+        whole, rounding = arc_columns.whole_weights("weights", numbers, scale, most)
+        if names is None:
+            self.see_that_rows("weights", whole)
+            return self._replace(weights=whole[self.rows]), rounding
+        changed = self.weights.copy()
+        for place, (arc, weight) in enumerate(zip(names, whole.tolist())):
+            changed[self.places("weights", place, arc)] = weight
+        return self._replace(weights=changed), rounding
+
+    def are_names(self, weights):
+        """Whether a Series has names of arcs, and is not just one weight for each row in their order; a dict always has."""
+        if isinstance(weights, Mapping):
+            return True
+        index = weights.index
+        return getattr(index, "nlevels", 1) > 1 or len(weights) != self.count or any(isinstance(name, tuple) for name in index[:1])
+
+    def added(self, given, measure, scale, most):
+        """The arcs that come to these."""
+        if given is None:
+            return New(*numpy.zeros((3, 0), numpy.int64), None, 0.0)
+        lines = None
+        if hasattr(given, "columns"):
+            sources, targets, weights = (given[name] for name in ("source", "target", "weight"))
+            lines = given["geometry"] if "geometry" in given.columns else None
+        else:
+            rows = [tuple(row) for row in given]
+            if any(len(row) not in (3, 4) for row in rows):
+                raise DataFault("added has rows of (source, target, weight), or of these and a line", "added")
+            sources, targets, weights = ([row[axis] for row in rows] for axis in range(3))
+            lines = [row[3] if len(row) == 4 else None for row in rows]
+        tails, heads = (self.layers.labels.nodes_of(f"added {name}", ends) for name, ends in (("source", sources), ("target", targets)))
+        whole, rounding = arc_columns.whole_weights("added weight", numbers_of("added weight", weights, measure), scale, most)
+        return New(tails, heads, whole, edge_lines.lines_in("added geometry", lines, len(whole)), rounding)
+
+    def arcs(self, kept, new: New, rounding) -> arc_columns.Arcs:
+        """The arcs that are kept, and the new ones behind them."""
+        layers, labelling = self.layers, self.layers.labelling
+        count = len(new.tails)
+        rows = numpy.append(self.rows[kept], self.count + numpy.arange(count))
+        own = (None, 0.0, None) if labelling is None else (labelling.scale, max(labelling.rounding, rounding, new.rounding), labelling.unit)
+        keys = None if self.keys is None else [*self.keys, *[0] * count]
+        joined = (numpy.append(column[kept], more) for column, more in ((self.tails, new.tails), (self.heads, new.heads), (self.weights, new.weights)))
+        bends = self.bends(kept, new)
+        base = layers.graph.unit
+        return arc_columns.Arcs(layers.labels, *joined, *own, None, bends, self.count + count, rows, keys, base, making.Beside(layers))
+
+    def bends(self, kept, new):
+        """The bends of the arcs that are kept, by their new numbers, and those of the new ones."""
+        path, numbers = self.layers.paths["bends"], numpy.cumsum(kept) - 1
+        found = {} if path is None else self.layers.read_file("bends", lambda: files.read_bends(path))
+        bends = {int(numbers[arc]): points for arc, points in found.items() if arc < len(kept) and kept[arc]}
+        if new.lines is None:
+            return bends
+        coordinates = self.layers.coordinates
+        places = [numpy.array(column) for column in (coordinates.longitudes, coordinates.latitudes)]
+        own = edge_lines.bends_of(new.lines, new.tails, new.heads, places)
+        return bends | {arc + int(kept.sum()): points for arc, points in own.items()}
+
+
+def numbers_of(name, given, measure):
+    """Weights as numbers in the network's unit. Durations are made such."""
+    durations = columns.durations_in(name, given)
+    if durations is None:
+        return columns.numbers_in(name, given)
+    if measure.unit not in measures.TIMES:
+        raise DataFault(f"{name} has durations, and the network's unit is {measure.unit or 'not known'}", name)
+    return durations / measures.TIMES[measure.unit]

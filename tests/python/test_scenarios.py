@@ -1,0 +1,239 @@
+"""Tests networks that are made of others: other weights, closed roads and new ones, against scipy's distances on the changed arcs.
+
+The network that was there answers as before, and labels, places and bends are the same in both.
+"""
+import concurrent.futures
+import os
+import pathlib
+import time
+
+import pytest
+
+from helpers.commands import raises, temporary
+from helpers.marks import each_way, needs
+from helpers.running import PROGRAM, ROOT
+import chtab
+
+pytestmark = [needs("python3-numpy"), pytest.mark.usefixtures("program")]
+# Two parallel roads from an inn to a mill, a bridge from there to a school, and a way round.
+ARCS = ["inn", "inn", "mill", "inn", "farm"], ["mill", "mill", "school", "farm", "school"], [2.0, 3.0, 1.5, 4.0, 4.5]
+PLACES = {"nodes": ["farm", "inn", "mill", "school"], "x": [9.48, 9.50, 9.52, 9.54], "y": [47.09, 47.10, 47.11, 47.12]}
+
+
+def of_roads(**more):
+    return chtab.Network.from_arrays(*ARCS, **{"unit": "minutes", "program": PROGRAM, **PLACES, **more})
+
+
+def least_of(count, arcs):
+    """All distances by scipy, -1 where no path leads, of arcs whose weights are above 0."""
+    import numpy
+    from scipy.sparse import csr_matrix
+    from scipy.sparse.csgraph import dijkstra
+
+    least = {}
+    for tail, head, weight in arcs:
+        least[tail, head] = min(weight, least.get((tail, head), weight))
+    found = dijkstra(csr_matrix((list(least.values()), tuple(zip(*least)) or ((), ())), (count, count)))
+    return numpy.where(numpy.isinf(found), -1, found).astype(numpy.int64)
+
+
+@each_way
+@needs("python3-scipy")
+def test_random_changes_answer_as_scipy():
+    """Weights by row, by a dict and by a Series; arcs closed by row, by mask and by pair; arcs added; and changes of what was changed before."""
+    import numpy
+
+    for seed in range(12):
+        draw = numpy.random.default_rng(seed)
+        count, size = int(draw.integers(5, 25)), int(draw.integers(5, 80))
+        tails, heads, weights = draw.integers(0, count, size), draw.integers(0, count, size), draw.integers(1, 40, size)
+        labels = numpy.array([f"node {number}" for number in range(count)])
+        arcs = dict(enumerate(zip(tails.tolist(), heads.tolist(), weights.tolist())))
+        is_both = bool(seed % 2)
+        network = chtab.Network.from_arrays(labels[tails], labels[heads], weights, nodes=labels, both_ways=is_both, program=PROGRAM)
+        before = network.table(labels, labels)
+        # Each row with its arcs.
+        rows = {row: [arc, *[(arc[1], arc[0], arc[2])] * is_both] for row, arc in arcs.items()}
+        for _ in range(3):
+            change = {}
+            total = max(rows) + 1 if rows else 0
+            total = max(total, getattr(network, "total", size))
+            if draw.random() < 0.6:
+                new = draw.integers(1, 40, total)
+                change["weights"] = new if draw.random() < 0.5 or not rows else {int(row): int(new[row]) for row in draw.choice(list(rows), min(3, len(rows)), replace=False)}
+                chosen = change["weights"]
+                for row in rows:
+                    if not isinstance(chosen, dict) or row in chosen:
+                        rows[row] = [(tail, head, int(new[row])) for tail, head, _ in rows[row]]
+            if draw.random() < 0.6 and rows:
+                some = draw.choice(list(rows), min(4, len(rows)), replace=False).tolist()
+                if draw.random() < 0.5:
+                    change["closed"] = numpy.isin(numpy.arange(total), some) if draw.random() < 0.5 else some
+                    rows = {row: own for row, own in rows.items() if row not in some}
+                else:
+                    tail, head, _ = rows[some[0]][0]
+                    change["closed"] = [(str(labels[tail]), str(labels[head]))]
+                    rows = {row: [arc for arc in own if arc[:2] != (tail, head)] for row, own in rows.items()}
+                    rows = {row: own for row, own in rows.items() if own}
+            if draw.random() < 0.6:
+                more = [(int(tail), int(head), int(weight)) for tail, head, weight in zip(*draw.integers(0, count, (2, 3)), draw.integers(1, 40, 3))]
+                change["added"] = [(str(labels[tail]), str(labels[head]), weight) for tail, head, weight in more]
+                rows |= {total + place: [arc] for place, arc in enumerate(more)}
+                total += 3
+            other = network.changed(**change)
+            wanted = least_of(count, [arc for own in rows.values() for arc in own])
+            assert numpy.array_equal(other.table(labels, labels), wanted), (seed, change)
+            assert numpy.array_equal(other.labels, network.labels) and numpy.array_equal(network.table(labels, labels), before), (seed, change)
+            pairs = [(str(labels[draw.integers(count)]), str(labels[draw.integers(count)])) for _ in range(10)]
+            assert [-1 if each.weight is None else each.weight for each in other.routes(pairs)] == other.distances(pairs).tolist()
+            network.close()
+            network, before, network.total = other, wanted, total
+        network.close()
+
+
+@each_way
+def test_an_arc_is_the_one_that_is_meant():
+    """A row is one of several arcs between two nodes, a pair all of them, and a triple the one with the key."""
+    with of_roads() as network:
+        for closed, wanted in (([0], 3.0), ([1], 2.0), ([0, 1], None), ([("inn", "mill")], None), ([("mill", "inn")], 2.0)):
+            if closed == [("mill", "inn")]:
+                assert raises(chtab.DataFault, network.changed, None, closed, told="closed[0]: there is no arc ('mill', 'inn')").row == 0
+                continue
+            with network.changed(closed=closed) as other:
+                found = other.distances([("inn", "mill")], missing=-1)[0]
+                assert found == (-1 if wanted is None else wanted), closed
+        with network.changed({("inn", "mill"): 9, 3: 1.25}) as other:
+            assert other.distances([("inn", "mill"), ("inn", "farm"), ("inn", "school")]).tolist() == [9, 1.25, 5.75]
+        assert network.distances([("inn", "mill"), ("inn", "farm"), ("inn", "school")]).tolist() == [2, 4, 3.5]
+
+
+@needs("python3-scipy", "python3-networkx", "python3-shapely")
+def test_edges_of_a_graph_are_meant_by_their_keys():
+    """Of two edges between two nodes the one with the key is closed, and the other one answers."""
+    import networkx
+
+    graph = networkx.MultiDiGraph()
+    graph.add_edge(1, 2, key=0, length=5)
+    graph.add_edge(1, 2, key=1, length=7)
+    graph.add_edge(2, 3, key=0, length=1)
+    with chtab.Network.from_networkx(graph, "length", unit="metres", folder="own", program=PROGRAM) as network:
+        for closed, wanted in (([(1, 2, 0)], 7), ([(1, 2, 1)], 5)):
+            with network.changed(closed=closed) as other:
+                assert other.distances([(1, 2)]).tolist() == [wanted]
+        raises(chtab.DataFault, network.changed, None, [(1, 2, 5)], told="there is no arc (1, 2, 5)")
+    with chtab.Network.open("own", program=PROGRAM) as network, network.changed({(1, 2, 0): 8.5}) as other:
+        assert other.distances([(1, 3)]).tolist() == [8] and network.distances([(1, 3)]).tolist() == [6]
+
+
+@each_way
+@needs("python3-scipy", "python3-shapely")
+def test_labels_places_and_bends_stay():
+    """A closed arc before others doesn't move their bends; a new road has its own; a folder keeps all of it."""
+    bend = [(9.50, 47.10), (9.505, 47.13), (9.52, 47.11)]
+    lines = [None, bend, None, None, [(9.48, 47.09), (9.51, 47.05), (9.54, 47.12)]]
+    with of_roads(geometry=lines) as network:
+        with network.changed(closed=[0], added=[("school", "mill", 3.0, [(9.54, 47.12), (9.53, 47.15), (9.52, 47.11)])], folder="changed") as other:
+            assert other.labels.tolist() == network.labels.tolist() and other.coordinates == network.coordinates and other.unit == "minutes"
+            found = [each["geometry"]["coordinates"] for each in other.routes([("inn", "mill"), ("farm", "school"), ("school", "mill")]).to_geojson()["features"]]
+            assert found == [bend, lines[4], [(9.54, 47.12), (9.53, 47.15), (9.52, 47.11)]]
+        straight = network.routes([("inn", "mill")]).to_geojson()["features"][0]["geometry"]["coordinates"]
+        assert straight == [(9.50, 47.10), (9.52, 47.11)]
+    with chtab.Network.open("changed", program=PROGRAM) as network:
+        assert network.routes([("farm", "school")]).to_geojson()["features"][0]["geometry"]["coordinates"] == lines[4]
+        assert network.distances([("inn", "mill"), ("school", "mill")]).tolist() == [3, 3]
+
+
+@each_way
+def test_networks_of_files_change_too():
+    """Their nodes are numbers, and their arcs are named by lines and pairs; where trips end and what the unit is stays."""
+    path = ROOT / "examples" / "liechtenstein.gr"
+    with chtab.Network.open(path, program=PROGRAM) as network:
+        graph, route = network.graph, network.routes([(2359, 910)])[0]
+        tail, head = route.nodes[3:5]
+        with network.changed(closed=[(tail, head)], added=[(1, 2, 5)]) as other:
+            assert other.unit == network.unit == graph.unit and other.labels.tolist() == network.labels.tolist() and other.coordinates == network.coordinates
+            found = other.routes([(2359, 910), (1, 2)])
+            assert (tail, head) not in zip(found[0].nodes, found[0].nodes[1:]) and found[0].weight >= route.weight and found[1].weight == 5
+            assert network.routes([(2359, 910)])[0] == route
+        with network.changed([2 * weight for weight in graph.weights]) as other:
+            assert other.distances([(2359, 910)])[0] == 2 * route.weight
+
+
+@each_way
+def test_the_old_network_may_close_first():
+    """Neither needs the files of the other."""
+    with temporary() as left:
+        network = of_roads()
+        other = network.changed(closed=[0])
+        network.close()
+        assert other.distances([("inn", "mill")]).tolist() == [3.0] and other.coordinates.of(1) == (9.48, 47.09)
+        again = other.changed(closed=[1])
+        other.close()
+        assert again.distances([("inn", "mill")], missing=-1).tolist() == [-1]
+        again.close()
+        assert left() == []
+
+
+def test_what_is_refused_is_named():
+    """Rows, arcs and weights that are not there, each by its place; then nothing is left behind."""
+    with temporary() as left, of_roads() as network:
+        own = left()
+        for change, column, row, told in (
+            ({"closed": [9]}, "closed", 0, "no row 9"), ({"closed": [-1]}, "closed", 0, "no row -1"), ({"closed": [0, ("inn", "x")]}, "closed", 0, "'x'"),
+            ({"closed": [0, ("inn", "school")]}, "closed", 1, "there is no arc ('inn', 'school')"), ({"closed": [("inn", "mill", 0)]}, "closed", 0, "have none"),
+            ({"closed": [True]}, "closed", 0, "True is neither"), ({"closed": ["inn"]}, "closed", 0, "neither a row"),
+            ({"weights": [1, 2]}, "weights", None, "there are 5 rows"), ({"weights": [1, 2, 3, 4, -5]}, "weights", 4, "below 0"),
+            ({"weights": {0: float("nan")}}, "weights", 0, "nan is no weight"), ({"weights": {"inn": 3}}, "weights", 0, "neither a row"),
+            ({"added": [("inn", "x", 3)]}, "added target", 0, "no node has the label 'x'"), ({"added": [("inn", "mill")]}, "added", None, "rows of"),
+            ({"added": [("inn", "mill", -1)]}, "added weight", 0, "below 0"),
+        ):
+            fault = raises(chtab.DataFault, lambda: network.changed(**change), told=told)
+            assert (fault.column, fault.row) == (column, row), (change, fault, fault.column, fault.row)
+        assert left() == own and network.distances([("inn", "mill")]).tolist() == [2.0]
+
+
+@needs("python3-scipy")
+def test_a_fork_in_the_middle_of_a_change():
+    """Processes that are forked while a network is changed hold up neither the change nor its end, and leave its files alone."""
+    with temporary() as left, of_roads() as network, concurrent.futures.ThreadPoolExecutor(2) as threads:
+        for _ in range(4):
+            change = threads.submit(network.changed, None, [0])
+            children = []
+            until = time.monotonic() + 5
+            while not change.done() and time.monotonic() < until:
+                child = os.fork()
+                if not child:
+                    time.sleep(1)
+                    os._exit(0)
+                children.append(child)
+                time.sleep(0.02)
+            with change.result(20) as other:
+                assert other.distances([("inn", "mill")]).tolist() == [3.0]
+            assert len(left()) == 1
+            for child in children:
+                os.waitpid(child, 0)
+        assert network.distances([("inn", "mill")]).tolist() == [2.0]
+        with network.changed(closed=[0]) as other:
+            child = os.fork()
+            if not child:
+                os._exit([each.distances([("inn", "mill")]).tolist() for each in (other, network)] != [[3.0], [2.0]])
+            assert os.waitpid(child, 0)[1] == 0
+
+
+def test_both_answer_at_once():
+    """Threads that ask the old network and the new one get the answers of each."""
+    with of_roads() as network, network.changed({0: 9.0, 1: 9.0}) as other, concurrent.futures.ThreadPoolExecutor(4) as threads:
+        found = list(threads.map(lambda each: each.distances([("inn", "mill")])[0], [network, other] * 50))
+        assert found == [2.0, 9.0] * 50
+
+
+def test_a_change_that_fails_leaves_nothing():
+    """A program that fails while it builds leaves no files, and the old network answers on."""
+    with temporary() as left, of_roads() as network:
+        own = left()
+        program = pathlib.Path("broken")
+        program.write_text(f"#!/bin/sh\n[ \"$1\" = save ] && {{ echo 'chtab: out of memory' >&2; exit 3; }}\nexec {PROGRAM} \"$@\"\n")
+        program.chmod(0o755)
+        object.__setattr__(network._opened.setting, "program", str(program.absolute()))
+        assert raises(chtab.ProgramFault, network.changed, None, [0], told="out of memory").status == 3
+        assert left() == own and network.distances([("inn", "mill")]).tolist() == [2.0]
