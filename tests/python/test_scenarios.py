@@ -237,3 +237,28 @@ def test_a_change_that_fails_leaves_nothing():
         object.__setattr__(network._opened.setting, "program", str(program.absolute()))
         assert raises(chtab.ProgramFault, network.changed, None, [0], told="out of memory").status == 3
         assert left() == own and network.distances([("inn", "mill")]).tolist() == [2.0]
+
+
+# Sums along routes, and the rows of arcs.
+
+
+@each_way
+@needs("python3-pandas")
+def test_sums_along_routes_are_of_the_arcs_that_routes_take():
+    """A second column is summed over the arcs of least weight, of equal ones the first; routes name their rows, also after arcs were closed."""
+    import numpy
+    import pandas
+
+    arcs = pandas.DataFrame({"a": [1, 1, 1, 2, 2], "b": [2, 2, 2, 3, 3], "minutes": [7, 5, 5, 3, 3.5], "metres": [1.5, 10, 20, 100, 1000], "toll": [1, 2, 4, 8, 16]})
+    with chtab.Network.from_frame(arcs, "a", "b", "minutes", unit="minutes", nodes=[1, 2, 3, 4], both_ways=True, program=PROGRAM) as network:
+        assert network.along(arcs["metres"], [(1, 3), (3, 1), (2, 2), (1, 4)]).tolist()[:3] == [110, 110, 0]
+        assert numpy.isnan(network.along(arcs["metres"], [(1, 4)])).tolist() == [True]
+        assert network.along(arcs[["metres", "toll"]].to_numpy(), [1, 2], [3, 3]).tolist() == [[110, 10], [100, 8]]
+        rows = network.routes([(1, 3), (1, 4), (3, 1), (1, 1)]).rows()
+        assert [None if each is None else each.tolist() for each in rows] == [[1, 3], None, [3, 1], []]
+        with network.changed(closed=[1], added=[(1, 4, 2.0)]) as other:
+            assert other.along([*arcs["metres"], 7], [(1, 3), (1, 4)]).tolist() == [120, 7]
+            assert [each.tolist() for each in other.routes([(1, 3), (1, 4)]).rows()] == [[2, 3], [5]]
+            raises(chtab.DataFault, other.along, arcs["metres"], [(1, 3)], told="values has 5 rows, and there are 6 rows of arcs")
+    with chtab.Network.open(ROOT / "examples" / "first.gr", program=PROGRAM) as network:
+        assert network.along([0.25, 0.5], [(1, 3), (2, 3), (3, 1)], None).tolist()[:2] == [0.75, 0.5]

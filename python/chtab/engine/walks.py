@@ -127,6 +127,13 @@ class ArcIndex:
         # Behind the keys is one that no pair has, so that each key that is looked for has a place.
         self.keys = numpy.append(keys[is_first], numpy.iinfo(numpy.int64).max)
 
+    def of(self, tails, heads):
+        """The arcs between nodes from 1 on, as numbers from 0 on. One that is not there is a `ProgramFault`."""
+        places = self.found(tails, heads)
+        if places is None:
+            raise unasked()
+        return self.lines[places]
+
     def found(self, tails, heads):
         """The places of arcs between nodes from 1 on, among all pairs of ends; None where one of them is not there."""
         wanted = (tails.astype(numpy.int64) - 1) * self.count + heads - 1

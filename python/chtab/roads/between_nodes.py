@@ -8,6 +8,8 @@ import numpy
 from numpy.typing import ArrayLike, NDArray
 
 from chtab.engine.deadlines import whole
+from chtab.errors import DataFault
+from chtab.files.columns import numbers_in
 from chtab.files.measures import Limit
 from chtab.roads.routes import Routes
 
@@ -154,6 +156,46 @@ class BetweenNodes:
             As `distances` raises them.
         """
         return Routes(self._queries.routes(self._pairs(pairs, targets)), self._layers)
+
+    @whole
+    def along(self, values: ArrayLike, pairs: Nodes, targets: Nodes | None = None) -> NDArray[numpy.float64]:
+        """Answers the sums of values along the routes of pairs of nodes, such as the metres or the climb of the fastest routes.
+
+        Parameters
+        ----------
+        values : array of float, shape (m,) or (m, c)
+            A value for each row of the arcs that the network was made of, in one column or several; of files for each line of the graph. Of several
+            arcs between two nodes a route takes the one of least weight, and of these the first.
+        pairs, targets : array of labels
+            As `distances` takes them.
+
+        Returns
+        -------
+        array of float64, shape (n,) or (n, c)
+            The sums; NaN where no path leads.
+
+        Raises
+        ------
+        DataFault
+            There are more or fewer values than rows, or one is no number.
+        ValueError, ProgramFault, TimedOut
+            As `distances` raises them.
+
+        Examples
+        --------
+        >>> metres = network.along(frame["length"], [("inn", "school")])       # doctest: +SKIP
+        """
+        rows = self._layers.rows
+        found = numpy.asarray(values)
+        several = found.reshape(len(found), -1) if found.ndim == 2 else numpy.asarray(numbers_in("values", values), float)[:, None]
+        count = self._layers.row_count
+        if len(several) != count:
+            raise DataFault(f"values has {len(several):,} rows, and there are {count:,} rows of arcs", "values")
+        walks = self._queries.walks(self._pairs(pairs, targets))
+        lines = self._layers.arcs.of(walks.tails, walks.heads)
+        sums = numpy.column_stack([walks.sums(column) for column in several[rows[lines]].astype(float).T])
+        sums[walks.weights < 0] = numpy.nan
+        return sums if found.ndim == 2 else sums[:, 0]
 
     matrix = table
 

@@ -80,6 +80,13 @@ class Layers:
         return self.read("rows", make)
 
     @property
+    def row_count(self):
+        """How many rows of arcs there are, also those whose arcs are closed."""
+        labelling = self.labelling
+        own = 0 if labelling is None or labelling.rows is None else labelling.rows
+        return max(own, int(self.rows.max(initial=-1)) + 1)
+
+    @property
     def arcs_by_ends(self):
         """The arcs in the order of their ends, and these ends in order, as tail * (nodes + 1) + head."""
         def make():

@@ -9,7 +9,9 @@ from chtab.files import showing
 
 if TYPE_CHECKING:
     import geopandas
+    import numpy
     import pandas
+    from numpy.typing import NDArray
 
 
 class Routes(showing.OnMap, collections.abc.Sequence):
@@ -48,6 +50,24 @@ class Routes(showing.OnMap, collections.abc.Sequence):
 
     def __repr__(self) -> str:
         return f"<{len(self):,} routes on {self.layers.path}>"
+
+    def rows(self) -> list[NDArray[numpy.int64] | None]:
+        """Gives the arcs of the routes, as rows of what the network was made of.
+
+        Returns
+        -------
+        list of array of int64
+            For each pair the rows of the arcs in the order of its route, from 0 on, as `frame.iloc` counts them and `graph.edges` of networkx has them;
+            of files the lines of the graph. None where no path leads.
+        """
+        import numpy
+
+        answers = [each for each in self.numbered if each.nodes]
+        tails, heads = ([node for each in answers for node in each.nodes[part]] for part in (slice(-1), slice(1, None)))
+        lines = self.layers.arcs.of(numpy.array(tails, numpy.int64), numpy.array(heads, numpy.int64))
+        cuts = numpy.cumsum([len(each.weights) for each in answers])[:-1]
+        found = iter(numpy.split(self.layers.rows[lines], cuts) if answers else [])
+        return [next(found) if each.nodes else None for each in self.numbered]
 
     def to_frame(self) -> pandas.DataFrame:
         """Gives the routes as a table.

@@ -101,9 +101,7 @@ class Given(NamedTuple):
     @property
     def count(self):
         """How many rows there are, also those whose arcs are closed."""
-        labelling = self.layers.labelling
-        own = 0 if labelling is None or labelling.rows is None else labelling.rows
-        return max(own, int(self.rows.max(initial=-1)) + 1)
+        return self.layers.row_count
 
     # Which arcs are meant.
 
