@@ -433,15 +433,15 @@ def test_what_is_long_hears_ctrl_c():
 def test_time_is_looked_at_between_calls():
     """By a clock that goes on a second with each look: a question of more calls than it has seconds is broken off, by each kind of call; the next
     one is answered. Other networks have no time."""
-    from chtab.engine import child
+    from chtab.engine import deadlines
 
-    nodes, clock = list(range(1, 3_001)) * 12, child.time
+    nodes, clock = list(range(1, 3_001)) * 12, deadlines.time
     with of_country(timeout=4) as network, of_country() as other, small_portions(1 << 20, 0, 1_000):
         wanted = other.distances(nodes, nodes[::-1])
-        child.time = types.SimpleNamespace(monotonic=itertools.count().__next__)
+        deadlines.time = types.SimpleNamespace(monotonic=itertools.count().__next__)
         try:
             for call in (
-                lambda: network.distances(nodes, nodes[::-1]), lambda: network.table([1], nodes), lambda: network.routes([(1, 2)] * 9),
+                lambda: network.distances(nodes, nodes[::-1]), lambda: network.table([1], nodes), lambda: network.routes([(1, 2)] * 9_999),
                 lambda: network.near(nodes, [1]), lambda: network.sum_within(1, 2**60, nodes, [1]), lambda: network.nearest_of(nodes, [1]),
             ):
                 raises(chtab.TimedOut, call, told="longer than 4 seconds")
@@ -449,4 +449,4 @@ def test_time_is_looked_at_between_calls():
                 assert network.routes([(5, 5)])[0].weight == 0 and network.table([5], [5]).tolist() == [[0]]
             assert (other.distances(nodes, nodes[::-1]) == wanted).all() and len(other.near(nodes, [1])) == len(nodes)
         finally:
-            child.time = clock
+            deadlines.time = clock

@@ -299,7 +299,7 @@ def test_what_is_dropped_is_ended():
             kept.append(network.routes([(1, 3)]))
             del network
             assert lives_on(0), living()
-        assert descriptors() == before and len(asked()) == 40
+        assert descriptors() == before and len(asked()) == 20
         network = chtab.Network.open(FIRST, program=STANDIN)
         assert lives_on(2)
         network = None
