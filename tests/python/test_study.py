@@ -409,3 +409,50 @@ def test_a_signal_leaves_no_folder():
                         time.sleep(0.05)
                     assert left() == [], (more, number)
                     process.stdout.close()
+
+
+def test_a_file_that_cannot_be_written_is_named():
+    """Files that may not be so long, as on a full disk, are faults that name the file and the cause; then nothing is left."""
+    text = """if True:
+        import resource, signal, sys
+        sys.path.insert(0, sys.argv[1])
+        import chtab
+        signal.signal(signal.SIGXFSZ, signal.SIG_IGN)
+        resource.setrlimit(resource.RLIMIT_FSIZE, (int(sys.argv[3]), int(sys.argv[3])))
+        try:
+            chtab.Network.from_arrays(range(2_000), range(1, 2_001), [5] * 2_000, program=sys.argv[2])
+        except (OSError, chtab.ProgramFault) as fault:
+            print(type(fault).__name__, fault)
+    """
+    full = pathlib.Path("full")
+    full.write_text(f"#!/bin/sh\n[ \"$1\" = save ] && exec {PROGRAM} \"$@\" >/dev/full\nexec {PROGRAM} \"$@\"\n")
+    full.chmod(0o755)
+    for program, most, name, cause in (PROGRAM, 10_000, "network.gr", "File too large"), (full.absolute(), 10**9, "network.ch", "cannot write after 0 bytes"):
+        with temporary() as left:
+            done = subprocess.run([PYTHON, "-c", text, ROOT / "python", program, str(most)], capture_output=True, text=True)
+            assert name in done.stdout and cause in done.stdout and done.stdout.count("\n") == 1, done
+            assert left() == []
+
+
+@each_way
+def test_each_long_call_says_how_far_it_is():
+    """Distances, tables and routes count up to all that was asked for."""
+    for call, total in (
+        (lambda network, told: network.distances([("inn", "mill")] * 3, progress=told), 3),
+        (lambda network, told: network.table(["inn", "farm"], ["mill"] * 5, progress=told), 1),
+        (lambda network, told: network.routes([("inn", "mill")] * 2_000, progress=told), 2_000),
+    ):
+        seen = []
+        with of_minutes() as network:
+            call(network, lambda done, of_all: seen.append((done, of_all)))
+        assert seen and seen[-1] == (total, total) and [done for done, _ in seen] == sorted({done for done, _ in seen}), seen
+        assert call(network := of_minutes(), False) is not None
+        network.close()
+
+
+@each_way
+def test_nothing_is_near_nothing():
+    """Values of no target, and values that are all 0, are sums of 0 everywhere."""
+    with of_minutes() as network:
+        assert network.sum_within(0, 5).tolist() == [0] * 5 and network.sum_within({}, [1, 2]).tolist() == [[0, 0]] * 5
+        assert network.accessibility([], 5, targets=[]).tolist() == [0] * 5

@@ -7,8 +7,8 @@ import _thread
 import threading
 import weakref
 
-# Searches in a network that are worth a thread. On a country of 24 million nodes so many take less than a second.
-LONG = 1 << 9
+# Searches in a network that are worth a thread. On a country of 24 million nodes so many take less than half a second.
+LONG = 1 << 8
 # Seconds after which a thread is looked for that had no memory to begin or to tell of its end.
 PATIENCE = 1.0
 

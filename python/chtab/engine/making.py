@@ -12,7 +12,7 @@ import numpy
 
 from chtab import files
 from chtab.engine.child import fault_of
-from chtab.errors import FileFault
+from chtab.errors import FileFault, ProgramFault
 from chtab.files.node_labels import Labels
 
 # The files of a network in its folder.
@@ -44,15 +44,30 @@ def write(arcs, folder, program, workers):
     """Writes the files of arcs into a folder, and builds their hierarchy."""
     graph, saved, coordinates, bends, labels = (os.path.join(folder, name) for name in (GRAPH, SAVED, COORDINATES, BENDS, LABELS))
     comments = [f"Weights are {arcs.base}."] * bool(arcs.base) + ([] if arcs.scale is None else [files.scale_comment(arcs.scale)])
-    files.write_graph_columns(graph, arcs.labels.count, (arcs.tails, arcs.heads, arcs.weights), comments)
-    if arcs.places is not None:
-        files.write_coordinate_columns(coordinates, [numpy.rint(part * 1e6).astype(numpy.int64) for part in arcs.places])
-    if arcs.beside is not None:
-        arcs.beside.copy_to(folder)
-    if arcs.bends:
-        files.write_bends(bends, arcs.bends)
-    files.write_labels(labels, labelling_of(arcs, digest_of(graph)))
+    with told_of(graph):
+        files.write_graph_columns(graph, arcs.labels.count, (arcs.tails, arcs.heads, arcs.weights), comments)
+    with told_of(coordinates):
+        if arcs.places is not None:
+            files.write_coordinate_columns(coordinates, [numpy.rint(part * 1e6).astype(numpy.int64) for part in arcs.places])
+        if arcs.beside is not None:
+            arcs.beside.copy_to(folder)
+    with told_of(bends):
+        if arcs.bends:
+            files.write_bends(bends, arcs.bends)
+    with told_of(labels):
+        files.write_labels(labels, labelling_of(arcs, digest_of(graph)))
     save(program, graph, saved, workers)
+
+
+@contextlib.contextmanager
+def told_of(path):
+    """A fault of the system names the file that is written within, such as on a disk that is full."""
+    try:
+        yield
+    except OSError as fault:
+        if fault.filename is None:
+            raise type(fault)(fault.errno, fault.strerror, path) from None
+        raise
 
 
 def labelling_of(arcs, digest):
@@ -90,7 +105,8 @@ def save(program, graph, saved, workers):
         done = subprocess.run(command, stdin=subprocess.DEVNULL, stdout=out, stderr=faults)
         faults.seek(0)
         if done.returncode:
-            raise fault_of(faults.read(), done.returncode)
+            fault = fault_of(faults.read(), done.returncode)
+            raise ProgramFault(f"{fault} ({saved})" if "cannot write" in str(fault) else str(fault), fault.status)
 
 
 def layers_of(arcs):

@@ -2,6 +2,7 @@
 import numpy
 
 from chtab.engine import asking, blocks
+from chtab.engine.progress import progress_of
 from chtab.engine.walks import together
 
 # Beside a run that is kept, near rows of all nodes by a saved hierarchy take as long as a row of a table with this share of the nodes.
@@ -10,26 +11,32 @@ SHARE = 2 / 3
 
 class NodeQueries:
     """What is asked of an engine between nodes from 1 on. Questions of any size are cut into those that a run takes at once. `near` are the
-    runs of `chtab near` on the same network."""
+    runs of `chtab near` on the same network, and `progress` is what `progress_of` takes: nothing is reported where nobody asks for it."""
 
     def __init__(self, runs, near):
         self.runs, self.near = runs, near
 
-    def distances(self, pairs):
+    def distances(self, pairs, progress=None):
         """The weights of pairs of nodes, an array (n, 2) of int64: int64 (n,), -1 where there is no walk."""
-        found, start = numpy.empty(len(pairs), numpy.int64), 0
-        while start < len(pairs):
-            end = start + asking.MANY
-            found[start:end] = self.runs.distances(pairs[start:end])
-            start = end
+        found = numpy.empty(len(pairs), numpy.int64)
+        for some in self.parts(pairs, asking.MANY, "distances", progress):
+            found[some] = self.runs.distances(pairs[some])
         return found
 
-    def table(self, sources, targets, within=None):
+    def parts(self, pairs, size, name, progress):
+        """The parts of pairs that are asked for together, each of which is counted when the next one is asked for."""
+        with progress_of(progress, name, len(pairs), "pairs", False) as counted:
+            for start in range(0, len(pairs), size):
+                yield slice(start, start + size)
+                counted.step(min(size, len(pairs) - start))
+
+    def table(self, sources, targets, within=None, progress=None):
         """The weights from each node of one array to each of another, int64 (k, l), -1 where there is no walk, or none of at most `within`."""
-        table = numpy.empty((len(sources), len(targets)), numpy.int64)
-        for block in blocks.cut(sources, targets):
-            cells = self.runs.cells(block.sources, block.targets, within)
-            table[block.row:block.row + len(block.sources), block.column:block.column + len(block.targets)] = cells
+        table, parts = numpy.empty((len(sources), len(targets)), numpy.int64), list(blocks.cut(sources, targets))
+        with progress_of(progress, "table", len(parts), "blocks", False) as counted:
+            for block in counted.each(parts):
+                cells = self.runs.cells(block.sources, block.targets, within)
+                table[block.row:block.row + len(block.sources), block.column:block.column + len(block.targets)] = cells
         return table
 
     def is_near_best(self, count):
@@ -40,11 +47,11 @@ class NodeQueries:
             return False
         return not self.runs.runs or setting.saved is not None and count > SHARE * self.runs.nodes
 
-    def routes(self, pairs):
+    def routes(self, pairs, progress=None):
         """The routes of pairs of nodes, an array (n, 2) of int64, as a list of `files.Answer`."""
         pairs, found = pairs.tolist(), []
-        for start in range(0, len(pairs), asking.FEW):
-            found += self.runs.routes(pairs[start:start + asking.FEW])
+        for some in self.parts(pairs, asking.FEW, "routes", progress):
+            found += self.runs.routes(pairs[some])
         return found
 
     def walks(self, pairs):

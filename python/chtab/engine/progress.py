@@ -1,6 +1,11 @@
 """Signs of life on standard error: a bar where it is a terminal (by tqdm, where that is there), and else a line now and then."""
 import sys
 import time
+from collections.abc import Callable
+from typing import Any
+
+# What a caller says of progress.
+Asked = bool | Callable[[int, int], Any] | None
 
 # Seconds from one line to the next.
 SECONDS = 10.0

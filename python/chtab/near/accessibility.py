@@ -2,13 +2,14 @@
 from __future__ import annotations
 
 from collections.abc import Callable
-from typing import TYPE_CHECKING, Any, Literal
+from typing import TYPE_CHECKING, Literal
 
 import numpy
 from numpy.typing import ArrayLike, NDArray
 
 from chtab.engine.answers import NO_WALK
 from chtab.engine.deadlines import whole
+from chtab.engine.progress import Asked as Progress
 from chtab.files.measures import Limit
 from chtab.near import row_blocks, sums
 from chtab.near.found import Near, Nearest
@@ -20,7 +21,6 @@ if TYPE_CHECKING:
 
 DIRECTIONS = "to", "from"
 Direction = Literal["to", "from"]
-Progress = bool | Callable[[int, int], Any] | None
 
 
 class Accessibility:

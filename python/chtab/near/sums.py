@@ -151,7 +151,7 @@ def aggregates(runs, question, asked, workers=1, progress=None):
 def are_counted(question, asked):
     """Whether values are summed as whole numbers: all of them from 0 on, and all together no more than a float has exactly."""
     values = asked.values
-    is_plain = asked.kind == "sum" and asked.share is None and len(question.targets) <= row_blocks.LENGTH
+    is_plain = asked.kind == "sum" and asked.share is None and 0 < len(question.targets) <= row_blocks.LENGTH
     return is_plain and bool((values >= 0).all() and (values == numpy.floor(values)).all() and values.sum() <= EXACT)
 
 

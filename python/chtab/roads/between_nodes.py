@@ -8,6 +8,7 @@ import numpy
 from numpy.typing import ArrayLike, NDArray
 
 from chtab.engine.deadlines import whole
+from chtab.engine.progress import Asked as Progress
 from chtab.errors import DataFault
 from chtab.files.columns import numbers_in
 from chtab.files.measures import Limit
@@ -24,7 +25,7 @@ FEW = 16
 class BetweenNodes:
     """The calls of a `Network` that take nodes. It has `_layers`, its files, `_measure`, its unit, and `_queries`, which answers."""
 
-    def distances(self, pairs: Nodes, targets: Nodes | None = None, *, missing: float | None = None) -> NDArray:
+    def distances(self, pairs: Nodes, targets: Nodes | None = None, *, missing: float | None = None, progress: Progress = None) -> NDArray:
         """Answers the distances of pairs of nodes.
 
         Parameters
@@ -35,6 +36,8 @@ class BetweenNodes:
             The targets.
         missing : int or float, optional
             What is given where no path leads. Without it that is -1, or NaN where answers are floats. `numpy.inf` makes them floats.
+        progress : bool or callable, optional
+            True: how far the call is, on standard error; a callable is called with how much is done, and of how much.
 
         Returns
         -------
@@ -53,13 +56,13 @@ class BetweenNodes:
         >>> network.distances([(1, 3), (3, 1)])        # doctest: +SKIP
         array([ 9, -1])
         """
-        found = self._few_distances(pairs) if targets is None and type(pairs) is list and 0 < len(pairs) <= FEW else None
-        return self._measure.told(self._all_distances(pairs, targets) if found is None else found, missing)
+        found = self._few_distances(pairs) if type(pairs) is list and 0 < len(pairs) <= FEW and targets is None is progress else None
+        return self._measure.told(self._all_distances(pairs, targets, progress) if found is None else found, missing)
 
     @whole
-    def _all_distances(self, pairs, targets):
+    def _all_distances(self, pairs, targets, progress):
         """The distances of any number of pairs."""
-        return self._queries.distances(self._pairs(pairs, targets))
+        return self._queries.distances(self._pairs(pairs, targets), progress)
 
     def _few_distances(self, pairs):
         """The distances of few pairs, without arrays: a library in this process answers them in microseconds. None where they are no pairs of known
@@ -74,7 +77,7 @@ class BetweenNodes:
         return None if found is None else numpy.array(found, numpy.int64)
 
     @whole
-    def table(self, sources: Nodes, targets: Nodes, within: Limit = None, *, missing: float | None = None) -> NDArray:
+    def table(self, sources: Nodes, targets: Nodes, within: Limit = None, *, missing: float | None = None, progress: Progress = None) -> NDArray:
         """Answers the distances from each source to each target. Tables past the limits of one are made in blocks.
 
         Parameters
@@ -85,6 +88,8 @@ class BetweenNodes:
             A limit in the network's `unit`, from 0 to 2^60 of the graph's weights.
         missing : int or float, optional
             What is given where no path leads, or none of at most `within`: as `distances` takes it.
+        progress : bool or callable, optional
+            As `distances` takes it.
 
         Returns
         -------
@@ -99,10 +104,11 @@ class BetweenNodes:
             As `distances` raises them; a limit is out of its range.
         """
         limit = self._measure.limit("within", within)
-        return self._measure.told(self._queries.table(self._nodes("sources", sources), self._nodes("targets", targets), limit), missing)
+        found = self._queries.table(self._nodes("sources", sources), self._nodes("targets", targets), limit, progress)
+        return self._measure.told(found, missing)
 
     @whole
-    def frame(self, sources: Nodes, targets: Nodes, within: Limit = None) -> pandas.DataFrame:
+    def frame(self, sources: Nodes, targets: Nodes, within: Limit = None, *, progress: Progress = None) -> pandas.DataFrame:
         """Answers the same as a DataFrame of pandas.
 
         Parameters
@@ -111,6 +117,8 @@ class BetweenNodes:
             Nodes.
         within : number or duration, optional
             A limit.
+        progress : bool or callable, optional
+            As `distances` takes it.
 
         Returns
         -------
@@ -129,7 +137,7 @@ class BetweenNodes:
 
         sources, targets = (listed(nodes) for nodes in (sources, targets))
         limit = self._measure.limit("within", within)
-        table = self._queries.table(self._nodes("sources", sources), self._nodes("targets", targets), limit)
+        table = self._queries.table(self._nodes("sources", sources), self._nodes("targets", targets), limit, progress)
         index, columns = (self._layers.labels.index_of(name, nodes) for name, nodes in (("source", sources), ("target", targets)))
         if not self._measure.is_whole:
             return pandas.DataFrame(self._measure.told(table), index, columns)
@@ -137,13 +145,15 @@ class BetweenNodes:
         return pandas.DataFrame(cells, index).set_axis(columns, axis=1)
 
     @whole
-    def routes(self, pairs: Nodes, targets: Nodes | None = None) -> Routes:
+    def routes(self, pairs: Nodes, targets: Nodes | None = None, *, progress: Progress = None) -> Routes:
         """Answers the routes of pairs of nodes: each of least weight, and of these with the fewest arcs.
 
         Parameters
         ----------
         pairs, targets : array of labels
             As `distances` takes them.
+        progress : bool or callable, optional
+            As `distances` takes it.
 
         Returns
         -------
@@ -155,7 +165,7 @@ class BetweenNodes:
         ValueError, ProgramFault, TimedOut
             As `distances` raises them.
         """
-        return Routes(self._queries.routes(self._pairs(pairs, targets)), self._layers)
+        return Routes(self._queries.routes(self._pairs(pairs, targets), progress), self._layers)
 
     @whole
     def along(self, values: ArrayLike, pairs: Nodes, targets: Nodes | None = None) -> NDArray[numpy.float64]:
