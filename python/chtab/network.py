@@ -39,8 +39,8 @@ class Network(FromArcs, Scenarios, BetweenNodes, BetweenPlaces, Accessibility):
     Nodes of a network of files are called by their numbers, from 1 on. Those of your own arcs keep their labels, integers, strings or tuples:
     where a call takes or gives nodes, these are labels.
 
-    Calls may come from several threads, and from processes that were forked; such a process begins a run of its own. A network can be
-    pickled, as what it was opened by; where it is unpickled it begins a run of its own too. The run ends by `close`, at the end of a `with`,
+    Calls may come from several threads, and from processes that were forked; such a process starts a run of its own. A network can be
+    pickled, as what it was opened by; where it is unpickled it starts a run of its own too. The run ends by `close`, at the end of a `with`,
     when the network is no longer used, and when the interpreter ends. The last four networks that a process unpickled are used until then.
     """
 
@@ -62,17 +62,19 @@ class Network(FromArcs, Scenarios, BetweenNodes, BetweenPlaces, Accessibility):
         cls, graph: str | os.PathLike, saved: str | os.PathLike | None = None, *, coordinates: str | os.PathLike | None = None,
         bends: str | os.PathLike | None = None, unit: str | None = None, scale: float | None = None, raw: bool = False, **running: Any,
     ) -> Self:
-        """Opens the network of a graph, once it was read and its hierarchy built or, where `saved` is given, checked.
+        """Loads a graph, and returns once it can answer: after building its hierarchy, or after checking the one in `saved`.
+
+        That takes from a fraction of a second for a town to some minutes for a country, and less than half of that with `saved`.
 
         Parameters
         ----------
         graph : str or path
             The graph (`.gr`); or the folder of a network that was made with `folder=`.
         saved : str or path, optional
-            A file of `chtab save`. By it a run begins in less than half the time.
+            A hierarchy that `chtab save` wrote for this graph. Loading then takes less than half the time.
         coordinates, bends : str or path, optional
-            The files of the nodes' places and of the points between them. Without them those beside the graph are taken (`.co`, `.bends`),
-            where they are there.
+            The files of the nodes' places and of the points between them. Without them, those beside the graph are used (`.co`, `.bends`), if
+            they exist.
         unit : str, optional
             What limits are taken and answers given in: `milliseconds`, `seconds`, `minutes` or `hours` where the graph has milliseconds, `metres` or
             `kilometres` where it has metres. Without it they are in the graph's unit, or in that of the caller who made the network of a folder.
@@ -88,19 +90,18 @@ class Network(FromArcs, Scenarios, BetweenNodes, BetweenPlaces, Accessibility):
         workers : int
             Threads of the program, from 1 to 64; 1 where it is not given.
         timeout : float, optional
-            The seconds that an answer may take; None: any. Loading is not counted, except where a call runs the program anew, as `near` does.
-            A run of the program is ended at once. Where the library for C answers, the time is looked at between its calls.
+            The most seconds that an answer may take; without it there is no limit. Loading is not counted, except where a call runs the
+            program anew, as `near` does. A run of the program is ended at once. Where the library for C answers, the time is looked at between its calls.
         load : bool
-            Whether the graph is read now, as it is where this is not given. Without it the first question does so.
+            Whether to load the graph now, which is the default. With False the first question loads it.
         routes : bool
             This has no effect: each run answers routes. It is taken because version 1.1 had runs that did not.
         runs : int
             The most runs that are kept at once, from 1 on; 1 where it is not given. Each of them holds the network in memory, and answers
-            everything. A further one is begun where several threads ask at a time.
+            everything. A further one is started if several threads ask at a time.
         library : "auto", bool or path
             Whether the library for C answers in this process, and no run of the program: sooner, above all one question at a time. It has one
-            worker. "auto", as it is where this is not given: where `libchtab.so.1` is beside the program, and `workers` and `timeout` are not
-            given. True, or the path of the library: it answers, or an error says why it can't. Without `saved` it builds the hierarchy by depth.
+            worker. "auto", the default: if `libchtab.so.1` is beside the program, and `workers` and `timeout` are not given. True, or the path of the library: it answers, or an error says why it can't. Without `saved` it builds the hierarchy by depth.
             Ctrl-C breaks off the wait for a long call, which then ends by itself. False: a run of the program, in a process apart, which can be
             ended at any time. `answers_by` says who answers.
 
@@ -212,7 +213,7 @@ REOPENED, MOST_REOPENED = {}, 4
 
 
 def reopened(opened):
-    """The network of an opening, in a process where one was unpickled. Its run begins with the first question."""
+    """The network of an opening, in a process where one was unpickled. Its run starts with the first question."""
     network = REOPENED.pop(opened, None)
     if network is None or network._engine.is_closed:
         network = Network(opened)

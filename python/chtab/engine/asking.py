@@ -30,7 +30,7 @@ class Setting:
     workers : int
         Threads of a run, from 1 to 64.
     timeout : float, optional
-        The seconds that an answer may take; None: any.
+        The most seconds that an answer may take; None: no limit.
     runs : int
         The most runs that are kept at once, at least 1. Each of them holds the network.
     within : int, optional

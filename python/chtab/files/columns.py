@@ -20,7 +20,7 @@ INTEGERS, STRINGS, TUPLES = "integers", "strings", "tuples"
 
 
 def told(value):
-    """A value as it stands in a message, cut short."""
+    """A value as a message has it, cut short."""
     is_long = isinstance(value, int) and value.bit_length() > MOST_BITS
     return f"an integer of {value.bit_length():,} bits" if is_long else reprlib.repr(value)
 
@@ -55,12 +55,12 @@ def see_that_there(name, marks, what):
 
 
 def width_of(array):
-    """How many values of an array stand in a row."""
+    """How many values of an array are in a row."""
     return int(numpy.prod(array.shape[1:]))
 
 
 def row_of(array, place):
-    """The row of an array in which its value of a place stands, in the order of its values."""
+    """The row of an array that has its value of a place, in the order of its values."""
     return place // width_of(array)
 
 
@@ -171,7 +171,7 @@ def no_label(name, array):
 
 
 def see_that_labels(name, values, width=1):
-    """The types of a list of labels, of which so many stand in a row. The first one that is no label, or of another kind, is a fault."""
+    """The types of a list of labels, of which so many are in a row. The first one that is no label, or of another kind, is a fault."""
     types = set(map(type, values))
     kinds = set(map(kind_of, types))
     if len(kinds) < 2 and None not in kinds:

@@ -162,7 +162,7 @@ def labels_of_nodes(name, column):
 
 
 def doubled(name, labels):
-    """The fault of a column in which a label stands again."""
+    """The fault of a column that has a label twice."""
     known = {}
     for row, label in enumerate(labels):
         if known.setdefault(label, row) != row:
@@ -171,7 +171,7 @@ def doubled(name, labels):
 
 
 def labels_of_ends(names, sources, targets):
-    """The labels that stand in either of two columns, in ascending order; and the nodes of both columns, int64 (2, m)."""
+    """The labels that either of two columns has, in ascending order; and the nodes of both columns, int64 (2, m)."""
     kinds = [columns.kind_of(type(values[:1].tolist()[0])) for values in (sources, targets) if len(values)]
     if len(set(kinds)) > 1:
         raise columns.refused(names[1], 0, f"the label {told(targets[:1].tolist()[0])} is not one of {kinds[0]}, as those of {names[0]}")

@@ -101,7 +101,7 @@ class OnMap:
 
 
 def table_text(title: str, rows: list[dict]) -> str:
-    """The HTML of a table of some rows, all of one form. Whatever stands in them is text."""
+    """The HTML of a table of some rows, all of one form. All that is in them is text."""
     cells = "".join("<tr>" + "".join(f"<td>{html.escape(str(value))}</td>" for value in row.values()) + "</tr>" for row in rows)
     heads = "".join(f"<th>{html.escape(str(name))}</th>" for name in (rows[0] if rows else ()))
     return f"<p>{html.escape(title)}</p><table><thead><tr>{heads}</tr></thead><tbody>{cells}</tbody></table>"

@@ -40,7 +40,7 @@ def write_streets(target, found, comments=()):
     found : Streets
         What is written.
     comments : list of str
-        Lines that stand first.
+        The first lines.
 
     Raises
     ------

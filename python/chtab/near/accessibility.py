@@ -40,7 +40,7 @@ class Accessibility:
         targets : array of labels, shape (l,)
             Nodes; they may repeat, and each place of the list counts. A target that is the source is at the weight 0.
         count : int, optional
-            The most targets of a source, from 1 on. Of equally near ones those that stand first in the list are taken.
+            The most targets of a source, from 1 on. Of equally near ones, those that come first in the list are taken.
         within : number or duration, optional
             A limit in the network's `unit`. A target that is just as far is near.
         direction : {"to", "from"}

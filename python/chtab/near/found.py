@@ -25,7 +25,7 @@ class Near:
     Attributes
     ----------
     offsets : array of int64, shape (n + 1,)
-        Where the targets of each source begin.
+        Where the targets of each source start.
     places : array of int64, shape (p,)
         The places in the list of targets, from 0 on.
     weights : array of int64 or float64, shape (p,)

@@ -30,14 +30,14 @@ class BetweenPlaces:
     def nearest(self, longitudes: ArrayLike, latitudes: ArrayLike, max_metres: float | None = None) -> tuple[NDArray, NDArray]:
         """The nearest node to each place.
 
-        Of a graph with turns these are nodes where trips begin; `coordinates.ends()` says where they end.
+        In a graph with turns these are nodes where trips start; `coordinates.ends()` says where they end.
 
         Parameters
         ----------
         longitudes, latitudes : array of float, shape (n,)
             Places in degrees, from -180 to 180 and from -90 to 90.
         max_metres : float, optional
-            How far a place may be from its node; None: any distance.
+            How far a place may be from its node; without it, any distance.
 
         Returns
         -------

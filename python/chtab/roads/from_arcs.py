@@ -58,8 +58,8 @@ class FromArcs:
         raw : bool
             Whether limits are taken and answers given in the whole numbers of the graph, whatever the unit is.
         folder : str or path, optional
-            A folder that is not there yet, or is empty. The files stand there, with the hierarchy: `Network.open(folder)` opens the same
-            network quickly. Without it they stand in a temporary folder, until `close` or until the network is no longer used.
+            A folder that is not there yet, or is empty. It gets the files, with the hierarchy: `Network.open(folder)` opens the same
+            network quickly. Without it they are in a temporary folder, until `close` or until the network is no longer used.
         **running
             `program`, `workers`, `timeout`, `load`, `routes`, `runs` and `library`, as `Network.open` takes them.
 
@@ -71,7 +71,7 @@ class FromArcs:
         ------
         DataFault
             A value is refused, such as a label 1.5, a weight NaN, or a row that is missing. The text names it; `column` and `row` of the error
-            say where it stands. Nothing was written.
+            say where it is. Nothing was written.
         FileExistsError
             `folder` is there, and is not empty.
         ProgramFault, ChtabError, OSError
