@@ -376,6 +376,8 @@ def test_errors_name_what_was_given():
             (ValueError, lambda: network.table(["inn"], ["mill"], float("nan")), "within is nan"), (ValueError, lambda: network.distances(("inn", "mill")), "one pair is [(1, 3)]"),
             (TypeError, lambda: network.near(None, ["inn"], progress="yes"), "progress is True, False or a call"),
             (TypeError, lambda: chtab.Network.open("a.gr", colour=3), "open has no argument 'colour'"),
+            (ValueError, lambda: of_minutes(timeout=-1), "timeout is -1"), (TypeError, lambda: of_minutes(timeout="5"), "timeout is a number of seconds"),
+            (FileNotFoundError, lambda: of_minutes(folder="no/such"), "no/such'"),
         ):
             raises(kind, call, told=told)
 

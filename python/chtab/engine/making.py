@@ -26,7 +26,11 @@ def begun(folder):
     folder = os.path.realpath(folder)
     see_that_free(folder)
     part = f"{folder}.part-{secrets.token_hex(8)}"
-    os.mkdir(part)
+    try:
+        os.mkdir(part)
+    except OSError as fault:
+        # The caller knows the folder by this name alone.
+        raise type(fault)(fault.errno, fault.strerror, folder) from None
     try:
         yield part
         see_that_free(folder)

@@ -1,5 +1,6 @@
 """What a network is opened by: the files, and how the program runs. Another process opens it anew by the same."""
 import difflib
+import numbers
 import os
 from dataclasses import dataclass, fields
 
@@ -27,6 +28,10 @@ class Running:
     def __post_init__(self):
         if self.runs < 1:
             raise ValueError(f"runs is {self.runs!r}: there is at least one run")
+        if self.timeout is not None and (isinstance(self.timeout, bool) or not isinstance(self.timeout, numbers.Real)):
+            raise TypeError(f"timeout is a number of seconds, not {self.timeout!r}")
+        if self.timeout is not None and not self.timeout >= 0:
+            raise ValueError(f"timeout is {self.timeout!r}: it is a number of seconds from 0 on")
         # No other value is one of these, though 1 and `numpy.True_` are equal to True.
         if not isinstance(self.library, bool) and self.library != AUTO:
             object.__setattr__(self, "library", os.path.abspath(self.library))
