@@ -338,7 +338,7 @@ def lines_that_run(arcs, kind):
     """How many lines of Python run while a network's arcs are made and written, without the search of the program."""
     import numpy
 
-    from chtab.engine import making
+    from chtab.engine import making, opening
     from chtab.files import arc_columns
 
     draw, count = numpy.random.default_rng(1), [0]
@@ -358,7 +358,7 @@ def lines_that_run(arcs, kind):
     os.makedirs(f"{kind}{arcs}")
     sys.settrace(trace)
     try:
-        making.write(arc_columns.arcs_of(arc_columns.Columns(*columns, weights, scale=1000)), f"{kind}{arcs}", str(program.absolute()), 1)
+        making.write(arc_columns.arcs_of(arc_columns.Columns(*columns, weights, scale=1000)), f"{kind}{arcs}", str(program.absolute()), opening.Running())
     finally:
         sys.settrace(before)
     return count[0]

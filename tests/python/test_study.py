@@ -458,3 +458,20 @@ def test_nothing_is_near_nothing():
     with of_minutes() as network:
         assert network.sum_within(0, 5).tolist() == [0] * 5 and network.sum_within({}, [1, 2]).tolist() == [[0, 0]] * 5
         assert network.accessibility([], 5, targets=[]).tolist() == [0] * 5
+
+
+def test_building_says_how_far_it_is():
+    """A callable is told the steps of each stage, and True prints lines; a fault is that of the program all the same."""
+    import numpy
+
+    side = 60
+    places = numpy.arange(side * side).reshape(side, side)
+    ends = numpy.concatenate([places[:, :-1].reshape(-1), places[:-1].reshape(-1)]), numpy.concatenate([places[:, 1:].reshape(-1), places[1:].reshape(-1)])
+    weights, seen = numpy.random.default_rng(1).integers(1, 99, len(ends[0])), []
+    with chtab.Network.from_arrays(*ends, weights, both_ways=True, progress=lambda done, total: seen.append((done, total)), program=PROGRAM) as network:
+        assert network.nodes == side * side
+    assert seen and all(0 <= done <= total for done, total in seen), seen
+    text = "import sys; sys.path.insert(0, sys.argv[1]); import chtab; chtab.Network.from_arrays([1], [2], [3], progress=True, program=sys.argv[2]).close()"
+    done = subprocess.run([PYTHON, "-c", text, ROOT / "python", PROGRAM], capture_output=True, text=True)
+    assert done.returncode == 0 and done.stderr.startswith("chtab: ") and " of " in done.stderr, done
+    raises(TypeError, lambda: chtab.Network.open(ROOT / "examples" / "first.gr", progress=True, program=PROGRAM), told="open has no argument 'progress'")

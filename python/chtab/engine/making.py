@@ -3,9 +3,11 @@ import array
 import contextlib
 import hashlib
 import os
+import re
 import secrets
 import shutil
 import subprocess
+import sys
 import tempfile
 
 import numpy
@@ -18,6 +20,9 @@ from chtab.files.node_labels import Labels
 # The files of a network in its folder.
 GRAPH, SAVED, COORDINATES, BENDS, LABELS = "network.gr", "network.ch", "network.co", "network.bends", "network.json"
 NAMES = "network.nodes"
+# Seconds between two looks at the progress of building, and its lines: how many steps of a stage are done, and of how many.
+LOOK = 0.2
+PROGRESS = re.compile(r"chtab: [^,]+, ([\d,]*\d) of ([\d,]*\d) ")
 
 
 @contextlib.contextmanager
@@ -44,8 +49,8 @@ def see_that_free(folder):
         raise FileExistsError(f"{folder} is there and is not empty; Network.open opens the network of a folder")
 
 
-def write(arcs, folder, program, workers):
-    """Writes the files of arcs into a folder, and builds their hierarchy."""
+def write(arcs, folder, program, running):
+    """Writes the files of arcs into a folder, and builds their hierarchy. `running` says by how many workers, and whom it tells how far it is."""
     graph, saved, coordinates, bends, labels = (os.path.join(folder, name) for name in (GRAPH, SAVED, COORDINATES, BENDS, LABELS))
     comments = [f"Weights are {arcs.base}."] * bool(arcs.base) + ([] if arcs.scale is None else [files.scale_comment(arcs.scale)])
     with told_of(graph):
@@ -60,7 +65,33 @@ def write(arcs, folder, program, workers):
             files.write_bends(bends, arcs.bends)
     with told_of(labels):
         files.write_labels(labels, labelling_of(arcs, digest_of(graph)))
-    save(program, graph, saved, workers)
+    save(program, graph, saved, running)
+
+
+def watch(process, lines, progress):
+    """Waits for the end of a process that builds. Meanwhile its lines of progress go to a caller: to standard error, or to a call as numbers."""
+    if not progress:
+        process.wait()
+        return
+    read, is_over = 0, False
+    while not is_over:
+        with contextlib.suppress(subprocess.TimeoutExpired):
+            is_over = process.wait(LOOK) is not None
+        # Read at its place, because the process writes behind it by the same description.
+        some = os.pread(lines.fileno(), 1 << 20, read)
+        whole = some[:some.rfind(b"\n") + 1]
+        read += len(whole)
+        for line in whole.decode(errors="replace").splitlines():
+            tell(line, progress)
+
+
+def tell(line, progress):
+    """Tells a caller of a line of progress."""
+    found = PROGRESS.match(line)
+    if found and callable(progress):
+        progress(*(int(number.replace(",", "")) for number in found.groups()))
+    elif found:
+        print(line, file=sys.stderr, flush=True)
 
 
 @contextlib.contextmanager
@@ -101,15 +132,20 @@ def digest_of(path):
         return hashlib.file_digest(file, "sha256").hexdigest()
 
 
-def save(program, graph, saved, workers):
+def save(program, graph, saved, running):
     """Builds the hierarchy of a graph, and saves it. A fault of the program is a `ProgramFault`."""
-    command = [program, "save", "--deep", "--workers", str(workers), graph]
+    command = [program, "save", "--deep", *["--progress"] * bool(running.progress), "--workers", str(running.workers), graph]
     # Faults come by a file and not by a pipe, which a process that is forked meanwhile would keep open.
     with open(saved, "wb") as out, tempfile.TemporaryFile() as faults:
-        done = subprocess.run(command, stdin=subprocess.DEVNULL, stdout=out, stderr=faults)
+        with subprocess.Popen(command, stdin=subprocess.DEVNULL, stdout=out, stderr=faults) as process:
+            try:
+                watch(process, faults, running.progress)
+            except BaseException:
+                process.kill()
+                raise
         faults.seek(0)
-        if done.returncode:
-            fault = fault_of(faults.read(), done.returncode)
+        if process.returncode:
+            fault = fault_of(faults.read(), process.returncode)
             raise ProgramFault(f"{fault} ({saved})" if "cannot write" in str(fault) else str(fault), fault.status)
 
 

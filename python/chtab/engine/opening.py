@@ -24,6 +24,8 @@ class Running:
     runs: int = 1
     library: object = AUTO
     asked: measures.Asked = measures.Asked()
+    # How far the building of a network of arcs is: what `progress_of` takes.
+    progress: object = None
 
     def __post_init__(self):
         if self.runs < 1:
@@ -43,7 +45,7 @@ class Running:
 
 def running_of(call, given, asked, also=()):
     """How the program runs, by the further arguments of a call. One that is not known is a `TypeError`, which names the nearest that is."""
-    known = [field.name for field in fields(Running) if field.name != "asked"]
+    known = [field.name for field in fields(Running) if field.name not in ("asked", *["progress"] * (call == "open"))]
     for name in given:
         if name not in known:
             near = difflib.get_close_matches(name, [*known, *also, "unit", "raw"], 1, 0.5)
@@ -91,11 +93,11 @@ def made(arcs, folder, running):
     see_to(program)
     if folder is not None:
         with making.begun(folder) as part:
-            making.write(arcs, part, program, running.workers)
+            making.write(arcs, part, program, running)
         return of_folder(os.path.realpath(folder), running), None
     kept = folders.Folder()
     try:
-        making.write(arcs, kept.path, program, running.workers)
+        making.write(arcs, kept.path, program, running)
     except BaseException:
         kept.remove()
         raise

@@ -61,7 +61,8 @@ class FromArcs:
             A folder that is not there yet, or is empty. It gets the files, with the hierarchy: `Network.open(folder)` opens the same
             network quickly. Without it they are in a temporary folder, until `close` or until the network is no longer used.
         **running
-            `program`, `workers`, `timeout`, `load`, `routes`, `runs` and `library`, as `Network.open` takes them.
+            `program`, `workers`, `timeout`, `load`, `routes`, `runs` and `library`, as `Network.open` takes them; and `progress`: True for lines on
+            standard error on how far the building is, or a callable, which is called with how many steps of a stage are done, and of how many.
 
         Returns
         -------
