@@ -489,3 +489,28 @@ def test_another_library_is_not_taken():
     finally:
         library.VERSION -= 1_000
     assert is_by_library(chtab.Network.open(FIRST, **more))
+
+
+def test_few_distances_are_those_of_their_pairs():
+    """Lists of few pairs go without arrays. What is no known label, or no pair, is told as of arrays; a question in the middle of one spoils none."""
+    import numpy
+
+    with of_first() as network:
+        for count in 1, 2, 16, 17, 40:
+            pairs = [(1 + place % 3, 1 + place // 3 % 3) for place in range(count)]
+            assert network.distances(pairs).tolist() == network.distances(numpy.array(pairs)).tolist(), count
+        assert network.distances([(numpy.int64(1), 3), (3, numpy.int64(1))]).tolist() == [9, -1]
+        for pairs in ([(0, 1)], [(1, 4)], [(-1, 1)], [(2**32 + 1, 1)], [(2**70, 1)], [(1.5, 2)], [("1", 2)], [(1, 2, 3)], [(1,)], [(None, 1)]):
+            raises((ValueError, TypeError), network.distances, pairs)
+        handle, calls = network._engine.handle(), network._engine.calls
+        inner = []
+
+        def distances(*given):
+            status = calls.chtab_distances(*given)
+            handle.calls = calls
+            inner.append(network.distances([(2, 3), (3, 2)]).tolist())
+            return status
+
+        handle.calls = type("Calls", (), {"chtab_distances": staticmethod(distances)})
+        assert network.distances([(1, 3), (1, 2)]).tolist() == [9, 4] and inner == [[5, -1]]
+    raises(chtab.ChtabError, network.distances, [(1, 3)], told="the network is closed")

@@ -191,6 +191,18 @@ def test_a_simplified_graph_keeps_its_bends():
             assert 2_300 < trip.weight < 2_400 and trip.line[-1] == (9.52, 47.1)
 
 
+@needs("python3-networkx")
+def test_what_is_projected_is_told():
+    """Places that are no degrees are refused with the graph's own system of coordinates."""
+    import networkx
+
+    graph = networkx.MultiDiGraph(crs="epsg:32632")
+    graph.add_node(1, x=538_000.0, y=5_220_000.0)
+    graph.add_node(2, x=538_100.0, y=5_220_000.0)
+    graph.add_edge(1, 2, length=100.0)
+    raises(chtab.DataFault, lambda: chtab.Network.from_networkx(graph, "length", unit="metres", program=PROGRAM), told="of epsg:32632: `osmnx.project_graph")
+
+
 @needs("python3-scipy", "python3-shapely")
 def test_lines_are_turned_to_their_arcs():
     """Lines that lead from the target to the source are turned round; lists of points, heights and None are taken; others are refused by row."""

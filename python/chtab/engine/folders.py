@@ -8,8 +8,9 @@ import weakref
 
 from chtab.engine import forks
 
-# Reads a line, and ends. Where there is none, because whoever should write it is gone, the folder is removed first.
-SCRIPT = 'read -r line || rm -rf -- "$1"'
+# Reads a line, and ends. Where there is none, because whoever should write it is gone, the folder is removed first. Signals that end the process
+# may come to the shell as well, such as those to all processes of a service.
+SCRIPT = 'trap "" HUP INT TERM; read -r line || rm -rf -- "$1"'
 
 
 class Folder:

@@ -230,8 +230,8 @@ class Handle:
         with self.lock:
             if self.is_asked:
                 return None
-            self.is_asked = True
             try:
+                self.is_asked = True
                 self.sources[:count], self.targets[:count] = sources, targets
                 status = self.calls.chtab_distances(self.at, self.rooms[0], count, self.rooms[1], count, self.rooms[2], count)
                 found = self.weights[:count]
