@@ -181,7 +181,7 @@ def test_what_is_refused_is_named():
         for change, column, row, told in (
             ({"closed": [9]}, "closed", 0, "no row 9"), ({"closed": [-1]}, "closed", 0, "no row -1"), ({"closed": [0, ("inn", "x")]}, "closed", 0, "'x'"),
             ({"closed": [0, ("inn", "school")]}, "closed", 1, "there is no arc ('inn', 'school')"), ({"closed": [("inn", "mill", 0)]}, "closed", 0, "have none"),
-            ({"closed": [True]}, "closed", 0, "True is neither"), ({"closed": ["inn"]}, "closed", 0, "neither a row"),
+            ({"closed": [True]}, "closed", 0, "True is neither"), ({"closed": (0, 1)}, "closed", None, "[(0, 1)] is one arc, and [0, 1] are rows"), ({"closed": ["inn"]}, "closed", 0, "neither a row"),
             ({"weights": [1, 2]}, "weights", None, "there are 5 rows"), ({"weights": [1, 2, 3, 4, -5]}, "weights", 4, "below 0"),
             ({"weights": {0: float("nan")}}, "weights", 0, "nan is no weight"), ({"weights": {"inn": 3}}, "weights", 0, "neither a row"),
             ({"added": [("inn", "x", 3)]}, "added target", 0, "no node has the label 'x'"), ({"added": [("inn", "mill")]}, "added", None, "rows of"),
@@ -239,6 +239,25 @@ def test_a_change_that_fails_leaves_nothing():
         assert left() == own and network.distances([("inn", "mill")]).tolist() == [2.0]
 
 
+@needs("python3-pandas")
+def test_columns_of_frames_are_in_the_order_of_rows():
+    """A Series that was sorted is put in the order of the rows that its index has; one with other labels is taken as it comes."""
+    import pandas
+
+    minutes = pandas.Series([5.0, 1.0, 4.0, 3.0, 2.0])
+    for column in minutes, minutes.sort_values(), minutes.set_axis(list("abcde")), minutes.to_list(), minutes.to_numpy():
+        with of_roads() as network, network.changed(column) as other:
+            assert other.distances([("inn", "mill"), ("mill", "school"), ("inn", "farm")]).tolist() == [1, 4, 3]
+    is_closed = pandas.Series([True, False, False, True, False])
+    for mask in is_closed, is_closed.sort_values(), is_closed.to_numpy():
+        with of_roads() as network, network.changed(closed=mask) as other:
+            assert other.distances([("inn", "mill"), ("inn", "farm")], missing=-1).tolist() == [3, -1]
+    more = pandas.DataFrame({"source": ["school"], "target": ["inn"], "weight": [0.5]})
+    with of_roads() as network, network.changed(minutes.iloc[[1]], added=more) as other:
+        assert other.distances([("inn", "mill"), ("school", "inn")]).tolist() == [1, 0.5]
+        raises(chtab.DataFault, network.changed, None, None, more.rename(columns={"weight": "minutes"}), told="no column 'weight'")
+
+
 # Sums along routes, and the rows of arcs.
 
 
@@ -253,6 +272,7 @@ def test_sums_along_routes_are_of_the_arcs_that_routes_take():
     with chtab.Network.from_frame(arcs, "a", "b", "minutes", unit="minutes", nodes=[1, 2, 3, 4], both_ways=True, program=PROGRAM) as network:
         assert network.along(arcs["metres"], [(1, 3), (3, 1), (2, 2), (1, 4)]).tolist()[:3] == [110, 110, 0]
         assert numpy.isnan(network.along(arcs["metres"], [(1, 4)])).tolist() == [True]
+        assert network.along(arcs.sort_values("toll", ascending=False)["metres"], [(1, 3)]).tolist() == [110]
         assert network.along(arcs[["metres", "toll"]].to_numpy(), [1, 2], [3, 3]).tolist() == [[110, 10], [100, 8]]
         rows = network.routes([(1, 3), (1, 4), (3, 1), (1, 1)]).rows()
         assert [None if each is None else each.tolist() for each in rows] == [[1, 3], None, [3, 1], []]

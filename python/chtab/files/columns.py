@@ -79,6 +79,15 @@ def see_that_long(names, columns):
             raise DataFault(f"{names[0]} has {rows:,} rows and {name} has {count:,}: row {row} of {short} is missing", short, row)
 
 
+def in_rows(column, count):
+    """A column with a value for each of so many rows, in their order: one of pandas whose index has these rows in another order is put in theirs."""
+    if not hasattr(column, "iloc"):
+        return column
+    order = numpy.asarray(column.index)
+    is_other = order.dtype.kind in "iu" and len(order) == count and numpy.array_equal(numpy.sort(order), numpy.arange(count))
+    return column.iloc[numpy.argsort(order)] if is_other else column
+
+
 # Labels.
 
 

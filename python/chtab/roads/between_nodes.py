@@ -10,7 +10,7 @@ from numpy.typing import ArrayLike, NDArray
 from chtab.engine.deadlines import whole
 from chtab.engine.progress import Asked as Progress
 from chtab.errors import DataFault
-from chtab.files.columns import numbers_in
+from chtab.files.columns import in_rows, numbers_in
 from chtab.files.measures import Limit
 from chtab.roads.routes import Routes
 
@@ -195,10 +195,10 @@ class BetweenNodes:
         --------
         >>> metres = network.along(frame["length"], [("inn", "school")])       # doctest: +SKIP
         """
-        rows = self._layers.rows
+        rows, count = self._layers.rows, self._layers.row_count
+        values = in_rows(values, count)
         found = numpy.asarray(values)
         several = found.reshape(len(found), -1) if found.ndim == 2 else numpy.asarray(numbers_in("values", values), float)[:, None]
-        count = self._layers.row_count
         if len(several) != count:
             raise DataFault(f"values has {len(several):,} rows, and there are {count:,} rows of arcs", "values")
         walks = self._queries.walks(self._pairs(pairs, targets))

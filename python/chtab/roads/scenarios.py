@@ -13,6 +13,7 @@ from chtab.engine import making, opening
 from chtab.errors import DataFault
 from chtab.files import arc_columns, columns, edge_lines, measures
 from chtab.files.columns import told
+from chtab.files.frames import column_of
 
 if TYPE_CHECKING:
     import pandas
@@ -110,7 +111,9 @@ class Given(NamedTuple):
         is_marked = numpy.zeros(len(self.rows), bool)
         if arcs is None:
             return is_marked
-        column = numpy.asarray(arcs) if hasattr(arcs, "__array__") else None
+        if isinstance(arcs, tuple) and len(arcs) in (2, 3) and not any(isinstance(part, tuple | list) for part in arcs):
+            raise DataFault(f"{name} is a list: [{arcs!r}] is one arc, and {[*arcs]!r} are rows", name)
+        column = numpy.asarray(columns.in_rows(arcs, self.count)) if hasattr(arcs, "__array__") else None
         if column is not None and column.dtype == bool:
             self.see_that_rows(name, column)
             return column[self.rows]
@@ -155,7 +158,7 @@ class Given(NamedTuple):
             return self, 0.0
         names = list(weights.keys()) if hasattr(weights, "keys") and self.are_names(weights) else None
         given = list(weights.values()) if isinstance(weights, Mapping) else weights
-        numbers = numbers_of("weights", given, measure)
+        numbers = numbers_of("weights", columns.in_rows(given, self.count) if names is None else given, measure)
         whole, rounding = arc_columns.whole_weights("weights", numbers, scale, most)
         if names is None:
             self.see_that_rows("weights", whole)
@@ -178,7 +181,7 @@ class Given(NamedTuple):
             return New(*numpy.zeros((3, 0), numpy.int64), None, 0.0)
         lines = None
         if hasattr(given, "columns"):
-            sources, targets, weights = (given[name] for name in ("source", "target", "weight"))
+            sources, targets, weights = (column_of(given, name) for name in ("source", "target", "weight"))
             lines = given["geometry"] if "geometry" in given.columns else None
         else:
             rows = [tuple(row) for row in given]
