@@ -387,6 +387,7 @@ def test_a_call_of_seconds_hears_ctrl_c():
     for name, call in (
         ("open", lambda: of_country().close()), ("distances", lambda: network.distances(nodes, nodes)), ("table", lambda: network.table(nodes, nodes)),
         ("keep_places", lambda: network.near([1], nodes, 1)), ("sweep", lambda: network.near(None, nodes, 1)), ("near_rows", lambda: network.near(nodes, [1])),
+        ("routes", lambda: network.routes(nodes, nodes)), ("near_sums", lambda: network.sum_within(1, 2**60, nodes, nodes)),
     ):
         with of_country() as network:
             wanted, own = network.table(nodes[:9], nodes[:9]), getattr(library.Handle, name)
@@ -409,11 +410,13 @@ def test_a_library_that_gives_nothing_is_no_endless_loop():
     from chtab.engine import library
 
     nothing = numpy.zeros(0, numpy.int64)
-    for name, other in ("nodes", lambda handle: 4), ("near_rows", lambda handle, sources, pairs: (nothing, nothing, nothing)):
+    for name, other in ("nodes", lambda handle: 4), ("near_rows", lambda handle, sources, pairs: (nothing, nothing, nothing)), \
+            ("routes", lambda handle, sources, targets, room: (nothing, nothing, nothing)):
         own = getattr(library.Handle, name)
         setattr(library.Handle, name, other)
         try:
-            raises(chtab.ProgramFault, lambda: by_library(FIRST, FIRST_SAVED).near([1], [2]), told="not asked for")
+            for call in ("routes",) if name == "routes" else ("near",) if name == "near_rows" else ("near", "routes"):
+                raises(chtab.ProgramFault, lambda: getattr(by_library(FIRST, FIRST_SAVED), call)([1], [2]), told="not asked for")
         finally:
             setattr(library.Handle, name, own)
 
