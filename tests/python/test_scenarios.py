@@ -123,6 +123,10 @@ def test_edges_of_a_graph_are_meant_by_their_keys():
         raises(chtab.DataFault, network.changed, None, [(1, 2, 5)], told="there is no arc (1, 2, 5)")
     with chtab.Network.open("own", program=PROGRAM) as network, network.changed({(1, 2, 0): 8.5}) as other:
         assert other.distances([(1, 3)]).tolist() == [8] and network.distances([(1, 3)]).tolist() == [6]
+        assert network.routes([(1, 3), (3, 1), (2, 2)]).edges() == [[(1, 2, 0), (2, 3, 0)], None, []]
+        assert other.routes([(1, 3)]).edges() == [[(1, 2, 1), (2, 3, 0)]] and all(edge in graph.edges for edge in other.routes([(1, 3)]).edges()[0])
+    with of_roads() as network:
+        assert network.routes([("inn", "school")]).edges() == [[("inn", "mill"), ("mill", "school")]]
 
 
 @each_way

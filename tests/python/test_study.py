@@ -382,7 +382,8 @@ def test_errors_name_what_was_given():
     with of_minutes() as network:
         for kind, call, told in (
             (TypeError, lambda: chtab.Network("roads.gr"), 'Network.open("roads.gr")'), (TypeError, lambda: of_minutes(bothways=True), "it has 'both_ways'"),
-            (TypeError, lambda: of_minutes(worker=2), "it has 'workers'"), (TypeError, lambda: network.table(["inn"], ["mill"], "3"), "within is a number, not '3'"),
+            (TypeError, lambda: of_minutes(worker=2), "it has 'workers'"), (TypeError, lambda: chtab.Network.from_networkx(None, weights="length"), "it has 'weight'"),
+            (TypeError, lambda: network.table(["inn"], ["mill"], "3"), "within is a number, not '3'"),
             (TypeError, lambda: network.table(["inn"], ["mill"], True), "within is a number"), (TypeError, lambda: network.isochrones((9.5, 47.1), [3]), "as `snap` gives"),
             (TypeError, lambda: network.near(None, ["inn"], count=1.5), "count is a whole number"), (ValueError, lambda: network.table(["inn"], ["mill"], -1), "within is -1"),
             (ValueError, lambda: network.table(["inn"], ["mill"], float("nan")), "within is nan"), (ValueError, lambda: network.distances(("inn", "mill")), "one pair is [(1, 3)]"),

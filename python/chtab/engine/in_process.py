@@ -23,12 +23,15 @@ NO_PLACES = numpy.zeros(0, numpy.uint32)
 
 
 def timed(question):
-    """A question whose answer may take the time of the setting, which is counted from when the network is open."""
+    """A question whose answer may take the time of the setting, which is counted from when the network is open. It is looked at before each call, and
+    behind the last one, because one call may answer all."""
     @functools.wraps(question)
     def ask(self, *words):
         self.handle()
-        self.of_thread.deadline = deadlines.current(self.setting.timeout)
-        return question(self, *words)
+        deadline = self.of_thread.deadline = deadlines.current(self.setting.timeout)
+        found = question(self, *words)
+        deadline.milliseconds()
+        return found
 
     return ask
 

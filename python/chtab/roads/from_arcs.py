@@ -21,6 +21,7 @@ if TYPE_CHECKING:
     import scipy.sparse
 
 OF_ARCS = "nodes", "x", "y", "scale", "unit", "both_ways", "geometry", "folder"
+ENDS = "source", "target", "weight"
 
 
 class FromArcs:
@@ -125,7 +126,7 @@ class FromArcs:
         >>> network = Network.from_frame(roads, "from", "to", "minutes", unit="minutes")        # doctest: +SKIP
         """
         given, running = frames.columns_of_frame(frame, (source, target, weight), geometry, more)
-        running = opening.running_of("from_frame", running, Asked(raw=raw), OF_ARCS)
+        running = opening.running_of("from_frame", running, Asked(raw=raw), (*OF_ARCS, *ENDS))
         return cls._made(arc_columns.arcs_of(given), folder, running)
 
     @classmethod
@@ -173,7 +174,7 @@ class FromArcs:
         >>> streets = osmnx.add_edge_travel_times(osmnx.add_edge_speeds(streets))          # doctest: +SKIP
         >>> network = Network.from_networkx(streets, unit="seconds")                       # doctest: +SKIP
         """
-        running = opening.running_of("from_networkx", running, Asked(raw=raw), OF_ARCS)
+        running = opening.running_of("from_networkx", running, Asked(raw=raw), (*OF_ARCS, "weight"))
         return cls._made(frames.arcs_of_networkx(graph, weight, scale, unit, (x, y), geometry), folder, running)
 
     @classmethod
@@ -216,7 +217,7 @@ class FromArcs:
         >>> network = Network.from_geodataframe(roads, both_ways=True)                                  # doctest: +SKIP
         """
         given, running = geoframes.columns_of_geodataframe(edges, nodes, (source, target, weight), more)
-        running = opening.running_of("from_geodataframe", running, Asked(raw=raw), OF_ARCS)
+        running = opening.running_of("from_geodataframe", running, Asked(raw=raw), (*OF_ARCS, *ENDS))
         return cls._made(arc_columns.arcs_of(given), folder, running)
 
     @classmethod

@@ -69,6 +69,26 @@ class Routes(showing.OnMap, collections.abc.Sequence):
         found = iter(numpy.split(self.layers.rows[lines], cuts) if answers else [])
         return [next(found) if each.nodes else None for each in self.numbered]
 
+    def edges(self) -> list[list[tuple] | None]:
+        """Gives the arcs of the routes by their nodes, as networkx and osmnx name edges.
+
+        Returns
+        -------
+        list of list of tuple
+            For each pair its edges in the order of the route: (source, target, key) where the network was made of a graph whose edges have keys, and
+            else (source, target). None where no path leads.
+        """
+        labelling = self.layers.labelling
+        keys = None if labelling is None else labelling.keys
+        found: list[list[tuple] | None] = []
+        for answer, rows in zip(self, self.rows()):
+            if answer.nodes is None:
+                found.append(None)
+                continue
+            ends = zip(answer.nodes, answer.nodes[1:])
+            found.append([(*pair, keys[row]) for pair, row in zip(ends, rows.tolist())] if keys else list(ends))
+        return found
+
     def to_frame(self) -> pandas.DataFrame:
         """Gives the routes as a table.
 
