@@ -19,7 +19,7 @@ from helpers.running import ROOT, Count
 PAGE = ROOT / "docs" / "BELIEVE.md"
 CONTRACT = ROOT / "crates/ch_run/src/run/dist.rt"
 ROUTES = {"IsRouteText", "IsOfRoutes", "LevelsAndLegs"}
-SAVED = {"source_reading", "AreChecked", "OrderAndLegs"}
+SAVED = {"source_reading", "ReadingIf", "NoInput", "OneInput", "AreChecked", "OrderAndLegs"}
 IMPORT = re.compile(r"^(?:ghost )?use Rattle\.([\w.]+)\.\{([^}]*)\};?$", re.MULTILINE)
 MODULE = re.compile(r"^use Rattle\.([\w.]+) as (\w+)$", re.MULTILINE)
 HEAD = re.compile(r"(?:unfoldable )?(?:abbrev )?pub (?:(?:record|data) )?(\w+)")
@@ -35,11 +35,17 @@ class Source:
             for item in names.split(", "):
                 name, _, word = item.partition(" as ")
                 self.imports[word or name] = (module, name)
-        self.definitions = {}
+        self.definitions, self.cases = {}, {}
         for block in re.split(r"\n\n+", self.text):
             lines = [line for line in block.splitlines() if not line.startswith("--")]
             if lines and (head := HEAD.match(lines[0])):
                 self.definitions[head[1]] = block.strip("\n")
+                if "pub data " in lines[0]:
+                    self.cases.update((case, head[1]) for case in re.findall(r"^  (\w+) :", "\n".join(lines), re.MULTILINE))
+
+    def owner(self, name):
+        """The definition that a name belongs to: its own, or that of the data of which it is a case."""
+        return self.cases.get(name, name)
 
 
 def sources():
@@ -70,10 +76,10 @@ class Closure:
         """Adds what a text of this file mentions."""
         for word in words(text) - ROUTES - SAVED - self.left_out:
             module, name = source.imports.get(word, (None, word))
-            if module is None and name in source.definitions:
-                self.add(source, name)
+            if module is None and source.owner(name) in source.definitions:
+                self.add(source, source.owner(name))
             elif module in self.files:
-                self.add(self.files[module], name)
+                self.add(self.files[module], self.files[module].owner(name))
             elif module and module.startswith("std."):
                 self.std.add(name)
             elif module and ".declared." in module:
@@ -150,12 +156,12 @@ def check_claim(tally, pieces, std):
 def check_hour(tally, page, pieces):
     """The page says how many lines each part has and how long it takes. The page takes an hour at most, with the first part, the types and the
     standard words that this names."""
-    _, _, first, example, second, third, _ = pieces
+    _, _, first, example, *others, _ = pieces
     looked_up = Closure(claim.PARTS[0][0])
     rows = len(looked_up.types) + len(looked_up.std - set(claim.IN_WORDS))
     hour = (page_seconds() + piece_seconds(first) + piece_seconds(example) + ROW * rows) / 60
     tally.expect(hour <= MOST_MINUTES, f"BELIEVE.md with part 1 takes {hour:.0f} minutes")
-    for number, piece, minutes in (1, first, hour), (2, second, piece_seconds(second) / 60), (3, third, piece_seconds(third) / 60):
+    for number, piece, minutes in (1, first, hour), *((number, piece, piece_seconds(piece) / 60) for number, piece in enumerate(others, 2)):
         row = re.search(rf"^\| {number} \|.*\| (\d+) \| (\d+) \|$", page, re.MULTILINE)
         tally.expect(row and row[1] == str(count_lines(piece)), f"BELIEVE.md: part {number} has {count_lines(piece)} lines")
         tally.expect(row and abs(int(row[2]) - minutes) <= 2, f"BELIEVE.md: part {number} takes {minutes:.0f} minutes")

@@ -11,25 +11,36 @@ COLUMNS = 134
 HEAD = """\
 -- What a distance of chtab rests on, in the order in which it is read. The page docs/BELIEVE.md goes with it.
 --
--- Part 1 is what you read in the hour of that page. Part 2 says what the bytes of files mean, and part 3 which files are
--- accepted. Then come the types of the code and the standard words that the definitions use. Nothing else is used.
+-- Part 1 is what you read in the hour of that page. Part 2 says what chains of reads and writes are, part 3 what the bytes of
+-- files mean, and part 4 which files are accepted. Then come the types of the code and the standard words that the definitions use. Nothing else is used.
 --
 -- `tests/believe.py --write` writes this file from the sources, and `./check` compares the two."""
 # The parts, each with the names that it leaves to the next one, and what it is.
 PARTS = (
-    ({"lines", "heading_in", "items_in", "IsAccepted", "IsWithinLimits"}, "What a distance is, what files name, and what is written"),
+    (
+        {"Gave", "GaveAll", "GaveUntilFault", "Took", "TookUntilFault", "DeviceFault", "lines", "heading_in", "items_in", "IsAccepted", "IsWithinLimits"},
+        "What a distance is, what files name, and what is written",
+    ),
+    ({"lines", "heading_in", "items_in", "IsAccepted", "IsWithinLimits"}, "What the reads of an input gave, and what the writes of an output took"),
     ({"IsAccepted", "IsWithinLimits"}, "Lines, words and numbers of files, and what they declare and list"),
     (set(), "Which files are accepted"),
 )
 NOTES = (
     """\
+-- `GaveAll gives old bytes new` says that the reads of an input gave these bytes, one after the other: from `old` up to a read that gave none,
+-- which left it as `new`. `Took takes old text new` says that the writes of an output took this text, and `TookUntilFault` that they took its
+-- first bytes up to a write that failed. Part 2 has the definitions. `gives` and `takes` say what one call of a device may do. They are the
+-- device's own, and have no meaning here, so that no code can claim a call that it did not make.
+--
 -- Of a file, `lines bytes` are its lines, `heading_in form lines` is what its problem line declares, and `items_in form part lines` are the
--- numbers of each of its item lines: docs/REFERENCE.md describes the files, and part 2 has the definitions. `IsAccepted form bytes` and
--- `IsWithinLimits g` only add to the promise, and are in part 3.""",
+-- numbers of each of its item lines: docs/REFERENCE.md describes the files, and part 3 has the definitions. `IsAccepted form bytes` and
+-- `IsWithinLimits g` only add to the promise, and are in part 4.""",
     """\
--- `IsAccepted form bytes` only adds to the promise: each line of the file is a comment or one of the lines that follow. It is in part 3.""",
+-- Each call of a device is one step, from the device before it to the device after it. The steps of a chain are numbered: `suc n` is n + 1.""",
     """\
--- All of this only adds to what the first two parts promise. If it were left out, chtab could accept a file with a line that it doesn't
+-- `IsAccepted form bytes` only adds to the promise: each line of the file is a comment or one of the lines that follow. It is in part 4.""",
+    """\
+-- All of this only adds to what the other parts promise. If it were left out, chtab could accept a file with a line that it doesn't
 -- understand, or with a number out of range. The distances would still be those of the graph that `NamesGraph` names.""",
 )
 EXAMPLE = """\
@@ -55,16 +66,17 @@ EXAMPLE = """\
 --
 -- `distance_text` counts nodes from 1 again. By `HasText` the text of both answers is
 {text}
--- `HasTaken (Some []) new text` says that an output that had taken nothing has taken these bytes, and no others."""
+-- `Took takes old text new` says that the writes of the output took these bytes, and no others."""
 ANSWERS = "d 1 3 9\nd 3 1 -\n"
 # The standard words and what these use, by their files below the kit's folder `rattle`.
 STANDARD = {
     "antt/port/mathlib/src/Core/Bool.antt": ("cond", "not"),
     "antt/port/mathlib/src/Core/List/Defs.antt": ("map",),
-    "logic/Lib/ListN.antt": ("length", "get_or", "take"),
+    "logic/Lib/ListN.antt": ("length", "get_or", "take", "drop"),
     "logic/Lib/Chars.antt": ("codes",),
     "logic/Lib/Pointwise.antt": ("pointwise",),
     "core/specs/Option.antt": ("is_some", "is_none", "MatchOption", "option_map", "option_and_then", "option_map_or"),
+    "core/specs/Result.antt": ("IfOk",),
     "core/specs/List.antt": (
         "slice_get", "slice_index", "All", "Contains", "AllZip", "fold", "sum_by", "filter", "list_all", "cons_option", "filter_map", "flat_map",
         "onto_first", "slice_split",
@@ -77,7 +89,7 @@ STANDARD = {
 IN_WORDS = {
     "ℕ": "the natural numbers 0, 1, 2, ..", "Bool": "true and false", "true": "", "false": "", "List": "lists", "Option": "Some x, or None",
     "Some": "", "None": "", "Result": "Ok x, or Err fault", "Ok": "", "Err": "", "nat_le": "at most, as a truth value",
-    "nat_lt": "less, as a truth value", "slice_index_or": "another name of get_or",
+    "nat_lt": "less, as a truth value", "zero": "the number 0", "suc": "of a number: the next one", "slice_index_or": "another name of get_or",
 }
 # What the bodies use that has a long definition of its own.
 USED = {"is_ascii_digit": "a byte from 48 to 57", "digit_value": "of such a byte: it less 48", "code": "of a character: its code point"}

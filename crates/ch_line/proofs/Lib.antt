@@ -1,3 +1,3 @@
 pub mod Opening
 pub mod Read
-pub mod Whole
+pub mod Refused

@@ -2,6 +2,7 @@
 use Rattle.std.proofs.Common.{◌≡◌, ◌<◌, ℕ, List, ◌++◌, Option, refl, inl, inr, arith}
 use Rattle.std.specs.Prelude.{Result, IfErr}
 use Rattle.ch_read.specs.declared.fault.ReadFault.{ReadFault}
+use Rattle.ch_text.specs.declared.device.DeviceFault.{DeviceFault}
 use Rattle.ch_run.specs.declared.fault.RunFault.{RunFault}
 use Rattle.ch_run.specs.declared.fault.Which.{Which}
 use Rattle.ch_run.specs.declared.source.Source.{Source}
@@ -13,9 +14,9 @@ use Rattle.ch_run.specs.Source.{ReadsSource, saved_in, source_origin}
 use Rattle.ch_run.proofs.Writes.{ends_in}
 use Rattle.ch_line.specs.Inputs.{AreRead, input_if}
 
-module _ {I : Type 0} (left : I → Option (List ℕ)) (origin failed : I → ℕ) (r : Result Unit RunFault) (olds news : List (Which × I)) (more : AreRead origin failed r olds news) where
+module _ {I : Type 0} (gives : I → List ℕ → Result ℕ DeviceFault → I → Type 0) (origin failed : I → ℕ) (r : Result Unit RunFault) (olds news : List (Which × I)) (more : AreRead origin failed r olds news) where
   -- a saved hierarchy is read, if there is one, and then the other inputs
-  pub source-read : (graph : Reading) (old new : Source I) → ReadsSource graph r left failed old new → source_origin origin new ≡ source_origin origin old →
+  pub source-read : (graph : Reading) (old new : Source I) → ReadsSource graph r gives failed old new → source_origin origin new ≡ source_origin origin old →
       AreRead origin failed r (input_if Which.Saved (saved_in old) ++ olds) (input_if Which.Saved (saved_in new) ++ news)
   source-read graph Source.Built Source.Built reads same = more
   source-read graph Source.Built (Source.Saved new) reads same = absurd (let none : ⊥ = cc in none)
@@ -23,7 +24,7 @@ module _ {I : Type 0} (left : I → Option (List ℕ)) (origin failed : I → �
   source-read graph (Source.Saved old) (Source.Saved new) reads same = (refl, record { same = cc; once = reads.lines.reads.once }, more)
 
   -- a list of sources is read, if there is one, and then the other inputs
-  pub sources-read : (earlier : List Which) (accepted : Type 0) (P : Reading → ReadFault → Type 0) (old new : Sources I) → ReadsSources earlier accepted r left failed old new P → sources_origin origin new ≡ sources_origin origin old →
+  pub sources-read : (earlier : List Which) (accepted : Type 0) (P : Reading → ReadFault → Type 0) (old new : Sources I) → ReadsSources earlier accepted r gives failed old new P → sources_origin origin new ≡ sources_origin origin old →
       AreRead origin failed r (input_if Which.Sources (listed_in old) ++ olds) (input_if Which.Sources (listed_in new) ++ news)
   sources-read earlier accepted P Sources.All Sources.All reads same = more
   sources-read earlier accepted P Sources.All (Sources.Listed new) reads same = absurd (let none : ⊥ = cc in none)

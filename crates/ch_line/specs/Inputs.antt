@@ -1,80 +1,86 @@
 -- The question that inputs ask, and how a run over them ends.
-use Rattle.std.specs.Prelude.{◌≡◌, ◌⊎◌, ◌↔◌, ◌<◌, ℕ, [], ◌∷◌, ◌++◌, List, Option, Some, None, Result, Err, IfErr, IsErrAnd, ⊤, option_map}
+use Rattle.std.specs.Prelude.{◌≡◌, ◌⊎◌, ◌↔◌, ◌<◌, ℕ, [], ◌∷◌, ◌++◌, List, Option, Some, None, Result, Err, IfErr, IsErrAnd, ⊤}
 use Rattle.ch_read.specs.declared.fault.ReadFault.{ReadFault}
 use Rattle.ch_hierarchy.specs.declared.fault.CheckFault.{CheckFault}
+use Rattle.ch_text.specs.declared.device.DeviceFault.{DeviceFault}
 use Rattle.ch_run.specs.declared.fault.Which.{Which}
 use Rattle.ch_run.specs.declared.fault.RunFault.{RunFault}
 use Rattle.ch_run.specs.declared.options.Options.{Options}
 use Rattle.ch_run.specs.Ask.{IsOfAsk, ServesBy}
 use Rattle.ch_run.specs.DistRun.{HasQueriesRefused, IsAnsweredBy, IsOfDist}
-use Rattle.ch_run.specs.NearRun.{HasNearTargetsRefused, IsNearBy, IsOfNear, listed_in, sources_failures}
-use Rattle.ch_run.specs.Run.{Delivers, IsGraphRefused, IsWrite, Reading, ReadsOnce, reading}
+use Rattle.ch_run.specs.NearRun.{HasNearTargetsRefused, IsNearBy, IsOfNear, listed_in, sources_failures, sources_reading}
+use Rattle.ch_run.specs.Run.{Delivers, IsGraphRefused, IsWrite, Reading, ReadsOnce, reading, ReadingIf, NoInput, OneInput}
 use Rattle.ch_run.specs.SaveRun.{IsOfSave, IsSavedBy}
-use Rattle.ch_run.specs.Source.{HasCheckRefused, HasSavedRefused, IsOfLoading, saved_in, source_failures}
+use Rattle.ch_run.specs.Source.{HasCheckRefused, HasSavedRefused, IsOfLoading, saved_in, source_failures, source_reading}
 use Rattle.ch_run.specs.TableRun.{HasCellsRefused, HasSourcesRefused, HasTargetsRefused, IsOfTable, IsTabledBy}
 use Rattle.ch_line.specs.declared.inputs.Asked.{Asked}
 use Rattle.ch_line.specs.declared.inputs.Inputs.{Inputs}
 
--- the reading of these bytes to their end, if they are known
-abbrev pub whole_of : Option (List ℕ) → Reading
-whole_of bytes = record { before = bytes; after = option_map (λ _. []) bytes }
-
 -- a question about a graph, with the readings that it needs. Without a list of sources, each node is a source
-pub data Question : Type 0 where
+pub data Question : Type 1 where
   Answers : (queries : Reading) → Question
   Table : (sources targets : Reading) → Question
-  Near : (sources : Option Reading) (targets : Reading) → Question
+  Near : (sources : ReadingIf) (targets : Reading) → Question
   Hierarchy : Question
   Requests : Question
 
 -- a question, with the readings of the graph and of a saved hierarchy, if there is one
-pub record Task : Type 0 where
+pub record Task : Type 1 where
   pub graph : Reading
-  pub saved : Option Reading
+  pub saved : ReadingIf
   pub question : Question
 
--- the question that inputs ask, by the bytes that are known of them
-abbrev pub question_of : {I : Type 0} → (I → Option (List ℕ)) → Asked I → Question
-question_of left (Asked.Queries queries) = Answers (whole_of (left queries))
-question_of left (Asked.Table sources targets) = Table (whole_of (left sources)) (whole_of (left targets))
-question_of left (Asked.Near sources targets) = Near (option_map (λ input. whole_of (left input)) (listed_in sources)) (whole_of (left targets))
-question_of left Asked.Hierarchy = Hierarchy
-question_of left Asked.Requests = Requests
+-- a question, if there is one
+pub data QuestionIf : Type 1 where
+  NoQuestion : QuestionIf
+  OneQuestion : (question : Question) → QuestionIf
 
-abbrev pub task_of : {I : Type 0} → (I → Option (List ℕ)) → Inputs I → Task
-task_of left inputs = record {
-  graph = whole_of (left inputs.graph);
-  saved = option_map (λ input. whole_of (left input)) (saved_in inputs.source);
-  question = question_of left inputs.asked;
-}
+-- the question that inputs ask, with what a run did with each of them: they are `old` before the run and `new` after it. A run leaves
+-- the question as it is
+abbrev pub question_of : {I : Type 0} → (gives : I → List ℕ → Result ℕ DeviceFault → I → Type 0) → (old new : Asked I) → QuestionIf
+question_of gives (Asked.Queries old) (Asked.Queries new) = OneQuestion (Answers (reading gives old new))
+question_of gives (Asked.Table sources targets) (Asked.Table sources' targets') = OneQuestion (Table (reading gives sources sources') (reading gives targets targets'))
+question_of gives (Asked.Near sources targets) (Asked.Near sources' targets') = OneQuestion (Near (sources_reading gives sources sources') (reading gives targets targets'))
+question_of gives Asked.Hierarchy Asked.Hierarchy = OneQuestion Hierarchy
+question_of gives Asked.Requests Asked.Requests = OneQuestion Requests
+question_of gives _ _ = NoQuestion
+
+-- the task with this graph, this saved hierarchy and this question, if there is one, has P
+abbrev pub IfAsked : Reading → ReadingIf → QuestionIf → (Task → Type 0) → Type 0
+IfAsked graph saved NoQuestion P = ⊥
+IfAsked graph saved (OneQuestion question) P = P (record { graph = graph; saved = saved; question = question })
+
+-- the task that inputs are for, with what a run did with each of them, has P
+abbrev pub OfTask : {I : Type 0} → (gives : I → List ℕ → Result ℕ DeviceFault → I → Type 0) → (old new : Inputs I) → (Task → Type 0) → Type 0
+OfTask gives old new P = IfAsked (reading gives old.graph new.graph) (source_reading gives old.source new.source) (question_of gives old.asked new.asked) P
 
 -- a run that answers no requests leaves them alone. The output takes a text with P: the whole text if the run succeeds, its first
 -- bytes if a write failed, and otherwise nothing
-pub record WritesText {J O : Type 0} (P : List ℕ → Type 0) (taken : O → Option (List ℕ)) (requests requests' : J) (old new : O) (result : Result Unit RunFault) : Type 0 where
+pub record WritesText {J O : Type 0} (P : List ℕ → Type 0) (takes : O → List ℕ → Result ℕ DeviceFault → O → Type 0) (requests requests' : J) (old new : O) (result : Result Unit RunFault) : Type 0 where
   pub unasked : requests' ≡ requests
-  pub delivers : Delivers result (taken old) (taken new) P
+  pub delivers : Delivers result takes old new P
   pub unwritten : (new ≡ old) ⊎ IfErr result IsWrite
 
 -- a run answers requests as `Serves` says, or it ends before that in a fault with `IsBefore`. Then it touches neither them nor the
 -- output. It reports a failed read of the requests exactly if there was one
-pub record WritesAnswers {J O : Type 0} (IsBefore : RunFault → Type 0) (Serves : Reading → (old new : Option (List ℕ)) → Result Unit RunFault → Type 0)
-    (left : J → Option (List ℕ)) (failed : J → ℕ) (taken : O → Option (List ℕ)) (requests requests' : J) (old new : O) (result : Result Unit RunFault) : Type 0 where
-  pub served : (IsErrAnd result IsBefore × (requests' ≡ requests) × (new ≡ old)) ⊎ Serves (reading left requests requests') (taken old) (taken new) result
+pub record WritesAnswers {J O : Type 0} (IsBefore : RunFault → Type 0) (Serves : Reading → (takes : O → List ℕ → Result ℕ DeviceFault → O → Type 0) → (old new : O) → Result Unit RunFault → Type 0)
+    (gives : J → List ℕ → Result ℕ DeviceFault → J → Type 0) (failed : J → ℕ) (takes : O → List ℕ → Result ℕ DeviceFault → O → Type 0) (requests requests' : J) (old new : O) (result : Result Unit RunFault) : Type 0 where
+  pub served : (IsErrAnd result IsBefore × (requests' ≡ requests) × (new ≡ old)) ⊎ Serves (reading gives requests requests') takes old new result
   pub device : (result ≡ Err (RunFault.Device Which.Requests)) ↔ (failed requests < failed requests')
 
 -- what the run for a question reads of the requests, and what it writes, with these options
-abbrev pub WritesFor : {J O : Type 0} → Options → Reading → Option Reading → Question → (left : J → Option (List ℕ)) → (failed : J → ℕ) → (taken : O → Option (List ℕ)) → (requests requests' : J) → (old new : O) → Result Unit RunFault → Type 0
-WritesFor options graph saved (Answers queries) left failed = WritesText (IsAnsweredBy options graph saved queries)
-WritesFor options graph saved (Table sources targets) left failed = WritesText (IsTabledBy options graph saved sources targets)
-WritesFor options graph saved (Near sources targets) left failed = WritesText (IsNearBy options graph saved sources targets)
-WritesFor options graph saved Hierarchy left failed = WritesText (IsSavedBy options graph)
-WritesFor options graph saved Requests left failed = WritesAnswers (IsOfLoading saved) (ServesBy options graph saved) left failed
+abbrev pub WritesFor : {J O : Type 0} → Options → Reading → ReadingIf → Question → (gives : J → List ℕ → Result ℕ DeviceFault → J → Type 0) → (failed : J → ℕ) → (takes : O → List ℕ → Result ℕ DeviceFault → O → Type 0) → (requests requests' : J) → (old new : O) → Result Unit RunFault → Type 0
+WritesFor options graph saved (Answers queries) gives failed = WritesText (IsAnsweredBy options graph saved queries)
+WritesFor options graph saved (Table sources targets) gives failed = WritesText (IsTabledBy options graph saved sources targets)
+WritesFor options graph saved (Near sources targets) gives failed = WritesText (IsNearBy options graph saved sources targets)
+WritesFor options graph saved Hierarchy gives failed = WritesText (IsSavedBy options graph)
+WritesFor options graph saved Requests gives failed = WritesAnswers (IsOfLoading saved) (ServesBy options graph saved) gives failed
 
-abbrev pub Writes : {J O : Type 0} → Options → Task → (left : J → Option (List ℕ)) → (failed : J → ℕ) → (taken : O → Option (List ℕ)) → (requests requests' : J) → (old new : O) → Result Unit RunFault → Type 0
-Writes options task left failed = WritesFor options task.graph task.saved task.question left failed
+abbrev pub Writes : {J O : Type 0} → Options → Task → (gives : J → List ℕ → Result ℕ DeviceFault → J → Type 0) → (failed : J → ℕ) → (takes : O → List ℕ → Result ℕ DeviceFault → O → Type 0) → (requests requests' : J) → (old new : O) → Result Unit RunFault → Type 0
+Writes options task gives failed = WritesFor options task.graph task.saved task.question gives failed
 
 -- the faults that the run for a question can end in
-abbrev pub IsOwn : Option Reading → Question → RunFault → Type 0
+abbrev pub IsOwn : ReadingIf → Question → RunFault → Type 0
 IsOwn saved (Answers queries) = IsOfDist saved
 IsOwn saved (Table sources targets) = IsOfTable saved
 IsOwn saved (Near sources targets) = IsOfNear saved sources
@@ -87,28 +93,28 @@ pub record RefusesHierarchy (graph saved : Reading) (result : Result Unit RunFau
   pub check : (fault : CheckFault) → result ≡ Err (RunFault.Check fault) → HasCheckRefused graph saved fault
 
 -- the same, if there is a saved hierarchy
-abbrev pub RefusesSaved : Reading → Option Reading → Result Unit RunFault → Type 0
-RefusesSaved graph None result = ⊤
-RefusesSaved graph (Some saved) result = RefusesHierarchy graph saved result
+abbrev pub RefusesSaved : Reading → ReadingIf → Result Unit RunFault → Type 0
+RefusesSaved graph NoInput result = ⊤
+RefusesSaved graph (OneInput saved) result = RefusesHierarchy graph saved result
 
 -- the lists of a table are refused only for faults that they have
-pub record RefusesTable (graph : Reading) (saved : Option Reading) (sources targets : Reading) (result : Result Unit RunFault) : Type 0 where
+pub record RefusesTable (graph : Reading) (saved : ReadingIf) (sources targets : Reading) (result : Result Unit RunFault) : Type 0 where
   pub sources_refused : (fault : ReadFault) → result ≡ Err (RunFault.Read Which.Sources fault) → HasSourcesRefused graph saved sources fault
   pub targets_refused : (fault : ReadFault) → result ≡ Err (RunFault.Read Which.Targets fault) → HasTargetsRefused graph saved sources targets fault
   pub cells_refused : result ≡ Err RunFault.Cells → HasCellsRefused graph saved sources targets
 
 -- a list of sources is refused only for a fault that it has, if one is read
-abbrev pub RefusesSources : Reading → Option Reading → Option Reading → Result Unit RunFault → Type 0
-RefusesSources graph saved None result = ⊤
-RefusesSources graph saved (Some sources) result = (fault : ReadFault) → result ≡ Err (RunFault.Read Which.Sources fault) → HasSourcesRefused graph saved sources fault
+abbrev pub RefusesSources : Reading → ReadingIf → ReadingIf → Result Unit RunFault → Type 0
+RefusesSources graph saved NoInput result = ⊤
+RefusesSources graph saved (OneInput sources) result = (fault : ReadFault) → result ≡ Err (RunFault.Read Which.Sources fault) → HasSourcesRefused graph saved sources fault
 
 -- the lists of near rows are refused only for faults that they have
-pub record RefusesNear (graph : Reading) (saved sources : Option Reading) (targets : Reading) (result : Result Unit RunFault) : Type 0 where
+pub record RefusesNear (graph : Reading) (saved sources : ReadingIf) (targets : Reading) (result : Result Unit RunFault) : Type 0 where
   pub sources_refused : RefusesSources graph saved sources result
   pub targets_refused : (fault : ReadFault) → result ≡ Err (RunFault.Read Which.Targets fault) → HasNearTargetsRefused graph saved sources targets fault
 
 -- the files of a question are refused only for faults that they have. For refused requests, see `Serves`
-abbrev pub RefusesAsked : Reading → Option Reading → Question → Result Unit RunFault → Type 0
+abbrev pub RefusesAsked : Reading → ReadingIf → Question → Result Unit RunFault → Type 0
 RefusesAsked graph saved (Answers queries) result = (fault : ReadFault) → result ≡ Err (RunFault.Read Which.Queries fault) → HasQueriesRefused graph saved queries fault
 RefusesAsked graph saved (Table sources targets) result = RefusesTable graph saved sources targets result
 RefusesAsked graph saved (Near sources targets) result = RefusesNear graph saved sources targets result
@@ -164,3 +170,10 @@ AreRead origin failed result [] [] = ⊤
 AreRead origin failed result [] (new ∷ news) = ⊥
 AreRead origin failed result (old ∷ olds) [] = ⊥
 AreRead origin failed result (old ∷ olds) (new ∷ news) = (new.0 ≡ old.0) × IsRead origin failed result old.0 old.1 new.1 × AreRead origin failed result olds news
+
+-- what a run over these inputs did: with the files, with the requests and with the output
+pub record RunsOver {I J O : Type 0} (gives : I → List ℕ → Result ℕ DeviceFault → I → Type 0) (origin failed : I → ℕ) (gives_requests : J → List ℕ → Result ℕ DeviceFault → J → Type 0) (failed_requests : J → ℕ)
+    (takes : O → List ℕ → Result ℕ DeviceFault → O → Type 0) (options : Options) (old new : Inputs I) (requests requests' : J) (output output' : O) (result : Result Unit RunFault) : Type 0 where
+  pub written : OfTask gives old new (λ task. Writes options task gives_requests failed_requests takes requests requests' output output' result)
+  pub ends : OfTask gives old new (λ task. EndsFor task result)
+  pub read : AreRead origin failed result (inputs_in old) (inputs_in new)

@@ -7,14 +7,18 @@ use Rattle.ch_run.specs.declared.options.Options.{Options}
 use Rattle.ch_run.specs.declared.fault.Which.{Which}
 use Rattle.ch_run.specs.declared.fault.RunFault.{RunFault}
 use Rattle.ch_text.specs.Device.{CountsAtMostOne}
-use Rattle.ch_run.specs.Run.{Reading, WritesOnce}
+use Rattle.ch_run.specs.Run.{WritesOnce}
 use Rattle.ch_words.specs.declared.line.Choices.{Choices}
 use Rattle.ch_words.specs.declared.line.Line.{Line}
 use Rattle.ch_words.specs.declared.line.Order.{Order}
 use Rattle.ch_words.specs.declared.line.Tool.{Tool}
 use Rattle.ch_line.specs.declared.files.OpenFault.{OpenFault}
-use Rattle.ch_line.specs.Files.{FileState, bytes_of}
-use Rattle.ch_line.specs.Inputs.{AreRead, EndsFor, Question, Task, Writes, whole_of}
+use Rattle.ch_text.specs.declared.device.DeviceFault.{DeviceFault}
+use Rattle.ch_run.specs.declared.sources.Sources.{Sources}
+use Rattle.ch_line.specs.declared.inputs.Asked.{Asked}
+use Rattle.ch_line.specs.declared.inputs.Inputs.{Inputs}
+use Rattle.ch_line.specs.Files.{FileState, Opens}
+use Rattle.ch_line.specs.Inputs.{RunsOver, inputs_in}
 
 -- the order of contraction that the words choose: `--deep` that of depth, and `--rounds` that by rounds
 abbrev pub order_for : Order → OrderBy
@@ -38,10 +42,6 @@ options_for choices = record {
 abbrev pub saved_name : Line → Option (List ℕ)
 saved_name line = option_map string_bytes line.saved
 
--- the reading of the file of a name to its end, if its bytes are known
-abbrev pub file_reading : (List ℕ → FileState) → List ℕ → Reading
-file_reading known name = whole_of (bytes_of (known name))
-
 -- the name of the graph of a tool
 abbrev pub graph_name : Tool → List ℕ
 graph_name (Tool.Dist graph queries) = string_bytes graph
@@ -59,23 +59,6 @@ saved_for (Tool.Near graph sources targets) saved = saved
 saved_for (Tool.NearAll graph targets) saved = saved
 saved_for (Tool.Save graph) saved = None
 saved_for (Tool.Ask graph) saved = saved
-
--- the question of a tool, where `read` gives the reading of each name
-abbrev pub tool_question : (List ℕ → Reading) → Tool → Question
-tool_question read (Tool.Dist graph queries) = Question.Answers (read (string_bytes queries))
-tool_question read (Tool.Table graph sources targets) = Question.Table (read (string_bytes sources)) (read (string_bytes targets))
-tool_question read (Tool.Near graph sources targets) = Question.Near (Some (read (string_bytes sources))) (read (string_bytes targets))
-tool_question read (Tool.NearAll graph targets) = Question.Near None (read (string_bytes targets))
-tool_question read (Tool.Save graph) = Question.Hierarchy
-tool_question read (Tool.Ask graph) = Question.Requests
-
--- the task of a tool: its question, with the readings of the graph and of the saved hierarchy, if it reads one
-abbrev pub tool_task : (List ℕ → Reading) → Tool → Option (List ℕ) → Task
-tool_task read tool saved = record { graph = read (graph_name tool); saved = option_map read (saved_for tool saved); question = tool_question read tool }
-
--- the task of a line, by the bytes that are known of its files
-abbrev pub line_task : (List ℕ → FileState) → Line → Task
-line_task known line = tool_task (file_reading known) line.tool (saved_name line)
 
 -- an input and the name of its file
 abbrev pub File : Type 0
@@ -133,10 +116,6 @@ abbrev pub IsUnopened : (List ℕ → FileState) → List File → RunFault → 
 IsUnopened known [] fault = ⊥
 IsUnopened known (file ∷ files) fault = IsNotOpened (known file.1) file.0 fault ⊎ IsUnopened known files fault
 
--- one of these files isn't opened, and the run touches neither the requests nor the output
-abbrev pub IsNotBegun : {J O : Type 0} → (List ℕ → FileState) → List File → (requests requests' : J) → (old new : O) → Result Unit RunFault → Type 0
-IsNotBegun known files requests requests' old new result = IsErrAnd result (IsUnopened known files) × (requests' ≡ requests) × (new ≡ old)
-
 -- if this file is missing, the run ends at it, or in a lack of memory. If nothing is known of it, the run ends at it or goes on
 abbrev pub AtMissing : {T : Type 0} → FileState → Which → Type 0 → Result T RunFault → Type 0
 AtMissing FileState.Untold which rest result = IsErrAnd result (λ fault. fault ≡ RunFault.Device which) ⊎ rest
@@ -175,22 +154,39 @@ abbrev pub AreClosed : {F I : Type 0} → (closes : F → I → F → Type 0) �
 AreClosed closes [] old new = new ≡ old
 AreClosed {F} closes (input ∷ inputs) old new = (mid : F) × closes old input.1 mid × AreClosed closes inputs mid new
 
--- the run of a line uses these files and no other. If one can't be opened, the run ends in that fault. Otherwise it opens all of them in
--- turn. It reports a failed read of a file exactly if there was one. At the end it closes all of them in turn
-abbrev pub UsesFiles : {F I : Type 0} → (opens : F → List ℕ → Result I OpenFault → F → Type 0) → (closes : F → I → F → Type 0) → (origin failed : I → ℕ) → List File → (old new : F) → Result Unit RunFault → Type 0
-UsesFiles {F} {I} opens closes origin failed files old new result =
-    IsErrAnd result (StopsOpening opens files old new)
-    ⊎ ((opened left : List (Which × I)) × (mid : F) × AreOpened opens files opened old mid × AreRead origin failed result opened left × AreClosed closes left mid new)
+-- the opened files are those of this tool's question
+abbrev pub Asks : {I : Type 0} → Tool → Asked I → Type 0
+Asks (Tool.Dist graph queries) (Asked.Queries input) = ⊤
+Asks (Tool.Table graph sources targets) (Asked.Table from to) = ⊤
+Asks (Tool.Near graph sources targets) (Asked.Near (Sources.Listed from) to) = ⊤
+Asks (Tool.NearAll graph targets) (Asked.Near Sources.All to) = ⊤
+Asks (Tool.Save graph) Asked.Hierarchy = ⊤
+Asks (Tool.Ask graph) Asked.Requests = ⊤
+Asks _ _ = ⊥
 
--- the promises of `run_line`: what the output took, the fault at the end, the files that were used, and the failures that were counted.
--- Files and requests have different types, so each has its own bytes and its own count of failures
-pub record IsRunOf {F I J O : Type 0} (opens : F → List ℕ → Result I OpenFault → F → Type 0) (closes : F → I → F → Type 0) (origin failures : I → ℕ) (known : List ℕ → FileState)
-    (left_requests : J → Option (List ℕ)) (failed_requests : J → ℕ) (taken : O → Option (List ℕ)) (failed idle : O → ℕ)
+-- each of these files was opened, and its input is at the first byte, as far as that is known: a file whose bytes are known has them
+abbrev pub HaveBytes : {I : Type 0} → (I → Option (List ℕ)) → (List ℕ → FileState) → List File → List (Which × I) → Type 0
+HaveBytes left known [] [] = ⊤
+HaveBytes left known [] (input ∷ inputs) = ⊥
+HaveBytes left known (file ∷ files) [] = ⊥
+HaveBytes left known (file ∷ files) (input ∷ inputs) = Opens left (known file.1) (Ok input.1) × HaveBytes left known files inputs
+
+-- the run of a line. If one of its files can't be opened, the run ends in that fault, and touches neither the requests nor the output.
+-- Otherwise it opens all of them in turn, and no other file. Then it is the run over these very inputs, with the options of the line. At
+-- the end it closes all of them in turn, each as the run left it
+abbrev pub RunsLine : {F I J O : Type 0} → (opens : F → List ℕ → Result I OpenFault → F → Type 0) → (closes : F → I → F → Type 0) → (gives : I → List ℕ → Result ℕ DeviceFault → I → Type 0) → (origin failed : I → ℕ)
+    → (gives_requests : J → List ℕ → Result ℕ DeviceFault → J → Type 0) → (failed_requests : J → ℕ) → (takes : O → List ℕ → Result ℕ DeviceFault → O → Type 0)
+    → Line → (files files' : F) → (requests requests' : J) → (old new : O) → Result Unit RunFault → Type 0
+RunsLine {F} {I} opens closes gives origin failed gives_requests failed_requests takes line files files' requests requests' old new result =
+    (IsErrAnd result (StopsOpening opens (line_files line) files files') × (requests' ≡ requests) × (new ≡ old))
+    ⊎ ((opened left : Inputs I) × (mid : F) × AreOpened opens (line_files line) (inputs_in opened) files mid × Asks line.tool opened.asked
+    × RunsOver gives origin failed gives_requests failed_requests takes (options_for line.choices) opened left requests requests' old new result
+    × AreClosed closes (inputs_in left) mid files')
+
+-- the promises of `run_line`: what the run did, and the failures that were counted
+pub record IsRunOf {F I J O : Type 0} (opens : F → List ℕ → Result I OpenFault → F → Type 0) (closes : F → I → F → Type 0) (gives : I → List ℕ → Result ℕ DeviceFault → I → Type 0) (origin failures : I → ℕ)
+    (gives_requests : J → List ℕ → Result ℕ DeviceFault → J → Type 0) (failed_requests : J → ℕ) (takes : O → List ℕ → Result ℕ DeviceFault → O → Type 0) (failed idle : O → ℕ)
     (line : Line) (files files' : F) (requests requests' : J) (old new : O) (result : Result Unit RunFault) : Type 0 where
-  pub written : IsNotBegun known (line_files line) requests requests' old new result
-      ⊎ Writes (options_for line.choices) (line_task known line) left_requests failed_requests taken requests requests' old new result
-  pub missing : EndsAtMissing known (line_files line) result
-  pub ends : EndsFor (line_task known line) result ⊎ IsErrAnd result (IsUnopened known (line_files line))
-  pub used : UsesFiles opens closes origin failures (line_files line) files files' result
+  pub went : RunsLine opens closes gives origin failures gives_requests failed_requests takes line files files' requests requests' old new result
   pub requests_once : CountsAtMostOne (failed_requests requests) (failed_requests requests')
   pub output : WritesOnce result failed idle old new

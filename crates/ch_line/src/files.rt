@@ -20,11 +20,11 @@ pub enum OpenFault {
 
 /// Opens files by their names, and closes them.
 ///
-/// Each implementation says what contracts know of a name (`known`). With files in memory, they know which names
-/// have a file, and its bytes. With the system's files, they know nothing.
+/// What one call may do has a name here (`opens`, `closes`), but no meaning. That is why a clause over any files says
+/// exactly which files were opened and closed, under which names.
 ///
-/// A clause over any files names what a call may do (`opens`, `closes`), but gives it no meaning. That is why such a
-/// clause says exactly which files were opened and closed.
+/// Each implementation also says what contracts know of a name (`known`). With files in memory, they know which names
+/// have a file, and its bytes. With the system's files, they know nothing. Two laws tie the calls to that.
 pub trait Files {
     type Input: Input + Drop;
 
@@ -38,12 +38,14 @@ pub trait Files {
     /// Opens the file of this name, at its first byte.
     fn open(&mut self, name: &str) -> Result<Self::Input, OpenFault>
         ensures fresh { IfOk result (λ input. Self.Input.failed input ≡ 0) }
-        ensures bytes { Opens Self.Input.left (known self.old name.now) result }
-        ensures known { known self.new ≡ known self.old }
         ensures made { opens self.old name.now result self.new };
 
     /// Closes a file that was opened.
     fn close(&mut self, input: Self::Input)
-        ensures known { known self.new ≡ known self.old }
         ensures made { closes self.old input self.new };
+
+    // an opened file has the bytes that are known of its name, and a missing file is not opened
+    ghost tells: { (old : Self) → (name : List ℕ) → (answer : Result Self.Input FaultOf) → (new : Self) → opens old name answer new → Opens Self.Input.left (known old name) answer × (known new ≡ known old) };
+    // what is known of names stays
+    ghost keeps: { (old : Self) → (input : Self.Input) → (new : Self) → closes old input new → known new ≡ known old };
 }

@@ -1,14 +1,18 @@
 //! The opened files of a line, and the run over them.
 
-ghost use Rattle.ch_contract.specs.Legs.{IsHopBound};
+ghost use Rattle.std.specs.Prelude.{◌≡◌};
 ghost use Rattle.ch_text.specs.Device.{CanCountOneMore, CountsAtMostOne};
 ghost use Rattle.ch_run.specs.Run.{WritesOnce};
-ghost use Rattle.ch_line.specs.Inputs.{AreFresh, AreRead, EndsFor, Writes, inputs_in, task_of};
+ghost use Rattle.ch_words.specs.Line.{IsAllowed};
+ghost use Rattle.ch_line.specs.Inputs.{AreFresh, AreRead, EndsFor, OfTask, Writes, inputs_in};
+ghost use Rattle.ch_line.specs.Line.{options_for};
 
+use crate::run::options_of;
 use ch_run::{
-    Crew, Gate, Input, Options, Output, RunFault, Source, Sources, run_ask, run_dist, run_near,
-    run_save, run_table,
+    Crew, Gate, Input, Output, RunFault, Source, Sources, run_ask, run_dist, run_near, run_save,
+    run_table,
 };
+use ch_words::Line;
 use std::thread::Threads;
 
 /// The opened files of a line: the graph, a saved hierarchy if there is one, and the files of the question.
@@ -34,7 +38,7 @@ pub enum Asked<I: Drop> {
     Requests,
 }
 
-/// Makes the run that these inputs are for. It reads the requests only if it answers them, and otherwise
+/// Makes the run that these inputs are for, with the options and by the plan of the line. It reads the requests only if it answers them, and otherwise
 /// leaves them alone.
 ///
 /// # Errors
@@ -44,26 +48,28 @@ pub fn run_inputs<R: Threads + Sync, I: Input + Drop, J: Input, O: Output, G: Ga
     inputs: &mut Inputs<I>,
     requests: &mut J,
     output: &mut O,
-    options: &Options,
+    line: &Line,
 ) -> Result<(), RunFault>
     requires inputs { AreFresh I.failed inputs.old }
     requires requests { CanCountOneMore (J.failed requests.old) }
     requires failures { CanCountOneMore (O.failed output.old) }
     requires zeros { CanCountOneMore (O.idle output.old) }
-    requires hops { IsHopBound options.now.hops }
+    requires plan { crew.now.plan ≡ line.now.plan }
+    requires allowed { IsAllowed line.now }
 
     // The output takes the text of the question, whole or its first bytes, or the answers to requests. It takes
     // nothing else.
-    ensures written { Writes options.now (task_of I.left inputs.old) J.left J.failed O.taken requests.old requests.new output.old output.new result }
+    ensures written { OfTask I.read_gives inputs.old inputs.new (λ task. Writes (options_for line.now.choices) task J.read_gives J.failed O.write_gives requests.old requests.new output.old output.new result) }
 
     // A file is refused only for its content. A failed read of a file is reported exactly if there was one.
-    ensures ends { EndsFor (task_of I.left inputs.old) result }
+    ensures ends { OfTask I.read_gives inputs.old inputs.new (λ task. EndsFor task result) }
     ensures read { AreRead I.origin I.failed result (inputs_in inputs.old) (inputs_in inputs.new) }
 
     // A read or a write that failed is not tried again. A failed write is reported.
     ensures requests_once { CountsAtMostOne (J.failed requests.old) (J.failed requests.new) }
     ensures output { WritesOnce result O.failed O.idle output.old output.new }
 {
+    let options = &options_of(&line.choices);
     let graph = &mut inputs.graph;
     let source = &mut inputs.source;
     match &mut inputs.asked {

@@ -1,15 +1,18 @@
 //! Runs of lines. A line says what the program is asked for. Its run opens files by their names.
 //!
 //! It stands on ch_contract, ch_graph, ch_hierarchy, ch_near, ch_read, ch_run, ch_text, ch_words and
-//! ch_work. Proved of [`run_line`], over files whose bytes are known:
+//! ch_work. Proved of [`run_line`], over any files:
 //!
-//! - The output took the text that the line's tool makes of the bytes of its files. Each file has the
-//!   place of its argument, and the options are those of the line.
-//! - A file is refused only for a fault of its bytes.
+//! - It opens the files of the line by their names, each in the place of its argument, and no other file.
+//! - The output took the text that the line's tool makes of the bytes that the reads of these files gave, with
+//!   the options of the line.
+//! - A file is refused only for a fault of these bytes.
+//! - Over files whose bytes are known, these are the bytes ([`laws::openings_tell`]).
 #![tactic(auto)]
 
 mod files;
 mod inputs;
+pub mod laws;
 mod run;
 
 pub use files::{Files, MemoryFile, MemoryFiles, OpenFault};

@@ -1,14 +1,13 @@
 //! The run that a line asks for, over files that are opened by their names.
 
-ghost use Rattle.std.specs.Prelude.{◌≡◌, ◌⊎◌, ◌∷◌, [], Ok, IfErr, IfOk, IsErrAnd, option_map};
+ghost use Rattle.std.specs.Prelude.{◌≡◌, ◌∷◌, [], Ok, IfErr, IfOk, option_map};
 ghost use Rattle.ch_text.specs.Device.{CanCountOneMore, CountsAtMostOne};
 ghost use Rattle.ch_run.specs.NearRun.{listed_in};
 ghost use Rattle.ch_run.specs.Run.{WritesOnce};
 ghost use Rattle.ch_run.specs.Source.{saved_in, source_failures};
 ghost use Rattle.ch_words.specs.Line.{IsAllowed};
-ghost use Rattle.ch_line.specs.Files.{bytes_of};
-ghost use Rattle.ch_line.specs.Inputs.{AreFresh, AreFreshAsked, EndsFor, Writes, asked_inputs, input_if, inputs_in, question_of, task_of, whole_of};
-ghost use Rattle.ch_line.specs.Line.{AreClosed, AreOpened, EndsAtMissing, IsNotBegun, IsNotOpened, IsRefused, IsUnopened, MayAllBeThere, MayBeThere, StopsOpening, UsesFiles, asked_files, file_reading, graph_name, line_files, line_task, list_files, options_for, order_for, saved_files, saved_for, saved_name, tool_question};
+ghost use Rattle.ch_line.specs.Inputs.{AreFresh, AreFreshAsked, asked_inputs, input_if, inputs_in};
+ghost use Rattle.ch_line.specs.Line.{AreClosed, AreOpened, Asks, IsRefused, RunsLine, StopsOpening, asked_files, graph_name, line_files, list_files, options_for, order_for, saved_files, saved_for, saved_name};
 
 use crate::files::{Files, OpenFault};
 use crate::inputs::{Asked, Inputs, run_inputs};
@@ -39,18 +38,9 @@ pub fn run_line<R: Threads + Sync, F: Files, J: Input, O: Output, G: Gate>(
     requires failures { CanCountOneMore (O.failed output.old) }
     requires zeros { CanCountOneMore (O.idle output.old) }
 
-    // The output takes the text that the line asks for, made of the files that it names. If one of them can't be
-    // opened, the output takes nothing.
-    ensures written { IsNotBegun (F.known files.old) (line_files line.now) requests.old requests.new output.old output.new result
-        ⊎ Writes (options_for line.now.choices) (line_task (F.known files.old) line.now) J.left J.failed O.taken requests.old requests.new output.old output.new result }
-
-    // A missing file ends the run. A run that has opened all files refuses one only for its content.
-    ensures missing { EndsAtMissing (F.known files.old) (line_files line.now) result }
-    ensures ends { EndsFor (line_task (F.known files.old) line.now) result ⊎ IsErrAnd result (IsUnopened (F.known files.old) (line_files line.now)) }
-
-    // The run opens, reads and closes the files of the line, and no other. It reports a failed read of a file
-    // exactly if there was one.
-    ensures files { UsesFiles F.opens F.closes F.Input.origin F.Input.failed (line_files line.now) files.old files.new result }
+    // The run opens the files of the line, and no other. What it reads of these very files and of the requests, what it
+    // writes, and how it ends, is as the line asks for. It closes all files that it opened.
+    ensures went { RunsLine F.opens F.closes F.Input.read_gives F.Input.origin F.Input.failed J.read_gives J.failed O.write_gives line.now files.old files.new requests.old requests.new output.old output.new result }
 
     // A read or a write that failed is not tried again. A failed write is reported.
     ensures requests_once { CountsAtMostOne (J.failed requests.old) (J.failed requests.new) }
@@ -63,13 +53,7 @@ pub fn run_line<R: Threads + Sync, F: Files, J: Input, O: Output, G: Gate>(
         plan: line.plan,
         gate,
     };
-    let result = run_inputs(
-        &crew,
-        &mut inputs,
-        requests,
-        output,
-        &options_of(&line.choices),
-    );
+    let result = run_inputs(&crew, &mut inputs, requests, output, line);
     close_inputs(files, inputs);
     result
 }
@@ -111,10 +95,7 @@ fn order_by(order: Order) -> OrderBy
 /// `Device` of the first file that can't be opened, or `Memory`.
 pub fn open_inputs<F: Files>(files: &mut F, line: &Line) -> Result<Inputs<F::Input>, RunFault>
     ensures fresh { IfOk result (AreFresh F.Input.failed) }
-    ensures asked { IfOk result (λ inputs. task_of F.Input.left inputs ≡ line_task (F.known files.old) line.now) }
-    ensures there { IfOk result (λ _. MayAllBeThere (F.known files.old) (line_files line.now)) }
-    ensures missing { EndsAtMissing (F.known files.old) (line_files line.now) result }
-    ensures unopened { IfErr result (IsUnopened (F.known files.old) (line_files line.now)) }
+    ensures asks { IfOk result (λ inputs. Asks line.now.tool inputs.asked) }
     ensures opened { IfOk result (λ inputs. AreOpened F.opens (line_files line.now) (inputs_in inputs) files.old files.new) }
     ensures stopped { IfErr result (StopsOpening F.opens (line_files line.now) files.old files.new) }
 {
@@ -155,14 +136,8 @@ fn saved_of(line: &Line) -> Option<&str>
 /// Opens a saved hierarchy, if one is named.
 fn open_source<F: Files>(files: &mut F, saved: Option<&str>) -> Result<Source<F::Input>, RunFault>
     ensures fresh { IfOk result (λ source. source_failures F.Input.failed source ≡ 0) }
-    ensures bytes { IfOk result (λ source. option_map (λ input. whole_of (F.Input.left input)) (saved_in source)
-        ≡ option_map (file_reading (F.known files.old)) (option_map (λ name. name.now) saved.entry)) }
-    ensures there { IfOk result (λ _. MayAllBeThere (F.known files.old) (saved_files (option_map (λ name. name.now) saved.entry))) }
-    ensures missing { EndsAtMissing (F.known files.old) (saved_files (option_map (λ name. name.now) saved.entry)) result }
-    ensures unopened { IfErr result (IsUnopened (F.known files.old) (saved_files (option_map (λ name. name.now) saved.entry))) }
     ensures opened { IfOk result (λ source. AreOpened F.opens (saved_files (option_map (λ name. name.now) saved.entry)) (input_if Which.Saved (saved_in source)) files.old files.new) }
     ensures stopped { IfErr result (StopsOpening F.opens (saved_files (option_map (λ name. name.now) saved.entry)) files.old files.new) }
-    ensures known { F.known files.new ≡ F.known files.old }
 {
     match saved {
         Some(name) => Ok(Source::Saved(open_input(files, name, Which::Saved)?)),
@@ -173,10 +148,7 @@ fn open_source<F: Files>(files: &mut F, saved: Option<&str>) -> Result<Source<F:
 /// Opens the files of a tool's question, in the order of the arguments.
 fn open_asked<F: Files>(files: &mut F, tool: &Tool) -> Result<Asked<F::Input>, RunFault>
     ensures fresh { IfOk result (AreFreshAsked F.Input.failed) }
-    ensures asked { IfOk result (λ asked. question_of F.Input.left asked ≡ tool_question (file_reading (F.known files.old)) tool.now) }
-    ensures there { IfOk result (λ _. MayAllBeThere (F.known files.old) (asked_files tool.now)) }
-    ensures missing { EndsAtMissing (F.known files.old) (asked_files tool.now) result }
-    ensures unopened { IfErr result (IsUnopened (F.known files.old) (asked_files tool.now)) }
+    ensures asks { IfOk result (Asks tool.now) }
     ensures opened { IfOk result (λ asked. AreOpened F.opens (asked_files tool.now) (asked_inputs asked) files.old files.new) }
     ensures stopped { IfErr result (StopsOpening F.opens (asked_files tool.now) files.old files.new) }
 {
@@ -227,11 +199,6 @@ fn open_lists<F: Files>(
     targets: &str,
 ) -> Result<Lists<F::Input>, RunFault>
     ensures fresh { IfOk result (λ lists. (F.Input.failed lists.sources ≡ 0) × (F.Input.failed lists.targets ≡ 0)) }
-    ensures sources { IfOk result (λ lists. F.Input.left lists.sources ≡ bytes_of (F.known files.old sources.now)) }
-    ensures targets { IfOk result (λ lists. F.Input.left lists.targets ≡ bytes_of (F.known files.old targets.now)) }
-    ensures there { IfOk result (λ _. MayAllBeThere (F.known files.old) (list_files sources.now targets.now)) }
-    ensures missing { EndsAtMissing (F.known files.old) (list_files sources.now targets.now) result }
-    ensures unopened { IfErr result (IsUnopened (F.known files.old) (list_files sources.now targets.now)) }
     ensures opened { IfOk result (λ lists. AreOpened F.opens (list_files sources.now targets.now)
         ((Which.Sources, lists.sources) ∷ (Which.Targets, lists.targets) ∷ []) files.old files.new) }
     ensures stopped { IfErr result (StopsOpening F.opens (list_files sources.now targets.now) files.old files.new) }
@@ -244,12 +211,8 @@ fn open_lists<F: Files>(
 /// Opens the file of an input.
 fn open_input<F: Files>(files: &mut F, name: &str, which: Which) -> Result<F::Input, RunFault>
     ensures fresh { IfOk result (λ input. F.Input.failed input ≡ 0) }
-    ensures bytes { IfOk result (λ input. F.Input.left input ≡ bytes_of (F.known files.old name.now)) }
-    ensures there { IfOk result (λ _. MayBeThere (F.known files.old name.now)) }
-    ensures unopened { IfErr result (IsNotOpened (F.known files.old name.now) which) }
     ensures opened { IfOk result (λ input. F.opens files.old name.now (Ok input) files.new) }
     ensures stopped { IfErr result (IsRefused F.opens (which, name.now) files.old files.new) }
-    ensures known { F.known files.new ≡ F.known files.old }
 {
     match files.open(name) {
         Ok(input) => Ok(input),

@@ -1,7 +1,6 @@
 -- Requests that are answered one after the other.
 use Rattle.std.proofs.Common.{◌≡◌, ℕ, ◌+◌, ◌^◌, ◌<◌, Bool, true, false, List, [], ◌∷◌, ◌++◌, length, take, map, Option, Some, None, Result, Ok, Err, inl, inr, refl, sym, ap, ◌∙◌, subst, arith, append_assoc}
 use Rattle.std.proofs.lemmas.List.{append-nil, length-append}
-use Rattle.std.proofs.Math.Seq.{take-append-add}
 use Rattle.std.specs.List.{AllZip, flat_map, zip}
 use Rattle.std.specs.Prelude.{IsErrAnd}
 use Rattle.ch_graph.specs.Graph.{Network}
@@ -11,7 +10,8 @@ use Rattle.ch_read.specs.declared.request.Request.{Request}
 use Rattle.ch_read.specs.Reading.{capped_number}
 use Rattle.ch_run.specs.declared.fault.RunFault.{RunFault}
 use Rattle.ch_run.specs.declared.options.Options.{Options}
-use Rattle.ch_text.specs.Device.{HasTaken}
+use Rattle.ch_text.specs.declared.device.DeviceFault.{DeviceFault}
+use Rattle.ch_text.proofs.Moves.{took-fault-then, took-none, took-then}
 use Rattle.ch_near.specs.Near.{IsNearestRow}
 use Rattle.ch_text.specs.NearText.{near_row_text}
 use Rattle.ch_text.specs.Distances.{AnswersShortly, HasText, distance_text}
@@ -90,19 +90,6 @@ rows_answered options g From within places (s ∷ sources) (row ∷ rows) h = (
   rows_answered options g From within places sources rows h.1,
 )
 
--- an output took a text, and then more
-
-pub taken_none : (old : Option (List ℕ)) → HasTaken old old []
-taken_none None = tt
-taken_none (Some old) = ap (λ (t : List ℕ). Some t) (sym (append-nil old))
-
-pub taken_append : (old mid new : Option (List ℕ)) (text more : List ℕ) → HasTaken old mid text → HasTaken mid new more → HasTaken old new (text ++ more)
-taken_append None mid new text more h k = tt
-taken_append (Some old) None new text more h k = cc
-taken_append (Some old) (Some mid) new text more h k =
-    let joined : (old ++ text) ++ more ≡ old ++ (text ++ more) = append_assoc old text more in
-    cc
-
 -- capping a count early does not change the capped sum
 pub capped_on : (a b c : ℕ) → capped_number (capped_number (a + b) + c) ≡ capped_number (a + (b + c))
 capped_on a b c = omega arith
@@ -125,11 +112,12 @@ module _ (IsTextOf : TextOf) where
   pub answered_one : (places : PlaceList) (request : Request) (text : List ℕ) → IsTextOf places request text → AreAnswered IsTextOf places (request ∷ []) text
   answered_one places request text is = (text, [], sym (append-nil text), is, refl)
 
+module _ (IsTextOf : TextOf) {S : Type 0} (gives : S → List ℕ → Result ℕ DeviceFault → S → Type 0) where
   -- a text that was written answers its requests
-  pub written_answers : {T : Type 0} (places : PlaceList) (old new : Option (List ℕ)) (before after : ℕ) (requests : List Request) (text : List ℕ) (r : Result T RunFault) →
-      AreAnswered IsTextOf places requests text → WritesMore old new before after text r → AnswersInTurn IsTextOf places old new before after requests r
+  pub written_answers : {T : Type 0} (places : PlaceList) (old new : S) (before after : ℕ) (requests : List Request) (text : List ℕ) (r : Result T RunFault) →
+      AreAnswered IsTextOf places requests text → WritesMore gives old new before after text r → AnswersInTurn IsTextOf gives places old new before after requests r
   written_answers places old new before after requests text (Ok x) is h = (text, is, h.0, h.1)
-  written_answers places old new before after requests text (Err (RunFault.Write count)) is h = (requests, [], text, h.0, sym (append-nil requests), is, h.1, h.2, h.3)
+  written_answers places old new before after requests text (Err (RunFault.Write count)) is h = (requests, [], text, h.0, sym (append-nil requests), is, h.1, h.2)
   written_answers places old new before after requests text (Err RunFault.Memory) is h = absurd h
   written_answers places old new before after requests text (Err RunFault.Cells) is h = absurd h
   written_answers places old new before after requests text (Err (RunFault.CellsAt line)) is h = absurd h
@@ -138,7 +126,7 @@ module _ (IsTextOf : TextOf) where
   written_answers places old new before after requests text (Err (RunFault.Check f)) is h = absurd h
 
   -- a failed write is a fault of answering
-  pub more_own : (T : Type 0) (old new : Option (List ℕ)) (before after : ℕ) (text : List ℕ) (e : RunFault) → WritesMore {T = T} old new before after text (Err e) → IsOfAnswering e
+  pub more_own : (T : Type 0) (old new : S) (before after : ℕ) (text : List ℕ) (e : RunFault) → WritesMore {T = T} gives old new before after text (Err e) → IsOfAnswering e
   more_own T old new before after text (RunFault.Write count) h = inl tt
   more_own T old new before after text RunFault.Memory h = absurd h
   more_own T old new before after text RunFault.Cells h = absurd h
@@ -148,18 +136,18 @@ module _ (IsTextOf : TextOf) where
   more_own T old new before after text (RunFault.Check f) h = absurd h
 
   -- nothing is answered without memory
-  pub answers_nothing : {T : Type 0} (places : PlaceList) (old : Option (List ℕ)) (before after : ℕ) (requests : List Request) (r : Result T RunFault) → IsErrAnd r (λ y. y ≡ RunFault.Memory) → AnswersInTurn IsTextOf places old old before after requests r
+  pub answers_nothing : {T : Type 0} (places : PlaceList) (old : S) (before after : ℕ) (requests : List Request) (r : Result T RunFault) → IsErrAnd r (λ y. y ≡ RunFault.Memory) → AnswersInTurn IsTextOf gives places old old before after requests r
   answers_nothing places old before after requests (Ok x) is = absurd is
   answers_nothing {T} places old before after requests (Err y) is =
-      subst (λ (f : RunFault). AnswersInTurn {T = T} IsTextOf places old old before after requests (Err f)) (sym is) ([], requests, refl, ([], answered_none places, taken_none old))
+      subst (λ (f : RunFault). AnswersInTurn {T = T} IsTextOf gives places old old before after requests (Err f)) (sym is) ([], requests, refl, ([], answered_none IsTextOf places, took-none gives old))
 
   -- if answering ends in a lack of memory or a failed write, there may have been more requests
-  answers_front : (places : PlaceList) (old new : Option (List ℕ)) (before after : ℕ) (xs ys : List Request) (e : RunFault) → IsOfAnswering e → AnswersInTurn {T = Unit} IsTextOf places old new before after xs (Err e) →
-      AnswersInTurn {T = Unit} IsTextOf places old new before after (xs ++ ys) (Err e)
+  answers_front : (places : PlaceList) (old new : S) (before after : ℕ) (xs ys : List Request) (e : RunFault) → IsOfAnswering e → AnswersInTurn {T = Unit} IsTextOf gives places old new before after xs (Err e) →
+      AnswersInTurn {T = Unit} IsTextOf gives places old new before after (xs ++ ys) (Err e)
   answers_front places old new before after xs ys RunFault.Memory own h =
       (h.0, h.1 ++ ys, ap (λ zs. zs ++ ys) h.2 ∙ append_assoc h.0 h.1 ys, h.3)
   answers_front places old new before after xs ys (RunFault.Write count) own h =
-      (h.0, h.1 ++ ys, h.2, h.3, ap (λ zs. zs ++ ys) h.4 ∙ append_assoc h.0 h.1 ys, h.5, h.6, h.7, h.8)
+      (h.0, h.1 ++ ys, h.2, h.3, ap (λ zs. zs ++ ys) h.4 ∙ append_assoc h.0 h.1 ys, h.5, h.6, h.7)
   answers_front places old new before after xs ys RunFault.Cells own h = absurd h
   answers_front places old new before after xs ys (RunFault.CellsAt line) own h = not_own line own
     where
@@ -180,43 +168,39 @@ module _ (IsTextOf : TextOf) where
   answers_front places old new before after xs ys (RunFault.Check f) own h = absurd h
 
   -- a fault that is passed on keeps the promise on the answered requests
-  pub answers_passed : (places : PlaceList) (old new : Option (List ℕ)) (before after : ℕ) (xs ys : List Request) (e : RunFault) (r : Result Unit RunFault) → IsErrAnd r (λ y. y ≡ e) → IsOfAnswering e →
-      AnswersInTurn {T = Unit} IsTextOf places old new before after xs (Err e) → AnswersInTurn IsTextOf places old new before after (xs ++ ys) r
+  pub answers_passed : (places : PlaceList) (old new : S) (before after : ℕ) (xs ys : List Request) (e : RunFault) (r : Result Unit RunFault) → IsErrAnd r (λ y. y ≡ e) → IsOfAnswering e →
+      AnswersInTurn {T = Unit} IsTextOf gives places old new before after xs (Err e) → AnswersInTurn IsTextOf gives places old new before after (xs ++ ys) r
   answers_passed places old new before after xs ys e (Ok x) is own h = absurd is
   answers_passed places old new before after xs ys e (Err y) is own h =
-      subst (λ (f : RunFault). AnswersInTurn {T = Unit} IsTextOf places old new before after (xs ++ ys) (Err f)) (sym is) (answers_front places old new before after xs ys e own h)
+      subst (λ (f : RunFault). AnswersInTurn {T = Unit} IsTextOf gives places old new before after (xs ++ ys) (Err f)) (sym is) (answers_front places old new before after xs ys e own h)
 
-  took_append : (places : PlaceList) (old mid new : Option (List ℕ)) (before after : ℕ) (xs ys : List Request) → AnswersInTurn {T = Unit} IsTextOf places old mid before after xs (Ok tt) →
-      TookAnswers IsTextOf (places_after places xs) mid new ys → TookAnswers IsTextOf places old new (xs ++ ys)
+  took_append : (places : PlaceList) (old mid new : S) (before after : ℕ) (xs ys : List Request) → AnswersInTurn {T = Unit} IsTextOf gives places old mid before after xs (Ok tt) →
+      TookAnswers IsTextOf gives (places_after places xs) mid new ys → TookAnswers IsTextOf gives places old new (xs ++ ys)
   took_append places old mid new before after xs ys h k =
-      (h.0 ++ k.0, answered_append places xs ys h.0 k.0 h.1 k.1, taken_append old mid new h.0 k.0 h.2 k.2)
+      (h.0 ++ k.0, answered_append IsTextOf places xs ys h.0 k.0 h.1 k.1, took-then gives old mid new h.0 k.0 [] h.2 k.2)
 
   -- requests were answered, and then more
-  pub answers_more : {T : Type 0} (places : PlaceList) (old mid new : Option (List ℕ)) (before between after : ℕ) (xs ys : List Request) (r : Result T RunFault) →
-      AnswersInTurn {T = Unit} IsTextOf places old mid before between xs (Ok tt) → AnswersInTurn IsTextOf (places_after places xs) mid new between after ys r → AnswersInTurn IsTextOf places old new before after (xs ++ ys) r
+  pub answers_more : {T : Type 0} (places : PlaceList) (old mid new : S) (before between after : ℕ) (xs ys : List Request) (r : Result T RunFault) →
+      AnswersInTurn {T = Unit} IsTextOf gives places old mid before between xs (Ok tt) → AnswersInTurn IsTextOf gives (places_after places xs) mid new between after ys r → AnswersInTurn IsTextOf gives places old new before after (xs ++ ys) r
   answers_more places old mid new before between after xs ys (Ok x) h k =
       let count : capped_number (capped_number (before + length h.0) + length k.0) ≡ capped_number (before + (length h.0 + length k.0)) = capped_on before (length h.0) (length k.0) in
       let long : length (h.0 ++ k.0) ≡ length h.0 + length k.0 = length-append h.0 k.0 in
       let first = h.3 in
       let second = k.3 in
-      (h.0 ++ k.0, answered_append places xs ys h.0 k.0 h.1 k.1, taken_append old mid new h.0 k.0 h.2 k.2, cc)
+      (h.0 ++ k.0, answered_append IsTextOf places xs ys h.0 k.0 h.1 k.1, took-then gives old mid new h.0 k.0 [] h.2 k.2, cc)
   answers_more places old mid new before between after xs ys (Err RunFault.Memory) h k =
       (xs ++ k.0, k.1, ap (λ zs. xs ++ zs) k.2 ∙ sym (append_assoc xs k.0 k.1), took_append places old mid new before between xs k.0 h k.3)
   answers_more places old mid new before between after xs ys (Err (RunFault.Write count)) h k =
-      let part : take (length h.0 + k.3) (h.0 ++ k.2) ≡ h.0 ++ take k.3 k.2 = take-append-add h.0 k.2 k.3 in
       let total : capped_number (capped_number (before + length h.0) + k.3) ≡ capped_number (before + (length h.0 + k.3)) = capped_on before (length h.0) k.3 in
       let first = h.3 in
-      let second = k.8 in
-      let long : length (h.0 ++ k.2) ≡ length h.0 + length k.2 = length-append h.0 k.2 in
-      let less = k.6 in (
+      let second = k.7 in (
         xs ++ k.0,
         k.1,
         h.0 ++ k.2,
         length h.0 + k.3,
         ap (λ zs. xs ++ zs) k.4 ∙ sym (append_assoc xs k.0 k.1),
-        answered_append places xs k.0 h.0 k.2 h.1 k.5,
-        omega arith,
-        subst (HasTaken old new) (sym part) (taken_append old mid new h.0 (take k.3 k.2) h.2 k.7),
+        answered_append IsTextOf places xs k.0 h.0 k.2 h.1 k.5,
+        took-fault-then gives old mid new h.0 k.2 k.3 h.2 k.6,
         (cc),
       )
   answers_more places old mid new before between after xs ys (Err (RunFault.CellsAt line)) h k = took_append places old mid new before between xs ys h k
@@ -231,18 +215,18 @@ module _ (IsTextOf : TextOf) where
   answers_more places old mid new before between after xs ys (Err (RunFault.Check f)) h k = absurd k
 
   -- no requests were asked for
-  pub answers_none : (places : PlaceList) (old : Option (List ℕ)) (written : ℕ) → written < 2 ^ 64 → AnswersInTurn {T = Unit} IsTextOf places old old written written [] (Ok tt)
-  answers_none places old written fits = ([], answered_none places, taken_none old, omega arith)
+  pub answers_none : (places : PlaceList) (old : S) (written : ℕ) → written < 2 ^ 64 → AnswersInTurn {T = Unit} IsTextOf gives places old old written written [] (Ok tt)
+  answers_none places old written fits = ([], answered_none IsTextOf places, took-none gives old, omega arith)
 
   -- a fault is passed on
-  pub answers_err : (places : PlaceList) (old new : Option (List ℕ)) (before after : ℕ) (requests : List Request) (e : RunFault) (r : Result Unit RunFault) → IsErrAnd r (λ y. y ≡ e) →
-      AnswersInTurn {T = Unit} IsTextOf places old new before after requests (Err e) → AnswersInTurn IsTextOf places old new before after requests r
+  pub answers_err : (places : PlaceList) (old new : S) (before after : ℕ) (requests : List Request) (e : RunFault) (r : Result Unit RunFault) → IsErrAnd r (λ y. y ≡ e) →
+      AnswersInTurn {T = Unit} IsTextOf gives places old new before after requests (Err e) → AnswersInTurn IsTextOf gives places old new before after requests r
   answers_err places old new before after requests e (Ok x) is h = absurd is
-  answers_err places old new before after requests e (Err y) is h = subst (λ (f : RunFault). AnswersInTurn {T = Unit} IsTextOf places old new before after requests (Err f)) (sym is) h
+  answers_err places old new before after requests e (Err y) is h = subst (λ (f : RunFault). AnswersInTurn {T = Unit} IsTextOf gives places old new before after requests (Err f)) (sym is) h
 
   -- a batch was answered, with any end
-  pub answers_end : (places : PlaceList) (old new : Option (List ℕ)) (before after : ℕ) (requests : List Request) (ends : Then) → IsAfter ends → AnswersInTurn {T = Unit} IsTextOf places old new before after requests (Ok tt) →
-      AnswersInTurn IsTextOf places old new before after requests (end_of ends)
+  pub answers_end : (places : PlaceList) (old new : S) (before after : ℕ) (requests : List Request) (ends : Then) → IsAfter ends → AnswersInTurn {T = Unit} IsTextOf gives places old new before after requests (Ok tt) →
+      AnswersInTurn IsTextOf gives places old new before after requests (end_of ends)
   answers_end places old new before after requests More is h = h
   answers_end places old new before after requests Nothing is h = h
   answers_end places old new before after requests (Stop RunFault.Memory) is h = (requests, [], sym (append-nil requests), (h.0, h.1, h.2))

@@ -1,5 +1,5 @@
 -- The counts of failed writes.
-use Rattle.std.proofs.Common.{◌≡◌, ℕ, ◌<◌, ◌≤◌, Result, Ok, Err, inl, inr, refl, ap, arith}
+use Rattle.std.proofs.Common.{◌≡◌, ℕ, ◌+◌, ◌<◌, ◌≤◌, Result, Ok, Err, inl, inr, refl, ap, arith}
 use Rattle.std.specs.Prelude.{◌↔◌, ◌⊎◌, IsErrAnd}
 use Rattle.std.proofs.lemmas.Bool.{cases_lt}
 use Rattle.ch_run.specs.declared.fault.RunFault.{RunFault}
@@ -91,3 +91,26 @@ counted_passed start failed failed' first idle idle' e (Err other) is f i h =
     let b = h.idle_grows in
     let c = h.together in
     record { failed_grows = omega arith; idle_grows = omega arith; together = omega arith }
+
+-- a text that was written whole has counted no failed write
+pub unfailed : (failed failed' idle idle' : ℕ) → (failed' ≡ failed) × (idle' ≡ idle) → (failed < failed') ⊎ (idle < idle') → ⊥
+unfailed failed failed' idle idle' same (inl less) = let a = same.0 in omega arith
+unfailed failed failed' idle idle' same (inr less) = let b = same.1 in omega arith
+
+-- a failed write was counted
+pub failed_one : (failed failed' idle idle' : ℕ) → ((failed' ≡ failed + 1) × (idle' ≡ idle)) ⊎ ((failed' ≡ failed) × (idle' ≡ idle + 1)) → (failed < failed') ⊎ (idle < idle')
+failed_one failed failed' idle idle' (inl one) = let a = one.0 in inl (omega arith)
+failed_one failed failed' idle idle' (inr one) = let b = one.1 in inr (omega arith)
+
+-- and once
+pub failed_once : (failed failed' idle idle' : ℕ) → ((failed' ≡ failed + 1) × (idle' ≡ idle)) ⊎ ((failed' ≡ failed) × (idle' ≡ idle + 1)) → CountsAtMostOneOf failed failed' idle idle'
+failed_once failed failed' idle idle' (inl one) = inl (inr one.0, one.1)
+failed_once failed failed' idle idle' (inr one) = inr (one.0, inr one.1)
+
+-- the counts of a write of more of a text
+pub counts_whole : (failed failed' idle idle' : ℕ) → (failed' ≡ failed) × (idle' ≡ idle) → CountsWrites {T = Unit} failed failed' idle idle' (Ok tt)
+counts_whole failed failed' idle idle' same = let a = same.0 in let b = same.1 in record { failed_grows = omega arith; idle_grows = omega arith; together = omega arith }
+
+pub counts_part : (failed failed' idle idle' count : ℕ) → ((failed' ≡ failed + 1) × (idle' ≡ idle)) ⊎ ((failed' ≡ failed) × (idle' ≡ idle + 1)) → CountsWrites {T = Unit} failed failed' idle idle' (Err (RunFault.Write count))
+counts_part failed failed' idle idle' count (inl one) = let a = one.0 in let b = one.1 in record { failed_grows = omega arith; idle_grows = omega arith; together = omega arith }
+counts_part failed failed' idle idle' count (inr one) = let a = one.0 in let b = one.1 in record { failed_grows = omega arith; idle_grows = omega arith; together = omega arith }

@@ -8,7 +8,7 @@ use Rattle.ch_hierarchy.specs.declared.fault.CheckFault.{CheckFault}
 use Rattle.ch_run.specs.declared.fault.Which.{Which}
 use Rattle.ch_run.specs.declared.fault.RunFault.{RunFault}
 use Rattle.ch_run.specs.Fault.{input_fault}
-use Rattle.ch_run.specs.Run.{IsOf, IsUnread, StopsAt}
+use Rattle.ch_run.specs.Run.{IsOf, IsUnread, Reading, StopsAt}
 
 -- if a run is refused for a fault of a file, the reader refused the file for it
 pub refused_for : (which : Which) (error : ReadError) (fault : ReadFault) → input_fault which error ≡ RunFault.Read which fault → error ≡ Fault fault
@@ -20,15 +20,15 @@ pub refused_is_of : (which : Which) (error : ReadError) → IsOf which (input_fa
 refused_is_of which (Fault f) = refl
 refused_is_of which NoMemory = tt
 
--- the fault of an input that gave no bytes belongs to it
-pub unread_is_of : (which : Which) (fault : RunFault) → IsUnread which fault → IsOf which fault
-unread_is_of which (RunFault.Device input) h = h
-unread_is_of which RunFault.Memory h = tt
-unread_is_of which (RunFault.Read input f) h = absurd h
-unread_is_of which RunFault.Cells h = absurd h
-unread_is_of which (RunFault.CellsAt line) h = absurd h
-unread_is_of which (RunFault.Write count) h = absurd h
-unread_is_of which (RunFault.Check f) h = absurd h
+-- the fault of an input that was not read to its end belongs to it
+pub unread_is_of : (which : Which) (input : Reading) (fault : RunFault) → IsUnread which input fault → IsOf which fault
+unread_is_of which input (RunFault.Device other) h = h.0
+unread_is_of which input RunFault.Memory h = tt
+unread_is_of which input (RunFault.Read other f) h = absurd h
+unread_is_of which input RunFault.Cells h = absurd h
+unread_is_of which input (RunFault.CellsAt line) h = absurd h
+unread_is_of which input (RunFault.Write count) h = absurd h
+unread_is_of which input (RunFault.Check f) h = absurd h
 
 -- a fault that stops a run belongs to one input
 pub of_one : (which other : Which) (fault : RunFault) → IsOf which fault → StopsAt other fault → other ≡ which

@@ -5,52 +5,53 @@ use Rattle.ch_graph.specs.Graph.{Network, IsWithinLimits}
 use Rattle.ch_graph.specs.Saved.{OrderAndLegs}
 use Rattle.ch_hierarchy.specs.Hierarchy.{LevelsAndLegs}
 use Rattle.ch_hierarchy.specs.Kept.{IsKept}
+use Rattle.ch_text.specs.declared.device.DeviceFault.{DeviceFault}
 use Rattle.ch_run.specs.declared.fault.RunFault.{RunFault}
 use Rattle.ch_run.specs.declared.fault.Which.{Which}
 use Rattle.ch_run.specs.declared.source.Source.{Source}
 use Rattle.ch_run.specs.Lists.{IsOfLists}
 use Rattle.ch_run.specs.NearRun.{IsOfNodeLists}
-use Rattle.ch_run.specs.Run.{IsOf, IsWrite, Reading, ReadsGraph, StopsAt}
+use Rattle.ch_run.specs.Run.{IsOf, IsWrite, Reading, ReadsGraph, StopsAt, ReadingIf, NoInput, OneInput}
 use Rattle.ch_run.specs.Source.{AreChecked, AreLoaded, IsOfLoading, ReadsSource, WithLoaded, source_reading}
 use Rattle.ch_run.proofs.Inputs.{of_one}
 
 -- the graph is within the limits
-pub loaded_limits : (graph : Reading) (saved : Option Reading) (g : Network) (h : Option LevelsAndLegs) → AreLoaded graph saved g h → IsWithinLimits g
-loaded_limits graph None g h is = is.0
-loaded_limits graph (Some saved) g None is = absurd is
-loaded_limits graph (Some saved) g (Some H) is = is.1.limits
+pub loaded_limits : (graph : Reading) (saved : ReadingIf) (g : Network) (h : Option LevelsAndLegs) → AreLoaded graph saved g h → IsWithinLimits g
+loaded_limits graph NoInput g h is = is.0
+loaded_limits graph (OneInput saved) g None is = absurd is
+loaded_limits graph (OneInput saved) g (Some H) is = is.1.limits
 
 -- the saved hierarchy, if there is one, is right for the graph
-pub loaded_kept : (graph : Reading) (saved : Option Reading) (g : Network) (h : Option LevelsAndLegs) → AreLoaded graph saved g h → IfSome h (IsKept g)
-loaded_kept graph None g None is = tt
-loaded_kept graph None g (Some H) is = cc
-loaded_kept graph (Some saved) g None is = absurd is
-loaded_kept graph (Some saved) g (Some H) is = is.1.names.1
+pub loaded_kept : (graph : Reading) (saved : ReadingIf) (g : Network) (h : Option LevelsAndLegs) → AreLoaded graph saved g h → IfSome h (IsKept g)
+loaded_kept graph NoInput g None is = tt
+loaded_kept graph NoInput g (Some H) is = cc
+loaded_kept graph (OneInput saved) g None is = absurd is
+loaded_kept graph (OneInput saved) g (Some H) is = is.1.names.1
 
 -- if there is no saved hierarchy, the run builds one
-pub loaded_built : {T S : Type 0} (graph : Reading) (r : Result T RunFault) (left : S → Option (List ℕ)) (failed : S → ℕ) (old new : Source S) (g : Network) (h : Option LevelsAndLegs) →
-    AreLoaded graph (source_reading left old new) g h → ReadsSource graph r left failed old new → IsNone h → old ≡ Source.Built
-loaded_built graph r left failed Source.Built new g h is reads none = refl
-loaded_built graph r left failed (Source.Saved old) Source.Built g h is reads none = absurd reads
-loaded_built graph r left failed (Source.Saved old) (Source.Saved new) g None is reads none = absurd is
-loaded_built graph r left failed (Source.Saved old) (Source.Saved new) g (Some H) is reads none = cc
+pub loaded_built : {T S : Type 0} (graph : Reading) (r : Result T RunFault) (gives : S → List ℕ → Result ℕ DeviceFault → S → Type 0) (failed : S → ℕ) (old new : Source S) (g : Network) (h : Option LevelsAndLegs) →
+    AreLoaded graph (source_reading gives old new) g h → ReadsSource graph r gives failed old new → IsNone h → old ≡ Source.Built
+loaded_built graph r gives failed Source.Built new g h is reads none = refl
+loaded_built graph r gives failed (Source.Saved old) Source.Built g h is reads none = absurd reads
+loaded_built graph r gives failed (Source.Saved old) (Source.Saved new) g None is reads none = absurd is
+loaded_built graph r gives failed (Source.Saved old) (Source.Saved new) g (Some H) is reads none = cc
 
 -- a fault of loading belongs to the graph or to the saved hierarchy
-pub loading_past : (saved : Option Reading) (e : RunFault) → IsOfLoading saved e → (which : Which) → (which ≡ Which.Graph → ⊥) → (which ≡ Which.Saved → ⊥) → StopsAt which e → ⊥
-loading_past None e own which not_graph not_saved stops = not_graph (of_one Which.Graph which e own stops)
-loading_past (Some saved) e (inl own) which not_graph not_saved stops = not_graph (of_one Which.Graph which e own stops)
-loading_past (Some saved) e (inr own) which not_graph not_saved stops = not_saved (of_one Which.Saved which e own stops)
+pub loading_past : (saved : ReadingIf) (e : RunFault) → IsOfLoading saved e → (which : Which) → (which ≡ Which.Graph → ⊥) → (which ≡ Which.Saved → ⊥) → StopsAt which e → ⊥
+loading_past NoInput e own which not_graph not_saved stops = not_graph (of_one Which.Graph which e own stops)
+loading_past (OneInput saved) e (inl own) which not_graph not_saved stops = not_graph (of_one Which.Graph which e own stops)
+loading_past (OneInput saved) e (inr own) which not_graph not_saved stops = not_saved (of_one Which.Saved which e own stops)
 
 -- the loaded graph, without a saved hierarchy
-pub built : (graph : Reading) (P : Network → Option LevelsAndLegs → Type 0) → WithLoaded graph None P → (g : Network) × IsWithinLimits g × ReadsGraph graph g × P g None
+pub built : (graph : Reading) (P : Network → Option LevelsAndLegs → Type 0) → WithLoaded graph NoInput P → (g : Network) × IsWithinLimits g × ReadsGraph graph g × P g None
 built graph P t = (t.0, t.2.0, t.2.1, subst (P t.0) t.2.2 t.3)
 
 -- the loaded graph, with the saved hierarchy
-pub checked : (graph saved : Reading) (P : Network → Option LevelsAndLegs → Type 0) → WithLoaded graph (Some saved) P →
+pub checked : (graph saved : Reading) (P : Network → Option LevelsAndLegs → Type 0) → WithLoaded graph (OneInput saved) P →
     (g : Network) × (s : OrderAndLegs) × (H : LevelsAndLegs) × AreChecked graph saved g s H × P g (Some H)
 checked graph saved P t = at t.1 t.2 t.3
   where
-    at : (h : Option LevelsAndLegs) → AreLoaded graph (Some saved) t.0 h → P t.0 h → (g : Network) × (s : OrderAndLegs) × (H : LevelsAndLegs) × AreChecked graph saved g s H × P g (Some H)
+    at : (h : Option LevelsAndLegs) → AreLoaded graph (OneInput saved) t.0 h → P t.0 h → (g : Network) × (s : OrderAndLegs) × (H : LevelsAndLegs) × AreChecked graph saved g s H × P g (Some H)
     at None is p = absurd is
     at (Some H) is p = (t.0, is.0, H, is.1, p)
 
@@ -65,15 +66,15 @@ of_no_write which (RunFault.Device input) own write = write
 of_no_write which (RunFault.Check f) own write = write
 
 -- a fault of loading is no failed write
-pub loading_no_write : (saved : Option Reading) (e : RunFault) → IsOfLoading saved e → IsWrite e → ⊥
-loading_no_write None e own = of_no_write Which.Graph e own
-loading_no_write (Some saved) e (inl own) = of_no_write Which.Graph e own
-loading_no_write (Some saved) e (inr own) = of_no_write Which.Saved e own
+pub loading_no_write : (saved : ReadingIf) (e : RunFault) → IsOfLoading saved e → IsWrite e → ⊥
+loading_no_write NoInput e own = of_no_write Which.Graph e own
+loading_no_write (OneInput saved) e (inl own) = of_no_write Which.Graph e own
+loading_no_write (OneInput saved) e (inr own) = of_no_write Which.Saved e own
 
 -- loading can end in a lack of memory
-pub loading_memory : (saved : Option Reading) → IsOfLoading saved RunFault.Memory
-loading_memory None = tt
-loading_memory (Some saved) = inl tt
+pub loading_memory : (saved : ReadingIf) → IsOfLoading saved RunFault.Memory
+loading_memory NoInput = tt
+loading_memory (OneInput saved) = inl tt
 
 -- a fault of the lists of a table is no failed write
 pub lists_no_write : (e : RunFault) → IsOfLists e → IsWrite e → ⊥
@@ -82,21 +83,21 @@ lists_no_write e (inr (inl own)) write = of_no_write Which.Targets e own write
 lists_no_write e (inr (inr cells)) write = subst IsWrite cells write
 
 -- a fault of the lists of near rows is no failed write
-pub node_lists_no_write : (sources : Option Reading) (e : RunFault) → IsOfNodeLists sources e → IsWrite e → ⊥
-node_lists_no_write None e (inl own) = absurd own
-node_lists_no_write (Some sources) e (inl own) = of_no_write Which.Sources e own
-node_lists_no_write None e (inr own) = of_no_write Which.Targets e own
-node_lists_no_write (Some sources) e (inr own) = of_no_write Which.Targets e own
+pub node_lists_no_write : (sources : ReadingIf) (e : RunFault) → IsOfNodeLists sources e → IsWrite e → ⊥
+node_lists_no_write NoInput e (inl own) = absurd own
+node_lists_no_write (OneInput sources) e (inl own) = of_no_write Which.Sources e own
+node_lists_no_write NoInput e (inr own) = of_no_write Which.Targets e own
+node_lists_no_write (OneInput sources) e (inr own) = of_no_write Which.Targets e own
 
 -- a fault of the lists of near rows belongs to no other input
-pub past_node_lists : (sources : Option Reading) (e : RunFault) → IsOfNodeLists sources e → (which : Which) → (which ≡ Which.Sources → ⊥) → (which ≡ Which.Targets → ⊥) → StopsAt which e → ⊥
-past_node_lists None e (inl own) which not_sources not_targets stops = absurd own
-past_node_lists (Some sources) e (inl own) which not_sources not_targets stops = not_sources (of_one Which.Sources which e own stops)
-past_node_lists None e (inr own) which not_sources not_targets stops = not_targets (of_one Which.Targets which e own stops)
-past_node_lists (Some sources) e (inr own) which not_sources not_targets stops = not_targets (of_one Which.Targets which e own stops)
+pub past_node_lists : (sources : ReadingIf) (e : RunFault) → IsOfNodeLists sources e → (which : Which) → (which ≡ Which.Sources → ⊥) → (which ≡ Which.Targets → ⊥) → StopsAt which e → ⊥
+past_node_lists NoInput e (inl own) which not_sources not_targets stops = absurd own
+past_node_lists (OneInput sources) e (inl own) which not_sources not_targets stops = not_sources (of_one Which.Sources which e own stops)
+past_node_lists NoInput e (inr own) which not_sources not_targets stops = not_targets (of_one Which.Targets which e own stops)
+past_node_lists (OneInput sources) e (inr own) which not_sources not_targets stops = not_targets (of_one Which.Targets which e own stops)
 
 -- loading ends in no fault of cells
-pub loading_no_cells : (saved : Option Reading) → IsOfLoading saved RunFault.Cells → ⊥
-loading_no_cells None own = own
-loading_no_cells (Some saved) (inl own) = own
-loading_no_cells (Some saved) (inr own) = own
+pub loading_no_cells : (saved : ReadingIf) → IsOfLoading saved RunFault.Cells → ⊥
+loading_no_cells NoInput own = own
+loading_no_cells (OneInput saved) (inl own) = own
+loading_no_cells (OneInput saved) (inr own) = own

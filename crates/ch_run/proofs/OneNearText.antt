@@ -8,7 +8,7 @@ use Rattle.ch_run.specs.declared.options.Options.{Options}
 use Rattle.ch_run.specs.Text.{IsNearTextFor}
 use Rattle.ch_text.specs.NearText.{near_row_text, nodes_in_order}
 use Rattle.ch_run.specs.NearTextLaws.{AllNearRowsHaveOneText, NearRowsHaveOneText, SavedAllNearRowsAreThoseOfTheGraph, SavedNearRowsAreThoseOfTheGraph}
-use Rattle.ch_run.specs.Run.{ReadsNodes}
+use Rattle.ch_run.specs.Run.{Reading, ReadsNodes}
 use Rattle.ch_run.proofs.Loading.{built, checked}
 use Rattle.ch_run.proofs.OneText.{one_list, same_graph, same_nodes}
 
@@ -20,8 +20,8 @@ one_rows_text options g sources targets text other h k =
     h.2 ∙ ap (λ rows. flat_map (near_row_text targets) (zip sources rows)) (one_list (IsNearestRow g options.direction options.within options.count targets) one sources h.0 k.0 h.1 k.1) ∙ sym k.2
 
 -- inputs whose bytes are known have one text of near rows
-pub one_near_text : NearRowsHaveOneText
-one_near_text options graph sources targets graph_bytes source_bytes target_bytes text other told_graph told_sources told_targets t u =
+pub one_near_text : (graph sources targets : Reading) → NearRowsHaveOneText graph sources targets
+one_near_text graph sources targets options graph_bytes source_bytes target_bytes text other told_graph told_sources told_targets t u =
     let h = built graph _ t in
     let k = built graph _ u in
     let same : h.0 ≡ k.0 = same_graph graph graph_bytes h.0 k.0 told_graph h.2 k.2 in
@@ -32,8 +32,8 @@ one_near_text options graph sources targets graph_bytes source_bytes target_byte
     one_rows_text options h.0 h.3.0 h.3.1 text other h.3.3 (subst (λ xs. IsNearTextFor options h.0 h.3.0 xs other) (sym to) second)
 
 -- inputs whose bytes are known have one text of the near rows of all nodes
-pub one_near_all_text : AllNearRowsHaveOneText
-one_near_all_text options graph targets graph_bytes target_bytes text other told_graph told_targets t u =
+pub one_near_all_text : (graph targets : Reading) → AllNearRowsHaveOneText graph targets
+one_near_all_text graph targets options graph_bytes target_bytes text other told_graph told_targets t u =
     let h = built graph _ t in
     let k = built graph _ u in
     let same : h.0 ≡ k.0 = same_graph graph graph_bytes h.0 k.0 told_graph h.2 k.2 in
@@ -44,12 +44,12 @@ one_near_all_text options graph targets graph_bytes target_bytes text other told
     one_rows_text options h.0 h.3.0 h.3.1 text other h.3.3 (subst (λ xs. IsNearTextFor options h.0 h.3.0 xs other) (sym to) second)
 
 -- near rows by a saved hierarchy are those of the graph
-pub near_of_graph : SavedNearRowsAreThoseOfTheGraph
-near_of_graph options graph saved sources targets text t =
+pub near_of_graph : (graph saved sources targets : Reading) → SavedNearRowsAreThoseOfTheGraph graph saved sources targets
+near_of_graph graph saved sources targets options text t =
     let h = checked graph saved _ t in
     (h.0, None, (h.3.limits, h.3.reads_graph, refl), h.4)
 
-pub near_all_of_graph : SavedAllNearRowsAreThoseOfTheGraph
-near_all_of_graph options graph saved targets text t =
+pub near_all_of_graph : (graph saved targets : Reading) → SavedAllNearRowsAreThoseOfTheGraph graph saved targets
+near_all_of_graph graph saved targets options text t =
     let h = checked graph saved _ t in
     (h.0, None, (h.3.limits, h.3.reads_graph, refl), h.4)

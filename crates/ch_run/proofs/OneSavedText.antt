@@ -12,7 +12,7 @@ use Rattle.ch_hierarchy.specs.Saved.{NamesHierarchy}
 use Rattle.ch_contract.proofs.theory.OneOrder.{one_hierarchy}
 use Rattle.ch_hierarchy.proofs.theory.OneSaved.{one_saved}
 use Rattle.ch_hierarchy.proofs.theory.LevelOrder.{one_level_order}
-use Rattle.ch_run.specs.Run.{Reading, ReadsNodes, ReadsQueries}
+use Rattle.ch_run.specs.Run.{GivesOnly, Reading, ReadsNodes, ReadsQueries}
 use Rattle.ch_run.specs.Source.{AreChecked, ReadsSaved}
 use Rattle.ch_run.specs.SavedTextLaws.{SavedAnswersHaveOneText, SavedTablesHaveOneText, HierarchiesHaveOneText}
 use Rattle.ch_hierarchy.specs.Written.{written}
@@ -20,14 +20,14 @@ use Rattle.ch_text.specs.SaveText.{IsHierarchyText, saved_text}
 use Rattle.ch_text.specs.TableText.{IsTableText}
 use Rattle.ch_run.specs.Text.{IsTextBy}
 use Rattle.ch_run.proofs.Loading.{checked}
-use Rattle.ch_run.proofs.OneText.{given_bytes, one_table_text, one_text_by, same_graph, same_nodes, same_queries}
+use Rattle.ch_run.proofs.OneText.{one_table_text, one_text_by, same_graph, same_nodes, same_queries}
 
 -- the bytes of a saved hierarchy name only one order with its legs
-same_saved : (saved : Reading) (bytes : List ℕ) (n : ℕ) (s t : OrderAndLegs) → saved.before ≡ Some bytes → ReadsSaved saved n s → ReadsSaved saved n t → s ≡ t
+same_saved : (saved : Reading) (bytes : List ℕ) (n : ℕ) (s t : OrderAndLegs) → GivesOnly saved bytes → ReadsSaved saved n s → ReadsSaved saved n t → s ≡ t
 same_saved saved bytes n s t told a b =
-    (saved_answer bytes n).one_value s t (subst (λ xs. NamesSaved xs n s) (given_bytes saved.before saved.after bytes a.0 told a.1) a.2) (subst (λ xs. NamesSaved xs n t) (given_bytes saved.before saved.after bytes b.0 told b.1) b.2)
+    (saved_answer bytes n).one_value s t (subst (λ xs. NamesSaved xs n s) (told a.0 a.1) a.2) (subst (λ xs. NamesSaved xs n t) (told b.0 b.1) b.2)
 
-module _ (graph saved : Reading) (graph_bytes saved_bytes : List ℕ) (told_graph : graph.before ≡ Some graph_bytes) (told_saved : saved.before ≡ Some saved_bytes)
+module _ (graph saved : Reading) (graph_bytes saved_bytes : List ℕ) (told_graph : GivesOnly graph graph_bytes) (told_saved : GivesOnly saved saved_bytes)
     (g k : Network) (s t : OrderAndLegs) (H K : LevelsAndLegs) (a : AreChecked graph saved g s H) (b : AreChecked graph saved k t K) where
   -- there is only one graph and one hierarchy
   one_graph : g ≡ k
@@ -39,8 +39,8 @@ module _ (graph saved : Reading) (graph_bytes saved_bytes : List ℕ) (told_grap
       one_saved s H K a.names.0 (subst (λ r. NamesHierarchy r K) (sym same) b.names.0)
 
 -- inputs whose bytes are known have one text of answers
-pub one_saved_text : SavedAnswersHaveOneText
-one_saved_text options graph saved queries graph_bytes saved_bytes query_bytes text other told_graph told_saved told_queries t u =
+pub one_saved_text : (graph saved queries : Reading) → SavedAnswersHaveOneText graph saved queries
+one_saved_text graph saved queries options graph_bytes saved_bytes query_bytes text other told_graph told_saved told_queries t u =
     let h = checked graph saved _ t in
     let k = checked graph saved _ u in
     let same : h.0 ≡ k.0 = one_graph graph saved graph_bytes saved_bytes told_graph told_saved h.0 k.0 h.1 k.1 h.2 k.2 h.3 k.3 in
@@ -55,8 +55,8 @@ one_saved_text options graph saved queries graph_bytes saved_bytes query_bytes t
     one_text_by routes h.0 (λ K. K ≡ h.2) one kept h.4.0 text other h.4.2 here
 
 -- inputs whose bytes are known have one table
-pub one_saved_table : SavedTablesHaveOneText
-one_saved_table options graph saved sources targets graph_bytes saved_bytes source_bytes target_bytes text other told_graph told_saved told_sources told_targets t u =
+pub one_saved_table : (graph saved sources targets : Reading) → SavedTablesHaveOneText graph saved sources targets
+one_saved_table graph saved sources targets options graph_bytes saved_bytes source_bytes target_bytes text other told_graph told_saved told_sources told_targets t u =
     let h = checked graph saved _ t in
     let k = checked graph saved _ u in
     let same : h.0 ≡ k.0 = one_graph graph saved graph_bytes saved_bytes told_graph told_saved h.0 k.0 h.1 k.1 h.2 k.2 h.3 k.3 in
@@ -72,8 +72,8 @@ one_hierarchy_text H text other h k =
     h.2 ∙ ap (λ order. saved_text (written H order)) (one_level_order H h.0 k.0 h.1 k.1) ∙ sym k.2
 
 -- an input whose bytes are known has one saved text
-pub one_save_text : HierarchiesHaveOneText
-one_save_text options graph graph_bytes text other told_graph h k =
+pub one_save_text : (graph : Reading) → HierarchiesHaveOneText graph
+one_save_text graph options graph_bytes text other told_graph h k =
     let same : h.0 ≡ k.0 = same_graph graph graph_bytes h.0 k.0 told_graph h.2 k.2 in
     let on_graph = subst (λ (g : Network). IsHierarchyBy options.order g options.hops k.3.0) (sym same) k.3.1 in
     let hierarchy : h.3.0 ≡ k.3.0 = one_hierarchy options.order h.0 options.hops h.3.0 k.3.0 h.3.1 on_graph in

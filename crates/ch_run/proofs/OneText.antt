@@ -21,17 +21,11 @@ use Rattle.ch_text.specs.Routes.{AnswersWithRoute, answer_text}
 use Rattle.ch_run.specs.Text.{IsTextBy}
 use Rattle.ch_query.specs.Limits.{IsCut}
 use Rattle.ch_text.specs.TableText.{IsCell, IsTableRow, IsTableText, row_text}
-use Rattle.ch_text.specs.Device.{HasGiven}
-use Rattle.ch_run.specs.Run.{Reading, ReadsGraph, ReadsNodes, ReadsQueries}
+use Rattle.ch_run.specs.Run.{GivesOnly, Reading, ReadsGraph, ReadsNodes, ReadsQueries}
 use Rattle.ch_run.specs.TextLaws.{AnswersHaveOneText, TablesHaveOneText}
 use Rattle.ch_run.proofs.Loading.{built}
 use Rattle.ch_read.specs.Names.{NamesGraph, NamesNodes, NamesQueries}
 use Rattle.ch_read.proofs.OneAnswer.{graph_answer, nodes_answer, queries_answer}
-
--- an input whose bytes are known gave these bytes
-pub given_bytes : (before after : Option (List ℕ)) (bytes given : List ℕ) → before ≡ Some bytes → HasGiven before after given → given ≡ bytes
-given_bytes None after bytes given told h = absurd (none-some bytes told)
-given_bytes (Some old) after bytes given told h = sym h.0 ∙ same_Some old bytes told
 
 -- two lists that answer the same items are equal, if each item has only one answer
 pub one_list : {A B : Type 0} (P : A → B → Type 0) → ((x : A) (y z : B) → P x y → P x z → y ≡ z) → (xs : List A) (ys zs : List B) → AllZip P xs ys → AllZip P xs zs → ys ≡ zs
@@ -110,19 +104,19 @@ one_text_by true g From one kept queries text other t u =
     one_answers_text answer_text (AnswersWithRoute g t.0) (one_routed g t.0 (kept t.0 t.1)) queries text other t.2 (subst (λ (H : LevelsAndLegs). HasText answer_text (AnswersWithRoute g H) queries other) same u.2)
 
 -- the bytes of a graph name only one graph
-pub same_graph : (graph : Reading) (bytes : List ℕ) (g h : Network) → graph.before ≡ Some bytes → ReadsGraph graph g → ReadsGraph graph h → g ≡ h
+pub same_graph : (graph : Reading) (bytes : List ℕ) (g h : Network) → GivesOnly graph bytes → ReadsGraph graph g → ReadsGraph graph h → g ≡ h
 same_graph graph bytes g h told a b =
-    (graph_answer bytes).one_value g h (subst (λ xs. NamesGraph xs g) (given_bytes graph.before graph.after bytes a.0 told a.1) a.2) (subst (λ xs. NamesGraph xs h) (given_bytes graph.before graph.after bytes b.0 told b.1) b.2)
+    (graph_answer bytes).one_value g h (subst (λ xs. NamesGraph xs g) (told a.0 a.1) a.2) (subst (λ xs. NamesGraph xs h) (told b.0 b.1) b.2)
 
 -- the bytes of queries name only one list of queries
-pub same_queries : (queries : Reading) (bytes : List ℕ) (n : ℕ) (p q : List (ℕ × ℕ)) → queries.before ≡ Some bytes → ReadsQueries queries n p → ReadsQueries queries n q → p ≡ q
+pub same_queries : (queries : Reading) (bytes : List ℕ) (n : ℕ) (p q : List (ℕ × ℕ)) → GivesOnly queries bytes → ReadsQueries queries n p → ReadsQueries queries n q → p ≡ q
 same_queries queries bytes n p q told a b =
-    (queries_answer bytes n).one_value p q (subst (λ xs. NamesQueries xs n p) (given_bytes queries.before queries.after bytes a.0 told a.1) a.2) (subst (λ xs. NamesQueries xs n q) (given_bytes queries.before queries.after bytes b.0 told b.1) b.2)
+    (queries_answer bytes n).one_value p q (subst (λ xs. NamesQueries xs n p) (told a.0 a.1) a.2) (subst (λ xs. NamesQueries xs n q) (told b.0 b.1) b.2)
 
 -- the bytes of a list of nodes name only one list
-pub same_nodes : (list : Reading) (bytes : List ℕ) (n : ℕ) (p q : List ℕ) → list.before ≡ Some bytes → ReadsNodes list n p → ReadsNodes list n q → p ≡ q
+pub same_nodes : (list : Reading) (bytes : List ℕ) (n : ℕ) (p q : List ℕ) → GivesOnly list bytes → ReadsNodes list n p → ReadsNodes list n q → p ≡ q
 same_nodes list bytes n p q told a b =
-    (nodes_answer bytes n).one_value p q (subst (λ xs. NamesNodes xs n p) (given_bytes list.before list.after bytes a.0 told a.1) a.2) (subst (λ xs. NamesNodes xs n q) (given_bytes list.before list.after bytes b.0 told b.1) b.2)
+    (nodes_answer bytes n).one_value p q (subst (λ xs. NamesNodes xs n p) (told a.0 a.1) a.2) (subst (λ xs. NamesNodes xs n q) (told b.0 b.1) b.2)
 
 -- a row has only one list of cells
 one_row : (g : Network) (limit : Option ℕ) (targets : List ℕ) (s : ℕ) (xs ys : List (Option ℕ)) → IsTableRow g limit targets s xs → IsTableRow g limit targets s ys → xs ≡ ys
@@ -134,8 +128,8 @@ one_table_text g limit sources targets text other h k =
     h.2 ∙ ap (λ rows. flat_map row_text (zip sources rows)) (one_list (IsTableRow g limit targets) (one_row g limit targets) sources h.0 k.0 h.1 k.1) ∙ sym k.2
 
 -- inputs whose bytes are known have one text of answers
-pub one_text : AnswersHaveOneText
-one_text options graph queries graph_bytes query_bytes text other hops told_graph told_queries t u =
+pub one_text : (graph queries : Reading) → AnswersHaveOneText graph queries
+one_text graph queries options graph_bytes query_bytes text other hops told_graph told_queries t u =
     let h = built graph _ t in
     let k = built graph _ u in
     let same : h.0 ≡ k.0 = same_graph graph graph_bytes h.0 k.0 told_graph h.2 k.2 in
@@ -147,8 +141,8 @@ one_text options graph queries graph_bytes query_bytes text other hops told_grap
     one_text_by routes h.0 (IsHierarchyBy options.order h.0 options.hops) (one_hierarchy options.order h.0 options.hops) kept h.3.0 text other h.3.2 here
 
 -- inputs whose bytes are known have one table
-pub one_table : TablesHaveOneText
-one_table options graph sources targets graph_bytes source_bytes target_bytes text other told_graph told_sources told_targets t u =
+pub one_table : (graph sources targets : Reading) → TablesHaveOneText graph sources targets
+one_table graph sources targets options graph_bytes source_bytes target_bytes text other told_graph told_sources told_targets t u =
     let h = built graph _ t in
     let k = built graph _ u in
     let same : h.0 ≡ k.0 = same_graph graph graph_bytes h.0 k.0 told_graph h.2 k.2 in

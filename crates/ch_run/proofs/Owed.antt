@@ -4,6 +4,7 @@ use Rattle.std.specs.Prelude.{◌↔◌, Result, Ok, Err, IfErr, IsErrAnd}
 use Rattle.ch_read.specs.declared.fault.ReadFault.{ReadFault}
 use Rattle.ch_hierarchy.specs.declared.fault.CheckFault.{CheckFault}
 use Rattle.ch_text.specs.Device.{CountsAtMostOne}
+use Rattle.ch_text.specs.declared.device.DeviceFault.{DeviceFault}
 use Rattle.ch_run.specs.declared.fault.RunFault.{RunFault}
 use Rattle.ch_run.specs.declared.fault.Which.{Which}
 use Rattle.ch_run.specs.declared.source.Source.{Source}
@@ -56,16 +57,16 @@ module _ {S T I : Type 0} (which : Which) (failed : I → ℕ) (old new : I) whe
     once = h.once;
   }
 
-module _ {S T I : Type 0} (which : Which) (left : I → Option (List ℕ)) (failed : I → ℕ) (old new : I) (IsRefused : Reading → ReadFault → Type 0) where
+module _ {S T I : Type 0} (which : Which) (gives : I → List ℕ → Result ℕ DeviceFault → I → Type 0) (failed : I → ℕ) (old new : I) (IsRefused : Reading → ReadFault → Type 0) where
   -- a fault that is passed on keeps the promise on an input
-  pub reads_as : (e : RunFault) (r : Result T RunFault) → IsErrAnd r (λ y. y ≡ e) → Reads {T = S} which (Err e) left failed old new IsRefused → Reads which r left failed old new IsRefused
+  pub reads_as : (e : RunFault) (r : Result T RunFault) → IsErrAnd r (λ y. y ≡ e) → Reads {T = S} which (Err e) gives failed old new IsRefused → Reads which r gives failed old new IsRefused
   reads_as e r is h = record {
     refused = λ fault same. h.refused fault (passed_on r e (RunFault.Read which fault) is same);
     once = once_as {S = S} which failed old new e r is h.once;
   }
 
   -- a run that goes past an input keeps the promise on it
-  pub reads_past : (r : Result S RunFault) (s : Result T RunFault) → GoesPast which r → GoesPast which s → Reads which r left failed old new IsRefused → Reads which s left failed old new IsRefused
+  pub reads_past : (r : Result S RunFault) (s : Result T RunFault) → GoesPast which r → GoesPast which s → Reads which r gives failed old new IsRefused → Reads which s gives failed old new IsRefused
   reads_past r s past past' h = record {
     refused = λ fault same. absurd (no_end which s (RunFault.Read which fault) past' (stops_read which fault) same);
     once = once_past which failed old new r s past past' h.once;
@@ -73,14 +74,14 @@ module _ {S T I : Type 0} (which : Which) (left : I → Option (List ℕ)) (fail
 
   module _ (earlier : List Which) (accepted : Type 0) where
     -- the same for an input that is read after others
-    pub after_as : (e : RunFault) (r : Result T RunFault) → IsErrAnd r (λ y. y ≡ e) → ReadsAfter {T = S} earlier accepted which (Err e) left failed old new IsRefused → ReadsAfter earlier accepted which r left failed old new IsRefused
+    pub after_as : (e : RunFault) (r : Result T RunFault) → IsErrAnd r (λ y. y ≡ e) → ReadsAfter {T = S} earlier accepted which (Err e) gives failed old new IsRefused → ReadsAfter earlier accepted which r gives failed old new IsRefused
     after_as e r is h = record { reads = reads_as e r is h.reads; unread = at h.unread }
       where
         at : (new ≡ old) ⊎ (GoesPastAll {T = S} earlier (Err e) × accepted) → (new ≡ old) ⊎ (GoesPastAll earlier r × accepted)
         at (inl same) = inl same
         at (inr met) = inr (all_passed S earlier e r is met.0, met.1)
 
-    pub after_past : (r : Result S RunFault) (s : Result T RunFault) → GoesPast which r → GoesPast which s → GoesPastAll earlier s → ReadsAfter earlier accepted which r left failed old new IsRefused → ReadsAfter earlier accepted which s left failed old new IsRefused
+    pub after_past : (r : Result S RunFault) (s : Result T RunFault) → GoesPast which r → GoesPast which s → GoesPastAll earlier s → ReadsAfter earlier accepted which r gives failed old new IsRefused → ReadsAfter earlier accepted which s gives failed old new IsRefused
     after_past r s past past' all h = record { reads = reads_past r s past past' h.reads; unread = at h.unread }
       where
         at : (new ≡ old) ⊎ (GoesPastAll earlier r × accepted) → (new ≡ old) ⊎ (GoesPastAll earlier s × accepted)
@@ -95,60 +96,60 @@ module _ {T I : Type 0} (which : Which) (r : Result T RunFault) (failed : I → 
   pub untouched_once : ReadsOnce which r failed x x
   untouched_once = record { device = (λ same. absurd (no_end which r (RunFault.Device which) past (stops_device which) same), λ less. absurd (not_below less)); once = inl refl }
 
-  pub untouched : (left : I → Option (List ℕ)) (IsRefused : Reading → ReadFault → Type 0) → Reads which r left failed x x IsRefused
-  untouched left IsRefused = record { refused = λ fault same. absurd (no_end which r (RunFault.Read which fault) past (stops_read which fault) same); once = untouched_once }
+  pub untouched : (gives : I → List ℕ → Result ℕ DeviceFault → I → Type 0) (IsRefused : Reading → ReadFault → Type 0) → Reads which r gives failed x x IsRefused
+  untouched gives IsRefused = record { refused = λ fault same. absurd (no_end which r (RunFault.Read which fault) past (stops_read which fault) same); once = untouched_once }
 
-  pub untouched_after : (earlier : List Which) (accepted : Type 0) (left : I → Option (List ℕ)) (IsRefused : Reading → ReadFault → Type 0) → ReadsAfter earlier accepted which r left failed x x IsRefused
-  untouched_after earlier accepted left IsRefused = record { reads = untouched left IsRefused; unread = inl refl }
+  pub untouched_after : (earlier : List Which) (accepted : Type 0) (gives : I → List ℕ → Result ℕ DeviceFault → I → Type 0) (IsRefused : Reading → ReadFault → Type 0) → ReadsAfter earlier accepted which r gives failed x x IsRefused
+  untouched_after earlier accepted gives IsRefused = record { reads = untouched gives IsRefused; unread = inl refl }
 
 -- a fault that is passed on keeps the promise on the source of the hierarchy
-pub source_as : (S : Type 0) {T J : Type 0} (graph : Reading) (left : J → Option (List ℕ)) (failed : J → ℕ) (e : RunFault) (r : Result T RunFault) → IsErrAnd r (λ y. y ≡ e) → (old new : Source J) →
-    ReadsSource {T = S} graph (Err e) left failed old new → ReadsSource graph r left failed old new
-source_as S graph left failed e r is Source.Built new h = h
-source_as S graph left failed e r is (Source.Saved old) Source.Built h = h
-source_as S graph left failed e r is (Source.Saved old) (Source.Saved new) h = record {
-  lines = after_as {S = S} Which.Saved left failed old new (HasSavedRefused graph) (Which.Graph ∷ []) (AcceptsGraph graph) e r is h.lines;
+pub source_as : (S : Type 0) {T J : Type 0} (graph : Reading) (gives : J → List ℕ → Result ℕ DeviceFault → J → Type 0) (failed : J → ℕ) (e : RunFault) (r : Result T RunFault) → IsErrAnd r (λ y. y ≡ e) → (old new : Source J) →
+    ReadsSource {T = S} graph (Err e) gives failed old new → ReadsSource graph r gives failed old new
+source_as S graph gives failed e r is Source.Built new h = h
+source_as S graph gives failed e r is (Source.Saved old) Source.Built h = h
+source_as S graph gives failed e r is (Source.Saved old) (Source.Saved new) h = record {
+  lines = after_as {S = S} Which.Saved gives failed old new (HasSavedRefused graph) (Which.Graph ∷ []) (AcceptsGraph graph) e r is h.lines;
   check = λ fault same. h.check fault (passed_on r e (RunFault.Check fault) is same);
 }
 
 -- a run that goes past the saved hierarchy keeps the promise on the source of the hierarchy
-pub source_past : {S T J : Type 0} (graph : Reading) (left : J → Option (List ℕ)) (failed : J → ℕ) (r : Result S RunFault) (s : Result T RunFault) → GoesPast Which.Saved r → GoesPast Which.Saved s → GoesPast Which.Graph s → (old new : Source J) →
-    ReadsSource graph r left failed old new → ReadsSource graph s left failed old new
-source_past graph left failed r s past past' first Source.Built new h = h
-source_past graph left failed r s past past' first (Source.Saved old) Source.Built h = h
-source_past graph left failed r s past past' first (Source.Saved old) (Source.Saved new) h = record {
-  lines = after_past Which.Saved left failed old new (HasSavedRefused graph) (Which.Graph ∷ []) (AcceptsGraph graph) r s past past' (first, tt) h.lines;
+pub source_past : {S T J : Type 0} (graph : Reading) (gives : J → List ℕ → Result ℕ DeviceFault → J → Type 0) (failed : J → ℕ) (r : Result S RunFault) (s : Result T RunFault) → GoesPast Which.Saved r → GoesPast Which.Saved s → GoesPast Which.Graph s → (old new : Source J) →
+    ReadsSource graph r gives failed old new → ReadsSource graph s gives failed old new
+source_past graph gives failed r s past past' first Source.Built new h = h
+source_past graph gives failed r s past past' first (Source.Saved old) Source.Built h = h
+source_past graph gives failed r s past past' first (Source.Saved old) (Source.Saved new) h = record {
+  lines = after_past Which.Saved gives failed old new (HasSavedRefused graph) (Which.Graph ∷ []) (AcceptsGraph graph) r s past past' (first, tt) h.lines;
   check = λ fault same. absurd (no_end Which.Saved s (RunFault.Check fault) past' (stops_check fault) same);
 }
 
 -- the promise on an input stays if its refusal implies another
-pub reads_weaker : {T I : Type 0} (which : Which) (r : Result T RunFault) (left : I → Option (List ℕ)) (failed : I → ℕ) (old new : I) (P Q : Reading → ReadFault → Type 0) →
-    ((fault : ReadFault) → P (reading left old new) fault → Q (reading left old new) fault) → Reads which r left failed old new P → Reads which r left failed old new Q
-reads_weaker which r left failed old new P Q to h = record { refused = λ fault same. to fault (h.refused fault same); once = h.once }
+pub reads_weaker : {T I : Type 0} (which : Which) (r : Result T RunFault) (gives : I → List ℕ → Result ℕ DeviceFault → I → Type 0) (failed : I → ℕ) (old new : I) (P Q : Reading → ReadFault → Type 0) →
+    ((fault : ReadFault) → P (reading gives old new) fault → Q (reading gives old new) fault) → Reads which r gives failed old new P → Reads which r gives failed old new Q
+reads_weaker which r gives failed old new P Q to h = record { refused = λ fault same. to fault (h.refused fault same); once = h.once }
 
 -- the promise on an input that is read after others stays if more comes before it
-pub after_weaker : {T I : Type 0} (earlier more : List Which) (accepted all : Type 0) (which : Which) (r : Result T RunFault) (left : I → Option (List ℕ)) (failed : I → ℕ) (old new : I) (P Q : Reading → ReadFault → Type 0) →
-    (GoesPastAll earlier r × accepted → GoesPastAll more r × all) → ((fault : ReadFault) → P (reading left old new) fault → Q (reading left old new) fault) →
-    ReadsAfter earlier accepted which r left failed old new P → ReadsAfter more all which r left failed old new Q
-after_weaker earlier more accepted all which r left failed old new P Q before to h = record { reads = reads_weaker which r left failed old new P Q to h.reads; unread = at h.unread }
+pub after_weaker : {T I : Type 0} (earlier more : List Which) (accepted all : Type 0) (which : Which) (r : Result T RunFault) (gives : I → List ℕ → Result ℕ DeviceFault → I → Type 0) (failed : I → ℕ) (old new : I) (P Q : Reading → ReadFault → Type 0) →
+    (GoesPastAll earlier r × accepted → GoesPastAll more r × all) → ((fault : ReadFault) → P (reading gives old new) fault → Q (reading gives old new) fault) →
+    ReadsAfter earlier accepted which r gives failed old new P → ReadsAfter more all which r gives failed old new Q
+after_weaker earlier more accepted all which r gives failed old new P Q before to h = record { reads = reads_weaker which r gives failed old new P Q to h.reads; unread = at h.unread }
   where
     at : (new ≡ old) ⊎ (GoesPastAll earlier r × accepted) → (new ≡ old) ⊎ (GoesPastAll more r × all)
     at (inl same) = inl same
     at (inr met) = inr (before met)
 
 -- the promise on the list of sources, if there is one, stays too
-pub sources_weaker : {S T J : Type 0} (earlier more : List Which) (accepted all : Type 0) (r : Result S RunFault) (s : Result T RunFault) (left : J → Option (List ℕ)) (failed : J → ℕ) (P Q : Reading → ReadFault → Type 0) →
-    ((old new : J) → ReadsAfter earlier accepted Which.Sources r left failed old new P → ReadsAfter more all Which.Sources s left failed old new Q) →
-    (old new : Sources J) → ReadsSources earlier accepted r left failed old new P → ReadsSources more all s left failed old new Q
-sources_weaker earlier more accepted all r s left failed P Q to Sources.All new h = h
-sources_weaker earlier more accepted all r s left failed P Q to (Sources.Listed old) Sources.All h = h
-sources_weaker earlier more accepted all r s left failed P Q to (Sources.Listed old) (Sources.Listed new) h = to old new h
+pub sources_weaker : {S T J : Type 0} (earlier more : List Which) (accepted all : Type 0) (r : Result S RunFault) (s : Result T RunFault) (gives : J → List ℕ → Result ℕ DeviceFault → J → Type 0) (failed : J → ℕ) (P Q : Reading → ReadFault → Type 0) →
+    ((old new : J) → ReadsAfter earlier accepted Which.Sources r gives failed old new P → ReadsAfter more all Which.Sources s gives failed old new Q) →
+    (old new : Sources J) → ReadsSources earlier accepted r gives failed old new P → ReadsSources more all s gives failed old new Q
+sources_weaker earlier more accepted all r s gives failed P Q to Sources.All new h = h
+sources_weaker earlier more accepted all r s gives failed P Q to (Sources.Listed old) Sources.All h = h
+sources_weaker earlier more accepted all r s gives failed P Q to (Sources.Listed old) (Sources.Listed new) h = to old new h
 
 -- a run that does not touch a list of sources keeps the promise on it
-pub untouched_sources : {T J : Type 0} (earlier : List Which) (accepted : Type 0) (r : Result T RunFault) (left : J → Option (List ℕ)) (failed : J → ℕ) (P : Reading → ReadFault → Type 0) →
-    GoesPast Which.Sources r → (x : Sources J) → ReadsSources earlier accepted r left failed x x P
-untouched_sources earlier accepted r left failed P past Sources.All = refl
-untouched_sources earlier accepted r left failed P past (Sources.Listed x) = untouched_after Which.Sources r failed x past earlier accepted left P
+pub untouched_sources : {T J : Type 0} (earlier : List Which) (accepted : Type 0) (r : Result T RunFault) (gives : J → List ℕ → Result ℕ DeviceFault → J → Type 0) (failed : J → ℕ) (P : Reading → ReadFault → Type 0) →
+    GoesPast Which.Sources r → (x : Sources J) → ReadsSources earlier accepted r gives failed x x P
+untouched_sources earlier accepted r gives failed P past Sources.All = refl
+untouched_sources earlier accepted r gives failed P past (Sources.Listed x) = untouched_after Which.Sources r failed x past earlier accepted gives P
 
 -- a fault that is passed on is no failed write, if it was none before
 no_write : {T : Type 0} (r : Result T RunFault) (e : RunFault) → IsErrAnd r (λ y. y ≡ e) → (IsWrite e → ⊥) → IsErrAnd r IsWrite → ⊥
@@ -167,9 +168,9 @@ pub unwritten : {T O : Type 0} (r : Result T RunFault) (e : RunFault) → IsErrA
 unwritten r e is other accepted failed idle x = record { writes = unwritten_once r e is other failed idle x; unwritten = inl refl }
 
 -- such a run has written nothing
-pub undelivered : {T : Type 0} (r : Result T RunFault) (e : RunFault) (old new : Option (List ℕ)) (P : List ℕ → Type 0) → IsErrAnd r (λ y. y ≡ e) → (IsWrite e → ⊥) → Delivers r old new P
-undelivered (Ok x) e old new P is other = absurd is
-undelivered (Err y) e old new P is other = λ count same. absurd (other (subst IsWrite (sym same ∙ is) tt))
+pub undelivered : {T S : Type 0} (r : Result T RunFault) (e : RunFault) (gives : S → List ℕ → Result ℕ DeviceFault → S → Type 0) (old new : S) (P : List ℕ → Type 0) → IsErrAnd r (λ y. y ≡ e) → (IsWrite e → ⊥) → Delivers r gives old new P
+undelivered (Ok x) e gives old new P is other = absurd is
+undelivered (Err y) e gives old new P is other = λ count same. absurd (other (subst IsWrite (sym same ∙ is) tt))
 
 -- a fault that is passed on is one of the run's own, if it was one before
 pub own_as : {T : Type 0} (r : Result T RunFault) (e : RunFault) (Own : RunFault → Type 0) → IsErrAnd r (λ y. y ≡ e) → Own e → IfErr r Own
@@ -190,18 +191,18 @@ err_as (Ok x) e P is own = absurd is
 err_as (Err y) e P is own = subst P (sym is) own
 
 -- the promise on an input, made of its parts, where its refusal implies another
-pub read : {T I : Type 0} (which : Which) (r : Result T RunFault) (left : I → Option (List ℕ)) (failed : I → ℕ) (old new : I) (P : ReadFault → Type 0) (Q : Reading → ReadFault → Type 0) →
-    ((fault : ReadFault) → P fault → Q (reading left old new) fault) →
+pub read : {T I : Type 0} (which : Which) (r : Result T RunFault) (gives : I → List ℕ → Result ℕ DeviceFault → I → Type 0) (failed : I → ℕ) (old new : I) (P : ReadFault → Type 0) (Q : Reading → ReadFault → Type 0) →
+    ((fault : ReadFault) → P fault → Q (reading gives old new) fault) →
     ((fault : ReadFault) → r ≡ Err (RunFault.Read which fault) → P fault) → (r ≡ Err (RunFault.Device which)) ↔ (failed old < failed new) → CountsAtMostOne (failed old) (failed new) →
-    Reads which r left failed old new Q
-read which r left failed old new P Q to refused device once = record { refused = λ fault same. to fault (refused fault same); once = record { device = device; once = once } }
+    Reads which r gives failed old new Q
+read which r gives failed old new P Q to refused device once = record { refused = λ fault same. to fault (refused fault same); once = record { device = device; once = once } }
 
 -- the same for an input that is read after others
-pub read_after : {T I : Type 0} (earlier : List Which) (met accepted : Type 0) (which : Which) (r : Result T RunFault) (left : I → Option (List ℕ)) (failed : I → ℕ) (old new : I) (P : ReadFault → Type 0) (Q : Reading → ReadFault → Type 0) →
-    (met → GoesPastAll earlier r × accepted) → ((fault : ReadFault) → P fault → Q (reading left old new) fault) →
+pub read_after : {T I : Type 0} (earlier : List Which) (met accepted : Type 0) (which : Which) (r : Result T RunFault) (gives : I → List ℕ → Result ℕ DeviceFault → I → Type 0) (failed : I → ℕ) (old new : I) (P : ReadFault → Type 0) (Q : Reading → ReadFault → Type 0) →
+    (met → GoesPastAll earlier r × accepted) → ((fault : ReadFault) → P fault → Q (reading gives old new) fault) →
     ((fault : ReadFault) → r ≡ Err (RunFault.Read which fault) → P fault) → (r ≡ Err (RunFault.Device which)) ↔ (failed old < failed new) → CountsAtMostOne (failed old) (failed new) →
-    (new ≡ old) ⊎ met → ReadsAfter earlier accepted which r left failed old new Q
-read_after earlier met accepted which r left failed old new P Q before to refused device once unread = record { reads = read which r left failed old new P Q to refused device once; unread = at unread }
+    (new ≡ old) ⊎ met → ReadsAfter earlier accepted which r gives failed old new Q
+read_after earlier met accepted which r gives failed old new P Q before to refused device once unread = record { reads = read which r gives failed old new P Q to refused device once; unread = at unread }
   where
     at : (new ≡ old) ⊎ met → (new ≡ old) ⊎ (GoesPastAll earlier r × accepted)
     at (inl same) = inl same

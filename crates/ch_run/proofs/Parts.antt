@@ -3,19 +3,19 @@ use Rattle.std.proofs.Common.{◌≡◌, ℕ, ◌+◌, ◌<◌, ◌^◌, ◌-◌
 use Rattle.std.specs.Prelude.{Result, IsErrAnd}
 use Rattle.std.specs.List.{flat_map, sum_by}
 use Rattle.std.specs.declared.alloc.Global.{Global}
-use Rattle.std.proofs.Math.Seq.{take-append-add}
 use Rattle.std.proofs.lemmas.Grind.{flat_map-append}
 use Rattle.std.proofs.lemmas.List.Concat.{length-flat_map}
 use Rattle.std.proofs.lemmas.List.Folds.{length-flat_map-take}
 use Rattle.std.proofs.lemmas.List.Sums.{sum_by-cons}
 use Rattle.std.proofs.lemmas.Bool.{cases_lt}
 use Rattle.ch_read.specs.Reading.{capped_number}
-use Rattle.std.proofs.lemmas.List.{length-append, take-append-le, take-append-drop, flat_map_more, take_more}
-use Rattle.ch_text.specs.Device.{HasTaken}
+use Rattle.std.proofs.lemmas.List.{length-append, take-append-drop, flat_map_more, take_more}
+use Rattle.ch_text.specs.Moves.{Took, TookUntilFault}
+use Rattle.ch_text.specs.declared.device.DeviceFault.{DeviceFault}
+use Rattle.ch_text.proofs.Moves.{took-fault-longer, took-fault-then}
 use Rattle.ch_run.specs.declared.fault.RunFault.{RunFault}
 use Rattle.ch_run.specs.Run.{Delivers}
 use Rattle.ch_run.specs.Serving.{WritesMore}
-use Rattle.ch_run.proofs.Answered.{taken_append}
 
 -- the count of a failed write
 abbrev count_of : RunFault → ℕ
@@ -56,19 +56,12 @@ module _ (parts : List (Vec ℕ Global)) (i : ℕ) (d : Vec ℕ Global) (within 
       ∙ ap (λ l. l ++ bytes_of (drop (i + 1) parts)) one_more ∙ append_assoc (bytes_of (take i parts)) (get_or parts i d).items (bytes_of (drop (i + 1) parts))
 
   -- the output took the first parts, and the beginning of the part here
-  beginning : (old mid new : Option (List ℕ)) (count : ℕ) → count < length (get_or parts i d).items → HasTaken old mid (bytes_of (take i parts)) → HasTaken mid new (take count (get_or parts i d).items) →
-      (length (bytes_of (take i parts)) + count < length (bytes_of parts)) × HasTaken old new (take (length (bytes_of (take i parts)) + count) (bytes_of parts))
-  beginning old mid new count few before more =
-      let first = bytes_of (take i parts) in
+  beginning : {S : Type 0} (gives : S → List ℕ → Result ℕ DeviceFault → S → Type 0) (old mid new : S) (count : ℕ) → Took gives old (bytes_of (take i parts)) mid → TookUntilFault gives mid (get_or parts i d).items count new →
+      TookUntilFault gives old (bytes_of parts) (length (bytes_of (take i parts)) + count) new
+  beginning gives old mid new count before fault =
       let here = (get_or parts i d).items in
       let rest = bytes_of (drop (i + 1) parts) in
-      let all = all_are in
-      let part : take (length first + count) (bytes_of parts) ≡ first ++ take count here
-      = ap (take (length first + count)) all ∙ take-append-add first (here ++ rest) count ∙ ap (λ l. first ++ l) (take-append-le count here rest (omega arith)) in
-      let long = ap length all in
-      let sum = length-append first (here ++ rest) in
-      let behind = length-append here rest in
-      (omega arith, subst (HasTaken old new) (sym part) (taken_append old mid new first (take count here) before more))
+      rw all_are (took-fault-then gives old mid new (bytes_of (take i parts)) (here ++ rest) count before (took-fault-longer gives mid new here rest count fault))
 
   -- the number of bytes that were written, with those of the part here
   pub written_on : (before after : ℕ) → length (bytes_of parts) < 2 ^ 64 → before ≡ length (bytes_of (take i parts)) → after ≡ capped_number (before + length (get_or parts i d).items) →
@@ -80,19 +73,19 @@ module _ (parts : List (Vec ℕ Global)) (i : ℕ) (d : Vec ℕ Global) (within 
       omega arith
 
   -- a write of the part here failed
-  pub part_failed : (old mid new : Option (List ℕ)) (before after : ℕ) (e : RunFault) (r : Result Unit RunFault) → length (bytes_of parts) < 2 ^ 64 → HasTaken old mid (bytes_of (take i parts)) →
-      before ≡ length (bytes_of (take i parts)) → WritesMore {T = Unit} mid new before after (get_or parts i d).items (Err e) → IsErrAnd r (λ y. y ≡ e) → Delivers r old new (λ bytes. bytes ≡ bytes_of parts)
-  part_failed old mid new before after e (Ok x) fits so_far count wrote is = absurd is
-  part_failed old mid new before after (RunFault.Write n) (Err y) fits so_far count wrote is = λ m same.
-      let found = beginning old mid new wrote.0 wrote.1 so_far wrote.2 in
+  pub part_failed : {S : Type 0} (gives : S → List ℕ → Result ℕ DeviceFault → S → Type 0) (old mid new : S) (before after : ℕ) (e : RunFault) (r : Result Unit RunFault) → length (bytes_of parts) < 2 ^ 64 → Took gives old (bytes_of (take i parts)) mid →
+      before ≡ length (bytes_of (take i parts)) → WritesMore {T = Unit} gives mid new before after (get_or parts i d).items (Err e) → IsErrAnd r (λ y. y ≡ e) → Delivers r gives old new (λ bytes. bytes ≡ bytes_of parts)
+  part_failed gives old mid new before after e (Ok x) fits so_far count wrote is = absurd is
+  part_failed gives old mid new before after (RunFault.Write n) (Err y) fits so_far count wrote is = λ m same.
+      let found = beginning gives old mid new wrote.0 so_far wrote.1 in
       let equal : m ≡ n = ap count_of (sym same ∙ is) in
-      let most = wrote.3 in
-      let low = found.0 in
+      let most = wrote.2 in
+      let low = found.within in
       let exact : m ≡ length (bytes_of (take i parts)) + wrote.0 = omega arith in
-      (bytes_of parts, refl, omega arith, subst (λ k. HasTaken old new (take k (bytes_of parts))) (sym exact) found.1)
-  part_failed old mid new before after RunFault.Memory (Err y) fits so_far count wrote is = absurd wrote
-  part_failed old mid new before after RunFault.Cells (Err y) fits so_far count wrote is = absurd wrote
-  part_failed old mid new before after (RunFault.CellsAt line) (Err y) fits so_far count wrote is = absurd wrote
-  part_failed old mid new before after (RunFault.Read which f) (Err y) fits so_far count wrote is = absurd wrote
-  part_failed old mid new before after (RunFault.Check f) (Err y) fits so_far count wrote is = absurd wrote
-  part_failed old mid new before after (RunFault.Device which) (Err y) fits so_far count wrote is = absurd wrote
+      (bytes_of parts, refl, subst (λ k. TookUntilFault gives old (bytes_of parts) k new) (sym exact) found)
+  part_failed gives old mid new before after RunFault.Memory (Err y) fits so_far count wrote is = absurd wrote
+  part_failed gives old mid new before after RunFault.Cells (Err y) fits so_far count wrote is = absurd wrote
+  part_failed gives old mid new before after (RunFault.CellsAt line) (Err y) fits so_far count wrote is = absurd wrote
+  part_failed gives old mid new before after (RunFault.Read which f) (Err y) fits so_far count wrote is = absurd wrote
+  part_failed gives old mid new before after (RunFault.Check f) (Err y) fits so_far count wrote is = absurd wrote
+  part_failed gives old mid new before after (RunFault.Device which) (Err y) fits so_far count wrote is = absurd wrote

@@ -1,5 +1,5 @@
 -- Requests that are read and answered as they come.
-use Rattle.std.proofs.Common.{◌≡◌, ℕ, ◌<◌, ◌==◌, Bool, true, false, not, List, [], ◌∷◌, ◌++◌, length, take, Option, Some, None, Result, Ok, Err, inl, inr, refl, sym, ap, ◌∙◌, subst, arith, append_assoc}
+use Rattle.std.proofs.Common.{◌≡◌, ℕ, zero, suc, ◌<◌, ◌≤◌, ◌==◌, Bool, true, false, not, List, [], ◌∷◌, ◌++◌, length, take, Option, Some, None, Result, Ok, Err, inl, inr, refl, sym, ap, ◌∙◌, subst, arith, append_assoc}
 use Rattle.std.specs.Prelude.{IfErr, IsErrAnd, OnOk, is_ok, is_err, if◌then◌else◌}
 use Rattle.std.proofs.lemmas.Bool.{eqb-true}
 use Rattle.std.proofs.lemmas.List.{append-nil}
@@ -15,9 +15,11 @@ use Rattle.ch_read.specs.Requests.{Gives, IsErrorAhead, IsUsedUp, MayCome, Stand
 use Rattle.ch_read.proofs.RequestsHeldBack.{not_held_back}
 use Rattle.ch_run.specs.declared.fault.RunFault.{RunFault}
 use Rattle.ch_run.specs.declared.fault.Which.{Which}
-use Rattle.ch_text.specs.Device.{GivesBytes, HasGiven, HasRead}
-use Rattle.ch_run.specs.Run.{GoesPast, Reading, IsWrite, StopsAt}
-use Rattle.ch_run.specs.Ask.{AreAnswered, IsOfServing, IsRequestText, IsTextOfRequest, Serves, TellsThen, TextOf, TookAnswers, no_places, places_after, places_then, whole_in}
+use Rattle.ch_text.specs.Moves.{Gave, GaveAll}
+use Rattle.ch_text.specs.declared.device.DeviceFault.{DeviceFault}
+use Rattle.ch_text.proofs.Moves.{gave-more, took-none}
+use Rattle.ch_run.specs.Run.{GoesPast, Reading, IsWrite, StopsAt, reading}
+use Rattle.ch_run.specs.Ask.{AreAnswered, IsOfServing, IsRequestText, IsTextOfRequest, ReadsSome, Serves, TellsThen, TextOf, TookAnswers, TookBeginning, TookFirstAnswers, no_places, places_after, places_then, whole_in}
 use Rattle.ch_run.specs.declared.run.batch.Then.TheVariants.{More, Nothing, Stop}
 use Rattle.ch_run.specs.Serving.{AnswersInTurn, GivesUntil, IsOfAnswering, IsToldAfter, end_of, request_refusal}
 use Rattle.ch_graph.specs.Graph.{Network}
@@ -28,7 +30,7 @@ use Rattle.ch_run.specs.Text.{writes_routes}
 use Rattle.ch_run.proofs.Texts.{text_in}
 use Rattle.ch_run.proofs.Inputs.{of_one}
 use Rattle.ch_run.proofs.Loading.{of_no_write}
-use Rattle.ch_run.proofs.Answered.{answered_none, answers_more, taken_none}
+use Rattle.ch_run.proofs.Answered.{answered_none, answers_more}
 
 -- the places after requests, and after more requests
 pub places_append : (places : PlaceList) (xs ys : List Request) → places_after places (xs ++ ys) ≡ places_after (places_after places xs) ys
@@ -36,10 +38,10 @@ places_append places [] ys = refl
 places_append places (x ∷ xs) ys = places_append (places_then places x) xs ys
 
 -- requests were answered, and then more, by the places that were given last
-pub answers_on : (IsTextOf : TextOf) {T : Type 0} (places held : PlaceList) (old mid new : Option (List ℕ)) (before between after : ℕ) (xs ys : List Request) (r : Result T RunFault) →
-    AnswersInTurn {T = Unit} IsTextOf places old mid before between xs (Ok tt) → held ≡ places_after places xs → AnswersInTurn IsTextOf held mid new between after ys r → AnswersInTurn IsTextOf places old new before after (xs ++ ys) r
-answers_on IsTextOf places held old mid new before between after xs ys r h is k =
-    answers_more IsTextOf places old mid new before between after xs ys r h (subst (λ (p : PlaceList). AnswersInTurn IsTextOf p mid new between after ys r) is k)
+pub answers_on : (IsTextOf : TextOf) {S : Type 0} (gives : S → List ℕ → Result ℕ DeviceFault → S → Type 0) {T : Type 0} (places held : PlaceList) (old mid new : S) (before between after : ℕ) (xs ys : List Request) (r : Result T RunFault) →
+    AnswersInTurn {T = Unit} IsTextOf gives places old mid before between xs (Ok tt) → held ≡ places_after places xs → AnswersInTurn IsTextOf gives held mid new between after ys r → AnswersInTurn IsTextOf gives places old new before after (xs ++ ys) r
+answers_on IsTextOf gives places held old mid new before between after xs ys r h is k =
+    answers_more IsTextOf gives places old mid new before between after xs ys r h (subst (λ (p : PlaceList). AnswersInTurn IsTextOf gives p mid new between after ys r) is k)
 
 -- if a fault was passed on, a promise on calls that end well says nothing
 pub passed_err : (X : Type 0) (r : Result Unit RunFault) (e : RunFault) → IsErrAnd r (λ y. y ≡ e) → OnOk r X
@@ -153,35 +155,6 @@ pub own_passed : (r : Result Unit RunFault) (e : RunFault) → IsErrAnd r (λ y.
 own_passed (Ok x) e is own = absurd is
 own_passed (Err y) e is own = subst IsOfServing (sym is) own
 
--- the bytes that were read of an input
-
-pub read_none : (old : Option (List ℕ)) (all : List ℕ) → (left : List ℕ) × HasRead old old [] left
-read_none None all = ([], tt)
-read_none (Some old) all = (old, (refl, refl))
-
--- one more read succeeded
-pub read_on : (E : Type 0) (start old new : Option (List ℕ)) (read left buffer : List ℕ) (n : ℕ) → HasRead start old read left → GivesBytes {E = E} old new (Ok n) buffer → 0 < length buffer →
-    (left' : List ℕ) × HasRead start new (read ++ take n buffer) left' × (n ≡ 0 → left' ≡ [])
-read_on E None old new read left buffer n h k room = ([], tt, λ e. refl)
-read_on E (Some start) None new read left buffer n h k room = cc
-read_on E (Some start) (Some old) None read left buffer n h k room = absurd k
-read_on E (Some start) (Some old) (Some new) read left buffer n h k room =
-    let same : old ≡ left = cc in
-    let parts : left ≡ take n buffer ++ new = sym same ∙ k.0 in
-    let none : n ≡ 0 → new ≡ [] = λ zero_is. (let all : left ≡ new = rw zero_is at parts in sym all ∙ sym same ∙ k.1 zero_is room) in
-    (new, (h.0 ∙ ap (λ xs. read ++ xs) parts ∙ sym (append_assoc read (take n buffer) new), refl), none)
-
--- one more read failed
-pub read_refused : (E : Type 0) (start old new : Option (List ℕ)) (read left buffer : List ℕ) (e : E) → HasRead start old read left → GivesBytes old new (Err e) buffer → HasRead start new read left
-read_refused E None old new read left buffer e h k = tt
-read_refused E (Some start) None new read left buffer e h k = cc
-read_refused E (Some start) (Some old) None read left buffer e h k = absurd k
-read_refused E (Some start) (Some old) (Some new) read left buffer e h k = (h.0, ap (λ (xs : List ℕ). Some xs) k ∙ h.1)
-
-all_given : (old new : Option (List ℕ)) (read left : List ℕ) → HasRead old new read left → left ≡ [] → HasGiven old new read
-all_given None new read left h none = tt
-all_given (Some old) new read left h none = (h.0 ∙ ap (λ xs. read ++ xs) none ∙ append-nil read, h.1 ∙ ap (λ (xs : List ℕ). Some xs) none)
-
 -- the fed bytes come before all others
 fed_ahead : (s : Standing) (bytes more : List ℕ) → ahead s (bytes ++ more) ≡ ahead (fed s bytes) more
 fed_ahead s bytes more = ap (λ xs. told s.nodes s.line s.begun (lines xs)) (sym (append_assoc s.pending bytes more))
@@ -191,217 +164,226 @@ whole_given : (n : ℕ) (bytes : List ℕ) (s : Standing) (given : List Request)
 whole_given n bytes s given h none =
     sym (append-nil given) ∙ not_held_back n ((bytes, given) ∷ []) s (s, (λ more may. h more), refl) none ∙ ap (whole_in n) (append-nil bytes)
 
-module _ (IsTextOf : TextOf) (n : ℕ) where
+-- reads gave these bytes: up to the end if it has come
+abbrev pub IsFedBy : Bool → {J : Type 0} → (reads : J → List ℕ → Result ℕ DeviceFault → J → Type 0) → (start : J) → List ℕ → (now : J) → Type 0
+IsFedBy true reads start bytes now = GaveAll reads start bytes now
+IsFedBy false reads start bytes now = Gave reads start bytes now
+
+-- one more read gave bytes, or came to the end
+read_on : (ended : Bool) {J : Type 0} (reads : J → List ℕ → Result ℕ DeviceFault → J → Type 0) (start mid now : J) (bytes buffer : List ℕ) (count : ℕ) → (count == 0) ≡ ended → Gave reads start bytes mid → reads mid buffer (Ok count) now →
+    count ≤ length buffer → 0 < length buffer → IsFedBy ended reads start (bytes ++ take count buffer) now
+read_on true reads start mid now bytes buffer count is before call fits room =
+    let none : count ≡ 0 = eqb-true count 0 is in
+    let all : GaveAll reads start bytes now = record { last = mid; reads = before; buffer = buffer; room = room; call = rw none at call } in
+    rw none (subst (λ (xs : List ℕ). GaveAll reads start xs now) (sym (append-nil bytes)) all)
+read_on false reads start mid now bytes buffer count is before call fits room =
+    gave-more reads start mid now bytes (bytes ++ take count buffer) buffer count before call (not_none count is) fits refl
+  where
+    not_none : (count : ℕ) → (count == 0) ≡ false → 0 < count
+    not_none zero is = cc
+    not_none (suc count) is = omega arith
+
+module _ (IsTextOf : TextOf) (n : ℕ) {J : Type 0} (reads : J → List ℕ → Result ℕ DeviceFault → J → Type 0) {S : Type 0} (gives : S → List ℕ → Result ℕ DeviceFault → S → Type 0) where
   -- these bytes were read, and all requests that are whole in them are answered. The reader is in the standing `s`, and the
   -- output took `written` bytes
-  pub record HasServed (requests : Reading) (old new : Option (List ℕ)) (written : ℕ) (s : Standing) (held : PlaceList) : Type 0 where
+  pub record HasServed (start now : J) (old new : S) (written : ℕ) (s : Standing) (held : PlaceList) : Type 0 where
     pub read : List ℕ
-    pub left : List ℕ
     pub given : List Request
-    pub input : HasRead requests.before requests.after read left
+    pub input : Gave reads start read now
     pub nodes : s.nodes ≡ n
     pub ahead_is : (more : List ℕ) → told_by n (read ++ more) ≡ after_these given (ahead s more)
     pub used_up : IsUsedUp false s
-    pub answered : AnswersInTurn {T = Unit} IsTextOf no_places old new 0 written given (Ok tt)
+    pub answered : AnswersInTurn {T = Unit} IsTextOf gives no_places old new 0 written given (Ok tt)
     pub held_is : held ≡ places_after no_places given
 
   -- bytes were read and fed to the reader. At the end none is left
-  pub record HasFed (ended : Bool) (requests : Reading) (old new : Option (List ℕ)) (written : ℕ) (s : Standing) (held : PlaceList) : Type 0 where
+  pub record HasFed (ended : Bool) (start now : J) (old new : S) (written : ℕ) (s : Standing) (held : PlaceList) : Type 0 where
     pub read : List ℕ
-    pub left : List ℕ
     pub given : List Request
-    pub input : HasRead requests.before requests.after read left
-    pub ends : MayCome ended left
+    pub input : IsFedBy ended reads start read now
     pub nodes : s.nodes ≡ n
     pub ahead_is : (more : List ℕ) → told_by n (read ++ more) ≡ after_these given (ahead s more)
-    pub answered : AnswersInTurn {T = Unit} IsTextOf no_places old new 0 written given (Ok tt)
+    pub answered : AnswersInTurn {T = Unit} IsTextOf gives no_places old new 0 written given (Ok tt)
     pub held_is : held ≡ places_after no_places given
 
-  pub served_none : (input : Option (List ℕ)) (output : Option (List ℕ)) → HasServed (record { before = input; after = input }) output output 0 (starting n) no_places
-  served_none input output =
-      let none = read_none input [] in
-      record {
-        read = [];
-        left = none.0;
-        given = [];
-        input = none.1;
-        nodes = refl;
-        ahead_is = λ more. refl;
-        used_up = (refl, omega arith);
-        answered = ([], answered_none IsTextOf no_places, taken_none output, refl);
-        held_is = refl;
-      }
+  -- what holds of the bytes that were read, whatever may still come
+  fed_some : (ended : Bool) (start now : J) (old new : S) (written : ℕ) (s : Standing) (held : PlaceList) (h : HasFed ended start now old new written s held) (P : List ℕ → List ℕ → Type 0) →
+      ((left : List ℕ) → MayCome ended left → P h.read left) → ReadsSome (reading reads start now) P
+  fed_some true start now old new written s held h P so = (h.read, inr (h.input, so [] (λ e. refl)))
+  fed_some false start now old new written s held h P so = (h.read, inl (h.input, λ left. so left (λ e. cc)))
+
+  pub served_none : (input : J) (output : S) → HasServed input input output output 0 (starting n) no_places
+  served_none input output = record {
+    read = [];
+    given = [];
+    input = (0, refl);
+    nodes = refl;
+    ahead_is = λ more. refl;
+    used_up = (refl, omega arith);
+    answered = ([], answered_none IsTextOf no_places, took-none gives output, refl);
+    held_is = refl;
+  }
 
   -- the bytes of one more read are fed
-  pub served_fed : (E : Type 0) (before mid after old new : Option (List ℕ)) (written : ℕ) (s : Standing) (held : PlaceList) (buffer : List ℕ) (count : ℕ) →
-      HasServed (record { before = before; after = mid }) old new written s held → GivesBytes {E = E} mid after (Ok count) buffer → 0 < length buffer →
-      HasFed (count == 0) (record { before = before; after = after }) old new written (fed s (take count buffer)) held
-  served_fed E before mid after old new written s held buffer count h gives room =
-      let on = read_on E before mid after h.read h.left buffer count h.input gives room in
-      record {
-        read = h.read ++ take count buffer;
-        left = on.0;
-        given = h.given;
-        input = on.1;
-        ends = λ is. on.2 (eqb-true count 0 is);
-        nodes = h.nodes;
-        ahead_is = λ more.
-            ap (told_by n) (append_assoc h.read (take count buffer) more) ∙ h.ahead_is (take count buffer ++ more) ∙ ap (after_these h.given) (fed_ahead s (take count buffer) more);
-        answered = h.answered;
-        held_is = h.held_is;
-      }
+  pub served_fed : (ended : Bool) (start mid now : J) (old new : S) (written : ℕ) (s : Standing) (held : PlaceList) (buffer : List ℕ) (count : ℕ) → (count == 0) ≡ ended →
+      HasServed start mid old new written s held → reads mid buffer (Ok count) now → count ≤ length buffer → 0 < length buffer → HasFed ended start now old new written (fed s (take count buffer)) held
+  served_fed ended start mid now old new written s held buffer count is h call fits room = record {
+    read = h.read ++ take count buffer;
+    given = h.given;
+    input = read_on ended reads start mid now h.read buffer count is h.input call fits room;
+    nodes = h.nodes;
+    ahead_is = λ more.
+        ap (told_by n) (append_assoc h.read (take count buffer) more) ∙ h.ahead_is (take count buffer ++ more) ∙ ap (after_these h.given) (fed_ahead s (take count buffer) more);
+    answered = h.answered;
+    held_is = h.held_is;
+  }
 
   -- the reader is fed the bytes of one more read
-  pub fed_more : (E : Type 0) (before mid after old new : Option (List ℕ)) (written : ℕ) (s next : Standing) (held : PlaceList) (buffer slice : List ℕ) (count : ℕ) → next ≡ fed s slice → slice ≡ take count buffer →
-      HasServed (record { before = before; after = mid }) old new written s held → GivesBytes {E = E} mid after (Ok count) buffer → 0 < length buffer →
-      HasFed (count == 0) (record { before = before; after = after }) old new written next held
-  fed_more E before mid after old new written s next held buffer slice count is same h gives room =
-      subst (λ (t : Standing). HasFed (count == 0) (record { before = before; after = after }) old new written t held) (sym (is ∙ ap (fed s) same)) (served_fed E before mid after old new written s held buffer count h gives room)
+  pub fed_more : (start mid now : J) (old new : S) (written : ℕ) (s next : Standing) (held : PlaceList) (buffer slice : List ℕ) (count : ℕ) → next ≡ fed s slice → slice ≡ take count buffer →
+      HasServed start mid old new written s held → reads mid buffer (Ok count) now → count ≤ length buffer → 0 < length buffer → HasFed (count == 0) start now old new written next held
+  fed_more start mid now old new written s next held buffer slice count is same h call fits room =
+      subst (λ (t : Standing). HasFed (count == 0) start now old new written t held) (sym (is ∙ ap (fed s) same)) (served_fed (count == 0) start mid now old new written s held buffer count refl h call fits room)
 
-  module _ (requests : Reading) (old mid new : Option (List ℕ)) (before after : ℕ) (s next : Standing) (held : PlaceList) (given : List Request) where
+  module _ (start now : J) (old mid new : S) (before after : ℕ) (s next : Standing) (held : PlaceList) (given : List Request) where
     -- the next requests are answered by the places that were given last
-    held_next : {T : Type 0} (ended : Bool) (h : HasFed ended requests old mid before s held) (r : Result T RunFault) → AnswersInTurn IsTextOf held mid new before after given r →
-        AnswersInTurn IsTextOf (places_after no_places h.given) mid new before after given r
-    held_next ended h r answers = subst (λ (p : PlaceList). AnswersInTurn IsTextOf p mid new before after given r) h.held_is answers
+    held_next : {T : Type 0} (ended : Bool) (h : HasFed ended start now old mid before s held) (r : Result T RunFault) → AnswersInTurn IsTextOf gives held mid new before after given r →
+        AnswersInTurn IsTextOf gives (places_after no_places h.given) mid new before after given r
+    held_next ended h r answers = subst (λ (p : PlaceList). AnswersInTurn IsTextOf gives p mid new before after given r) h.held_is answers
 
-    -- all whole requests are answered, and there may be more
-    pub fed_served : (ended : Bool) → ended ≡ false → HasFed ended requests old mid before s held → GivesUntil {T = Unit} ended s next given (Ok tt) → AnswersInTurn {T = Unit} IsTextOf held mid new before after given (Ok tt) →
-        IsUsedUp ended next → next.nodes ≡ s.nodes → (new_held : PlaceList) → new_held ≡ places_after held given → HasServed requests old new after next new_held
-    fed_served true is h gives answers used_up same new_held held_is = cc
-    fed_served false is h gives answers used_up same new_held held_is = record {
+    -- the requests that are whole are answered, and more bytes may come
+    pub fed_served : (ended : Bool) → ended ≡ false → HasFed ended start now old mid before s held → GivesUntil {T = Unit} ended s next given (Ok tt) → AnswersInTurn {T = Unit} IsTextOf gives held mid new before after given (Ok tt) →
+        IsUsedUp ended next → next.nodes ≡ s.nodes → (new_held : PlaceList) → new_held ≡ places_after held given → HasServed start now old new after next new_held
+    fed_served true is h gives_them answers used_up same new_held held_is = cc
+    fed_served false is h gives_them answers used_up same new_held held_is = record {
       read = h.read;
-      left = h.left;
       given = h.given ++ given;
       input = h.input;
       nodes = same ∙ h.nodes;
-      ahead_is = λ more. h.ahead_is more ∙ ap (after_these h.given) (given_well false s next given gives more (λ e. cc)) ∙ after_both h.given given (ahead next more);
+      ahead_is = λ more. h.ahead_is more ∙ ap (after_these h.given) (given_well false s next given gives_them more (λ e. cc)) ∙ after_both h.given given (ahead next more);
       used_up = used_up;
-      answered = answers_more IsTextOf {T = Unit} no_places old mid new 0 before after h.given given (Ok tt) h.answered (held_next {T = Unit} false h (Ok tt) answers);
+      answered = answers_more IsTextOf gives {T = Unit} no_places old mid new 0 before after h.given given (Ok tt) h.answered (held_next {T = Unit} false h (Ok tt) answers);
       held_is = held_is ∙ ap (λ (p : PlaceList). places_after p given) h.held_is ∙ sym (places_append no_places h.given given);
     }
 
     -- all requests are answered at the end
-    pub fed_done : (ended : Bool) → ended ≡ true → HasFed ended requests old mid before s held → GivesUntil {T = Unit} ended s next given (Ok tt) → AnswersInTurn {T = Unit} IsTextOf held mid new before after given (Ok tt) →
-        IsUsedUp ended next → Serves {T = Unit} IsTextOf n requests old new (Ok tt)
-    fed_done false is h gives answers used_up = cc
-    fed_done true is h gives answers used_up =
+    pub fed_done : (ended : Bool) → ended ≡ true → HasFed ended start now old mid before s held → GivesUntil {T = Unit} ended s next given (Ok tt) → AnswersInTurn {T = Unit} IsTextOf gives held mid new before after given (Ok tt) →
+        IsUsedUp ended next → Serves {T = Unit} IsTextOf gives n (reading reads start now) old new (Ok tt)
+    fed_done false is h gives_them answers used_up = cc
+    fed_done true is h gives_them answers used_up =
         let none : lines (next.pending ++ []) ≡ [] = ap (λ xs. lines (xs ++ [])) used_up.0 in
         let nothing_ahead : ahead next [] ≡ stopping None = ap (told next.nodes next.line next.begun) none ∙ ap stopping used_up.1 in
         let all : told_by n (h.read ++ []) ≡ after_these (h.given ++ given) (stopping None) =
-        h.ahead_is [] ∙ ap (after_these h.given) (given_well true s next given gives [] (λ e. refl)) ∙ after_both h.given given (ahead next []) ∙ ap (after_these (h.given ++ given)) nothing_ahead in
+        h.ahead_is [] ∙ ap (after_these h.given) (given_well true s next given gives_them [] (λ e. refl)) ∙ after_both h.given given (ahead next []) ∙ ap (after_these (h.given ++ given)) nothing_ahead in
         let whole : told_by n h.read ≡ after_these (h.given ++ given) (stopping None) = ap (told_by n) (sym (append-nil h.read)) ∙ all in
-        let took = answers_more IsTextOf {T = Unit} no_places old mid new 0 before after h.given given (Ok tt) h.answered (held_next {T = Unit} true h (Ok tt) answers) in
+        let took = answers_more IsTextOf gives {T = Unit} no_places old mid new 0 before after h.given given (Ok tt) h.answered (held_next {T = Unit} true h (Ok tt) answers) in
         let given_is : (told_by n h.read).given ≡ h.given ++ given = ap (λ t. t.given) whole ∙ append-nil (h.given ++ given) in
-        (h.read, all_given requests.before requests.after h.read h.left h.input (h.ends refl), (ap (λ t. t.fault) whole, subst (TookAnswers IsTextOf no_places old new) (sym given_is) (took.0, took.1, took.2)))
+        (h.read, h.input, (ap (λ t. t.fault) whole, subst (TookAnswers IsTextOf gives no_places old new) (sym given_is) (took.0, took.1, took.2)))
 
-    -- the requests that the whole input gives
-    fed_told : (ended : Bool) (h : HasFed ended requests old mid before s held) (rest : Told) → ahead s h.left ≡ after_these given rest → told_by n (h.read ++ h.left) ≡ after_these (h.given ++ given) rest
-    fed_told ended h rest is = h.ahead_is h.left ∙ ap (after_these h.given) is ∙ after_both h.given given rest
+    -- the requests that the whole input gives, with these bytes left
+    fed_told : (ended : Bool) (h : HasFed ended start now old mid before s held) (left : List ℕ) (rest : Told) → ahead s left ≡ after_these given rest → told_by n (h.read ++ left) ≡ after_these (h.given ++ given) rest
+    fed_told ended h left rest is = h.ahead_is left ∙ ap (after_these h.given) is ∙ after_both h.given given rest
 
     -- the first of the requests that were given are the first of those that the whole input gives
-    first_told : (ended : Bool) (h : HasFed ended requests old mid before s held) (rest : Told) (first later : List Request) → ahead s h.left ≡ after_these given rest → h.given ++ given ≡ first ++ later →
-        (told_by n (h.read ++ h.left)).given ≡ first ++ (later ++ rest.given)
-    first_told ended h rest first later is same =
-        ap (λ t. t.given) (fed_told ended h rest is) ∙ ap (λ xs. xs ++ rest.given) same ∙ append_assoc first later rest.given
+    first_told : (ended : Bool) (h : HasFed ended start now old mid before s held) (left : List ℕ) (rest : Told) (first later : List Request) → ahead s left ≡ after_these given rest → h.given ++ given ≡ first ++ later →
+        (told_by n (h.read ++ left)).given ≡ first ++ (later ++ rest.given)
+    first_told ended h left rest first later is same =
+        ap (λ t. t.given) (fed_told ended h left rest is) ∙ ap (λ xs. xs ++ rest.given) same ∙ append_assoc first later rest.given
 
     -- a fault follows all requests that were given, and all of these are answered
-    told_fault : (ended : Bool) (h : HasFed ended requests old mid before s held) (rest : Told) (fault : RequestFault) → ahead s h.left ≡ after_these given rest → rest ≡ record { given = []; fault = Some fault } →
-        TookAnswers IsTextOf no_places old new (h.given ++ given) → TellsThen n (Some fault) (TookAnswers IsTextOf no_places old new) (h.read ++ h.left)
-    told_fault ended h rest fault is rest_is took =
-        let whole = fed_told ended h rest is in
-        let given_is : (told_by n (h.read ++ h.left)).given ≡ h.given ++ given =
+    told_fault : (ended : Bool) (h : HasFed ended start now old mid before s held) (left : List ℕ) (rest : Told) (fault : RequestFault) → ahead s left ≡ after_these given rest → rest ≡ record { given = []; fault = Some fault } →
+        TookAnswers IsTextOf gives no_places old new (h.given ++ given) → TellsThen n (Some fault) (TookAnswers IsTextOf gives no_places old new) (h.read ++ left)
+    told_fault ended h left rest fault is rest_is took =
+        let whole = fed_told ended h left rest is in
+        let given_is : (told_by n (h.read ++ left)).given ≡ h.given ++ given =
         ap (λ t. t.given) whole ∙ ap (λ (t : Told). (h.given ++ given) ++ t.given) rest_is ∙ append-nil (h.given ++ given) in
-        (ap (λ t. t.fault) whole ∙ ap (λ (t : Told). t.fault) rest_is, subst (TookAnswers IsTextOf no_places old new) (sym given_is) took)
+        (ap (λ t. t.fault) whole ∙ ap (λ (t : Told). t.fault) rest_is, subst (TookAnswers IsTextOf gives no_places old new) (sym given_is) took)
 
     -- the run ends in the fault that answering ended in
-    pub fed_refused : (ended : Bool) (fault : RunFault) → HasFed ended requests old mid before s held → GivesUntil {T = Unit} ended s next given (Err fault) →
-        AnswersInTurn {T = Unit} IsTextOf held mid new before after given (Err fault) → Serves {T = Unit} IsTextOf n requests old new (Err fault)
-    fed_refused ended (RunFault.Read Which.Requests fault) h gives answers =
-        let step = gives h.left h.ends in
-        let took = answers_more IsTextOf {T = Unit} no_places old mid new 0 before after h.given given (Err (RunFault.Read Which.Requests fault)) h.answered (held_next {T = Unit} ended h (Err (RunFault.Read Which.Requests fault)) answers) in
-        (h.read, h.left, h.input, told_fault ended h step.0 (Line fault) step.1 step.2 took)
-    fed_refused ended (RunFault.CellsAt line) h gives answers =
-        let step = gives h.left h.ends in
-        let took = answers_more IsTextOf {T = Unit} no_places old mid new 0 before after h.given given (Err (RunFault.CellsAt line)) h.answered (held_next {T = Unit} ended h (Err (RunFault.CellsAt line)) answers) in
-        (h.read, h.left, h.input, told_fault ended h step.0 (Cells line) step.1 step.2 took)
-    fed_refused ended RunFault.Cells h gives answers = absurd (gives h.left h.ends).2
-    fed_refused ended RunFault.Memory h gives answers =
-        let step = gives h.left h.ends in
-        let took = answers_more IsTextOf {T = Unit} no_places old mid new 0 before after h.given given (Err RunFault.Memory) h.answered (held_next {T = Unit} ended h (Err RunFault.Memory) answers) in
-        (h.read, h.left, h.input, (took.0, took.1 ++ step.0.given, first_told ended h step.0 took.0 took.1 step.1 took.2, took.3))
-    fed_refused ended (RunFault.Write count) h gives answers =
-        let step = gives h.left h.ends in
-        let took = answers_more IsTextOf {T = Unit} no_places old mid new 0 before after h.given given (Err (RunFault.Write count)) h.answered (held_next {T = Unit} ended h (Err (RunFault.Write count)) answers) in (
-          h.read,
-          h.left,
-          h.input,
-          (took.0, took.1 ++ step.0.given, took.2, took.3, first_told ended h step.0 took.0 took.1 step.1 took.4, took.5, took.6, took.7, took.8),
-        )
-    fed_refused ended (RunFault.Device which) h gives answers = absurd (gives h.left h.ends).2
-    fed_refused ended (RunFault.Read Which.Graph f) h gives answers = absurd (gives h.left h.ends).2
-    fed_refused ended (RunFault.Read Which.Queries f) h gives answers = absurd (gives h.left h.ends).2
-    fed_refused ended (RunFault.Read Which.Sources f) h gives answers = absurd (gives h.left h.ends).2
-    fed_refused ended (RunFault.Read Which.Targets f) h gives answers = absurd (gives h.left h.ends).2
-    fed_refused ended (RunFault.Read Which.Saved f) h gives answers = absurd (gives h.left h.ends).2
-    fed_refused ended (RunFault.Check f) h gives answers = absurd (gives h.left h.ends).2
+    pub fed_refused : (ended : Bool) (fault : RunFault) → HasFed ended start now old mid before s held → GivesUntil {T = Unit} ended s next given (Err fault) →
+        AnswersInTurn {T = Unit} IsTextOf gives held mid new before after given (Err fault) → Serves {T = Unit} IsTextOf gives n (reading reads start now) old new (Err fault)
+    fed_refused ended (RunFault.Read Which.Requests fault) h gives_them answers =
+        let took = answers_more IsTextOf gives {T = Unit} no_places old mid new 0 before after h.given given (Err (RunFault.Read Which.Requests fault)) h.answered (held_next {T = Unit} ended h (Err (RunFault.Read Which.Requests fault)) answers) in
+        fed_some ended start now old mid before s held h (λ read left. TellsThen n (Some (Line fault)) (TookAnswers IsTextOf gives no_places old new) (read ++ left))
+            (λ left may. let step = gives_them left may in told_fault ended h left step.0 (Line fault) step.1 step.2 took)
+    fed_refused ended (RunFault.CellsAt line) h gives_them answers =
+        let took = answers_more IsTextOf gives {T = Unit} no_places old mid new 0 before after h.given given (Err (RunFault.CellsAt line)) h.answered (held_next {T = Unit} ended h (Err (RunFault.CellsAt line)) answers) in
+        fed_some ended start now old mid before s held h (λ read left. TellsThen n (Some (Cells line)) (TookAnswers IsTextOf gives no_places old new) (read ++ left))
+            (λ left may. let step = gives_them left may in told_fault ended h left step.0 (Cells line) step.1 step.2 took)
+    fed_refused ended RunFault.Memory h gives_them answers =
+        let took = answers_more IsTextOf gives {T = Unit} no_places old mid new 0 before after h.given given (Err RunFault.Memory) h.answered (held_next {T = Unit} ended h (Err RunFault.Memory) answers) in
+        fed_some ended start now old mid before s held h (λ read left. TookFirstAnswers IsTextOf gives no_places old new (told_by n (read ++ left)).given)
+            (λ left may. let step = gives_them left may in (took.0, took.1 ++ step.0.given, first_told ended h left step.0 took.0 took.1 step.1 took.2, took.3))
+    fed_refused ended (RunFault.Write count) h gives_them answers =
+        let took = answers_more IsTextOf gives {T = Unit} no_places old mid new 0 before after h.given given (Err (RunFault.Write count)) h.answered (held_next {T = Unit} ended h (Err (RunFault.Write count)) answers) in
+        fed_some ended start now old mid before s held h (λ read left. TookBeginning IsTextOf gives no_places old new 0 count (told_by n (read ++ left)).given)
+            (λ left may. let step = gives_them left may in (took.0, took.1 ++ step.0.given, took.2, took.3, first_told ended h left step.0 took.0 took.1 step.1 took.4, took.5, took.6, took.7))
+    fed_refused ended RunFault.Cells h gives_them answers = absurd (gives_them [] (λ e. refl)).2
+    fed_refused ended (RunFault.Device which) h gives_them answers = absurd (gives_them [] (λ e. refl)).2
+    fed_refused ended (RunFault.Read Which.Graph f) h gives_them answers = absurd (gives_them [] (λ e. refl)).2
+    fed_refused ended (RunFault.Read Which.Queries f) h gives_them answers = absurd (gives_them [] (λ e. refl)).2
+    fed_refused ended (RunFault.Read Which.Sources f) h gives_them answers = absurd (gives_them [] (λ e. refl)).2
+    fed_refused ended (RunFault.Read Which.Targets f) h gives_them answers = absurd (gives_them [] (λ e. refl)).2
+    fed_refused ended (RunFault.Read Which.Saved f) h gives_them answers = absurd (gives_them [] (λ e. refl)).2
+    fed_refused ended (RunFault.Check f) h gives_them answers = absurd (gives_them [] (λ e. refl)).2
 
   -- at a failed read, all requests that were whole before it are answered
-  pub served_refused : (E : Type 0) (before mid after old new : Option (List ℕ)) (written : ℕ) (s : Standing) (held : PlaceList) (buffer : List ℕ) (e : E) →
-      HasServed (record { before = before; after = mid }) old new written s held → GivesBytes mid after (Err e) buffer →
-      Serves {T = Unit} IsTextOf n (record { before = before; after = after }) old new (Err (RunFault.Device Which.Requests))
-  served_refused E before mid after old new written s held buffer e h gives =
+  pub served_refused : (start mid now : J) (old new : S) (written : ℕ) (s : Standing) (held : PlaceList) (buffer : List ℕ) (e : DeviceFault) →
+      HasServed start mid old new written s held → reads mid buffer (Err e) now → Serves {T = Unit} IsTextOf gives n (reading reads start now) old new (Err (RunFault.Device Which.Requests))
+  served_refused start mid now old new written s held buffer e h call =
       let took = h.answered in
       let whole : h.given ≡ whole_in n h.read = whole_given n h.read s h.given h.ahead_is h.used_up in
-      (refl, (h.read, h.left, read_refused E before mid after h.read h.left buffer e h.input gives, subst (TookAnswers IsTextOf no_places old new) whole (took.0, took.1, took.2)))
+      (refl, h.read, record { last = mid; reads = h.input; buffer = buffer; fault = e; call = call }, subst (TookAnswers IsTextOf gives no_places old new) whole (took.0, took.1, took.2))
 
   -- there is no memory to feed the bytes of a read
-  pub served_unfed : (E : Type 0) (before mid after old new : Option (List ℕ)) (written : ℕ) (s : Standing) (held : PlaceList) (buffer : List ℕ) (count : ℕ) →
-      HasServed (record { before = before; after = mid }) old new written s held → GivesBytes {E = E} mid after (Ok count) buffer → 0 < length buffer →
-      Serves {T = Unit} IsTextOf n (record { before = before; after = after }) old new (Err RunFault.Memory)
-  served_unfed E before mid after old new written s held buffer count h gives room =
-      let fed = served_fed E before mid after old new written s held buffer count h gives room in
-      let took = fed.answered in (
-        fed.read,
-        fed.left,
-        fed.input,
-        (fed.given, (ahead (Rattle.ch_read.specs.Requests.fed s (take count buffer)) fed.left).given, ap (λ t. t.given) (fed.ahead_is fed.left), (took.0, took.1, took.2)),
-      )
+  pub served_unfed : (start mid now : J) (old new : S) (written : ℕ) (s : Standing) (held : PlaceList) (buffer : List ℕ) (count : ℕ) →
+      HasServed start mid old new written s held → reads mid buffer (Ok count) now → count ≤ length buffer → 0 < length buffer → Serves {T = Unit} IsTextOf gives n (reading reads start now) old new (Err RunFault.Memory)
+  served_unfed start mid now old new written s held buffer count h call fits room =
+      let bytes_fed = served_fed (count == 0) start mid now old new written s held buffer count refl h call fits room in
+      let took = bytes_fed.answered in
+      fed_some (count == 0) start now old new written (fed s (take count buffer)) held bytes_fed (λ read left. TookFirstAnswers IsTextOf gives no_places old new (told_by n (read ++ left)).given)
+          (λ left may. (bytes_fed.given, (ahead (fed s (take count buffer)) left).given, ap (λ t. t.given) (bytes_fed.ahead_is left), (took.0, took.1, took.2)))
 
   -- there were more reads than a count can hold
-  pub served_long : (requests : Reading) (old new : Option (List ℕ)) (written : ℕ) (s : Standing) (held : PlaceList) → HasServed requests old new written s held → Serves {T = Unit} IsTextOf n requests old new (Err RunFault.Memory)
-  served_long requests old new written s held h =
+  pub served_long : (start now : J) (old new : S) (written : ℕ) (s : Standing) (held : PlaceList) → HasServed start now old new written s held → Serves {T = Unit} IsTextOf gives n (reading reads start now) old new (Err RunFault.Memory)
+  served_long start now old new written s held h =
       let took = h.answered in
-      (h.read, h.left, h.input, (h.given, (ahead s h.left).given, ap (λ t. t.given) (h.ahead_is h.left), (took.0, took.1, took.2)))
+      (h.read, inl (h.input, λ left. (h.given, (ahead s left).given, ap (λ t. t.given) (h.ahead_is left), (took.0, took.1, took.2))))
 
   -- nothing was read, and nothing was written
-  pub served_unread : (input output : Option (List ℕ)) → Serves {T = Unit} IsTextOf n (record { before = input; after = input }) output output (Err RunFault.Memory)
-  served_unread input output = served_long (record { before = input; after = input }) output output 0 (starting n) no_places (served_none input output)
+  pub served_unread : (input : J) (output : S) → Serves {T = Unit} IsTextOf gives n (reading reads input input) output output (Err RunFault.Memory)
+  served_unread input output = served_long input input output output 0 (starting n) no_places (served_none input output)
 
 -- a fault that is passed on ends the run like the fault that was met
-pub passes_end : (IsTextOf : TextOf) (n : ℕ) (requests : Reading) (old new : Option (List ℕ)) (r : Result Unit RunFault) (e : RunFault) → IsErrAnd r (λ y. y ≡ e) →
-    Serves {T = Unit} IsTextOf n requests old new (Err e) → Serves IsTextOf n requests old new r
-passes_end IsTextOf n requests old new (Ok x) e is h = absurd is
-passes_end IsTextOf n requests old new (Err y) e is h = subst (λ (f : RunFault). Serves {T = Unit} IsTextOf n requests old new (Err f)) (sym is) h
+pub passes_end : (IsTextOf : TextOf) (n : ℕ) (requests : Reading) {S : Type 0} (gives : S → List ℕ → Result ℕ DeviceFault → S → Type 0) (old new : S) (r : Result Unit RunFault) (e : RunFault) → IsErrAnd r (λ y. y ≡ e) →
+    Serves {T = Unit} IsTextOf gives n requests old new (Err e) → Serves IsTextOf gives n requests old new r
+passes_end IsTextOf n requests gives old new (Ok x) e is h = absurd is
+passes_end IsTextOf n requests gives old new (Err y) e is h = subst (λ (f : RunFault). Serves {T = Unit} IsTextOf gives n requests old new (Err f)) (sym is) h
+
+-- what was read has P, and so it has Q, if P implies Q
+some_weaker : (requests : Reading) (P Q : List ℕ → List ℕ → Type 0) → ((read left : List ℕ) → P read left → Q read left) → ReadsSome requests P → ReadsSome requests Q
+some_weaker requests P Q so (read, inl (some, p)) = (read, inl (some, λ left. so read left (p left)))
+some_weaker requests P Q so (read, inr (all, p)) = (read, inr (all, so read [] p))
 
 -- answers with P are answers with Q, if P implies Q
-
-module _ (P Q : TextOf) (so : (places : PlaceList) (request : Request) (text : List ℕ) → P places request text → Q places request text) where
+module _ (P Q : TextOf) (so : (places : PlaceList) (request : Request) (text : List ℕ) → P places request text → Q places request text) {S : Type 0} (gives : S → List ℕ → Result ℕ DeviceFault → S → Type 0) where
   answered_weaker : (places : PlaceList) (requests : List Request) (text : List ℕ) → AreAnswered P places requests text → AreAnswered Q places requests text
   answered_weaker places [] text h = h
   answered_weaker places (r ∷ requests) text h = (h.0, h.1, h.2, so places r h.0 h.3, answered_weaker (places_then places r) requests h.1 h.4)
 
-  took_weaker : (old new : Option (List ℕ)) (requests : List Request) → TookAnswers P no_places old new requests → TookAnswers Q no_places old new requests
+  took_weaker : (old new : S) (requests : List Request) → TookAnswers P gives no_places old new requests → TookAnswers Q gives no_places old new requests
   took_weaker old new requests h = (h.0, answered_weaker no_places requests h.0 h.1, h.2)
 
-  pub served_weaker : (n : ℕ) (requests : Reading) (old new : Option (List ℕ)) (r : Result Unit RunFault) → Serves P n requests old new r → Serves Q n requests old new r
-  served_weaker n requests old new (Ok x) h = (h.0, h.1, (h.2.0, took_weaker old new (told_by n h.0).given h.2.1))
-  served_weaker n requests old new (Err (RunFault.Read Which.Requests fault)) h = (h.0, h.1, h.2, (h.3.0, took_weaker old new (told_by n (h.0 ++ h.1)).given h.3.1))
-  served_weaker n requests old new (Err (RunFault.CellsAt line)) h = (h.0, h.1, h.2, (h.3.0, took_weaker old new (told_by n (h.0 ++ h.1)).given h.3.1))
-  served_weaker n requests old new (Err RunFault.Memory) h = (h.0, h.1, h.2, (h.3.0, h.3.1, h.3.2, took_weaker old new h.3.0 h.3.3))
-  served_weaker n requests old new (Err (RunFault.Device which)) h = (h.0, (h.1.0, h.1.1, h.1.2, took_weaker old new (whole_in n h.1.0) h.1.3))
+  told_weaker : (n : ℕ) (fault : Option RequestFault) (old new : S) (bytes : List ℕ) → TellsThen n fault (TookAnswers P gives no_places old new) bytes → TellsThen n fault (TookAnswers Q gives no_places old new) bytes
+  told_weaker n fault old new bytes h = (h.0, took_weaker old new (told_by n bytes).given h.1)
+
+  pub served_weaker : (n : ℕ) (requests : Reading) (old new : S) (r : Result Unit RunFault) → Serves P gives n requests old new r → Serves Q gives n requests old new r
+  served_weaker n requests old new (Ok x) h = (h.0, h.1, told_weaker n None old new h.0 h.2)
+  served_weaker n requests old new (Err (RunFault.Read Which.Requests fault)) h = some_weaker requests _ _ (λ read left told. told_weaker n (Some (Line fault)) old new (read ++ left) told) h
+  served_weaker n requests old new (Err (RunFault.CellsAt line)) h = some_weaker requests _ _ (λ read left told. told_weaker n (Some (Cells line)) old new (read ++ left) told) h
+  served_weaker n requests old new (Err RunFault.Memory) h = some_weaker requests _ _ (λ read left took. (took.0, took.1, took.2, took_weaker old new took.0 took.3)) h
+  served_weaker n requests old new (Err (RunFault.Device which)) h = (h.0, h.1, h.2, took_weaker old new (whole_in n h.1) h.3)
   served_weaker n requests old new (Err (RunFault.Write count)) h =
-      let took = h.3 in
-      (h.0, h.1, h.2, (took.0, took.1, took.2, took.3, took.4, answered_weaker no_places took.0 took.2 took.5, took.6, took.7, took.8))
+      some_weaker requests _ _ (λ read left took. (took.0, took.1, took.2, took.3, took.4, answered_weaker no_places took.0 took.2 took.5, took.6, took.7)) h
   served_weaker n requests old new (Err RunFault.Cells) h = absurd h
   served_weaker n requests old new (Err (RunFault.Read Which.Graph f)) h = absurd h
   served_weaker n requests old new (Err (RunFault.Read Which.Queries f)) h = absurd h

@@ -2,10 +2,11 @@
 use Rattle.std.proofs.Common.{◌≡◌, ℕ, List, Option, refl, sym, subst, inl, inr}
 use Rattle.std.specs.Prelude.{Result, Ok, Err, IfErr, IsErrAnd}
 use Rattle.std.proofs.lemmas.Result.{IfErr-weaker}
+use Rattle.ch_text.specs.declared.device.DeviceFault.{DeviceFault}
 use Rattle.ch_run.specs.declared.fault.RunFault.{RunFault}
 use Rattle.ch_run.specs.declared.fault.Which.{Which}
 use Rattle.ch_run.specs.Lists.{IsOfLists}
-use Rattle.ch_run.specs.Run.{Delivers, GoesPast, IsUnread, IsWrite, StopsAt}
+use Rattle.ch_run.specs.Run.{Delivers, GoesPast, IsOf, IsWrite, StopsAt}
 use Rattle.ch_run.proofs.Inputs.{of_one}
 
 -- if a run ends only in faults with P, its fault has P
@@ -22,8 +23,8 @@ pub passed_on : {S T : Type 0} (r : Result T RunFault) (e fault : RunFault) → 
 passed_on {S} r e fault is same = tells r e (λ f. ◌≡◌ {A = Result S RunFault} (Err e) (Err f)) fault is refl same
 
 -- a lack of memory is one of the faults in which an input gives no bytes
-pub out_of_memory : {T : Type 0} (r : Result T RunFault) (fault : RunFault) → IsErrAnd r (λ y. y ≡ RunFault.Memory) → r ≡ Err fault → IsUnread Which.Graph fault
-out_of_memory r fault is same = tells r RunFault.Memory (IsUnread Which.Graph) fault is tt same
+pub out_of_memory : {T : Type 0} (r : Result T RunFault) (fault : RunFault) → IsErrAnd r (λ y. y ≡ RunFault.Memory) → r ≡ Err fault → IsOf Which.Graph fault
+out_of_memory r fault is same = tells r RunFault.Memory (IsOf Which.Graph) fault is tt same
 
 -- a failed write is no fault of an input
 past_inputs : (which : Which) (fault : RunFault) → IsWrite fault → StopsAt which fault → ⊥
@@ -40,9 +41,9 @@ pub gone_past : {T : Type 0} (r : Result T RunFault) → IfErr r IsWrite → (wh
 gone_past r own which = IfErr-weaker r IsWrite (λ fault. StopsAt which fault → ⊥) (past_inputs which) own
 
 -- a delivered text that is this one has P, if this one has P
-pub delivered : {T : Type 0} (r : Result T RunFault) (old new : Option (List ℕ)) (text : List ℕ) (P : List ℕ → Type 0) → P text → Delivers r old new (λ bytes. bytes ≡ text) → Delivers r old new P
-delivered (Ok _) old new text P is h = (h.0, subst P (sym h.1) is, h.2)
-delivered (Err fault) old new text P is h = λ count same. let d = h count same in (d.0, subst P (sym d.1) is, d.2, d.3)
+pub delivered : {T S : Type 0} (r : Result T RunFault) (gives : S → List ℕ → Result ℕ DeviceFault → S → Type 0) (old new : S) (text : List ℕ) (P : List ℕ → Type 0) → P text → Delivers r gives old new (λ bytes. bytes ≡ text) → Delivers r gives old new P
+delivered (Ok _) gives old new text P is h = (h.0, subst P (sym h.1) is, h.2)
+delivered (Err fault) gives old new text P is h = λ count same. let d = h count same in (d.0, subst P (sym d.1) is, d.2)
 
 -- a fault that is passed on stops at the same inputs
 pub passes_on : {T : Type 0} (r : Result T RunFault) (e : RunFault) (which : Which) → IsErrAnd r (λ y. y ≡ e) → (StopsAt which e → ⊥) → GoesPast which r

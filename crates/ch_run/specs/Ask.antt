@@ -1,5 +1,5 @@
 -- The promises of a run that answers requests as they come.
-use Rattle.std.specs.Prelude.{◌≡◌, ◌⊎◌, ℕ, ◌+◌, ◌<◌, true, List, [], ◌∷◌, ◌++◌, length, take, Option, Some, None, Result, Ok, Err}
+use Rattle.std.specs.Prelude.{◌≡◌, ◌⊎◌, ℕ, ◌+◌, true, List, [], ◌∷◌, ◌++◌, Option, Some, None, Result, Ok, Err}
 use Rattle.ch_graph.specs.Graph.{Network}
 use Rattle.ch_hierarchy.specs.Hierarchy.{LevelsAndLegs}
 use Rattle.ch_read.specs.declared.request.Request.{Request}
@@ -13,8 +13,9 @@ use Rattle.ch_read.specs.RequestLaws.{went_by}
 use Rattle.ch_run.specs.declared.fault.Which.{Which}
 use Rattle.ch_run.specs.declared.fault.RunFault.{RunFault}
 use Rattle.ch_run.specs.declared.options.Options.{Options}
-use Rattle.ch_text.specs.Device.{HasRead, HasTaken}
-use Rattle.ch_run.specs.Run.{Reading, ReadsAll, IsOf, IsWrite}
+use Rattle.ch_text.specs.Moves.{Took, TookUntilFault}
+use Rattle.ch_text.specs.declared.device.DeviceFault.{DeviceFault}
+use Rattle.ch_run.specs.Run.{Reading, ReadsAll, IsOf, IsWrite, ReadingIf}
 use Rattle.ch_run.specs.Source.{IsOfLoading, IsServing, WithLoaded, order_built}
 use Rattle.ch_text.specs.NearText.{IsNearText}
 use Rattle.ch_text.specs.TableText.{IsTableText}
@@ -65,24 +66,24 @@ AreAnswered IsTextOf places [] text = text ≡ []
 AreAnswered IsTextOf places (request ∷ requests) text =
     (first rest : List ℕ) × (text ≡ first ++ rest) × IsTextOf places request first × AreAnswered IsTextOf (places_then places request) requests rest
 
--- the output took the answers to these requests
-abbrev pub TookAnswers : TextOf → PlaceList → (old new : Option (List ℕ)) → List Request → Type 0
-TookAnswers IsTextOf places old new requests = (text : List ℕ) × AreAnswered IsTextOf places requests text × HasTaken old new text
+-- the output took the answers to these requests. `gives` says what one write may do
+abbrev pub TookAnswers : TextOf → {S : Type 0} → (gives : S → List ℕ → Result ℕ DeviceFault → S → Type 0) → PlaceList → (old new : S) → List Request → Type 0
+TookAnswers IsTextOf gives places old new requests = (text : List ℕ) × AreAnswered IsTextOf places requests text × Took gives old text new
 
 -- the output took the answers to the first of these requests, to any number of them
-abbrev pub TookFirstAnswers : TextOf → PlaceList → (old new : Option (List ℕ)) → List Request → Type 0
-TookFirstAnswers IsTextOf places old new requests = (first later : List Request) × (requests ≡ first ++ later) × TookAnswers IsTextOf places old new first
+abbrev pub TookFirstAnswers : TextOf → {S : Type 0} → (gives : S → List ℕ → Result ℕ DeviceFault → S → Type 0) → PlaceList → (old new : S) → List Request → Type 0
+TookFirstAnswers IsTextOf gives places old new requests = (first later : List Request) × (requests ≡ first ++ later) × TookAnswers IsTextOf gives places old new first
 
--- the output took the beginning of the answers to the first of these requests, and not all of it. `count` is the number of its
+-- the output took the beginning of the answers to the first of these requests, up to a write that failed. `count` is the number of its
 -- bytes and of the bytes `before`, up to 2^64 - 1
-abbrev pub TookBeginning : TextOf → PlaceList → (old new : Option (List ℕ)) → (before count : ℕ) → List Request → Type 0
-TookBeginning IsTextOf places old new before count requests =
+abbrev pub TookBeginning : TextOf → {S : Type 0} → (gives : S → List ℕ → Result ℕ DeviceFault → S → Type 0) → PlaceList → (old new : S) → (before count : ℕ) → List Request → Type 0
+TookBeginning IsTextOf gives places old new before count requests =
     (first later : List Request) × (text : List ℕ) × (bytes : ℕ) × (requests ≡ first ++ later) × AreAnswered IsTextOf places first text
-    × (bytes < length text) × HasTaken old new (take bytes text) × (count ≡ capped_number (before + bytes))
+    × TookUntilFault gives old text bytes new × (count ≡ capped_number (before + bytes))
 
--- P holds of the bytes that were read of an input, and of those that are left
+-- reads gave these bytes, with P whatever bytes are left. Or they gave these bytes up to the end, with P where none are left
 abbrev pub ReadsSome : Reading → (List ℕ → List ℕ → Type 0) → Type 0
-ReadsSome input P = (read left : List ℕ) × HasRead input.before input.after read left × P read left
+ReadsSome input P = (read : List ℕ) × ((input.some read × ((left : List ℕ) → P read left)) ⊎ (input.all read × P read []))
 
 -- the bytes give requests with P, and then this fault or none
 abbrev pub TellsThen : ℕ → Option RequestFault → (List Request → Type 0) → List ℕ → Type 0
@@ -94,30 +95,30 @@ whole_in n bytes = (went_by n bytes).told.given
 
 -- how a run over requests on a graph of n nodes ends, and what the output took. At a failed read, all requests that were whole
 -- before it are answered. No run can know which read will fail. That is why it answers what is whole before each read
-abbrev pub Serves : {T : Type 0} → TextOf → ℕ → Reading → (old new : Option (List ℕ)) → Result T RunFault → Type 0
-Serves IsTextOf n requests old new (Ok _) = ReadsAll requests (TellsThen n None (TookAnswers IsTextOf no_places old new))
-Serves IsTextOf n requests old new (Err (RunFault.Read Which.Requests fault)) =
-    ReadsSome requests (λ read left. TellsThen n (Some (Line fault)) (TookAnswers IsTextOf no_places old new) (read ++ left))
-Serves IsTextOf n requests old new (Err (RunFault.CellsAt line)) =
-    ReadsSome requests (λ read left. TellsThen n (Some (Cells line)) (TookAnswers IsTextOf no_places old new) (read ++ left))
-Serves IsTextOf n requests old new (Err RunFault.Memory) =
-    ReadsSome requests (λ read left. TookFirstAnswers IsTextOf no_places old new (told_by n (read ++ left)).given)
-Serves IsTextOf n requests old new (Err (RunFault.Device which)) =
-    (which ≡ Which.Requests) × ReadsSome requests (λ read left. TookAnswers IsTextOf no_places old new (whole_in n read))
-Serves IsTextOf n requests old new (Err (RunFault.Write count)) =
-    ReadsSome requests (λ read left. TookBeginning IsTextOf no_places old new 0 count (told_by n (read ++ left)).given)
-Serves IsTextOf n requests old new (Err _) = ⊥
+abbrev pub Serves : {T S : Type 0} → TextOf → (gives : S → List ℕ → Result ℕ DeviceFault → S → Type 0) → ℕ → Reading → (old new : S) → Result T RunFault → Type 0
+Serves IsTextOf gives n requests old new (Ok _) = ReadsAll requests (TellsThen n None (TookAnswers IsTextOf gives no_places old new))
+Serves IsTextOf gives n requests old new (Err (RunFault.Read Which.Requests fault)) =
+    ReadsSome requests (λ read left. TellsThen n (Some (Line fault)) (TookAnswers IsTextOf gives no_places old new) (read ++ left))
+Serves IsTextOf gives n requests old new (Err (RunFault.CellsAt line)) =
+    ReadsSome requests (λ read left. TellsThen n (Some (Cells line)) (TookAnswers IsTextOf gives no_places old new) (read ++ left))
+Serves IsTextOf gives n requests old new (Err RunFault.Memory) =
+    ReadsSome requests (λ read left. TookFirstAnswers IsTextOf gives no_places old new (told_by n (read ++ left)).given)
+Serves IsTextOf gives n requests old new (Err (RunFault.Device which)) =
+    (which ≡ Which.Requests) × (read : List ℕ) × requests.failed read × TookAnswers IsTextOf gives no_places old new (whole_in n read)
+Serves IsTextOf gives n requests old new (Err (RunFault.Write count)) =
+    ReadsSome requests (λ read left. TookBeginning IsTextOf gives no_places old new 0 count (told_by n (read ++ left)).given)
+Serves IsTextOf gives n requests old new (Err _) = ⊥
 
 -- the graph was accepted, and so was the saved hierarchy, if one is read. The run answered the requests by this hierarchy, or by
 -- the contraction hierarchy that it built
-abbrev pub ServesBy : {T : Type 0} → Options → Reading → Option Reading → Reading → (old new : Option (List ℕ)) → Result T RunFault → Type 0
-ServesBy options graph saved requests old new result =
-    WithLoaded graph saved (λ g h. Serves (IsRequestText options g (IsServing (order_built options) options.hops g h)) g.nodes requests old new result)
+abbrev pub ServesBy : {T S : Type 0} → Options → Reading → ReadingIf → Reading → (gives : S → List ℕ → Result ℕ DeviceFault → S → Type 0) → (old new : S) → Result T RunFault → Type 0
+ServesBy options graph saved requests gives old new result =
+    WithLoaded graph saved (λ g h. Serves (IsRequestText options g (IsServing (order_built options) options.hops g h)) gives g.nodes requests old new result)
 
 -- the faults that answering requests can end in: they are refused or can't be read, there is no memory, or a write failed
 abbrev pub IsOfServing : RunFault → Type 0
 IsOfServing fault = IsOf Which.Requests fault ⊎ IsWrite fault
 
 -- the faults that a run over requests can end in
-abbrev pub IsOfAsk : Option Reading → RunFault → Type 0
+abbrev pub IsOfAsk : ReadingIf → RunFault → Type 0
 IsOfAsk saved fault = IsOfLoading saved fault ⊎ IsOfServing fault

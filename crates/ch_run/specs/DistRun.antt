@@ -4,24 +4,24 @@ use Rattle.ch_read.specs.declared.fault.ReadFault.{ReadFault}
 use Rattle.ch_run.specs.declared.fault.Which.{Which}
 use Rattle.ch_run.specs.declared.fault.RunFault.{RunFault}
 use Rattle.ch_run.specs.declared.options.Options.{Options}
-use Rattle.ch_run.specs.Run.{Reading, ReadsQueries, IsQueriesRefused, IsOf, IsWrite}
+use Rattle.ch_run.specs.Run.{Reading, ReadsQueries, IsQueriesRefused, IsOf, IsWrite, ReadingIf}
 use Rattle.ch_run.specs.Source.{IsOfLoading, IsOfRoutes, WithLoaded}
 use Rattle.ch_run.specs.Text.{IsTextBy, writes_routes}
 
 -- the inputs name a graph and queries on it, and the text answers these with the options. A saved hierarchy, if one is read, is
 -- right for the graph
-abbrev pub IsAnsweredBy : Options → Reading → Option Reading → Reading → List ℕ → Type 0
+abbrev pub IsAnsweredBy : Options → Reading → ReadingIf → Reading → List ℕ → Type 0
 IsAnsweredBy options graph saved queries text =
     WithLoaded graph saved (λ g h. (pairs : List (ℕ × ℕ)) × ReadsQueries queries g.nodes pairs × IsTextBy (writes_routes options) g (IsOfRoutes options g h) pairs text)
 
 -- the graph was accepted, and then the saved hierarchy, if one is read, and then queries on the graph
-abbrev pub AcceptsQueries : Reading → Option Reading → Reading → Type 0
+abbrev pub AcceptsQueries : Reading → ReadingIf → Reading → Type 0
 AcceptsQueries graph saved queries = WithLoaded graph saved (λ g _. (pairs : List (ℕ × ℕ)) × ReadsQueries queries g.nodes pairs)
 
 -- the graph and the saved hierarchy, if one is read, were accepted, but the queries have this fault
-abbrev pub HasQueriesRefused : Reading → Option Reading → Reading → ReadFault → Type 0
+abbrev pub HasQueriesRefused : Reading → ReadingIf → Reading → ReadFault → Type 0
 HasQueriesRefused graph saved queries fault = WithLoaded graph saved (λ g _. IsQueriesRefused queries g.nodes fault)
 
 -- the faults that the run can end in: an input is refused or can't be read, there is no memory, or a write failed
-abbrev pub IsOfDist : Option Reading → RunFault → Type 0
+abbrev pub IsOfDist : ReadingIf → RunFault → Type 0
 IsOfDist saved fault = IsOfLoading saved fault ⊎ IsOf Which.Queries fault ⊎ IsWrite fault

@@ -2,12 +2,13 @@
 use Rattle.std.specs.Prelude.{◌≡◌, ◌⊎◌, ℕ, ◌<◌, ◌≤◌, List, length, All, Option, Some, None, Result, option_map}
 use Rattle.ch_graph.specs.declared.limits.TheConstants.{MOST_LISTED}
 use Rattle.ch_read.specs.declared.fault.ReadFault.{ReadFault}
+use Rattle.ch_text.specs.declared.device.DeviceFault.{DeviceFault}
 use Rattle.ch_run.specs.declared.fault.Which.{Which}
 use Rattle.ch_run.specs.declared.fault.RunFault.{RunFault}
 use Rattle.ch_run.specs.declared.options.Options.{Options}
 use Rattle.ch_run.specs.declared.sources.Sources.{Sources}
 use Rattle.ch_run.specs.declared.sources.Sources.TheVariants.{All as Each, Listed}
-use Rattle.ch_run.specs.Run.{Reading, ReadsAfter, ReadsNodes, IsListRefused, IsOf, IsWrite, reading_if}
+use Rattle.ch_run.specs.Run.{Reading, ReadsAfter, ReadsNodes, IsListRefused, IsOf, IsWrite, reading_if, ReadingIf, NoInput, OneInput}
 use Rattle.ch_run.specs.Source.{IsOfLoading, WithLoaded}
 use Rattle.ch_run.specs.Text.{IsNearTextFor}
 use Rattle.ch_text.specs.NearText.{nodes_in_order}
@@ -27,8 +28,8 @@ abbrev pub sources_origin : {J : Type 0} → (J → ℕ) → Sources J → Optio
 sources_origin origin sources = option_map origin (listed_in sources)
 
 -- the reading of the list of sources, if one is read
-abbrev pub sources_reading : {J : Type 0} → (J → Option (List ℕ)) → Sources J → Sources J → Option Reading
-sources_reading left old new = reading_if left (listed_in old) (listed_in new)
+abbrev pub sources_reading : {J : Type 0} → (gives : J → List ℕ → Result ℕ DeviceFault → J → Type 0) → Sources J → Sources J → ReadingIf
+sources_reading gives old new = reading_if gives (listed_in old) (listed_in new)
 
 -- these are lists of nodes, and the list of targets is within the limit
 pub record AreNodeLists (nodes : ℕ) (from to : List ℕ) : Type 0 where
@@ -37,55 +38,55 @@ pub record AreNodeLists (nodes : ℕ) (from to : List ℕ) : Type 0 where
   pub few : length to ≤ MOST_LISTED
 
 -- the sources are the nodes of the list that was read, or all nodes in order
-abbrev pub AreSources : Option Reading → ℕ → List ℕ → Type 0
-AreSources None nodes from = from ≡ nodes_in_order nodes
-AreSources (Some sources) nodes from = ReadsNodes sources nodes from
+abbrev pub AreSources : ReadingIf → ℕ → List ℕ → Type 0
+AreSources NoInput nodes from = from ≡ nodes_in_order nodes
+AreSources (OneInput sources) nodes from = ReadsNodes sources nodes from
 
 -- the list of sources was accepted, if one is read
-abbrev pub AcceptsAnySources : Option Reading → ℕ → Type 0
+abbrev pub AcceptsAnySources : ReadingIf → ℕ → Type 0
 AcceptsAnySources sources nodes = (from : List ℕ) × AreSources sources nodes from
 
 -- these are the sources, and the input of the targets was read to its end and names these
-abbrev pub ReadsNodeLists : Option Reading → Reading → ℕ → List ℕ → List ℕ → Type 0
+abbrev pub ReadsNodeLists : ReadingIf → Reading → ℕ → List ℕ → List ℕ → Type 0
 ReadsNodeLists sources targets nodes from to = AreSources sources nodes from × ReadsNodes targets nodes to
 
 -- the list of sources was accepted, if one is read, but the targets have this fault
-abbrev pub HaveNearTargetsRefused : Option Reading → Reading → ℕ → ReadFault → Type 0
+abbrev pub HaveNearTargetsRefused : ReadingIf → Reading → ℕ → ReadFault → Type 0
 HaveNearTargetsRefused sources targets nodes fault = AcceptsAnySources sources nodes × IsListRefused targets nodes fault
 
 -- the inputs name a graph and the two lists, and the text has their near rows with the options. A saved hierarchy, if one is
 -- read, is right for the graph
-abbrev pub IsNearBy : Options → Reading → Option Reading → Option Reading → Reading → List ℕ → Type 0
+abbrev pub IsNearBy : Options → Reading → ReadingIf → ReadingIf → Reading → List ℕ → Type 0
 IsNearBy options graph saved sources targets text =
     WithLoaded graph saved (λ g _. (from to : List ℕ) × ReadsNodeLists sources targets g.nodes from to × IsNearTextFor options g from to text)
 
 -- the graph was accepted, and then the saved hierarchy and the list of sources, if they are read
-abbrev pub AcceptsNearSources : Reading → Option Reading → Option Reading → Type 0
+abbrev pub AcceptsNearSources : Reading → ReadingIf → ReadingIf → Type 0
 AcceptsNearSources graph saved sources = WithLoaded graph saved (λ g _. AcceptsAnySources sources g.nodes)
 
 -- all of these were accepted, and then the targets
-abbrev pub AcceptsNodeLists : Reading → Option Reading → Option Reading → Reading → Type 0
+abbrev pub AcceptsNodeLists : Reading → ReadingIf → ReadingIf → Reading → Type 0
 AcceptsNodeLists graph saved sources targets = WithLoaded graph saved (λ g _. (from to : List ℕ) × ReadsNodeLists sources targets g.nodes from to)
 
 -- all earlier inputs were accepted, but the targets have this fault
-abbrev pub HasNearTargetsRefused : Reading → Option Reading → Option Reading → Reading → ReadFault → Type 0
+abbrev pub HasNearTargetsRefused : Reading → ReadingIf → ReadingIf → Reading → ReadFault → Type 0
 HasNearTargetsRefused graph saved sources targets fault = WithLoaded graph saved (λ g _. HaveNearTargetsRefused sources targets g.nodes fault)
 
 -- the promise of a run on the input of its sources. If the sources are all nodes, it reads none
-abbrev pub ReadsSources : {T J : Type 0} → (earlier : List Which) → (accepted : Type 0) → Result T RunFault → (J → Option (List ℕ)) → (J → ℕ) → Sources J → Sources J → (Reading → ReadFault → Type 0) → Type 0
-ReadsSources earlier accepted result left failed Each new IsRefused = new ≡ Each
-ReadsSources earlier accepted result left failed (Listed old) Each IsRefused = ⊥
-ReadsSources earlier accepted result left failed (Listed old) (Listed new) IsRefused = ReadsAfter earlier accepted Which.Sources result left failed old new IsRefused
+abbrev pub ReadsSources : {T J : Type 0} → (earlier : List Which) → (accepted : Type 0) → Result T RunFault → (gives : J → List ℕ → Result ℕ DeviceFault → J → Type 0) → (J → ℕ) → Sources J → Sources J → (Reading → ReadFault → Type 0) → Type 0
+ReadsSources earlier accepted result gives failed Each new IsRefused = new ≡ Each
+ReadsSources earlier accepted result gives failed (Listed old) Each IsRefused = ⊥
+ReadsSources earlier accepted result gives failed (Listed old) (Listed new) IsRefused = ReadsAfter earlier accepted Which.Sources result gives failed old new IsRefused
 
 -- the faults that reading the list of sources can end in, if one is read
-abbrev pub IsOfSources : Option Reading → RunFault → Type 0
-IsOfSources None fault = ⊥
-IsOfSources (Some sources) fault = IsOf Which.Sources fault
+abbrev pub IsOfSources : ReadingIf → RunFault → Type 0
+IsOfSources NoInput fault = ⊥
+IsOfSources (OneInput sources) fault = IsOf Which.Sources fault
 
 -- the faults that reading both lists can end in: one of them is refused or can't be read, or there is no memory
-abbrev pub IsOfNodeLists : Option Reading → RunFault → Type 0
+abbrev pub IsOfNodeLists : ReadingIf → RunFault → Type 0
 IsOfNodeLists sources fault = IsOfSources sources fault ⊎ IsOf Which.Targets fault
 
 -- the faults that the run can end in
-abbrev pub IsOfNear : Option Reading → Option Reading → RunFault → Type 0
+abbrev pub IsOfNear : ReadingIf → ReadingIf → RunFault → Type 0
 IsOfNear saved sources fault = IsOfLoading saved fault ⊎ IsOfNodeLists sources fault ⊎ IsWrite fault

@@ -1,5 +1,5 @@
 -- The promises of every run on its inputs and its output.
-use Rattle.std.specs.Prelude.{◌≡◌, ◌≢◌, ◌⊎◌, ◌↔◌, ℕ, ◌<◌, [], ◌∷◌, List, length, take, Option, Some, None, Result, Ok, Err, IfErr, IsErrAnd, ⊤}
+use Rattle.std.specs.Prelude.{◌≡◌, ◌≢◌, ◌⊎◌, ◌↔◌, ℕ, ◌<◌, [], ◌∷◌, List, Option, Some, None, Result, Ok, Err, IfErr, IsErrAnd, ⊤}
 use Rattle.ch_graph.specs.Graph.{Network}
 use Rattle.ch_read.specs.declared.fault.ReadFault.{ReadFault}
 use Rattle.ch_read.specs.declared.form.Form.TheVariants as Form
@@ -7,26 +7,41 @@ use Rattle.ch_read.specs.Checks.{IsFault}
 use Rattle.ch_read.specs.Names.{NamesGraph, NamesQueries, NamesNodes}
 use Rattle.ch_run.specs.declared.fault.Which.{Which}
 use Rattle.ch_run.specs.declared.fault.RunFault.{RunFault}
-use Rattle.ch_text.specs.Device.{CountsAtMostOne, CountsAtMostOneOf, HasGiven, HasTaken}
+use Rattle.ch_text.specs.Device.{CountsAtMostOne, CountsAtMostOneOf}
+use Rattle.ch_text.specs.Moves.{Gave, GaveAll, GaveUntilFault, Took, TookUntilFault}
+use Rattle.ch_text.specs.declared.device.DeviceFault.{DeviceFault}
 
--- the bytes that an input has left before a run and after it, if they are known
-pub record Reading : Type 0 where
-  pub before : Option (List ℕ)
-  pub after : Option (List ℕ)
+-- what a run did with an input
+pub record Reading : Type 1 where
+  -- reads gave these bytes, up to the end
+  pub all : List ℕ → Type 0
+  -- reads gave these bytes, one after the other, and none has failed. More bytes may be left
+  pub some : List ℕ → Type 0
+  -- reads gave these bytes, and then a read failed. No read came after it
+  pub failed : List ℕ → Type 0
 
--- the reading of an input that is `old` before the run and `new` after it
-abbrev pub reading : {I : Type 0} → (I → Option (List ℕ)) → I → I → Reading
-reading left old new = record { before = left old; after = left new }
+-- the reading of an input that is `old` before the run and `new` after it, where `gives` says what one read may do
+abbrev pub reading : {S : Type 0} → (gives : S → List ℕ → Result ℕ DeviceFault → S → Type 0) → (old new : S) → Reading
+reading gives old new = record { all = λ bytes. GaveAll gives old bytes new; some = λ bytes. Gave gives old bytes new; failed = λ bytes. GaveUntilFault gives old bytes new }
+
+-- what a run did with an input that only some runs have, if there is one
+pub data ReadingIf : Type 1 where
+  NoInput : ReadingIf
+  OneInput : (input : Reading) → ReadingIf
 
 -- the reading of an input that only some runs have, if there is one
-abbrev pub reading_if : {I : Type 0} → (I → Option (List ℕ)) → Option I → Option I → Option Reading
-reading_if left (Some old) (Some new) = Some (reading left old new)
-reading_if left (Some old) None = None
-reading_if left None new = None
+abbrev pub reading_if : {S : Type 0} → (gives : S → List ℕ → Result ℕ DeviceFault → S → Type 0) → Option S → Option S → ReadingIf
+reading_if gives (Some old) (Some new) = OneInput (reading gives old new)
+reading_if gives (Some old) None = NoInput
+reading_if gives None new = NoInput
 
 -- the input was read to its end, and P holds of its bytes
 abbrev pub ReadsAll : Reading → (List ℕ → Type 0) → Type 0
-ReadsAll input P = (bytes : List ℕ) × HasGiven input.before input.after bytes × P bytes
+ReadsAll input P = (bytes : List ℕ) × input.all bytes × P bytes
+
+-- the reads of this input can give these bytes alone, up to the end. An input in memory is of this kind
+abbrev pub GivesOnly : Reading → List ℕ → Type 0
+GivesOnly input bytes = (given : List ℕ) → input.all given → given ≡ bytes
 
 -- the input was read to its end and names this graph
 abbrev pub ReadsGraph : Reading → Network → Type 0
@@ -56,15 +71,15 @@ IsQueriesRefused queries nodes fault = ReadsAll queries (λ bytes. IsFault (Form
 abbrev pub IsListRefused : Reading → ℕ → ReadFault → Type 0
 IsListRefused list nodes fault = ReadsAll list (λ bytes. IsFault (Form.Nodes nodes) bytes fault.line fault.kind)
 
--- an input gave no bytes, for this fault: it can't be read, or there is no memory
-abbrev pub IsUnread : Which → RunFault → Type 0
-IsUnread which (RunFault.Device input) = which ≡ input
-IsUnread which RunFault.Memory = ⊤
-IsUnread which (RunFault.Read input fault) = ⊥
-IsUnread which RunFault.Cells = ⊥
-IsUnread which (RunFault.CellsAt line) = ⊥
-IsUnread which (RunFault.Write count) = ⊥
-IsUnread which (RunFault.Check fault) = ⊥
+-- an input was not read to its end, for this fault: a read failed, or there was no memory for more bytes
+abbrev pub IsUnread : Which → Reading → RunFault → Type 0
+IsUnread which input (RunFault.Device other) = (which ≡ other) × ((bytes : List ℕ) × input.failed bytes)
+IsUnread which input RunFault.Memory = (bytes : List ℕ) × input.some bytes
+IsUnread which input (RunFault.Read other fault) = ⊥
+IsUnread which input RunFault.Cells = ⊥
+IsUnread which input (RunFault.CellsAt line) = ⊥
+IsUnread which input (RunFault.Write count) = ⊥
+IsUnread which input (RunFault.Check fault) = ⊥
 
 -- the faults that reading this input can end in: it is refused, it can't be read, or there is no memory
 abbrev pub IsOf : Which → RunFault → Type 0
@@ -105,14 +120,14 @@ pub record ReadsOnce {T I : Type 0} (which : Which) (result : Result T RunFault)
   pub once : CountsAtMostOne (failed old) (failed new)
 
 -- the same holds, and the input is refused only for a fault that it has
-pub record Reads {T I : Type 0} (which : Which) (result : Result T RunFault) (left : I → Option (List ℕ)) (failed : I → ℕ) (old new : I) (IsRefused : Reading → ReadFault → Type 0) : Type 0 where
-  pub refused : (fault : ReadFault) → result ≡ Err (RunFault.Read which fault) → IsRefused (reading left old new) fault
+pub record Reads {T I : Type 0} (which : Which) (result : Result T RunFault) (gives : I → List ℕ → Result ℕ DeviceFault → I → Type 0) (failed : I → ℕ) (old new : I) (IsRefused : Reading → ReadFault → Type 0) : Type 0 where
+  pub refused : (fault : ReadFault) → result ≡ Err (RunFault.Read which fault) → IsRefused (reading gives old new) fault
   pub once : ReadsOnce which result failed old new
 
 -- the same holds, and the input is as it was unless the earlier inputs were accepted
 pub record ReadsAfter {T I : Type 0} (earlier : List Which) (accepted : Type 0) (which : Which) (result : Result T RunFault)
-    (left : I → Option (List ℕ)) (failed : I → ℕ) (old new : I) (IsRefused : Reading → ReadFault → Type 0) : Type 0 where
-  pub reads : Reads which result left failed old new IsRefused
+    (gives : I → List ℕ → Result ℕ DeviceFault → I → Type 0) (failed : I → ℕ) (old new : I) (IsRefused : Reading → ReadFault → Type 0) : Type 0 where
+  pub reads : Reads which result gives failed old new IsRefused
   pub unread : (new ≡ old) ⊎ (GoesPastAll earlier result × accepted)
 
 -- a failed write is reported exactly if the output counted one, and it is not tried again
@@ -125,7 +140,7 @@ pub record WritesAfter {T O : Type 0} (accepted : Type 0) (result : Result T Run
   pub writes : WritesOnce result failed idle old new
   pub unwritten : (new ≡ old) ⊎ (IfErr result IsWrite × accepted)
 
--- the output took a text with P: the whole text if the run succeeds, its first bytes if a write failed
-abbrev pub Delivers : {T : Type 0} → Result T RunFault → (old new : Option (List ℕ)) → (List ℕ → Type 0) → Type 0
-Delivers (Ok _) old new P = (text : List ℕ) × P text × HasTaken old new text
-Delivers (Err fault) old new P = (count : ℕ) → fault ≡ RunFault.Write count → (text : List ℕ) × P text × (count < length text) × HasTaken old new (take count text)
+-- the output took a text with P: the whole text if the run succeeds, its first bytes if a write failed. `gives` says what one write may do
+abbrev pub Delivers : {T S : Type 0} → Result T RunFault → (gives : S → List ℕ → Result ℕ DeviceFault → S → Type 0) → (old new : S) → (List ℕ → Type 0) → Type 0
+Delivers (Ok _) gives old new P = (text : List ℕ) × P text × Took gives old text new
+Delivers (Err fault) gives old new P = (count : ℕ) → fault ≡ RunFault.Write count → (text : List ℕ) × P text × TookUntilFault gives old text count new

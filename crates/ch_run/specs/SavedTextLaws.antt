@@ -10,7 +10,7 @@ use Rattle.ch_contract.specs.declared.measure.OrderBy.{OrderBy}
 use Rattle.ch_contract.specs.Legs.{IsHopBound}
 use Rattle.ch_contract.specs.Built.{IsHierarchyBy}
 use Rattle.ch_run.specs.declared.options.Options.{Options}
-use Rattle.ch_run.specs.Run.{Reading}
+use Rattle.ch_run.specs.Run.{GivesOnly, Reading, OneInput}
 use Rattle.ch_run.specs.DistRun.{IsAnsweredBy}
 use Rattle.ch_run.specs.SaveRun.{IsSavedBy}
 use Rattle.ch_run.specs.TableRun.{IsTabledBy}
@@ -18,20 +18,20 @@ use Rattle.ch_text.specs.SaveText.{IsHierarchyText}
 use Rattle.ch_run.specs.Text.{IsSaveText}
 
 -- two texts that answer the same bytes, with the same options, are equal
-abbrev pub SavedAnswersHaveOneText : Type 0
-SavedAnswersHaveOneText = (options : Options) (graph saved queries : Reading) (graph_bytes saved_bytes query_bytes text other : List ℕ) →
-    graph.before ≡ Some graph_bytes → saved.before ≡ Some saved_bytes → queries.before ≡ Some query_bytes →
-    IsAnsweredBy options graph (Some saved) queries text → IsAnsweredBy options graph (Some saved) queries other → text ≡ other
+abbrev pub SavedAnswersHaveOneText : (graph saved queries : Reading) → Type 0
+SavedAnswersHaveOneText graph saved queries = (options : Options) (graph_bytes saved_bytes query_bytes text other : List ℕ) →
+    GivesOnly graph graph_bytes → GivesOnly saved saved_bytes → GivesOnly queries query_bytes →
+    IsAnsweredBy options graph (OneInput saved) queries text → IsAnsweredBy options graph (OneInput saved) queries other → text ≡ other
 
 -- two texts of the table of the same bytes, with the same options, are equal
-abbrev pub SavedTablesHaveOneText : Type 0
-SavedTablesHaveOneText = (options : Options) (graph saved sources targets : Reading) (graph_bytes saved_bytes source_bytes target_bytes text other : List ℕ) →
-    graph.before ≡ Some graph_bytes → saved.before ≡ Some saved_bytes → sources.before ≡ Some source_bytes → targets.before ≡ Some target_bytes →
-    IsTabledBy options graph (Some saved) sources targets text → IsTabledBy options graph (Some saved) sources targets other → text ≡ other
+abbrev pub SavedTablesHaveOneText : (graph saved sources targets : Reading) → Type 0
+SavedTablesHaveOneText graph saved sources targets = (options : Options) (graph_bytes saved_bytes source_bytes target_bytes text other : List ℕ) →
+    GivesOnly graph graph_bytes → GivesOnly saved saved_bytes → GivesOnly sources source_bytes → GivesOnly targets target_bytes →
+    IsTabledBy options graph (OneInput saved) sources targets text → IsTabledBy options graph (OneInput saved) sources targets other → text ≡ other
 
 -- two texts of the hierarchy of the same bytes are equal
-abbrev pub HierarchiesHaveOneText : Type 0
-HierarchiesHaveOneText = (options : Options) (graph : Reading) (graph_bytes text other : List ℕ) → graph.before ≡ Some graph_bytes → IsSavedBy options graph text → IsSavedBy options graph other → text ≡ other
+abbrev pub HierarchiesHaveOneText : (graph : Reading) → Type 0
+HierarchiesHaveOneText graph = (options : Options) (graph_bytes text other : List ℕ) → GivesOnly graph graph_bytes → IsSavedBy options graph text → IsSavedBy options graph other → text ≡ other
 
 -- the bytes name an order and legs on the graph, and these name the hierarchy, which is right for the graph
 abbrev pub IsReadAs : List ℕ → Network → LevelsAndLegs → Type 0

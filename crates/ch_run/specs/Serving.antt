@@ -19,7 +19,8 @@ use Rattle.ch_run.specs.declared.run.batch.Then.TheVariants.{More, Nothing, Stop
 use Rattle.ch_run.specs.declared.run.answering.Room.{Room}
 use Rattle.ch_run.specs.declared.fault.Which.{Which}
 use Rattle.ch_run.specs.Ask.{AreAnswered, TextOf, TookAnswers, TookFirstAnswers, TookBeginning, no_places, places_after}
-use Rattle.ch_text.specs.Device.{HasTaken}
+use Rattle.ch_text.specs.Moves.{Took, TookUntilFault}
+use Rattle.ch_text.specs.declared.device.DeviceFault.{DeviceFault}
 use Rattle.ch_run.specs.declared.options.Options.{Options}
 use Rattle.ch_run.specs.Run.{IsWrite}
 use Rattle.ch_run.specs.Text.{writes_routes}
@@ -27,21 +28,20 @@ use Rattle.ch_run.specs.Text.{writes_routes}
 -- how a call that answers these requests ended, by the places that were given last before them. It answered all of them, or the
 -- first of them, each whole, or a write failed.
 -- The output had taken `before` bytes before the call, and `after` bytes after it
-abbrev pub AnswersInTurn : {T : Type 0} → TextOf → PlaceList → (old new : Option (List ℕ)) → (before after : ℕ) → List Request → Result T RunFault → Type 0
-AnswersInTurn IsTextOf places old new before after requests (Ok _) =
-    (text : List ℕ) × AreAnswered IsTextOf places requests text × HasTaken old new text × (after ≡ capped_number (before + length text))
-AnswersInTurn IsTextOf places old new before after requests (Err RunFault.Memory) = TookFirstAnswers IsTextOf places old new requests
-AnswersInTurn IsTextOf places old new before after requests (Err (RunFault.Write count)) = TookBeginning IsTextOf places old new before count requests
-AnswersInTurn IsTextOf places old new before after requests (Err (RunFault.Read Which.Requests fault)) = TookAnswers IsTextOf places old new requests
-AnswersInTurn IsTextOf places old new before after requests (Err (RunFault.CellsAt line)) = TookAnswers IsTextOf places old new requests
-AnswersInTurn IsTextOf places old new before after requests (Err _) = ⊥
+abbrev pub AnswersInTurn : {T S : Type 0} → TextOf → (gives : S → List ℕ → Result ℕ DeviceFault → S → Type 0) → PlaceList → (old new : S) → (before after : ℕ) → List Request → Result T RunFault → Type 0
+AnswersInTurn IsTextOf gives places old new before after requests (Ok _) =
+    (text : List ℕ) × AreAnswered IsTextOf places requests text × Took gives old text new × (after ≡ capped_number (before + length text))
+AnswersInTurn IsTextOf gives places old new before after requests (Err RunFault.Memory) = TookFirstAnswers IsTextOf gives places old new requests
+AnswersInTurn IsTextOf gives places old new before after requests (Err (RunFault.Write count)) = TookBeginning IsTextOf gives places old new before count requests
+AnswersInTurn IsTextOf gives places old new before after requests (Err (RunFault.Read Which.Requests fault)) = TookAnswers IsTextOf gives places old new requests
+AnswersInTurn IsTextOf gives places old new before after requests (Err (RunFault.CellsAt line)) = TookAnswers IsTextOf gives places old new requests
+AnswersInTurn IsTextOf gives places old new before after requests (Err _) = ⊥
 
--- the output took this text after `before` bytes, or the beginning of the text and not all of it
-abbrev pub WritesMore : {T : Type 0} → (old new : Option (List ℕ)) → (before after : ℕ) → (text : List ℕ) → Result T RunFault → Type 0
-WritesMore old new before after text (Ok _) = HasTaken old new text × (after ≡ capped_number (before + length text))
-WritesMore old new before after text (Err (RunFault.Write count)) =
-    (bytes : ℕ) × (bytes < length text) × HasTaken old new (take bytes text) × (count ≡ capped_number (before + bytes))
-WritesMore old new before after text (Err _) = ⊥
+-- the output took this text after `before` bytes, or the beginning of the text, up to a write that failed
+abbrev pub WritesMore : {T S : Type 0} → (gives : S → List ℕ → Result ℕ DeviceFault → S → Type 0) → (old new : S) → (before after : ℕ) → (text : List ℕ) → Result T RunFault → Type 0
+WritesMore gives old new before after text (Ok _) = Took gives old text new × (after ≡ capped_number (before + length text))
+WritesMore gives old new before after text (Err (RunFault.Write count)) = (bytes : ℕ) × TookUntilFault gives old text bytes new × (count ≡ capped_number (before + bytes))
+WritesMore gives old new before after text (Err _) = ⊥
 
 -- the number of failed writes that a result reports
 abbrev pub refused_writes : {T : Type 0} → Result T RunFault → ℕ

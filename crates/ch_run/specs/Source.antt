@@ -12,13 +12,14 @@ use Rattle.ch_hierarchy.specs.Saved.{NamesKept, IsFirstFault}
 use Rattle.ch_contract.specs.declared.measure.OrderBy.{OrderBy}
 use Rattle.ch_contract.specs.declared.measure.OrderBy.TheVariants.{Difference, Depth, Rounds}
 use Rattle.ch_contract.specs.Built.{IsHierarchyBy}
+use Rattle.ch_text.specs.declared.device.DeviceFault.{DeviceFault}
 use Rattle.ch_run.specs.declared.fault.Which.{Which}
 use Rattle.ch_run.specs.declared.fault.RunFault.{RunFault}
 use Rattle.ch_run.specs.declared.options.Options.{Options}
 use Rattle.ch_run.specs.declared.options.TheConstants.{ROUND_NODES}
 use Rattle.ch_run.specs.declared.source.Source.{Source}
 use Rattle.ch_run.specs.declared.source.Source.TheVariants.{Built, Saved}
-use Rattle.ch_run.specs.Run.{AcceptsGraph, Reading, ReadsAfter, ReadsAll, ReadsGraph, IsOf, reading, reading_if}
+use Rattle.ch_run.specs.Run.{AcceptsGraph, Reading, ReadsAfter, ReadsAll, ReadsGraph, IsOf, reading, reading_if, ReadingIf, NoInput, OneInput}
 
 -- the input of the saved hierarchy, if one is read
 abbrev pub saved_in : {S : Type 0} → Source S → Option S
@@ -35,8 +36,8 @@ abbrev pub source_origin : {S : Type 0} → (S → ℕ) → Source S → Option 
 source_origin origin source = option_map origin (saved_in source)
 
 -- the reading of the saved hierarchy, if one is read
-abbrev pub source_reading : {S : Type 0} → (S → Option (List ℕ)) → Source S → Source S → Option Reading
-source_reading left old new = reading_if left (saved_in old) (saved_in new)
+abbrev pub source_reading : {S : Type 0} → (gives : S → List ℕ → Result ℕ DeviceFault → S → Type 0) → Source S → Source S → ReadingIf
+source_reading gives old new = reading_if gives (saved_in old) (saved_in new)
 
 -- the input was read to its end and names this order and these legs, on a graph with this many nodes
 abbrev pub ReadsSaved : Reading → ℕ → OrderAndLegs → Type 0
@@ -51,17 +52,17 @@ pub record AreChecked (graph saved : Reading) (g : Network) (s : OrderAndLegs) (
 
 -- the input was read to its end and names this graph, which is within the limits. If a saved hierarchy is read, its input was
 -- read to its end and names this one, which is right for the graph
-abbrev pub AreLoaded : (graph : Reading) → (saved : Option Reading) → Network → Option LevelsAndLegs → Type 0
-AreLoaded graph None g h = IsWithinLimits g × ReadsGraph graph g × (h ≡ None)
-AreLoaded graph (Some saved) g None = ⊥
-AreLoaded graph (Some saved) g (Some H) = (s : OrderAndLegs) × AreChecked graph saved g s H
+abbrev pub AreLoaded : (graph : Reading) → (saved : ReadingIf) → Network → Option LevelsAndLegs → Type 0
+AreLoaded graph NoInput g h = IsWithinLimits g × ReadsGraph graph g × (h ≡ None)
+AreLoaded graph (OneInput saved) g None = ⊥
+AreLoaded graph (OneInput saved) g (Some H) = (s : OrderAndLegs) × AreChecked graph saved g s H
 
 -- the inputs were loaded, and P holds of the graph and of the saved hierarchy, if there is one
-abbrev pub WithLoaded : Reading → Option Reading → (Network → Option LevelsAndLegs → Type 0) → Type 0
+abbrev pub WithLoaded : Reading → ReadingIf → (Network → Option LevelsAndLegs → Type 0) → Type 0
 WithLoaded graph saved P = (g : Network) × (h : Option LevelsAndLegs) × AreLoaded graph saved g h × P g h
 
 -- the inputs were loaded
-abbrev pub AcceptsLoaded : Reading → Option Reading → Type 0
+abbrev pub AcceptsLoaded : Reading → ReadingIf → Type 0
 AcceptsLoaded graph saved = WithLoaded graph saved (λ _ _. ⊤)
 
 -- the hierarchy that serves: the saved one, if there is one. Otherwise it is the contraction hierarchy of the graph in this
@@ -107,21 +108,21 @@ abbrev pub HasCheckRefused : Reading → Reading → CheckFault → Type 0
 HasCheckRefused graph saved fault = (g : Network) × (s : OrderAndLegs) × ReadsGraph graph g × ReadsSaved saved g.nodes s × IsFirstFault g s fault
 
 -- a run reads a saved hierarchy after the graph. It refuses it only for a fault of its lines, or for its first fault on the graph
-pub record ReadsChecked {T S : Type 0} (graph : Reading) (result : Result T RunFault) (left : S → Option (List ℕ)) (failed : S → ℕ) (old new : S) : Type 0 where
-  pub lines : ReadsAfter (Which.Graph ∷ []) (AcceptsGraph graph) Which.Saved result left failed old new (HasSavedRefused graph)
-  pub check : (fault : CheckFault) → result ≡ Err (RunFault.Check fault) → HasCheckRefused graph (reading left old new) fault
+pub record ReadsChecked {T S : Type 0} (graph : Reading) (result : Result T RunFault) (gives : S → List ℕ → Result ℕ DeviceFault → S → Type 0) (failed : S → ℕ) (old new : S) : Type 0 where
+  pub lines : ReadsAfter (Which.Graph ∷ []) (AcceptsGraph graph) Which.Saved result gives failed old new (HasSavedRefused graph)
+  pub check : (fault : CheckFault) → result ≡ Err (RunFault.Check fault) → HasCheckRefused graph (reading gives old new) fault
 
 -- the promise of a run on the source of its hierarchy. If the run builds the hierarchy, it reads none
-abbrev pub ReadsSource : {T S : Type 0} → Reading → Result T RunFault → (S → Option (List ℕ)) → (S → ℕ) → Source S → Source S → Type 0
-ReadsSource graph result left failed Built new = new ≡ Built
-ReadsSource graph result left failed (Saved old) Built = ⊥
-ReadsSource graph result left failed (Saved old) (Saved new) = ReadsChecked graph result left failed old new
+abbrev pub ReadsSource : {T S : Type 0} → Reading → Result T RunFault → (gives : S → List ℕ → Result ℕ DeviceFault → S → Type 0) → (S → ℕ) → Source S → Source S → Type 0
+ReadsSource graph result gives failed Built new = new ≡ Built
+ReadsSource graph result gives failed (Saved old) Built = ⊥
+ReadsSource graph result gives failed (Saved old) (Saved new) = ReadsChecked graph result gives failed old new
 
 -- the faults that reading the graph and a saved hierarchy can end in: one is refused or can't be read, or there is no memory
 abbrev pub IsOfChecked : RunFault → Type 0
 IsOfChecked fault = IsOf Which.Graph fault ⊎ IsOf Which.Saved fault
 
 -- the same faults, if there may be no saved hierarchy
-abbrev pub IsOfLoading : Option Reading → RunFault → Type 0
-IsOfLoading None fault = IsOf Which.Graph fault
-IsOfLoading (Some saved) fault = IsOfChecked fault
+abbrev pub IsOfLoading : ReadingIf → RunFault → Type 0
+IsOfLoading NoInput fault = IsOf Which.Graph fault
+IsOfLoading (OneInput saved) fault = IsOfChecked fault

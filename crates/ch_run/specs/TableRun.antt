@@ -4,36 +4,36 @@ use Rattle.ch_read.specs.declared.fault.ReadFault.{ReadFault}
 use Rattle.ch_run.specs.declared.fault.RunFault.{RunFault}
 use Rattle.ch_run.specs.declared.options.Options.{Options}
 use Rattle.ch_run.specs.Lists.{AcceptsList, HaveCellsRefused, HaveTargetsRefused, IsOfLists, ReadsLists}
-use Rattle.ch_run.specs.Run.{Reading, IsListRefused, IsWrite}
+use Rattle.ch_run.specs.Run.{Reading, IsListRefused, IsWrite, ReadingIf}
 use Rattle.ch_run.specs.Source.{IsOfLoading, WithLoaded}
 use Rattle.ch_text.specs.TableText.{IsTableText}
 
 -- the inputs name a graph and two lists of its nodes, and the text is their table within the limit of the options. A saved
 -- hierarchy, if one is read, is right for the graph
-abbrev pub IsTabledBy : Options → Reading → Option Reading → Reading → Reading → List ℕ → Type 0
+abbrev pub IsTabledBy : Options → Reading → ReadingIf → Reading → Reading → List ℕ → Type 0
 IsTabledBy options graph saved sources targets text =
     WithLoaded graph saved (λ g _. (from to : List ℕ) × ReadsLists sources targets g.nodes from to × IsTableText g options.within from to text)
 
 -- the graph was accepted, and then the saved hierarchy, if one is read, and then the sources
-abbrev pub AcceptsSources : Reading → Option Reading → Reading → Type 0
+abbrev pub AcceptsSources : Reading → ReadingIf → Reading → Type 0
 AcceptsSources graph saved sources = WithLoaded graph saved (λ g _. AcceptsList sources g.nodes)
 
 -- all of these were accepted, and then the targets, and the lists don't make too many cells
-abbrev pub AcceptsLists : Reading → Option Reading → Reading → Reading → Type 0
+abbrev pub AcceptsLists : Reading → ReadingIf → Reading → Reading → Type 0
 AcceptsLists graph saved sources targets = WithLoaded graph saved (λ g _. (from to : List ℕ) × ReadsLists sources targets g.nodes from to)
 
 -- the graph and the saved hierarchy, if one is read, were accepted, but the sources have this fault
-abbrev pub HasSourcesRefused : Reading → Option Reading → Reading → ReadFault → Type 0
+abbrev pub HasSourcesRefused : Reading → ReadingIf → Reading → ReadFault → Type 0
 HasSourcesRefused graph saved sources fault = WithLoaded graph saved (λ g _. IsListRefused sources g.nodes fault)
 
 -- all earlier inputs were accepted, but the targets have this fault
-abbrev pub HasTargetsRefused : Reading → Option Reading → Reading → Reading → ReadFault → Type 0
+abbrev pub HasTargetsRefused : Reading → ReadingIf → Reading → Reading → ReadFault → Type 0
 HasTargetsRefused graph saved sources targets fault = WithLoaded graph saved (λ g _. HaveTargetsRefused sources targets g.nodes fault)
 
 -- all inputs were accepted, but the lists make too many cells
-abbrev pub HasCellsRefused : Reading → Option Reading → Reading → Reading → Type 0
+abbrev pub HasCellsRefused : Reading → ReadingIf → Reading → Reading → Type 0
 HasCellsRefused graph saved sources targets = WithLoaded graph saved (λ g _. HaveCellsRefused sources targets g.nodes)
 
 -- the faults that the run can end in: an input is refused or can't be read, there are too many cells or no memory, or a write failed
-abbrev pub IsOfTable : Option Reading → RunFault → Type 0
+abbrev pub IsOfTable : ReadingIf → RunFault → Type 0
 IsOfTable saved fault = IsOfLoading saved fault ⊎ IsOfLists fault ⊎ IsWrite fault

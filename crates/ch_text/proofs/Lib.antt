@@ -1,5 +1,6 @@
 pub mod Bytes
 pub mod Calls
+pub mod Moves
 pub mod Growing
 pub mod Ranges
 pub mod Saving

@@ -1,5 +1,8 @@
+pub mod Steps
 pub mod Calls
 pub mod Device
+pub mod Moves
+pub mod Told
 pub mod Distances
 pub mod Routes
 pub mod TableText

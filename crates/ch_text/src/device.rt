@@ -1,7 +1,9 @@
 //! The devices that a run reads its files from and writes its text to.
 
-ghost use Rattle.std.specs.Prelude.{◌≡◌, ◌+◌, ◌<◌, ◌≤◌, ℕ, Bool, List, Option, Some, codes, length, take, vec_len, IfOk, IfErr, OnOk};
-ghost use Rattle.ch_text.specs.Device.{CanCountOneMore, ClosesAtFault, GivesBytes, HasGiven, HasTaken, CountsFault, TakesBytes, idle_writes, failures_in, failed_reads};
+ghost use Rattle.std.specs.Prelude.{◌≡◌, ◌+◌, ◌≤◌, ℕ, Bool, List, Option, Result, Some, codes, length, vec_len, IfOk, IfErr, OnOk};
+ghost use Rattle.ch_text.specs.Device.{CanCountOneMore, ClosesAtFault, GivesBytes, TakesBytes, idle_writes, failures_in};
+ghost use Rattle.ch_text.specs.Moves.{GaveAll, GaveSome, Took, TookUntilFault};
+ghost use Rattle.ch_text.specs.declared.device.DeviceFault.{DeviceFault as Failure};
 
 mod file;
 mod memory;
@@ -31,9 +33,13 @@ impl Error for DeviceFault {}
 
 /// A source of bytes that counts its faults.
 ///
-/// Each implementation says whether contracts know its bytes (`left`). They know those of an input over
-/// memory, but not those of a file. The promises about bytes hold for inputs whose bytes are known.
+/// What one read may do has a name here (`read_gives`), but no meaning. Contracts say of an input which reads
+/// were made, one after the other, and what each of them gave. No code can claim a read that it did not make,
+/// of a file or of any other input. Two laws tie the reads to what a program sees of an input: to its bytes, if
+/// they are known, as those of memory are (`tells`), and to its count of failures (`counts`).
 pub trait Input {
+    // what one read may do: the input before, the buffer after, the answer, and the input after
+    ghost read_gives: { Self → List ℕ → Result ℕ Failure → Self → Type 0 };
     // how many reads have failed
     ghost failed: { Self → ℕ };
     // the bytes that are left, if they are known
@@ -48,20 +54,27 @@ pub trait Input {
     fn read(&mut self, buffer: &mut [u8]) -> Result<usize, DeviceFault>
         requires { CanCountOneMore (failed self.old) }
         ensures fits { IfOk result (λ n. n ≤ length buffer.new) }
-        ensures failures { failed self.new ≡ failed self.old + failures_in result }
-        ensures bytes { GivesBytes (left self.old) (left self.new) result buffer.new }
+        ensures made { read_gives self.old buffer.new result self.new }
         ensures same { origin self.new ≡ origin self.old };
 
     /// Returns how many reads have failed.
     fn failures(&self) -> u64
         ensures { result ≡ failed self.now };
+
+    // a read takes known bytes from the front of those that are left
+    ghost tells: { (old : Self) → (buffer : List ℕ) → (answer : Result ℕ Failure) → (new : Self) → read_gives old buffer answer new → GivesBytes (left old) (left new) answer buffer };
+    // a read that failed raises the count of failures by one, and no other read raises it
+    ghost counts: { (old : Self) → (buffer : List ℕ) → (answer : Result ℕ Failure) → (new : Self) → read_gives old buffer answer new → failed new ≡ failed old + failures_in answer };
 }
 
 /// A sink of bytes that counts its faults.
 ///
-/// Each implementation says whether contracts know the bytes that it took (`taken`), as for an [`Input`].
+/// What one write may do has a name, but no meaning, as for an [`Input`]. The same laws tie the writes to the
+/// bytes that were taken, if they are known (`taken`), and to the counts.
 /// An output is closed once a write has failed because nobody reads the output any more.
 pub trait Output {
+    // what one write may do: the output before, the bytes, the answer, and the output after
+    ghost write_gives: { Self → List ℕ → Result ℕ Failure → Self → Type 0 };
     // how many writes have failed
     ghost failed: { Self → ℕ };
     // how many writes of some bytes took none
@@ -79,9 +92,7 @@ pub trait Output {
         requires failures { CanCountOneMore (failed self.old) }
         requires zeros { CanCountOneMore (idle self.old) }
         ensures fits { IfOk result (λ n. n ≤ length bytes.now) }
-        ensures failures { failed self.new ≡ failed self.old + failures_in result }
-        ensures zeros { idle self.new ≡ idle self.old + idle_writes result bytes.now }
-        ensures bytes { TakesBytes (taken self.old) (taken self.new) result bytes.now }
+        ensures made { write_gives self.old bytes.now result self.new }
         ensures closes { ClosesAtFault (closed self.old) (closed self.new) result };
 
     /// Returns how many writes have failed.
@@ -96,6 +107,11 @@ pub trait Output {
     /// pipe leads to a program that has ended.
     fn is_closed(&self) -> bool
         ensures { result ≡ closed self.now };
+
+    // a write puts its bytes behind the known bytes that were taken
+    ghost tells: { (old : Self) → (bytes : List ℕ) → (answer : Result ℕ Failure) → (new : Self) → write_gives old bytes answer new → TakesBytes (taken old) (taken new) answer bytes };
+    // a write that failed raises the count of failures by one. A write of some bytes that took none raises that of idle writes
+    ghost counts: { (old : Self) → (bytes : List ℕ) → (answer : Result ℕ Failure) → (new : Self) → write_gives old bytes answer new → (failed new ≡ failed old + failures_in answer) × (idle new ≡ idle old + idle_writes answer bytes) };
 }
 
 /// Why an input wasn't read to its end.
@@ -141,8 +157,8 @@ fn buffer_of(alloc: Global, size: usize) -> Result<Vec<u8>, AllocError>
 /// the input is where its reads left it.
 pub fn read_all<I: Input>(alloc: Global, input: &mut I) -> Result<Vec<u8>, ReadAllFault>
     requires { CanCountOneMore (I.failed input.old) }
-    ensures bytes { IfOk result (λ bytes. HasGiven (I.left input.old) (I.left input.new) bytes.items) }
-    ensures failures { I.failed input.new ≡ I.failed input.old + failed_reads result }
+    ensures bytes { IfOk result (λ bytes. GaveAll I.read_gives input.old bytes.items input.new) }
+    ensures part { IfErr result (GaveSome I.read_gives input.old input.new) }
     ensures same { I.origin input.new ≡ I.origin input.old }
 {
     let mut buffer = buffer_of(alloc, ROOM)?;
@@ -163,9 +179,8 @@ pub fn read_all<I: Input>(alloc: Global, input: &mut I) -> Result<Vec<u8>, ReadA
 pub fn write_all<O: Output>(output: &mut O, bytes: &[u8]) -> Result<(), u64>
     requires failures { CanCountOneMore (O.failed output.old) }
     requires zeros { CanCountOneMore (O.idle output.old) }
-    ensures done { OnOk result (HasTaken (O.taken output.old) (O.taken output.new) bytes.now) }
-    ensures part { IfErr result (λ count. (count < length bytes.now) × HasTaken (O.taken output.old) (O.taken output.new) (take count bytes.now)) }
-    ensures counts { CountsFault (O.failed output.old) (O.failed output.new) (O.idle output.old) (O.idle output.new) result }
+    ensures done { OnOk result (Took O.write_gives output.old bytes.now output.new) }
+    ensures part { IfErr result (λ count. TookUntilFault O.write_gives output.old bytes.now count output.new) }
     ensures closes { ClosesAtFault (O.closed output.old) (O.closed output.new) result }
 {
     let mut count = 0;

@@ -17,6 +17,7 @@
 
 mod device;
 mod hierarchy_text;
+pub mod laws;
 mod near_text;
 mod short_text;
 mod text;

@@ -19,8 +19,7 @@ use std::process::ExitCode;
 fn main(rt: HostRuntime) -> ExitCode {
     ExitCode::from(system::run(
         &rt,
-        &mut system::SystemFiles::new(&rt),
-        system::words_of(&rt),
+        &mut system::SystemFiles::new(system::HostFiles::new(&rt)),
         &mut ReaderInput::new(rt.stdin()),
         &mut WriterOutput::new(rt.stdout()),
         &mut WriterOutput::new(rt.stderr()),

@@ -61,10 +61,10 @@ pub fn run<R: Threads + Sync, F: Files, J: Input, O: Output, E: Output, G: Watch
     requires error_zeros { CanCountOneMore (E.idle errors.old) }
     ensures { (answer : Result Unit FaultOf)
         × MatchResult words
-        (λ list. IsAnswer F.opens F.closes F.Input.origin F.Input.failed (F.known files.old) J.left J.failed O.taken O.failed O.idle
+        (λ list. IsAnswer F.opens F.closes F.Input.read_gives F.Input.origin F.Input.failed J.read_gives J.failed O.write_gives O.failed O.idle
         (map string_bytes list.items) files.old files.new requests.old requests.new output.old output.new answer)
-        (λ fault. (files.new ≡ files.old) × (requests.new ≡ requests.old) × AnswersFault O.taken O.failed O.idle fault output.old output.new answer)
-        × IsEnd E.taken E.failed E.idle (O.closed output.new) answer errors.old errors.new result }
+        (λ fault. (files.new ≡ files.old) × (requests.new ≡ requests.old) × AnswersFault O.write_gives fault output.old output.new answer)
+        × IsEnd E.write_gives (O.closed output.new) answer errors.old errors.new result }
 {
     let answer = answer_to(system, files, requests, output, words, gate);
     end(errors, &answer, output.is_closed())
@@ -83,9 +83,9 @@ fn answer_to<R: Threads + Sync, F: Files, J: Input, O: Output, G: Watch>(
     requires failures { CanCountOneMore (O.failed output.old) }
     requires zeros { CanCountOneMore (O.idle output.old) }
     ensures { MatchResult words
-        (λ list. IsAnswer F.opens F.closes F.Input.origin F.Input.failed (F.known files.old) J.left J.failed O.taken O.failed O.idle
+        (λ list. IsAnswer F.opens F.closes F.Input.read_gives F.Input.origin F.Input.failed J.read_gives J.failed O.write_gives O.failed O.idle
         (map string_bytes list.items) files.old files.new requests.old requests.new output.old output.new result)
-        (λ fault. (files.new ≡ files.old) × (requests.new ≡ requests.old) × AnswersFault O.taken O.failed O.idle fault output.old output.new result) }
+        (λ fault. (files.new ≡ files.old) × (requests.new ≡ requests.old) × AnswersFault O.write_gives fault output.old output.new result) }
 {
     match words {
         Ok(words) => answer_words(system, files, requests, output, &words, gate),
@@ -105,7 +105,7 @@ fn answer_words<R: Threads + Sync, F: Files, J: Input, O: Output, G: Watch>(
     requires requests { CanCountOneMore (J.failed requests.old) }
     requires failures { CanCountOneMore (O.failed output.old) }
     requires zeros { CanCountOneMore (O.idle output.old) }
-    ensures { IsAnswer F.opens F.closes F.Input.origin F.Input.failed (F.known files.old) J.left J.failed O.taken O.failed O.idle
+    ensures { IsAnswer F.opens F.closes F.Input.read_gives F.Input.origin F.Input.failed J.read_gives J.failed O.write_gives O.failed O.idle
         (map string_bytes words.now) files.old files.new requests.old requests.new output.old output.new result }
 {
     let System { rt, alloc } = *system;
@@ -153,7 +153,7 @@ fn program_answer(run: Result<(), RunFault>) -> Result<(), ProgramFault>
 fn answer_fault<O: Output>(output: &mut O, fault: LineFault) -> Result<(), ProgramFault>
     requires failures { CanCountOneMore (O.failed output.old) }
     requires zeros { CanCountOneMore (O.idle output.old) }
-    ensures { AnswersFault O.taken O.failed O.idle fault output.old output.new result }
+    ensures { AnswersFault O.write_gives fault output.old output.new result }
 {
     match fault {
         LineFault::Help(text) => match write_all(output, text.as_bytes()) {
@@ -169,7 +169,7 @@ fn answer_fault<O: Output>(output: &mut O, fault: LineFault) -> Result<(), Progr
 fn end<E: Output>(errors: &mut E, answer: &Result<(), ProgramFault>, is_closed: bool) -> u8
     requires failures { CanCountOneMore (E.failed errors.old) }
     requires zeros { CanCountOneMore (E.idle errors.old) }
-    ensures { IsEnd E.taken E.failed E.idle is_closed answer.now errors.old errors.new result }
+    ensures { IsEnd E.write_gives is_closed answer.now errors.old errors.new result }
 {
     match answer {
         Ok(()) => 0,
@@ -189,7 +189,7 @@ fn is_unheard(fault: &ProgramFault, is_closed: bool) -> bool
 fn tell_fault<E: Output>(errors: &mut E, fault: &ProgramFault) -> u8
     requires failures { CanCountOneMore (E.failed errors.old) }
     requires zeros { CanCountOneMore (E.idle errors.old) }
-    ensures { EndsIn E.taken E.failed E.idle fault.now errors.old errors.new result }
+    ensures { EndsIn E.write_gives fault.now errors.old errors.new result }
 {
     match fault {
         ProgramFault::Line(fault) => tell_line_fault(errors, fault),
@@ -201,21 +201,28 @@ fn tell_fault<E: Output>(errors: &mut E, fault: &ProgramFault) -> u8
 fn tell_line_fault<E: Output>(errors: &mut E, fault: &LineFault) -> u8
     requires failures { CanCountOneMore (E.failed errors.old) }
     requires zeros { CanCountOneMore (E.idle errors.old) }
-    ensures told { IsTold E.taken E.failed E.idle (line_fault_text fault.now) errors.old errors.new }
+    ensures told { IsTold E.write_gives (line_fault_text fault.now) errors.old errors.new }
     ensures status { result ≡ line_status_of fault.now }
 {
-    match fault {
-        LineFault::Help(text) | LineFault::Refused(text) => tell(errors, text.as_bytes()),
-        LineFault::NoMemory => tell(errors, b"chtab: out of memory\n"),
-    }
+    tell(errors, line_text(fault));
     line_status(fault)
+}
+
+/// Returns the text that reports why no line is run.
+fn line_text(fault: &LineFault) -> &[u8]
+    ensures { result.now ≡ line_fault_text fault.now }
+{
+    match fault {
+        LineFault::Help(text) | LineFault::Refused(text) => text.as_bytes(),
+        LineFault::NoMemory => b"chtab: out of memory\n",
+    }
 }
 
 /// Reports the fault of a run, and returns the exit status.
 fn tell_run_fault<E: Output>(errors: &mut E, fault: &RunFault) -> u8
     requires failures { CanCountOneMore (E.failed errors.old) }
     requires zeros { CanCountOneMore (E.idle errors.old) }
-    ensures { EndsIn E.taken E.failed E.idle (FaultOf.Run fault.now) errors.old errors.new result }
+    ensures { EndsIn E.write_gives (FaultOf.Run fault.now) errors.old errors.new result }
 {
     tell(errors, fault_line(fault).as_slice());
     status(fault)
@@ -225,7 +232,7 @@ fn tell_run_fault<E: Output>(errors: &mut E, fault: &RunFault) -> u8
 fn tell<E: Output>(errors: &mut E, text: &[u8])
     requires failures { CanCountOneMore (E.failed errors.old) }
     requires zeros { CanCountOneMore (E.idle errors.old) }
-    ensures { IsTold E.taken E.failed E.idle text.now errors.old errors.new }
+    ensures { IsTold E.write_gives text.now errors.old errors.new }
 {
     let _ = write_all(errors, text);
 }

@@ -1,7 +1,8 @@
 //! Files in memory, for tests. Contracts know their bytes.
 
 ghost use Rattle.std.specs.Prelude.{◌≡◌, ◌<◌, ℕ, List};
-ghost use Rattle.ch_line.specs.Files.{Opens, state_among};
+ghost use Rattle.ch_line.specs.Files.{OpensWhole, state_among, whole_opens};
+ghost use Rattle.std.proofs.Common.{ap};
 
 use super::{Files, OpenFault};
 use ch_run::{Input, MemoryInput};
@@ -26,7 +27,8 @@ impl<'a> MemoryFiles<'a> {
     /// at least 1.
     pub fn new(files: &'a [MemoryFile<'a>], most: usize) -> Self
         requires { 0 < most }
-        ensures { (name : List ℕ) → ⟦<MemoryFiles<'a> as Files>⟧.known result name ≡ state_among files.now name }
+        ensures known { (name : List ℕ) → ⟦<MemoryFiles<'a> as Files>⟧.known result name ≡ state_among files.now name }
+        ensures most { result.most ≡ most }
     {
         MemoryFiles { files, most }
     }
@@ -37,10 +39,14 @@ impl<'a> Files for MemoryFiles<'a> {
 
     ghost known = { λ files name. state_among files.files.now name };
 
-    // `open` answers what is known of the name. Neither call changes the files.
-    ghost opens = { λ old name result new. Opens ⟦<MemoryInput<'a> as Input>⟧.left (state_among old.files.now name) result × (new ≡ old) };
+    // Each file is opened, whole and in these portions, and no other. Neither call changes the files.
+    ghost opens = { λ old name answer new. OpensWhole old.most (state_among old.files.now name) answer × (new ≡ old) };
 
     ghost closes = { λ old _ new. new ≡ old };
+
+    ghost tells = { λ old name answer new made. (whole_opens old.most (state_among old.files.now name) answer made.0, ap (λ files name. state_among files.files.now name) made.1) };
+
+    ghost keeps = { λ old input new made. ap (λ files name. state_among files.files.now name) made };
 
     fn open(&mut self, name: &str) -> Result<MemoryInput<'a>, OpenFault> {
         for file in self.files {

@@ -68,7 +68,7 @@ pub(crate) fn answer_requests<'a, R: Threads + Sync, O: Output, G: Gate>(
     requires counted { written.old < 2 ^ 64 }
     requires failures { CanCountOneMore (O.failed output.old) }
     requires zeros { CanCountOneMore (O.idle output.old) }
-    ensures answers { AnswersInTurn (IsTextOfRequest by.now.options.now by.now.checked.now.graph by.now.checked.now.hierarchy) (places_of room.old.near) (O.taken output.old) (O.taken output.new)
+    ensures answers { AnswersInTurn (IsTextOfRequest by.now.options.now by.now.checked.now.graph by.now.checked.now.hierarchy) O.write_gives (places_of room.old.near) output.old output.new
         written.old written.new requests.now result }
     ensures places { OnOk result (places_of room.new.near ≡ places_after (places_of room.old.near) requests.now) }
     ensures room { OnOk result (IsRoomFor by.now.options.now.direction by.now.checked.now.hierarchy room.new) }

@@ -53,15 +53,15 @@ pub fn run_ask<R: Threads + Sync, I: Input, S: Input + Drop, J: Input, O: Output
     requires hops { source.old ≡ SourceOf.Built → IsHopBound options.now.hops }
 
     // The requests are answered in order, or neither they nor the output are touched.
-    ensures served { (IsErrAnd result (IsOfLoading (source_reading S.left source.old source.new)) × (requests.new ≡ requests.old) × (output.new ≡ output.old))
-        ⊎ ServesBy options.now (reading I.left graph.old graph.new) (source_reading S.left source.old source.new) (reading J.left requests.old requests.new)
-        (O.taken output.old) (O.taken output.new) result }
+    ensures served { (IsErrAnd result (IsOfLoading (source_reading S.read_gives source.old source.new)) × (requests.new ≡ requests.old) × (output.new ≡ output.old))
+        ⊎ ServesBy options.now (reading I.read_gives graph.old graph.new) (source_reading S.read_gives source.old source.new) (reading J.read_gives requests.old requests.new)
+        O.write_gives output.old output.new result }
 
     // A run ends only in a fault of its own. A file is refused only for its first fault, and failures of
     // devices are reported exactly.
-    ensures own { IfErr result (IsOfAsk (source_reading S.left source.old source.new)) }
-    ensures graph { Reads Which.Graph result I.left I.failed graph.old graph.new IsGraphRefused }
-    ensures source { ReadsSource (reading I.left graph.old graph.new) result S.left S.failed source.old source.new }
+    ensures own { IfErr result (IsOfAsk (source_reading S.read_gives source.old source.new)) }
+    ensures graph { Reads Which.Graph result I.read_gives I.failed graph.old graph.new IsGraphRefused }
+    ensures source { ReadsSource (reading I.read_gives graph.old graph.new) result S.read_gives S.failed source.old source.new }
     ensures requests { ReadsOnce Which.Requests result J.failed requests.old requests.new }
     ensures output { WritesOnce result O.failed O.idle output.old output.new }
 

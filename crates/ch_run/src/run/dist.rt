@@ -56,19 +56,19 @@ pub fn run_dist<R: Threads + Sync, I: Input, S: Input + Drop, J: Input, O: Outpu
     requires hops { source.old ≡ SourceOf.Built → IsHopBound options.now.hops }
 
     // The output takes the text that answers the queries: all of it, or its first bytes.
-    ensures written { Delivers result (O.taken output.old) (O.taken output.new)
-        (IsAnsweredBy options.now (reading I.left graph.old graph.new) (source_reading S.left source.old source.new) (reading J.left queries.old queries.new)) }
+    ensures written { Delivers result O.write_gives output.old output.new
+        (IsAnsweredBy options.now (reading I.read_gives graph.old graph.new) (source_reading S.read_gives source.old source.new) (reading J.read_gives queries.old queries.new)) }
 
     // A run ends only in a fault of its own. A file is refused only for its first fault, and failures of
     // devices are reported exactly. No device is touched before all earlier inputs were accepted.
-    ensures own { IfErr result (IsOfDist (source_reading S.left source.old source.new)) }
-    ensures graph { Reads Which.Graph result I.left I.failed graph.old graph.new IsGraphRefused }
-    ensures source { ReadsSource (reading I.left graph.old graph.new) result S.left S.failed source.old source.new }
-    ensures queries { ReadsAfter (Which.Graph ∷ Which.Saved ∷ []) (AcceptsLoaded (reading I.left graph.old graph.new) (source_reading S.left source.old source.new))
-        Which.Queries result J.left J.failed queries.old queries.new
-        (HasQueriesRefused (reading I.left graph.old graph.new) (source_reading S.left source.old source.new)) }
+    ensures own { IfErr result (IsOfDist (source_reading S.read_gives source.old source.new)) }
+    ensures graph { Reads Which.Graph result I.read_gives I.failed graph.old graph.new IsGraphRefused }
+    ensures source { ReadsSource (reading I.read_gives graph.old graph.new) result S.read_gives S.failed source.old source.new }
+    ensures queries { ReadsAfter (Which.Graph ∷ Which.Saved ∷ []) (AcceptsLoaded (reading I.read_gives graph.old graph.new) (source_reading S.read_gives source.old source.new))
+        Which.Queries result J.read_gives J.failed queries.old queries.new
+        (HasQueriesRefused (reading I.read_gives graph.old graph.new) (source_reading S.read_gives source.old source.new)) }
     ensures output { WritesAfter
-        (AcceptsQueries (reading I.left graph.old graph.new) (source_reading S.left source.old source.new) (reading J.left queries.old queries.new))
+        (AcceptsQueries (reading I.read_gives graph.old graph.new) (source_reading S.read_gives source.old source.new) (reading J.read_gives queries.old queries.new))
         result O.failed O.idle output.old output.new }
 
     // Each input is still the same one.

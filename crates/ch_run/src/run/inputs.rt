@@ -2,7 +2,8 @@
 ghost use Rattle.std.specs.Prelude.{◌≡◌, ◌<◌, ◌≤◌, ◌↔◌, All, IfOk, IfErr, vec_len};
 ghost use Rattle.ch_graph.specs.declared.limits.TheConstants.{MOST_LISTED, MOST_QUERIES};
 ghost use Rattle.ch_read.specs.declared.fault.ReadFault.{ReadFault as FaultAt};
-ghost use Rattle.ch_text.specs.Device.{CanCountOneMore, CountsAtMostOne, HasGiven};
+ghost use Rattle.ch_text.specs.Device.{CanCountOneMore, CountsAtMostOne};
+ghost use Rattle.ch_text.specs.Moves.{GaveAll};
 ghost use Rattle.ch_run.specs.Run.{IsGraphRefused, IsListRefused, IsOf, IsQueriesRefused, IsUnread, ReadsGraph, ReadsNodes, ReadsQueries, reading};
 ghost use Rattle.ch_query.specs.Replies.{AreQueries};
 
@@ -20,8 +21,8 @@ pub(crate) fn graph_from<R: Threads + Sync, I: Input, G: Gate>(
     input: &mut I,
 ) -> Result<Graph, RunFault>
     requires { CanCountOneMore (I.failed input.old) }
-    ensures value { IfOk result (ReadsGraph (reading I.left input.old input.new)) }
-    ensures refused { (fault : FaultAt) → result ≡ Err (RunFault.Read Which.Graph fault) → IsGraphRefused (reading I.left input.old input.new) fault }
+    ensures value { IfOk result (ReadsGraph (reading I.read_gives input.old input.new)) }
+    ensures refused { (fault : FaultAt) → result ≡ Err (RunFault.Read Which.Graph fault) → IsGraphRefused (reading I.read_gives input.old input.new) fault }
     ensures device { (result ≡ Err (RunFault.Device Which.Graph)) ↔ (I.failed input.old < I.failed input.new) }
     ensures once { CountsAtMostOne (I.failed input.old) (I.failed input.new) }
     ensures same { I.origin input.new ≡ I.origin input.old }
@@ -41,10 +42,10 @@ pub(crate) fn queries_from<I: Input>(
     graph: &Graph,
 ) -> Result<Vec<(u32, u32)>, RunFault>
     requires { CanCountOneMore (I.failed input.old) }
-    ensures value { IfOk result (λ queries. ReadsQueries (reading I.left input.old input.new) graph.now.nodes queries.items) }
+    ensures value { IfOk result (λ queries. ReadsQueries (reading I.read_gives input.old input.new) graph.now.nodes queries.items) }
     ensures within { IfOk result (λ queries. AreQueries graph.now.nodes queries.items) }
     ensures size { IfOk result (λ queries. vec_len queries ≤ MOST_QUERIES) }
-    ensures refused { (fault : FaultAt) → result ≡ Err (RunFault.Read Which.Queries fault) → IsQueriesRefused (reading I.left input.old input.new) graph.now.nodes fault }
+    ensures refused { (fault : FaultAt) → result ≡ Err (RunFault.Read Which.Queries fault) → IsQueriesRefused (reading I.read_gives input.old input.new) graph.now.nodes fault }
     ensures device { (result ≡ Err (RunFault.Device Which.Queries)) ↔ (I.failed input.old < I.failed input.new) }
     ensures once { CountsAtMostOne (I.failed input.old) (I.failed input.new) }
     ensures same { I.origin input.new ≡ I.origin input.old }
@@ -65,10 +66,10 @@ pub(crate) fn nodes_from<I: Input>(
     which: Which,
 ) -> Result<Vec<u32>, RunFault>
     requires { CanCountOneMore (I.failed input.old) }
-    ensures value { IfOk result (λ list. ReadsNodes (reading I.left input.old input.new) graph.now.nodes list.items) }
+    ensures value { IfOk result (λ list. ReadsNodes (reading I.read_gives input.old input.new) graph.now.nodes list.items) }
     ensures within { IfOk result (λ list. All (λ node. node < graph.now.nodes) list.items) }
     ensures size { IfOk result (λ list. vec_len list ≤ MOST_LISTED) }
-    ensures refused { (fault : FaultAt) → result ≡ Err (RunFault.Read which fault) → IsListRefused (reading I.left input.old input.new) graph.now.nodes fault }
+    ensures refused { (fault : FaultAt) → result ≡ Err (RunFault.Read which fault) → IsListRefused (reading I.read_gives input.old input.new) graph.now.nodes fault }
     ensures device { (result ≡ Err (RunFault.Device which)) ↔ (I.failed input.old < I.failed input.new) }
     ensures once { CountsAtMostOne (I.failed input.old) (I.failed input.new) }
     ensures same { I.origin input.new ≡ I.origin input.old }
@@ -88,8 +89,8 @@ pub(crate) fn bytes_from<I: Input>(
     which: Which,
 ) -> Result<Vec<u8>, RunFault>
     requires { CanCountOneMore (I.failed input.old) }
-    ensures bytes { IfOk result (λ bytes. HasGiven (I.left input.old) (I.left input.new) bytes.items) }
-    ensures unread { IfErr result (IsUnread which) }
+    ensures bytes { IfOk result (λ bytes. GaveAll I.read_gives input.old bytes.items input.new) }
+    ensures unread { IfErr result (IsUnread which (reading I.read_gives input.old input.new)) }
     ensures device { (result ≡ Err (RunFault.Device which)) ↔ (I.failed input.old < I.failed input.new) }
     ensures once { CountsAtMostOne (I.failed input.old) (I.failed input.new) }
     ensures same { I.origin input.new ≡ I.origin input.old }

@@ -31,23 +31,23 @@ pub(crate) fn lists_from<J: Input, L: Input>(
     requires targets { CanCountOneMore (L.failed targets.old) }
 
     ensures value { IfOk result (λ lists.
-        ReadsLists (reading J.left sources.old sources.new) (reading L.left targets.old targets.new) graph.now.nodes lists.sources.items lists.targets.items) }
+        ReadsLists (reading J.read_gives sources.old sources.new) (reading L.read_gives targets.old targets.new) graph.now.nodes lists.sources.items lists.targets.items) }
     ensures within { IfOk result (λ lists. AreLists graph.now.nodes lists.sources.items lists.targets.items) }
 
     ensures own { IfErr result IsOfLists }
     ensures sources_refused { (fault : FaultAt) → result ≡ Err (RunFault.Read Which.Sources fault) →
-        IsListRefused (reading J.left sources.old sources.new) graph.now.nodes fault }
+        IsListRefused (reading J.read_gives sources.old sources.new) graph.now.nodes fault }
     ensures targets_refused { (fault : FaultAt) → result ≡ Err (RunFault.Read Which.Targets fault) →
-        HaveTargetsRefused (reading J.left sources.old sources.new) (reading L.left targets.old targets.new) graph.now.nodes fault }
+        HaveTargetsRefused (reading J.read_gives sources.old sources.new) (reading L.read_gives targets.old targets.new) graph.now.nodes fault }
     ensures cells_refused { result ≡ Err RunFault.Cells →
-        HaveCellsRefused (reading J.left sources.old sources.new) (reading L.left targets.old targets.new) graph.now.nodes }
+        HaveCellsRefused (reading J.read_gives sources.old sources.new) (reading L.read_gives targets.old targets.new) graph.now.nodes }
 
     ensures sources_device { (result ≡ Err (RunFault.Device Which.Sources)) ↔ (J.failed sources.old < J.failed sources.new) }
     ensures targets_device { (result ≡ Err (RunFault.Device Which.Targets)) ↔ (L.failed targets.old < L.failed targets.new) }
     ensures sources_once { CountsAtMostOne (J.failed sources.old) (J.failed sources.new) }
     ensures targets_once { CountsAtMostOne (L.failed targets.old) (L.failed targets.new) }
     ensures targets_unread { (targets.new ≡ targets.old)
-        ⊎ (GoesPast Which.Sources result × AcceptsList (reading J.left sources.old sources.new) graph.now.nodes) }
+        ⊎ (GoesPast Which.Sources result × AcceptsList (reading J.read_gives sources.old sources.new) graph.now.nodes) }
     ensures same_sources { J.origin sources.new ≡ J.origin sources.old }
     ensures same_targets { L.origin targets.new ≡ L.origin targets.old }
 {

@@ -44,10 +44,10 @@ pub(crate) fn loaded_from<R: Threads + Sync, I: Input, S: Input + Drop, G: Gate>
 ) -> Result<Loaded, RunFault>
     requires graph { CanCountOneMore (I.failed graph.old) }
     requires source { CanCountOneMore (source_failures S.failed source.old) }
-    ensures value { IfOk result (λ loaded. AreLoaded (reading I.left graph.old graph.new) (source_reading S.left source.old source.new) loaded.graph loaded.saved) }
-    ensures own { IfErr result (IsOfLoading (source_reading S.left source.old source.new)) }
-    ensures graph { Reads Which.Graph result I.left I.failed graph.old graph.new IsGraphRefused }
-    ensures source { ReadsSource (reading I.left graph.old graph.new) result S.left S.failed source.old source.new }
+    ensures value { IfOk result (λ loaded. AreLoaded (reading I.read_gives graph.old graph.new) (source_reading S.read_gives source.old source.new) loaded.graph loaded.saved) }
+    ensures own { IfErr result (IsOfLoading (source_reading S.read_gives source.old source.new)) }
+    ensures graph { Reads Which.Graph result I.read_gives I.failed graph.old graph.new IsGraphRefused }
+    ensures source { ReadsSource (reading I.read_gives graph.old graph.new) result S.read_gives S.failed source.old source.new }
     ensures same_graph { I.origin graph.new ≡ I.origin graph.old }
     ensures same_source { source_origin S.origin source.new ≡ source_origin S.origin source.old }
 {
@@ -79,22 +79,22 @@ fn checked_from<R: Threads + Sync, I: Input, S: Input, G: Gate>(
     requires saved { CanCountOneMore (S.failed saved.old) }
 
     ensures value { IfOk result (λ checked. (s : OrderAndLegs) ×
-        AreChecked (reading I.left graph.old graph.new) (reading S.left saved.old saved.new) checked.graph s checked.hierarchy) }
+        AreChecked (reading I.read_gives graph.old graph.new) (reading S.read_gives saved.old saved.new) checked.graph s checked.hierarchy) }
 
     ensures own { IfErr result IsOfChecked }
     ensures graph_refused { (fault : FaultAt) → result ≡ Err (RunFault.Read Which.Graph fault) →
-        IsGraphRefused (reading I.left graph.old graph.new) fault }
+        IsGraphRefused (reading I.read_gives graph.old graph.new) fault }
     ensures saved_refused { (fault : FaultAt) → result ≡ Err (RunFault.Read Which.Saved fault) →
-        HasSavedRefused (reading I.left graph.old graph.new) (reading S.left saved.old saved.new) fault }
+        HasSavedRefused (reading I.read_gives graph.old graph.new) (reading S.read_gives saved.old saved.new) fault }
     ensures check_refused { (fault : FaultOf) → result ≡ Err (RunFault.Check fault) →
-        HasCheckRefused (reading I.left graph.old graph.new) (reading S.left saved.old saved.new) fault }
+        HasCheckRefused (reading I.read_gives graph.old graph.new) (reading S.read_gives saved.old saved.new) fault }
 
     ensures graph_device { (result ≡ Err (RunFault.Device Which.Graph)) ↔ (I.failed graph.old < I.failed graph.new) }
     ensures saved_device { (result ≡ Err (RunFault.Device Which.Saved)) ↔ (S.failed saved.old < S.failed saved.new) }
     ensures graph_once { CountsAtMostOne (I.failed graph.old) (I.failed graph.new) }
     ensures saved_once { CountsAtMostOne (S.failed saved.old) (S.failed saved.new) }
     ensures saved_unread { (saved.new ≡ saved.old)
-        ⊎ (GoesPast Which.Graph result × AcceptsGraph (reading I.left graph.old graph.new)) }
+        ⊎ (GoesPast Which.Graph result × AcceptsGraph (reading I.read_gives graph.old graph.new)) }
     ensures same_graph { I.origin graph.new ≡ I.origin graph.old }
     ensures same_saved { S.origin saved.new ≡ S.origin saved.old }
 {
@@ -159,8 +159,8 @@ fn saved_from<R: Threads + Sync, S: Input, G: Gate>(
     graph: &Graph,
 ) -> Result<Saved, RunFault>
     requires { CanCountOneMore (S.failed input.old) }
-    ensures value { IfOk result (ReadsSaved (reading S.left input.old input.new) graph.now.nodes) }
-    ensures refused { (fault : FaultAt) → result ≡ Err (RunFault.Read Which.Saved fault) → IsSavedRefused (reading S.left input.old input.new) graph.now.nodes fault }
+    ensures value { IfOk result (ReadsSaved (reading S.read_gives input.old input.new) graph.now.nodes) }
+    ensures refused { (fault : FaultAt) → result ≡ Err (RunFault.Read Which.Saved fault) → IsSavedRefused (reading S.read_gives input.old input.new) graph.now.nodes fault }
     ensures device { (result ≡ Err (RunFault.Device Which.Saved)) ↔ (S.failed input.old < S.failed input.new) }
     ensures once { CountsAtMostOne (S.failed input.old) (S.failed input.new) }
     ensures same { S.origin input.new ≡ S.origin input.old }

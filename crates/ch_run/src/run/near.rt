@@ -73,25 +73,25 @@ pub fn run_near<
     requires hops { source.old ≡ SourceOf.Built → IsHopBound options.now.hops }
 
     // The output takes the near rows of the inputs: all of them, or their first bytes.
-    ensures written { Delivers result (O.taken output.old) (O.taken output.new)
-        (IsNearBy options.now (reading I.left graph.old graph.new) (source_reading S.left source.old source.new)
-        (sources_reading J.left sources.old sources.new) (reading L.left targets.old targets.new)) }
+    ensures written { Delivers result O.write_gives output.old output.new
+        (IsNearBy options.now (reading I.read_gives graph.old graph.new) (source_reading S.read_gives source.old source.new)
+        (sources_reading J.read_gives sources.old sources.new) (reading L.read_gives targets.old targets.new)) }
 
     // A run ends only in a fault of its own. A file is refused only for its first fault, and failures of
     // devices are reported exactly. No device is touched before all earlier inputs were accepted.
-    ensures own { IfErr result (IsOfNear (source_reading S.left source.old source.new) (sources_reading J.left sources.old sources.new)) }
-    ensures graph { Reads Which.Graph result I.left I.failed graph.old graph.new IsGraphRefused }
-    ensures source { ReadsSource (reading I.left graph.old graph.new) result S.left S.failed source.old source.new }
-    ensures sources { ReadsSources (Which.Graph ∷ Which.Saved ∷ []) (AcceptsLoaded (reading I.left graph.old graph.new) (source_reading S.left source.old source.new))
-        result J.left J.failed sources.old sources.new
-        (HasSourcesRefused (reading I.left graph.old graph.new) (source_reading S.left source.old source.new)) }
+    ensures own { IfErr result (IsOfNear (source_reading S.read_gives source.old source.new) (sources_reading J.read_gives sources.old sources.new)) }
+    ensures graph { Reads Which.Graph result I.read_gives I.failed graph.old graph.new IsGraphRefused }
+    ensures source { ReadsSource (reading I.read_gives graph.old graph.new) result S.read_gives S.failed source.old source.new }
+    ensures sources { ReadsSources (Which.Graph ∷ Which.Saved ∷ []) (AcceptsLoaded (reading I.read_gives graph.old graph.new) (source_reading S.read_gives source.old source.new))
+        result J.read_gives J.failed sources.old sources.new
+        (HasSourcesRefused (reading I.read_gives graph.old graph.new) (source_reading S.read_gives source.old source.new)) }
     ensures targets { ReadsAfter (Which.Graph ∷ Which.Saved ∷ Which.Sources ∷ [])
-        (AcceptsNearSources (reading I.left graph.old graph.new) (source_reading S.left source.old source.new) (sources_reading J.left sources.old sources.new))
-        Which.Targets result L.left L.failed targets.old targets.new
-        (HasNearTargetsRefused (reading I.left graph.old graph.new) (source_reading S.left source.old source.new) (sources_reading J.left sources.old sources.new)) }
+        (AcceptsNearSources (reading I.read_gives graph.old graph.new) (source_reading S.read_gives source.old source.new) (sources_reading J.read_gives sources.old sources.new))
+        Which.Targets result L.read_gives L.failed targets.old targets.new
+        (HasNearTargetsRefused (reading I.read_gives graph.old graph.new) (source_reading S.read_gives source.old source.new) (sources_reading J.read_gives sources.old sources.new)) }
     ensures output { WritesAfter
-        (AcceptsNodeLists (reading I.left graph.old graph.new) (source_reading S.left source.old source.new)
-        (sources_reading J.left sources.old sources.new) (reading L.left targets.old targets.new))
+        (AcceptsNodeLists (reading I.read_gives graph.old graph.new) (source_reading S.read_gives source.old source.new)
+        (sources_reading J.read_gives sources.old sources.new) (reading L.read_gives targets.old targets.new))
         result O.failed O.idle output.old output.new }
 
     // Each input is still the same one.

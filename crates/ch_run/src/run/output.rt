@@ -11,7 +11,7 @@ use ch_text::{Output, write_all};
 pub(crate) fn write_text<O: Output>(output: &mut O, text: &[u8]) -> Result<(), RunFault>
     requires failures { CanCountOneMore (O.failed output.old) }
     requires zeros { CanCountOneMore (O.idle output.old) }
-    ensures written { Delivers result (O.taken output.old) (O.taken output.new) (λ bytes. bytes ≡ text.now) }
+    ensures written { Delivers result O.write_gives output.old output.new (λ bytes. bytes ≡ text.now) }
     ensures own { IfErr result IsWrite }
     ensures device { IsErrAnd result IsWrite ↔ ((O.failed output.old < O.failed output.new) ⊎ (O.idle output.old < O.idle output.new)) }
     ensures once { CountsAtMostOneOf (O.failed output.old) (O.failed output.new) (O.idle output.old) (O.idle output.new) }
@@ -27,7 +27,7 @@ pub(crate) fn write_parts<O: Output>(output: &mut O, parts: &[Vec<u8>]) -> Resul
     requires length { length (flat_map (λ part. part.items) parts.now) < 2 ^ 64 }
     requires failures { CanCountOneMore (O.failed output.old) }
     requires zeros { CanCountOneMore (O.idle output.old) }
-    ensures written { Delivers result (O.taken output.old) (O.taken output.new) (λ bytes. bytes ≡ flat_map (λ part. part.items) parts.now) }
+    ensures written { Delivers result O.write_gives output.old output.new (λ bytes. bytes ≡ flat_map (λ part. part.items) parts.now) }
     ensures own { IfErr result IsWrite }
     ensures device { IsErrAnd result IsWrite ↔ ((O.failed output.old < O.failed output.new) ⊎ (O.idle output.old < O.idle output.new)) }
     ensures once { CountsAtMostOneOf (O.failed output.old) (O.failed output.new) (O.idle output.old) (O.idle output.new) }
@@ -47,7 +47,7 @@ pub(crate) fn write_more<O: Output>(
 ) -> Result<(), RunFault>
     requires failures { CanCountOneMore (O.failed output.old) }
     requires zeros { CanCountOneMore (O.idle output.old) }
-    ensures more { WritesMore (O.taken output.old) (O.taken output.new) written.old written.new more.now result }
+    ensures more { WritesMore O.write_gives output.old output.new written.old written.new more.now result }
     ensures counts { CountsWrites (O.failed output.old) (O.failed output.new) (O.idle output.old) (O.idle output.new) result }
 {
     match write_all(output, more) {

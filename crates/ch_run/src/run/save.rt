@@ -38,14 +38,14 @@ pub fn run_save<R: Threads + Sync, I: Input, O: Output, G: Gate>(
     requires hops { IsHopBound options.now.hops }
 
     // The output takes the text of the graph's hierarchy: all of it, or its first bytes.
-    ensures written { Delivers result (O.taken output.old) (O.taken output.new)
-        (IsSavedBy options.now (reading I.left graph.old graph.new)) }
+    ensures written { Delivers result O.write_gives output.old output.new
+        (IsSavedBy options.now (reading I.read_gives graph.old graph.new)) }
 
     // A run ends only in a fault of its own. The graph is refused only for its first fault, and failures
     // of devices are reported exactly. Nothing is written before the graph was accepted.
     ensures own { IfErr result IsOfSave }
-    ensures graph { Reads Which.Graph result I.left I.failed graph.old graph.new IsGraphRefused }
-    ensures output { WritesAfter (AcceptsGraph (reading I.left graph.old graph.new)) result O.failed O.idle output.old output.new }
+    ensures graph { Reads Which.Graph result I.read_gives I.failed graph.old graph.new IsGraphRefused }
+    ensures output { WritesAfter (AcceptsGraph (reading I.read_gives graph.old graph.new)) result O.failed O.idle output.old output.new }
 
     // The graph is still the same input.
     ensures same_graph { I.origin graph.new ≡ I.origin graph.old }

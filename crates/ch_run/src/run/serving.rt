@@ -1,11 +1,12 @@
 //! Reads requests and answers them as they come.
-ghost use Rattle.std.specs.Prelude.{◌≡◌, ◌+◌, ◌^◌, ◌<◌, ◌≤◌, ◌↔◌, length, List, None, IfErr, IfOk, OnOk};
+ghost use Rattle.std.specs.Prelude.{◌≡◌, ◌+◌, ◌^◌, ◌<◌, ◌≤◌, ◌↔◌, length, List, None, Ok, Err, IfErr, IfOk, OnErr, OnOk};
 ghost use Rattle.ch_graph.specs.Graph.{IsWithinLimits};
 ghost use Rattle.ch_hierarchy.specs.Kept.{IsKept};
 ghost use Rattle.ch_read.specs.Requests.{IsUsedUp};
 ghost use Rattle.ch_read.specs.declared.request.Request.{Request as RequestOf};
 ghost use Rattle.ch_run.specs.Ask.{IsOfServing, IsTextOfRequest, Serves, places_after};
-ghost use Rattle.ch_text.specs.Device.{CanCountOneMore, CountsAtMostOne, GivesBytes, failures_in};
+ghost use Rattle.ch_text.specs.Device.{CanCountOneMore, CountsAtMostOne, failures_in};
+ghost use Rattle.ch_text.specs.declared.device.DeviceFault.{DeviceFault as Failure};
 ghost use Rattle.ch_run.specs.Run.{reading};
 ghost use Rattle.ch_run.specs.Serving.{AnswersInTurn, CountsWrites, GivesUntil, IsRoomFor, places_of};
 
@@ -32,8 +33,8 @@ pub(crate) fn serve<R: Threads + Sync, J: Input, O: Output, G: Gate>(
     requires requests { CanCountOneMore (J.failed requests.old) }
     requires failures { CanCountOneMore (O.failed output.old) }
     requires zeros { CanCountOneMore (O.idle output.old) }
-    ensures served { Serves (IsTextOfRequest by.now.options.now by.now.checked.now.graph by.now.checked.now.hierarchy) by.now.checked.now.graph.nodes
-        (reading J.left requests.old requests.new) (O.taken output.old) (O.taken output.new) result }
+    ensures served { Serves (IsTextOfRequest by.now.options.now by.now.checked.now.graph by.now.checked.now.hierarchy) O.write_gives by.now.checked.now.graph.nodes
+        (reading J.read_gives requests.old requests.new) output.old output.new result }
     ensures own { IfErr result IsOfServing }
     ensures device { (result ≡ Err (RunFault.Device Which.Requests)) ↔ (J.failed requests.old < J.failed requests.new) }
     ensures once { CountsAtMostOne (J.failed requests.old) (J.failed requests.new) }
@@ -61,8 +62,8 @@ fn serve_in<'a, R: Threads + Sync, J: Input, O: Output, G: Gate>(
     requires requests { CanCountOneMore (J.failed requests.old) }
     requires failures { CanCountOneMore (O.failed output.old) }
     requires zeros { CanCountOneMore (O.idle output.old) }
-    ensures served { Serves (IsTextOfRequest by.now.options.now by.now.checked.now.graph by.now.checked.now.hierarchy) by.now.checked.now.graph.nodes
-        (reading J.left requests.old requests.new) (O.taken output.old) (O.taken output.new) result }
+    ensures served { Serves (IsTextOfRequest by.now.options.now by.now.checked.now.graph by.now.checked.now.hierarchy) O.write_gives by.now.checked.now.graph.nodes
+        (reading J.read_gives requests.old requests.new) output.old output.new result }
     ensures own { IfErr result IsOfServing }
     ensures device { (result ≡ Err (RunFault.Device Which.Requests)) ↔ (J.failed requests.old < J.failed requests.new) }
     ensures once { CountsAtMostOne (J.failed requests.old) (J.failed requests.new) }
@@ -86,8 +87,9 @@ fn serve_in<'a, R: Threads + Sync, J: Input, O: Output, G: Gate>(
 fn read_once<J: Input>(requests: &mut J, buffer: &mut [u8]) -> Result<usize, RunFault>
     requires { CanCountOneMore (J.failed requests.old) }
     ensures fits { IfOk result (λ count. count ≤ length buffer.new) }
-    ensures bytes { GivesBytes (J.left requests.old) (J.left requests.new) result buffer.new }
+    ensures given { IfOk result (λ count. J.read_gives requests.old buffer.new (Ok count) requests.new) }
     ensures failures { J.failed requests.new ≡ J.failed requests.old + failures_in result }
+    ensures failed { OnErr result ((fault : Failure) × J.read_gives requests.old buffer.new (Err fault) requests.new) }
     ensures own { IfErr result (λ fault. fault ≡ RunFault.Device Which.Requests) }
 {
     match requests.read(buffer) {
@@ -114,7 +116,7 @@ fn answer_whole<'a, R: Threads + Sync, O: Output, G: Gate>(
     requires failures { CanCountOneMore (O.failed output.old) }
     requires zeros { CanCountOneMore (O.idle output.old) }
     ensures answered { (given : List RequestOf) × GivesUntil ended reader.old reader.new given result
-        × AnswersInTurn (IsTextOfRequest by.now.options.now by.now.checked.now.graph by.now.checked.now.hierarchy) (places_of room.old.near) (O.taken output.old) (O.taken output.new)
+        × AnswersInTurn (IsTextOfRequest by.now.options.now by.now.checked.now.graph by.now.checked.now.hierarchy) O.write_gives (places_of room.old.near) output.old output.new
         written.old written.new given result
         × OnOk result (places_of room.new.near ≡ places_after (places_of room.old.near) given) }
     ensures used_up { OnOk result (IsUsedUp ended reader.new) }

@@ -7,8 +7,9 @@ ghost use Rattle.std.specs.Prelude.{◌≡◌, ◌+◌, ◌≤◌, ℕ, false, L
 ghost use Rattle.std.specs.Io.{ReadsAtMost, WritesAtMost};
 ghost use Rattle.std.specs.Io.KnownBytes.{ReadConsumes, WriteAppends};
 ghost use Rattle.std.specs.declared.io.Error.{Error as IoError};
-ghost use Rattle.ch_text.specs.Calls.{IsClosedBy, IsReadOf, IsWriteOf, device_answer};
-ghost use Rattle.ch_text.specs.Device.{CanCountOneMore, ClosesAtFault, GivesBytes, TakesBytes, idle_writes, failures_in};
+ghost use Rattle.ch_text.specs.Calls.{IsClosedBy, IsDeviceRead, IsDeviceWrite, IsReadOf, IsWriteOf};
+ghost use Rattle.ch_text.specs.Device.{CanCountOneMore, ClosesAtFault, idle_writes, failures_in};
+ghost use Rattle.ch_text.specs.Told.{reader_tells, writer_tells};
 
 use super::{DeviceFault, Input, Output};
 use std::io::{self, ErrorKind, Read, Write};
@@ -26,14 +27,18 @@ pub trait ReadOnce {
     /// Makes one read of `std`.
     fn read_once(&mut self, buffer: &mut [u8]) -> io::Result<usize>
         ensures bound { ReadsAtMost result buffer.new }
-        ensures bytes { ReadConsumes (remaining self.old) (remaining self.new) result buffer.new }
         ensures made { read_gives self.old buffer.new result self.new };
+
+    // a read takes known bytes from the front of those that are left
+    ghost tells: { (old : Self) → (buffer : List ℕ) → (answer : Result ℕ IoError) → (new : Self) → read_gives old buffer answer new → ReadConsumes (remaining old) (remaining new) answer buffer };
 }
 
 impl<D: Read> ReadOnce for D {
     ghost remaining = { D.Read.remaining };
 
     ghost read_gives = { λ old buffer result new. ReadsAtMost result buffer × ReadConsumes (D.Read.remaining old) (D.Read.remaining new) result buffer };
+
+    ghost tells = { λ old buffer answer new made. made.1 };
 
     fn read_once(&mut self, buffer: &mut [u8]) -> io::Result<usize> {
         self.read(buffer)
@@ -51,14 +56,18 @@ pub trait WriteOnce {
     /// Makes one write of `std`.
     fn write_once(&mut self, bytes: &[u8]) -> io::Result<usize>
         ensures bound { WritesAtMost result bytes.now }
-        ensures bytes { WriteAppends (contents self.old) (contents self.new) result bytes.now }
         ensures made { write_gives self.old bytes.now result self.new };
+
+    // a write puts its bytes behind the known bytes of the sink
+    ghost tells: { (old : Self) → (bytes : List ℕ) → (answer : Result ℕ IoError) → (new : Self) → write_gives old bytes answer new → WriteAppends (contents old) (contents new) answer bytes };
 }
 
 impl<D: Write> WriteOnce for D {
     ghost contents = { D.Write.contents };
 
     ghost write_gives = { λ old bytes result new. WritesAtMost result bytes × WriteAppends (D.Write.contents old) (D.Write.contents new) result bytes };
+
+    ghost tells = { λ old bytes answer new made. made.1 };
 
     fn write_once(&mut self, bytes: &[u8]) -> io::Result<usize> {
         self.write(bytes)
@@ -84,12 +93,18 @@ impl<D: ReadOnce + Drop> ReaderInput<D> {
             failures: 0,
         }
     }
+
+    /// Returns the reader, where its reads left it.
+    pub fn into_reader(self) -> D
+        ensures { result ≡ self.reader }
+    {
+        self.reader
+    }
 }
 
 /// Reads once, and again after each read that was interrupted.
 fn read_uninterrupted<D: ReadOnce>(reader: &mut D, buffer: &mut [u8]) -> io::Result<usize>
     ensures fits { IfOk result (λ count. count ≤ length buffer.new) }
-    ensures given { ReadConsumes (D.remaining reader.old) (D.remaining reader.new) result buffer.new }
     ensures made { IsReadOf D.read_gives reader.old buffer.old result reader.new buffer.new }
 {
     for _ in 0..u64::MAX {
@@ -104,15 +119,20 @@ fn read_uninterrupted<D: ReadOnce>(reader: &mut D, buffer: &mut [u8]) -> io::Res
 impl<D: ReadOnce + Drop> Input for ReaderInput<D> {
     ghost failed = { λ d. d.failures };
 
+    ghost read_gives = { λ old buffer answer new. IsDeviceRead D.read_gives old.reader buffer answer new.reader × (new.failures ≡ old.failures + failures_in answer) };
+
     ghost left = { λ d. D.remaining d.reader };
+
+    ghost tells = { λ old buffer answer new made. reader_tells D.read_gives D.remaining D.tells old.reader buffer answer new.reader made.0 };
+
+    ghost counts = { λ old buffer answer new made. made.1 };
 
     // It gives the bytes that the reader gave, and fails if the reader failed.
     fn read(&mut self, buffer: &mut [u8]) -> Result<usize, DeviceFault>
         requires { CanCountOneMore self.old.failures }
         ensures fits { IfOk result (λ count. count ≤ length buffer.new) }
-        ensures failures { self.new.failures ≡ self.old.failures + failures_in result }
-        ensures bytes { GivesBytes (D.remaining self.old.reader) (D.remaining self.new.reader) result buffer.new }
-        ensures made { (answer : Result ℕ IoError) × IsReadOf D.read_gives self.old.reader buffer.old answer self.new.reader buffer.new × (result ≡ device_answer answer) }
+        ensures made { IsDeviceRead D.read_gives self.old.reader buffer.new result self.new.reader
+            × (self.new.failures ≡ self.old.failures + failures_in result) }
     {
         match read_uninterrupted(&mut self.reader, buffer) {
             Ok(count) => Ok(count),
@@ -161,7 +181,6 @@ impl<D: WriteOnce + Drop> WriterOutput<D> {
 /// Writes once, and again after each write that was interrupted.
 fn write_uninterrupted<D: WriteOnce>(writer: &mut D, bytes: &[u8]) -> io::Result<usize>
     ensures fits { IfOk result (λ count. count ≤ length bytes.now) }
-    ensures taken { WriteAppends (D.contents writer.old) (D.contents writer.new) result bytes.now }
     ensures made { IsWriteOf D.write_gives writer.old bytes.now result writer.new }
 {
     for _ in 0..u64::MAX {
@@ -178,9 +197,16 @@ impl<D: WriteOnce + Drop> Output for WriterOutput<D> {
 
     ghost idle = { λ d. d.zeros };
 
+    ghost write_gives = { λ old bytes answer new. IsDeviceWrite D.write_gives old.writer old.is_closed bytes answer new.writer new.is_closed
+        × (new.failures ≡ old.failures + failures_in answer) × (new.zeros ≡ old.zeros + idle_writes answer bytes) };
+
     ghost taken = { λ d. D.contents d.writer };
 
     ghost closed = { λ d. d.is_closed };
+
+    ghost tells = { λ old bytes answer new made. writer_tells D.write_gives D.contents D.tells old.writer old.is_closed bytes answer new.writer new.is_closed made.0 };
+
+    ghost counts = { λ old bytes answer new made. (made.1, made.2) };
 
     // It takes the bytes that the writer took, and fails if the writer failed. Only a broken pipe closes
     // it.
@@ -188,11 +214,8 @@ impl<D: WriteOnce + Drop> Output for WriterOutput<D> {
         requires failures { CanCountOneMore self.old.failures }
         requires zeros { CanCountOneMore self.old.zeros }
         ensures fits { IfOk result (λ count. count ≤ length bytes.now) }
-        ensures failures { self.new.failures ≡ self.old.failures + failures_in result }
-        ensures zeros { self.new.zeros ≡ self.old.zeros + idle_writes result bytes.now }
-        ensures bytes { TakesBytes (D.contents self.old.writer) (D.contents self.new.writer) result bytes.now }
-        ensures made { (answer : Result ℕ IoError) × IsWriteOf D.write_gives self.old.writer bytes.now answer self.new.writer × (result ≡ device_answer answer)
-            × IsClosedBy self.old.is_closed self.new.is_closed answer }
+        ensures made { IsDeviceWrite D.write_gives self.old.writer self.old.is_closed bytes.now result self.new.writer self.new.is_closed
+            × (self.new.failures ≡ self.old.failures + failures_in result) × (self.new.zeros ≡ self.old.zeros + idle_writes result bytes.now) }
         ensures closes { ClosesAtFault self.old.is_closed self.new.is_closed result }
     {
         match write_uninterrupted(&mut self.writer, bytes) {

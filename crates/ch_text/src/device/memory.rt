@@ -83,14 +83,19 @@ impl<'a> MemoryInput<'a> {
 impl Input for MemoryInput<'_> {
     ghost failed = { λ d. d.failures };
 
+    ghost read_gives = { λ old buffer answer new. GivesBytes (Some old.left.now) (Some new.left.now) answer buffer × (new.failures ≡ old.failures + failures_in answer) };
+
     ghost left = { λ d. Some d.left.now };
+
+    ghost tells = { λ old buffer answer new made. made.0 };
+
+    ghost counts = { λ old buffer answer new made. made.1 };
 
     // It fails at its turn, and at no other read.
     fn read(&mut self, buffer: &mut [u8]) -> Result<usize, DeviceFault>
         requires { CanCountOneMore self.old.failures }
         ensures fits { IfOk result (λ count. count ≤ length buffer.new) }
-        ensures failures { self.new.failures ≡ self.old.failures + failures_in result }
-        ensures bytes { GivesBytes (Some self.old.left.now) (Some self.new.left.now) result buffer.new }
+        ensures made { GivesBytes (Some self.old.left.now) (Some self.new.left.now) result buffer.new × (self.new.failures ≡ self.old.failures + failures_in result) }
         ensures gives { IfOk result (λ count. count ≡ min (min (length self.old.left.now) (length buffer.old)) self.old.most) }
         ensures turn { IsErr result ↔ (self.old.fault.before ≡ Some 0) }
         ensures turns { self.new.fault.before ≡ turns_after self.old.fault.before }
@@ -220,9 +225,16 @@ impl Output for MemoryOutput {
 
     ghost idle = { λ d. d.zeros };
 
+    ghost write_gives = { λ old bytes answer new. TakesBytes (Some old.taken.items) (Some new.taken.items) answer bytes
+        × (new.failures ≡ old.failures + failures_in answer) × (new.zeros ≡ old.zeros + idle_writes answer bytes) };
+
     ghost taken = { λ d. Some d.taken.items };
 
     ghost closed = { λ d. d.is_closed };
+
+    ghost tells = { λ old bytes answer new made. made.0 };
+
+    ghost counts = { λ old bytes answer new made. (made.1, made.2) };
 
     // It fails at its turn, and at no other write. If `closes` is set, that closes it. At the turn of
     // its pause it takes no byte.
@@ -230,9 +242,8 @@ impl Output for MemoryOutput {
         requires failures { CanCountOneMore self.old.failures }
         requires zeros { CanCountOneMore self.old.zeros }
         ensures fits { IfOk result (λ count. count ≤ length bytes.now) }
-        ensures failures { self.new.failures ≡ self.old.failures + failures_in result }
-        ensures zeros { self.new.zeros ≡ self.old.zeros + idle_writes result bytes.now }
-        ensures bytes { TakesBytes (Some self.old.taken.items) (Some self.new.taken.items) result bytes.now }
+        ensures made { TakesBytes (Some self.old.taken.items) (Some self.new.taken.items) result bytes.now
+            × (self.new.failures ≡ self.old.failures + failures_in result) × (self.new.zeros ≡ self.old.zeros + idle_writes result bytes.now) }
         ensures turn { IsErr result ↔ (self.old.fault.before ≡ Some 0) }
         ensures turns { self.new.fault.before ≡ turns_after self.old.fault.before }
         ensures pause { self.old.pause.before ≡ Some 0 → IfOk result (λ count. count ≡ 0) }

@@ -1,32 +1,29 @@
 use Rattle.std.proofs.Common.{[], ◌∷◌, ◌++◌, refl}
-use Rattle.std.proofs.lemmas.Result.{IfErr-weaker}
 use Rattle.std.proofs.Math.Logic.{⊎_map}
 use Rattle.ch_run.specs.declared.fault.Which.{Which}
 use Rattle.ch_run.specs.NearRun.{listed_in}
 use Rattle.ch_line.specs.Inputs.{AreRead, input_if}
 use Rattle.ch_line.proofs.Read.{source-read, source-unread, sources-read}
-use Rattle.ch_line.proofs.Whole.{answered-whole, cells-refused, delivers-weaker, err-weaker, list-refused, loading-whole, near-refused, near-whole, node-lists-whole, none-refused, queries-refused, saved-refused, saved-whole, served-whole, source-whole, sources-refused, sources-whole, tabled-whole, targets-refused, to-whole}
+use Rattle.ch_line.proofs.Refused.{list-refused, none-refused, saved-refused}
 use Rattle.ch_line.proofs.inputs.run_inputs.Goals as goal
 
 pub returns-in-Queries-clause-written : goal.returns-in-Queries-clause-written
 returns-in-Queries-clause-written g c =
     let e = c.run_dist.ensures in
-    let whole = source-whole _ _ _ _ _ _ e.source in
     rw c.in-Queries.is (record {
       unasked = refl;
-      delivers = delivers-weaker c.run_dist.result _ _ _ _ (answered-whole _ _ _ _ whole c.args.options.now _ _) e.written;
+      delivers = rw c.options_of.ensures at e.written;
       unwritten = ⊎_map (λ same. same) (λ refused. refused.0) e.output.unwritten;
     })
 
 pub returns-in-Queries-clause-ends : goal.returns-in-Queries-clause-ends
 returns-in-Queries-clause-ends g c =
     let e = c.run_dist.ensures in
-    let whole = source-whole _ _ _ _ _ _ e.source in
     rw c.in-Queries.is (record {
-      own = IfErr-weaker c.run_dist.result _ _ (λ fault own. ⊎_map (loading-whole _ _ whole fault) (λ more. more) own) e.own;
-      graph_refused = λ fault same. to-whole _ _ _ (e.graph.refused fault same);
-      saved_refused = saved-refused _ _ c.run_dist.result _ _ _ _ e.source;
-      asked_refused = λ fault same. queries-refused _ _ _ _ whole _ _ fault (e.queries.reads.refused fault same);
+      own = e.own;
+      graph_refused = e.graph.refused;
+      saved_refused = saved-refused _ c.run_dist.result _ _ _ _ e.source;
+      asked_refused = e.queries.reads.refused;
     })
 
 pub returns-in-Queries-clause-read : goal.returns-in-Queries-clause-read
@@ -38,31 +35,29 @@ returns-in-Queries-clause-read g c =
     rw c.in-Queries.is (
       refl,
       record { same = e.same_graph; once = e.graph.once },
-      source-read g.I.Input.left g.I.Input.origin g.I.Input.failed c.run_dist.result old new queries _ c.args.inputs.now.source c.run_dist.new.source e.source e.same_source,
+      source-read g.I.Input.read_gives g.I.Input.origin g.I.Input.failed c.run_dist.result old new queries _ c.args.inputs.now.source c.run_dist.new.source e.source e.same_source,
     )
 
 pub returns-in-Table-clause-written : goal.returns-in-Table-clause-written
 returns-in-Table-clause-written g c =
     let e = c.run_table.ensures in
-    let whole = source-whole _ _ _ _ _ _ e.source in
     rw c.in-Table.is (record {
       unasked = refl;
-      delivers = delivers-weaker c.run_table.result _ _ _ _ (tabled-whole _ _ _ _ whole c.args.options.now _ _ _ _) e.written;
+      delivers = rw c.options_of.ensures at e.written;
       unwritten = ⊎_map (λ same. same) (λ refused. refused.0) e.output.unwritten;
     })
 
 pub returns-in-Table-clause-ends : goal.returns-in-Table-clause-ends
 returns-in-Table-clause-ends g c =
     let e = c.run_table.ensures in
-    let whole = source-whole _ _ _ _ _ _ e.source in
     rw c.in-Table.is (record {
-      own = IfErr-weaker c.run_table.result _ _ (λ fault own. ⊎_map (loading-whole _ _ whole fault) (λ more. more) own) e.own;
-      graph_refused = λ fault same. to-whole _ _ _ (e.graph.refused fault same);
-      saved_refused = saved-refused _ _ c.run_table.result _ _ _ _ e.source;
+      own = e.own;
+      graph_refused = e.graph.refused;
+      saved_refused = saved-refused _ c.run_table.result _ _ _ _ e.source;
       asked_refused = record {
-        sources_refused = λ fault same. sources-refused _ _ _ _ whole _ _ fault (e.sources.reads.refused fault same);
-        targets_refused = λ fault same. targets-refused _ _ _ _ whole _ _ _ _ fault (e.targets.reads.refused fault same);
-        cells_refused = λ same. cells-refused _ _ _ _ whole _ _ _ _ (e.cells same);
+        sources_refused = e.sources.reads.refused;
+        targets_refused = e.targets.reads.refused;
+        cells_refused = e.cells;
       };
     })
 
@@ -76,32 +71,28 @@ returns-in-Table-clause-read g c =
     rw c.in-Table.is (
       refl,
       record { same = e.same_graph; once = e.graph.once },
-      source-read g.I.Input.left g.I.Input.origin g.I.Input.failed c.run_table.result old new lists _ c.args.inputs.now.source c.run_table.new.source e.source e.same_source,
+      source-read g.I.Input.read_gives g.I.Input.origin g.I.Input.failed c.run_table.result old new lists _ c.args.inputs.now.source c.run_table.new.source e.source e.same_source,
     )
 
 pub returns-in-Near-clause-written : goal.returns-in-Near-clause-written
 returns-in-Near-clause-written g c =
     let e = c.run_near.ensures in
-    let whole = source-whole _ _ _ _ _ _ e.source in
-    let all = sources-whole _ _ _ _ _ _ _ _ e.sources in
     rw c.in-Near.is (record {
       unasked = refl;
-      delivers = delivers-weaker c.run_near.result _ _ _ _ (near-whole _ _ _ _ whole c.args.options.now _ _ all _ _) e.written;
+      delivers = rw c.options_of.ensures at e.written;
       unwritten = ⊎_map (λ same. same) (λ refused. refused.0) e.output.unwritten;
     })
 
 pub returns-in-Near-clause-ends : goal.returns-in-Near-clause-ends
 returns-in-Near-clause-ends g c =
     let e = c.run_near.ensures in
-    let whole = source-whole _ _ _ _ _ _ e.source in
-    let all = sources-whole _ _ _ _ _ _ _ _ e.sources in
     rw c.in-Near.is (record {
-      own = IfErr-weaker c.run_near.result _ _ (λ fault own. ⊎_map (loading-whole _ _ whole fault) (⊎_map (node-lists-whole _ _ all fault) (λ write. write)) own) e.own;
-      graph_refused = λ fault same. to-whole _ _ _ (e.graph.refused fault same);
-      saved_refused = saved-refused _ _ c.run_near.result _ _ _ _ e.source;
+      own = e.own;
+      graph_refused = e.graph.refused;
+      saved_refused = saved-refused _ c.run_near.result _ _ _ _ e.source;
       asked_refused = record {
-        sources_refused = list-refused _ _ _ _ whole _ _ c.run_near.result _ _ _ _ e.sources;
-        targets_refused = λ fault same. near-refused _ _ _ _ whole _ _ all _ _ fault (e.targets.reads.refused fault same);
+        sources_refused = list-refused _ _ _ _ c.run_near.result _ _ _ _ e.sources;
+        targets_refused = e.targets.reads.refused;
       };
     })
 
@@ -111,13 +102,13 @@ returns-in-Near-clause-read g c =
     let target = (Which.Targets, c.in-Near.to) ∷ [] in
     let target-new = (Which.Targets, c.run_near.new.targets) ∷ [] in
     let targets : AreRead g.I.Input.origin g.I.Input.failed c.run_near.result target target-new = (refl, record { same = e.same_targets; once = e.targets.reads.once }, tt) in
-    let lists = sources-read g.I.Input.left g.I.Input.origin g.I.Input.failed c.run_near.result target target-new targets _ _ _ c.in-Near.from c.run_near.new.sources e.sources e.same_sources in
+    let lists = sources-read g.I.Input.read_gives g.I.Input.origin g.I.Input.failed c.run_near.result target target-new targets _ _ _ c.in-Near.from c.run_near.new.sources e.sources e.same_sources in
     let old = input_if Which.Sources (listed_in c.in-Near.from) ++ target in
     let new = input_if Which.Sources (listed_in c.run_near.new.sources) ++ target-new in
     rw c.in-Near.is (
       refl,
       record { same = e.same_graph; once = e.graph.once },
-      source-read g.I.Input.left g.I.Input.origin g.I.Input.failed c.run_near.result old new lists _ c.args.inputs.now.source c.run_near.new.source e.source e.same_source,
+      source-read g.I.Input.read_gives g.I.Input.origin g.I.Input.failed c.run_near.result old new lists _ c.args.inputs.now.source c.run_near.new.source e.source e.same_source,
     )
 
 pub returns-in-Hierarchy-clause-written : goal.returns-in-Hierarchy-clause-written
@@ -125,7 +116,7 @@ returns-in-Hierarchy-clause-written g c =
     let e = c.run_save.ensures in
     rw c.in-Hierarchy.is (record {
       unasked = refl;
-      delivers = delivers-weaker c.run_save.result _ _ _ _ (saved-whole c.args.options.now _ _) e.written;
+      delivers = rw c.options_of.ensures at e.written;
       unwritten = ⊎_map (λ same. same) (λ refused. refused.0) e.output.unwritten;
     })
 
@@ -134,7 +125,7 @@ returns-in-Hierarchy-clause-ends g c =
     let e = c.run_save.ensures in
     rw c.in-Hierarchy.is (record {
       own = e.own;
-      graph_refused = λ fault same. to-whole _ _ _ (e.graph.refused fault same);
+      graph_refused = e.graph.refused;
       saved_refused = none-refused _ _ c.run_save.result e.own;
       asked_refused = tt;
     })
@@ -151,20 +142,18 @@ returns-in-Hierarchy-clause-read g c =
 pub returns-in-Requests-clause-written : goal.returns-in-Requests-clause-written
 returns-in-Requests-clause-written g c =
     let e = c.run_ask.ensures in
-    let whole = source-whole _ _ _ _ _ _ e.source in
     rw c.in-Requests.is (record {
-      served = ⊎_map (λ before. (err-weaker c.run_ask.result _ _ (loading-whole _ _ whole) before.0, before.1, before.2)) (served-whole _ _ _ _ whole c.args.options.now _ _ _ c.run_ask.result) e.served;
+      served = rw c.options_of.ensures at e.served;
       device = e.requests.device;
     })
 
 pub returns-in-Requests-clause-ends : goal.returns-in-Requests-clause-ends
 returns-in-Requests-clause-ends g c =
     let e = c.run_ask.ensures in
-    let whole = source-whole _ _ _ _ _ _ e.source in
     rw c.in-Requests.is (record {
-      own = IfErr-weaker c.run_ask.result _ _ (λ fault own. ⊎_map (loading-whole _ _ whole fault) (λ more. more) own) e.own;
-      graph_refused = λ fault same. to-whole _ _ _ (e.graph.refused fault same);
-      saved_refused = saved-refused _ _ c.run_ask.result _ _ _ _ e.source;
+      own = e.own;
+      graph_refused = e.graph.refused;
+      saved_refused = saved-refused _ c.run_ask.result _ _ _ _ e.source;
       asked_refused = tt;
     })
 
@@ -174,5 +163,5 @@ returns-in-Requests-clause-read g c =
     rw c.in-Requests.is (
       refl,
       record { same = e.same_graph; once = e.graph.once },
-      source-read g.I.Input.left g.I.Input.origin g.I.Input.failed c.run_ask.result [] [] tt _ c.args.inputs.now.source c.run_ask.new.source e.source e.same_source,
+      source-read g.I.Input.read_gives g.I.Input.origin g.I.Input.failed c.run_ask.result [] [] tt _ c.args.inputs.now.source c.run_ask.new.source e.source e.same_source,
     )

@@ -1,5 +1,5 @@
-use Rattle.std.proofs.Common.{◌≡◌, ◌≤◌, ◌-◌, length, take}
-use Rattle.ch_text.specs.Device.{HasTaken}
+use Rattle.std.proofs.Common.{◌≡◌, ◌≤◌, ◌-◌, length, drop}
+use Rattle.ch_text.specs.Moves.{TookBefore}
 use Rattle.ch_text.proofs.device.write_all.Given as goal
 
 abbrev pub invariant-loop-count : goal.invariant-loop-count
@@ -8,7 +8,7 @@ invariant-loop-count g l = record {
   failed : g.O.Output.failed l.output ≡ g.O.Output.failed l.initial.output;
   idle : g.O.Output.idle l.output ≡ g.O.Output.idle l.initial.output;
   closed : g.O.Output.closed l.output ≡ g.O.Output.closed l.initial.output;
-  taken : HasTaken (g.O.Output.taken l.initial.output) (g.O.Output.taken l.output) (take l.count l.bytes);
+  taken : TookBefore g.O.Output.write_gives l.initial.output l.bytes (drop l.count l.bytes) l.output;
 }
 
 abbrev pub decreases-loop-count : goal.decreases-loop-count

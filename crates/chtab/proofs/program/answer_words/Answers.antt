@@ -9,10 +9,7 @@ returns-in-Ok g c =
       c.run_line.result,
       c.in-Ok.ensures.read,
       record {
-        written = run.written;
-        missing = run.missing;
-        ends = run.ends;
-        used = run.files;
+        went = run.went;
         requests_once = run.requests_once;
         output = run.output;
       },

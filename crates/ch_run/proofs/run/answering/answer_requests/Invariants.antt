@@ -13,7 +13,7 @@ invariant-loop-rest g l = record {
   each : All (IsRequest l.by.checked.now.graph.nodes) l.rest;
   few : length l.rest ≤ MOST_LISTED;
   answered : (done : List Request) × (l.requests ≡ done ++ l.rest)
-      × AnswersInTurn {T = Unit} (IsTextOfRequest l.by.options.now l.by.checked.now.graph l.by.checked.now.hierarchy) (places_of l.initial.room.near) (g.O.Output.taken l.initial.output) (g.O.Output.taken l.output)
+      × AnswersInTurn {T = Unit} (IsTextOfRequest l.by.options.now l.by.checked.now.graph l.by.checked.now.hierarchy) g.O.Output.write_gives (places_of l.initial.room.near) l.initial.output l.output
       l.initial.written l.written done (Ok tt)
       × (places_of l.room.near ≡ places_after (places_of l.initial.room.near) done);
   failed : g.O.Output.failed l.output ≡ g.O.Output.failed l.initial.output;

@@ -63,7 +63,7 @@ returns-clause-served g c =
       _,
       c.in_ok-loaded.ensures.value,
       served_weaker (IsTextOfRequest options network H) (IsRequestText options network (IsServing (order_built options) options.hops network saved))
-          (asked_in options network saved H (rw c.building_order-order.ensures at c.in_ok-checked.ensures.serving)) network.nodes _ _ _ c.serve.result (rw c.in_ok-checked.ensures.graph at c.serve.ensures.served),
+          (asked_in options network saved H (rw c.building_order-order.ensures at c.in_ok-checked.ensures.serving)) g.O.Output.write_gives network.nodes _ _ _ c.serve.result (rw c.in_ok-checked.ensures.graph at c.serve.ensures.served),
     )
 
 pub returns-clause-graph : goal.returns-clause-graph

@@ -5,7 +5,7 @@ use Rattle.ch_read.specs.Checks.{IsFault}
 use Rattle.ch_read.specs.Names.{NamesGraph}
 use Rattle.ch_run.specs.declared.fault.Which.TheVariants as Which
 use Rattle.ch_run.specs.declared.fault.RunFault.TheVariants as RunFault
-use Rattle.ch_run.specs.Run.{IsUnread}
+use Rattle.ch_run.specs.Run.{IsUnread, reading}
 use Rattle.ch_run.proofs.Inputs.{refused_for}
 use Rattle.ch_run.proofs.Writes.{tells}
 use Rattle.ch_run.proofs.run.inputs.graph_from.Goals as goal
@@ -23,4 +23,4 @@ returns-clause-refused g c fault same =
 
 pub returns-in_err-bytes-clause-refused : goal.returns-in_err-bytes-clause-refused
 returns-in_err-bytes-clause-refused g c fault same =
-    absurd (tells c.from_residual.result c.in_err-bytes.field-0.0 (IsUnread Which.Graph) (RunFault.Read Which.Graph fault) c.from_residual.ensures.1 c.in_err-bytes.ensures.unread same)
+    absurd (tells c.from_residual.result c.in_err-bytes.field-0.0 (IsUnread Which.Graph (reading g.I.Input.read_gives c.args.input.now c.bytes_from.new.input)) (RunFault.Read Which.Graph fault) c.from_residual.ensures.1 c.in_err-bytes.ensures.unread same)

@@ -18,7 +18,7 @@ near_of-requires-clause-hops g c = λ κs outlives none. c.requires.hops (loaded
 
 -- the graph or a saved hierarchy was refused
 pub returns-in_err-loaded-clause-written : goal.returns-in_err-loaded-clause-written
-returns-in_err-loaded-clause-written g c = undelivered _ _ _ _ _ c.from_residual.ensures.1 (loading_no_write _ _ c.in_err-loaded.ensures.own)
+returns-in_err-loaded-clause-written g c = undelivered _ _ _ _ _ _ c.from_residual.ensures.1 (loading_no_write _ _ c.in_err-loaded.ensures.own)
 
 pub returns-in_err-loaded-clause-own : goal.returns-in_err-loaded-clause-own
 returns-in_err-loaded-clause-own g c = own_as _ _ _ c.from_residual.ensures.1 (inl c.in_err-loaded.ensures.own)
@@ -42,7 +42,7 @@ returns-in_err-loaded-clause-output g c = unwritten _ _ c.from_residual.ensures.
 
 -- the lists were refused
 pub returns-in_err-lists-clause-written : goal.returns-in_err-lists-clause-written
-returns-in_err-lists-clause-written g c = undelivered _ _ _ _ _ c.from_residual-in_err-lists.ensures.1 (node_lists_no_write _ _ c.in_err-lists.ensures.own)
+returns-in_err-lists-clause-written g c = undelivered _ _ _ _ _ _ c.from_residual-in_err-lists.ensures.1 (node_lists_no_write _ _ c.in_err-lists.ensures.own)
 
 pub returns-in_err-lists-clause-own : goal.returns-in_err-lists-clause-own
 returns-in_err-lists-clause-own g c = own_as _ _ _ c.from_residual-in_err-lists.ensures.1 (inr (inl c.in_err-lists.ensures.own))
@@ -80,7 +80,7 @@ returns-in_err-lists-clause-output g c = unwritten _ _ c.from_residual-in_err-li
 
 -- there was no memory for the text
 pub returns-in_err-text-clause-written : goal.returns-in_err-text-clause-written
-returns-in_err-text-clause-written g c = undelivered _ _ _ _ _ c.from_residual-in_err-text.ensures.1 (λ write. write)
+returns-in_err-text-clause-written g c = undelivered _ _ _ _ _ _ c.from_residual-in_err-text.ensures.1 (λ write. write)
 
 pub returns-in_err-text-clause-own : goal.returns-in_err-text-clause-own
 returns-in_err-text-clause-own g c = own_as _ _ _ c.from_residual-in_err-text.ensures.1 (inr (inl (inr tt)))
@@ -114,7 +114,7 @@ returns-in_err-text-clause-output g c = unwritten _ _ c.from_residual-in_err-tex
 -- the text was written, or a write was refused
 pub returns-clause-written : goal.returns-clause-written
 returns-clause-written g c =
-    delivered c.write_text.result _ _ _ _ (_, _, c.in_ok-loaded.ensures.value, (_, _, c.in_ok-lists.ensures.value, rw c.deref.ensures.value c.in_ok-text.ensures)) c.write_text.ensures.written
+    delivered c.write_text.result _ _ _ _ _ (_, _, c.in_ok-loaded.ensures.value, (_, _, c.in_ok-lists.ensures.value, rw c.deref.ensures.value c.in_ok-text.ensures)) c.write_text.ensures.written
 
 pub returns-clause-own : goal.returns-clause-own
 returns-clause-own g c = IfErr-weaker c.write_text.result _ _ (λ fault write. inr (inr write)) c.write_text.ensures.own

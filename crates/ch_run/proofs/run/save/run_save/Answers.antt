@@ -28,7 +28,7 @@ returns-in_err-text-clause-output g c = unwritten _ _ c.from_residual-in_err-tex
 -- the text was written, or a write was refused
 pub returns-clause-written : goal.returns-clause-written
 returns-clause-written g c =
-    delivered c.write_text.result _ _ _ _ (_, c.build_by.ensures.limits, c.in_ok-graph.ensures.value, (_, c.in_ok-hierarchy.ensures.hierarchy, rw c.deref.ensures.value c.in_ok-text.ensures)) c.write_text.ensures.written
+    delivered c.write_text.result _ _ _ _ _ (_, c.build_by.ensures.limits, c.in_ok-graph.ensures.value, (_, c.in_ok-hierarchy.ensures.hierarchy, rw c.deref.ensures.value c.in_ok-text.ensures)) c.write_text.ensures.written
 
 pub returns-clause-graph : goal.returns-clause-graph
 returns-clause-graph g c = reads_past _ _ _ _ _ _ _ _ tt (gone_past c.write_text.result c.write_text.ensures.own Which.Graph) (let e = c.in_ok-graph.ensures in read _ _ _ _ _ _ _ _ (λ fault refused. refused) e.refused e.device e.once)

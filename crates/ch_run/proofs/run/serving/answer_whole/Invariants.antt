@@ -11,7 +11,7 @@ invariant-loop g l = record {
   nodes : l.reader.nodes ≡ l.initial.reader.nodes;
   room : IsRoomFor l.by.options.now.direction l.by.checked.now.hierarchy l.room;
   answered : (given : List Request) × Gives l.ended l.initial.reader l.reader given
-      × AnswersInTurn {T = Unit} (IsTextOfRequest l.by.options.now l.by.checked.now.graph l.by.checked.now.hierarchy) (places_of l.initial.room.near) (g.O.Output.taken l.initial.output) (g.O.Output.taken l.output)
+      × AnswersInTurn {T = Unit} (IsTextOfRequest l.by.options.now l.by.checked.now.graph l.by.checked.now.hierarchy) g.O.Output.write_gives (places_of l.initial.room.near) l.initial.output l.output
       l.initial.written l.written given (Ok tt)
       × (places_of l.room.near ≡ places_after (places_of l.initial.room.near) given);
   failed : g.O.Output.failed l.output ≡ g.O.Output.failed l.initial.output;

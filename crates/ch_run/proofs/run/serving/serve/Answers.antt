@@ -13,8 +13,8 @@ pub returns-in_err-buffer-clause-served : goal.returns-in_err-buffer-clause-serv
 returns-in_err-buffer-clause-served g c =
     let P = IsTextOfRequest c.args.by.now.options.now c.args.by.now.checked.now.graph c.args.by.now.checked.now.hierarchy in
     let n = c.args.by.now.checked.now.graph.nodes in
-    passes_end P n (reading g.J.Input.left c.args.requests.now c.args.requests.now) _ _ c.from_residual.result Memory c.from_residual.ensures.1
-    (served_unread P n (g.J.Input.left c.args.requests.now) (g.O.Output.taken c.args.output.now))
+    passes_end P n (reading g.J.Input.read_gives c.args.requests.now c.args.requests.now) g.O.Output.write_gives _ _ c.from_residual.result Memory c.from_residual.ensures.1
+    (served_unread P n g.J.Input.read_gives g.O.Output.write_gives c.args.requests.now c.args.output.now)
 
 pub serve_in-requires-clause-room : goal.serve_in-requires-clause-room
 serve_in-requires-clause-room g c = λ kept within.

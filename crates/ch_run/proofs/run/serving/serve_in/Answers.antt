@@ -18,7 +18,7 @@ loop-init g c =
     record {
       room = c.requires.buffer;
       kept = c.requires.room;
-      served = rw (c.new-reader.ensures, c.nodes.ensures, c.requires.none) (served_none P n (g.J.Input.left c.args.requests.now) (g.O.Output.taken c.args.output.now));
+      served = rw (c.new-reader.ensures, c.nodes.ensures, c.requires.none) (served_none P n g.J.Input.read_gives g.O.Output.write_gives c.args.requests.now c.args.output.now);
       reads = refl;
       failed = refl;
       idle = refl;
@@ -29,14 +29,14 @@ loop-preserved g c =
     let P = IsTextOfRequest c.args.by.now.options.now c.args.by.now.checked.now.graph c.args.by.now.checked.now.hierarchy in
     let n = c.args.by.now.checked.now.graph.nodes in
     let room : 0 < length c.read_once.new.buffer = (let some = c.loop.invariant.room in omega arith) in
-    let had = fed_more P n RunFault (g.J.Input.left c.args.requests.now) (g.J.Input.left c.loop.requests) (g.J.Input.left c.read_once.new.requests) (g.O.Output.taken c.args.output.now) (g.O.Output.taken c.loop.output)
-    c.loop.written c.loop.reader c.feed.new.self (places_of c.loop.room.near) c.read_once.new.buffer _ c.in_ok-count.count c.in_ok-feed.ensures.fed refl c.loop.invariant.served c.in_ok-count.ensures.bytes room in
+    let had = fed_more P n g.J.Input.read_gives g.O.Output.write_gives c.args.requests.now c.loop.requests c.read_once.new.requests c.args.output.now c.loop.output
+    c.loop.written c.loop.reader c.feed.new.self (places_of c.loop.room.near) c.read_once.new.buffer _ c.in_ok-count.count c.in_ok-feed.ensures.fed refl c.loop.invariant.served c.in_ok-count.ensures.given c.in_ok-count.ensures.fits room in
     let answered = c.in_ok-answer_whole.ensures.answered in
     let same = counted_well _ _ _ _ c.in_ok-answer_whole.ensures.counts in
     record {
       room = room;
       kept = c.in_ok-answer_whole.ensures.room;
-      served = fed_served P n (reading g.J.Input.left c.args.requests.now c.read_once.new.requests) _ _ _ _ _ c.feed.new.self c.answer_whole.new.reader (places_of c.loop.room.near) answered.0 (c.in_ok-count.count == 0) (ne_eqb c.in_ok-count.count 0 c.if-ended.false) had answered.1 answered.2
+      served = fed_served P n g.J.Input.read_gives g.O.Output.write_gives c.args.requests.now c.read_once.new.requests _ _ _ _ _ c.feed.new.self c.answer_whole.new.reader (places_of c.loop.room.near) answered.0 (c.in_ok-count.count == 0) (ne_eqb c.in_ok-count.count 0 c.if-ended.false) had answered.1 answered.2
           c.in_ok-answer_whole.ensures.used_up c.in_ok-answer_whole.ensures.nodes (places_of c.answer_whole.new.room.near) answered.3;
       reads = c.in_ok-count.ensures.failures ∙ (let so_far = c.loop.invariant.reads in omega arith);
       failed = same.0 ∙ c.loop.invariant.failed;
@@ -49,30 +49,30 @@ returns-in_err-count-clause-served g c =
     let n = c.args.by.now.checked.now.graph.nodes in
     let r = c.from_residual.result in
     let is = subst (λ (e : RunFault). IsErrAnd r (λ y. y ≡ e)) c.in_err-count.ensures.own c.from_residual.ensures.1 in
-    passes_end P n (reading g.J.Input.left c.args.requests.now c.read_once.new.requests) _ _ r (Device Requests) is
-    (served_refused P n RunFault (g.J.Input.left c.args.requests.now) (g.J.Input.left c.loop.requests) (g.J.Input.left c.read_once.new.requests) (g.O.Output.taken c.args.output.now) (g.O.Output.taken c.loop.output)
-    c.loop.written c.loop.reader (places_of c.loop.room.near) c.read_once.new.buffer c.in_err-count.field-0.0 c.loop.invariant.served c.in_err-count.ensures.bytes)
+    passes_end P n (reading g.J.Input.read_gives c.args.requests.now c.read_once.new.requests) g.O.Output.write_gives _ _ r (Device Requests) is
+    (served_refused P n g.J.Input.read_gives g.O.Output.write_gives c.args.requests.now c.loop.requests c.read_once.new.requests c.args.output.now c.loop.output
+    c.loop.written c.loop.reader (places_of c.loop.room.near) c.read_once.new.buffer c.in_err-count.ensures.failed.0 c.loop.invariant.served c.in_err-count.ensures.failed.1)
 
 pub returns-in_err-feed-clause-served : goal.returns-in_err-feed-clause-served
 returns-in_err-feed-clause-served g c =
     let P = IsTextOfRequest c.args.by.now.options.now c.args.by.now.checked.now.graph c.args.by.now.checked.now.hierarchy in
     let n = c.args.by.now.checked.now.graph.nodes in
     let room : 0 < length c.read_once.new.buffer = (let some = c.loop.invariant.room in omega arith) in
-    passes_end P n (reading g.J.Input.left c.args.requests.now c.read_once.new.requests) _ _ c.from_residual-in_err-feed.result Memory c.from_residual-in_err-feed.ensures.1
-    (served_unfed P n RunFault (g.J.Input.left c.args.requests.now) (g.J.Input.left c.loop.requests) (g.J.Input.left c.read_once.new.requests) (g.O.Output.taken c.args.output.now) (g.O.Output.taken c.loop.output)
-    c.loop.written c.loop.reader (places_of c.loop.room.near) c.read_once.new.buffer c.in_ok-count.count c.loop.invariant.served c.in_ok-count.ensures.bytes room)
+    passes_end P n (reading g.J.Input.read_gives c.args.requests.now c.read_once.new.requests) g.O.Output.write_gives _ _ c.from_residual-in_err-feed.result Memory c.from_residual-in_err-feed.ensures.1
+    (served_unfed P n g.J.Input.read_gives g.O.Output.write_gives c.args.requests.now c.loop.requests c.read_once.new.requests c.args.output.now c.loop.output
+    c.loop.written c.loop.reader (places_of c.loop.room.near) c.read_once.new.buffer c.in_ok-count.count c.loop.invariant.served c.in_ok-count.ensures.given c.in_ok-count.ensures.fits room)
 
 pub returns-in_err-answer_whole-clause-served : goal.returns-in_err-answer_whole-clause-served
 returns-in_err-answer_whole-clause-served g c =
     let P = IsTextOfRequest c.args.by.now.options.now c.args.by.now.checked.now.graph c.args.by.now.checked.now.hierarchy in
     let n = c.args.by.now.checked.now.graph.nodes in
     let room : 0 < length c.read_once.new.buffer = (let some = c.loop.invariant.room in omega arith) in
-    let had = fed_more P n RunFault (g.J.Input.left c.args.requests.now) (g.J.Input.left c.loop.requests) (g.J.Input.left c.read_once.new.requests) (g.O.Output.taken c.args.output.now) (g.O.Output.taken c.loop.output)
-    c.loop.written c.loop.reader c.feed.new.self (places_of c.loop.room.near) c.read_once.new.buffer _ c.in_ok-count.count c.in_ok-feed.ensures.fed refl c.loop.invariant.served c.in_ok-count.ensures.bytes room in
+    let had = fed_more P n g.J.Input.read_gives g.O.Output.write_gives c.args.requests.now c.loop.requests c.read_once.new.requests c.args.output.now c.loop.output
+    c.loop.written c.loop.reader c.feed.new.self (places_of c.loop.room.near) c.read_once.new.buffer _ c.in_ok-count.count c.in_ok-feed.ensures.fed refl c.loop.invariant.served c.in_ok-count.ensures.given c.in_ok-count.ensures.fits room in
     let answered = c.in_err-answer_whole.ensures.answered in
     let e = c.in_err-answer_whole.field-0.0 in
-    passes_end P n (reading g.J.Input.left c.args.requests.now c.read_once.new.requests) _ _ c.from_residual-in_err-answer_whole.result e c.from_residual-in_err-answer_whole.ensures.1
-    (fed_refused P n (reading g.J.Input.left c.args.requests.now c.read_once.new.requests) (g.O.Output.taken c.args.output.now) (g.O.Output.taken c.loop.output) (g.O.Output.taken c.answer_whole.new.output) c.loop.written c.answer_whole.new.written
+    passes_end P n (reading g.J.Input.read_gives c.args.requests.now c.read_once.new.requests) g.O.Output.write_gives _ _ c.from_residual-in_err-answer_whole.result e c.from_residual-in_err-answer_whole.ensures.1
+    (fed_refused P n g.J.Input.read_gives g.O.Output.write_gives c.args.requests.now c.read_once.new.requests c.args.output.now c.loop.output c.answer_whole.new.output c.loop.written c.answer_whole.new.written
     c.feed.new.self c.answer_whole.new.reader (places_of c.loop.room.near) answered.0 (c.in_ok-count.count == 0) e had answered.1 answered.2)
 
 pub returns-in_err-answer_whole-clause-own : goal.returns-in_err-answer_whole-clause-own
@@ -92,14 +92,14 @@ returns-then-ended-clause-served g c =
     let P = IsTextOfRequest c.args.by.now.options.now c.args.by.now.checked.now.graph c.args.by.now.checked.now.hierarchy in
     let n = c.args.by.now.checked.now.graph.nodes in
     let room : 0 < length c.read_once.new.buffer = (let some = c.loop.invariant.room in omega arith) in
-    let had = fed_more P n RunFault (g.J.Input.left c.args.requests.now) (g.J.Input.left c.loop.requests) (g.J.Input.left c.read_once.new.requests) (g.O.Output.taken c.args.output.now) (g.O.Output.taken c.loop.output)
-    c.loop.written c.loop.reader c.feed.new.self (places_of c.loop.room.near) c.read_once.new.buffer _ c.in_ok-count.count c.in_ok-feed.ensures.fed refl c.loop.invariant.served c.in_ok-count.ensures.bytes room in
+    let had = fed_more P n g.J.Input.read_gives g.O.Output.write_gives c.args.requests.now c.loop.requests c.read_once.new.requests c.args.output.now c.loop.output
+    c.loop.written c.loop.reader c.feed.new.self (places_of c.loop.room.near) c.read_once.new.buffer _ c.in_ok-count.count c.in_ok-feed.ensures.fed refl c.loop.invariant.served c.in_ok-count.ensures.given c.in_ok-count.ensures.fits room in
     let answered = c.in_ok-answer_whole.ensures.answered in
-    fed_done P n (reading g.J.Input.left c.args.requests.now c.read_once.new.requests) _ _ _ _ _ c.feed.new.self c.answer_whole.new.reader (places_of c.loop.room.near) answered.0 (c.in_ok-count.count == 0) (eq-eqb c.in_ok-count.count 0 c.if-ended.true) had answered.1 answered.2
+    fed_done P n g.J.Input.read_gives g.O.Output.write_gives c.args.requests.now c.read_once.new.requests _ _ _ _ _ c.feed.new.self c.answer_whole.new.reader (places_of c.loop.room.near) answered.0 (c.in_ok-count.count == 0) (eq-eqb c.in_ok-count.count 0 c.if-ended.true) had answered.1 answered.2
     c.in_ok-answer_whole.ensures.used_up
 
 pub returns-clause-served : goal.returns-clause-served
 returns-clause-served g c =
     let P = IsTextOfRequest c.args.by.now.options.now c.args.by.now.checked.now.graph c.args.by.now.checked.now.hierarchy in
     let n = c.args.by.now.checked.now.graph.nodes in
-    served_long P n (reading g.J.Input.left c.args.requests.now c.loop.requests) _ _ c.loop.written c.loop.reader (places_of c.loop.room.near) c.loop.invariant.served
+    served_long P n g.J.Input.read_gives g.O.Output.write_gives c.args.requests.now c.loop.requests _ _ c.loop.written c.loop.reader (places_of c.loop.room.near) c.loop.invariant.served

@@ -1,6 +1,5 @@
 use Rattle.std.proofs.Common.{◌≡◌, ◌<◌, length}
 use Rattle.ch_run.specs.Ask.{IsTextOfRequest}
-use Rattle.ch_run.specs.Run.{reading}
 use Rattle.ch_run.specs.Serving.{IsRoomFor, places_of}
 use Rattle.ch_run.proofs.Served.{HasServed}
 use Rattle.ch_run.proofs.run.serving.serve_in.Given as goal
@@ -10,8 +9,8 @@ abbrev pub invariant-loop : goal.invariant-loop
 invariant-loop g l = record {
   room : 0 < length l.buffer;
   kept : IsRoomFor l.by.options.now.direction l.by.checked.now.hierarchy l.room;
-  served : HasServed (IsTextOfRequest l.by.options.now l.by.checked.now.graph l.by.checked.now.hierarchy) l.by.checked.now.graph.nodes
-      (reading g.J.Input.left l.initial.requests l.requests) (g.O.Output.taken l.initial.output) (g.O.Output.taken l.output) l.written l.reader (places_of l.room.near);
+  served : HasServed (IsTextOfRequest l.by.options.now l.by.checked.now.graph l.by.checked.now.hierarchy) l.by.checked.now.graph.nodes g.J.Input.read_gives g.O.Output.write_gives
+      l.initial.requests l.requests l.initial.output l.output l.written l.reader (places_of l.room.near);
   reads : g.J.Input.failed l.requests ≡ g.J.Input.failed l.initial.requests;
   failed : g.O.Output.failed l.output ≡ g.O.Output.failed l.initial.output;
   idle : g.O.Output.idle l.output ≡ g.O.Output.idle l.initial.output;

@@ -24,7 +24,6 @@ returns-in_default-2-clause-made g c = record {
 pub loop-preserved : goal.loop-preserved
 loop-preserved g c = record {
   room = omega arith;
-  kept = grind rules;
   interrupted = AreInterrupted-more (IsOneRead g.D.ReadOnce.read_gives) c.loop.counter
       (c.args.reader.now, c.args.buffer.now) (c.loop.reader, c.loop.buffer) (c.read_once.new.self, c.read_once.new.buffer) c.in-Err.error c.loop.invariant.interrupted c.in-Err.ensures.made (search rules);
 }

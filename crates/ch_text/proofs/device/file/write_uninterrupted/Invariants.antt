@@ -1,10 +1,8 @@
-use Rattle.std.specs.Io.KnownBytes.{Keeps}
 use Rattle.ch_text.specs.Calls.{AreInterrupted, IsOneWrite}
 use Rattle.ch_text.proofs.device.file.write_uninterrupted.Given as goal
 
--- all writes so far were interrupted, and have taken no byte
+-- all writes so far were interrupted
 abbrev pub invariant-loop : goal.invariant-loop
 invariant-loop g l = record {
-  kept : Keeps (g.D.WriteOnce.contents l.initial.writer) (g.D.WriteOnce.contents l.writer);
   interrupted : AreInterrupted (IsOneWrite g.D.WriteOnce.write_gives l.bytes) l.counter l.initial.writer l.writer;
 }
