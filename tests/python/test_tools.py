@@ -206,7 +206,7 @@ def test_tables_in_blocks(lists):
 
 
 def blocks_by_saved_hierarchies(graph):
-    """No more runs than are wanted at a time make all blocks; a hierarchy that is given is read, and a limit is handed on."""
+    """No more runs than are wanted at a time make all blocks; a hierarchy that is given is read, and requests have the limit."""
     program = pathlib.Path("noting")
     program.write_text(f'#!/bin/sh\necho "$*" >> "{os.getcwd()}/noted"\nexec "{PROGRAM}" "$@"\n')
     program.chmod(0o755)
@@ -226,7 +226,7 @@ def blocks_by_saved_hierarchies(graph):
         assert pathlib.Path("again.csv").read_text() == wanted, words
     limit = 1_000_000
     runs, by_saved, within = noted("--processes", "4", "--within", limit)
-    assert 1 <= runs <= 4 and (by_saved, within) == (0, runs), (runs, by_saved, within)
+    assert 1 <= runs <= 4 and (by_saved, within) == (0, 0), (runs, by_saved, within)
     rows = [line.split(",") for line in wanted.splitlines()[1:]]
     cells = [[cell if int(cell) <= limit else "" for cell in row[1:]] for row in rows]
     assert [line.split(",")[1:] for line in pathlib.Path("again.csv").read_text().splitlines()[1:]] == cells
