@@ -43,6 +43,9 @@
 /* The limit of a table or of near rows that leaves out no distance. */
 #define CHTAB_NO_LIMIT ((uint64_t)-1)
 
+/* Stands for no line: the greatest number of 32 bits. Each line is less. */
+#define CHTAB_NO_LINE ((uint32_t)-1)
+
 /* The number of places of a near row that leaves out no place. */
 #define CHTAB_ALL ((uint32_t)-1)
 
@@ -175,13 +178,16 @@ uint32_t chtab_route(chtab *handle, uint32_t source, uint32_t target, chtab_foun
 /* Writes the routes from sources[k] to targets[k], one after the other, and their number to `routes`. Each is the route
  * that chtab_route gives. weights[k] is its weight, or CHTAB_NO_DISTANCE if there is no walk. Its nodes are at the places
  * from ends[k - 1], or from 0 for the first route, up to ends[k] - 1. If there is no walk, it has no nodes. targets_len,
- * weights_len and ends_len are sources_len.
+ * weights_len and ends_len are sources_len. lines_len is 0, or it is nodes_len if you ask for the lines of arcs too. Then
+ * lines[j] is the line of the arc that leads to nodes[j]: its place among the arcs of the graph's file, counted from 0. Of
+ * several arcs between two nodes it is the one of least weight, and of these the first. For the first node of a route
+ * lines[j] is CHTAB_NO_LINE. With a value for each line you can add up any measure along routes.
  * Errors: CHTAB_CLOSED, CHTAB_LENGTHS, CHTAB_NODE_RANGE. With CHTAB_TOO_SHORT or CHTAB_NO_MEMORY the first routes are
  * written, and `routes` is their number: there is not enough room or memory for the next route. Ask for the other pairs in
  * a further call. Room for as many nodes as the network has is always enough for one route. */
 uint32_t chtab_routes(chtab *handle, const uint32_t *sources, size_t sources_len, const uint32_t *targets,
                       size_t targets_len, uint64_t *routes, uint64_t *weights, size_t weights_len, uint64_t *ends,
-                      size_t ends_len, uint32_t *nodes, size_t nodes_len);
+                      size_t ends_len, uint32_t *nodes, size_t nodes_len, uint32_t *lines, size_t lines_len);
 
 /* Searches from each of these nodes, the places, and keeps the results for near rows. They replace the places that the
  * handle kept. A row has the first `count` places (CHTAB_ALL: all of them) in order of distance, and at equal distances in

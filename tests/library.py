@@ -22,6 +22,7 @@ from pathlib import Path
 from helpers.in_process import ALL, HEADER, MADE, NO_DISTANCE, SHARED, Handle, Library, declared, statuses
 from helpers.running import ROOT, Count, build, run
 from helpers.writing import write_list, write_queries
+from oracles.dijkstra import arcs_ahead, distances_from
 from oracles.reading import graph_of
 
 WARNINGS = "-Wall", "-Wextra", "-Wconversion", "-pedantic", "-Werror"
@@ -179,6 +180,83 @@ def compare_answers(tally, folder, library, graph, hierarchy):
     library.close(handle)
 
 
+def compare_many_routes(tally, library, graph, hierarchy):
+    """Many routes in one call are those of single calls, also where they come in parts, and their weights those of Dijkstra's algorithm."""
+    count, arcs = graph_of(graph)
+    draw = random.Random(f"library routes {graph.name}")
+    sources, targets = ([draw.randrange(count) for _ in range(ASKED)] for _ in range(2))
+    ahead = arcs_ahead(arcs)
+    away = {source: distances_from(source + 1, ahead) for source in set(sources)}
+    status, handle, _ = library.open(graph.read_bytes(), hierarchy.read_bytes())
+    single = [library.route(handle, source, target, count) for source, target in zip(sources, targets)]
+    owed = [nodes[:length] for _, _, length, nodes in single]
+    weights = [away[source].get(target + 1, NO_DISTANCE) for source, target in zip(sources, targets)]
+    for room in sum(map(len, owed)), max(map(len, owed)), count:
+        came, begin = [], 0
+        while begin < len(sources):
+            status, routes, found, ends, nodes, _ = library.routes(handle, sources[begin:], targets[begin:], room)
+            tally.expect(status == STATUS["OK" if begin + routes == len(sources) else "TOO_SHORT"] and routes > 0, f"{graph.name}: {routes} routes into {room}")
+            came += [(weight, nodes[start:end]) for weight, start, end in zip(found[:routes], [0, *ends], ends[:routes])]
+            begin += max(1, routes)
+        tally.expect(came == [*zip(weights, owed)], f"{graph.name}: many routes into a room of {room}")
+    first = {}
+    for line, (start, end, weight) in enumerate(arcs):
+        if (start, end) not in first or weight < arcs[first[start, end]][2]:
+            first[start, end] = line
+    room = sum(map(len, owed))
+    lines = [line for way in owed for line in [ALL, *(first[one + 1, other + 1] for one, other in zip(way, way[1:]))][:len(way)]]
+    told = library.routes(handle, sources, targets, room, lines_room=room)
+    tally.expect(told[0] == 0 and told[5] == lines, f"{graph.name}: the lines of arcs")
+    for begin, end, weight in zip([0, *told[3]], told[3], weights):
+        tally.expect(begin == end or sum(arcs[line][2] for line in lines[begin + 1:end]) == weight, f"{graph.name}: the weights on the lines of a route")
+    library.close(handle)
+
+
+def compare_sums(tally, library, graph, hierarchy):
+    """Sums over near rows are those of Dijkstra's algorithm: of some sources by searches, and of all nodes after the sweep."""
+    count, arcs = graph_of(graph)
+    draw = random.Random(f"library sums {graph.name}")
+    status, handle, _ = library.open(graph.read_bytes(), hierarchy.read_bytes())
+    for most, is_from in (NO_DISTANCE, 0), (9_000, 0), (9_000, 1):
+        places, some = ([draw.randrange(count) for _ in range(30)] for _ in range(2))
+        values, limits = [draw.randrange(1 << 40) for _ in places], [0, 4_000, 9_000, 2_000, NO_DISTANCE - 1]
+        ahead = arcs_ahead(arcs if is_from else [(end, start, weight) for start, end, weight in arcs])
+        away = [distances_from(place + 1, ahead) for place in places]
+        tally.expect(library.near_places(handle, places, most, ALL, is_from) == 0, f"{graph.name}: places of sums")
+        for sources in some, range(count):
+            near = [[(row[source + 1], value) for row, value in zip(away, values) if source + 1 in row and row[source + 1] <= most] for source in sources]
+            owed = [sum(value for weight, value in row if weight <= limit) for row in near for limit in limits]
+            if sources is not some:
+                tally.expect(library.near_sweep(handle) == 0, f"{graph.name}: the sweep of sums")
+            tally.expect(library.near_sums(handle, sources, values, limits) == (0, len(sources), owed), f"{graph.name}: sums within {most} of {len(sources)} nodes")
+    library.close(handle)
+
+
+def refuse_large_sums(tally, library):
+    """A sum of 2^64 or more ends the call before its source. One less is given."""
+    status, handle, _ = library.open(LINE, OF_LINE)
+    tally.expect(library.near_places(handle, [1, 2]) == 0, "places of large sums")
+    half, limits = 2**63, [9, 0]
+    tally.expect(library.near_sums(handle, [2, 0, 1], [half, half - 1], limits) == (0, 3, [half - 1, half - 1, 2**64 - 1, 0, 2**64 - 1, half]), "the greatest sums")
+    told = library.near_sums(handle, [2, 1, 0], [half, half], limits)
+    tally.expect(told == (STATUS["SUM_TOO_LARGE"], 1, [half, half, 7, 7, 7, 7]), f"a sum that is too large: {told}")
+    library.close(handle)
+
+
+# Arcs between the same nodes: the second is the first of least weight from node 1 to node 2. The third leads back.
+PARALLEL = b"p sp 3 6\na 1 2 5\na 1 2 4\na 2 1 4\na 1 2 4\na 2 3 7\na 2 2 0\n"
+
+
+def tell_lines(tally, library):
+    """The line of the arc of least weight, of several the first, by a hierarchy that is built."""
+    status, handle, _ = library.open(PARALLEL, b"")
+    told = library.routes(handle, [0, 1, 2, 1], [2, 0, 0, 1], 9, lines_room=9)
+    owed = (0, 4, [11, 4, NO_DISTANCE, 0], [3, 5, 5, 6], [0, 1, 2, 1, 0, 1, 7, 7, 7], [ALL, 1, 4, ALL, 2, ALL, 7, 7, 7])
+    tally.expect((status, told) == (0, owed), f"lines of arcs between the same nodes: {told}")
+    tally.expect(library.routes(handle, [0], [2], 3, lines_room=2)[0] == STATUS["LENGTHS"], "fewer lines than nodes")
+    library.close(handle)
+
+
 def compare_built(tally, library, graph):
     """Without a saved hierarchy, one is built: the one that `chtab save --deep` writes."""
     status, handle, _ = library.open(graph.read_bytes(), b"")
@@ -300,9 +378,13 @@ def main():
         run_page(tally, folder)
         ask_too_much(tally, library)
         tell_faults(tally, library)
+        refuse_large_sums(tally, library)
+        tell_lines(tally, library)
         for graph in GRAPHS:
             compare_answers(tally, folder, library, graph, saved[graph])
             compare_near(tally, folder, library, graph, saved[graph])
+            compare_many_routes(tally, library, graph, saved[graph])
+            compare_sums(tally, library, graph, saved[graph])
             compare_built(tally, library, graph)
         ask_in_threads(tally, library, GRAPHS[1], saved[GRAPHS[1]])
     fuzzed = done(sys.executable, ROOT / "tests/library/fuzz.py", calls, 1)

@@ -112,6 +112,27 @@ class Library:
         assert nodes[room] == 7, "a node past the room is written"
         return status, found.weight, found.nodes, list(nodes)[:room]
 
+    def many(self, call, handle, lists, rooms):
+        """What a call answers of many questions: the status, their number, and its arrays, in which 7 stands where nothing was written. `lists` are
+        what it reads and `rooms` the lengths of what it writes, each with its kind of numbers."""
+        count, arrays = ctypes.c_uint64(7), [(numbers([7] * (length + 1), kind), length) for length, kind in rooms]
+        read = [word for items, kind in lists for word in (numbers(items, kind), ctypes.c_size_t(len(items)))]
+        written = [word for array, length in arrays for word in (array, ctypes.c_size_t(length))]
+        status = call(ctypes.byref(handle), *read, ctypes.byref(count), *written)
+        assert all(array[length] == 7 for array, length in arrays), "a word past the room is written"
+        return status, count.value, *(list(array)[:length] for array, length in arrays)
+
+    def routes(self, handle, sources, targets, room, weights_room=None, ends_room=None, lines_room=0):
+        """The status, the number of routes, and the weights, ends, nodes and lines."""
+        rooms = [len(sources) if length is None else length for length in (weights_room, ends_room)]
+        lists = [(sources, ctypes.c_uint32), (targets, ctypes.c_uint32)]
+        return self.many(self.calls.chtab_routes, handle, lists, [*((length, ctypes.c_uint64) for length in rooms), (room, ctypes.c_uint32), (lines_room, ctypes.c_uint32)])
+
+    def near_sums(self, handle, sources, values, limits, room=None):
+        """The status, the number of sources, and the sums."""
+        lists = [(sources, ctypes.c_uint32), (values, ctypes.c_uint64), (limits, ctypes.c_uint64)]
+        return self.many(self.calls.chtab_near_sums, handle, lists, [(len(sources) * len(limits) if room is None else room, ctypes.c_uint64)])
+
     def near_places(self, handle, places, limit=NO_DISTANCE, count=ALL, is_from=0):
         return self.calls.chtab_near_places(ctypes.byref(handle), ctypes.c_uint32(is_from), numbers(places), ctypes.c_size_t(len(places)),
                                             ctypes.c_uint64(limit), ctypes.c_uint32(count))

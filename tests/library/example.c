@@ -1,4 +1,4 @@
-/* Opens a network and asks it for distances, a table, a route and near rows: once each way, and once each wrong way that a program can take.
+/* Opens a network and asks it for distances, a table, routes, near rows and sums: once each way, and once each wrong way that a program can take.
  *
  *   example GRAPH SAVED
  *
@@ -83,6 +83,39 @@ static void ask_near(chtab *network) {
     expect(begin == 2, "each place has a row of one pair");
 }
 
+/* Two routes in one call, also where there is room for one: each is the one that is given alone. */
+static void ask_routes(chtab *network) {
+    static uint32_t nodes[100000], way[100000], lines[100000];
+    uint32_t sources[2] = {0, 1}, targets[2], count = 0, k;
+    uint64_t routes = 9, weights[2] = {5, 5}, ends[2] = {5, 5}, begin, end;
+    chtab_found found;
+    expect(chtab_nodes(network, &count) == CHTAB_OK, "nodes");
+    targets[0] = count / 2;
+    targets[1] = count - 1;
+    expect(chtab_routes(network, sources, 2, &count, 1, &routes, weights, 2, ends, 2, nodes, 100000, nodes, 0) == CHTAB_LENGTHS && routes == 9, "lengths of routes");
+    expect(chtab_routes(network, sources, 2, targets, 2, &routes, weights, 2, ends, 2, nodes, 100000, lines, 100000) == CHTAB_OK && routes == 2, "routes");
+    expect(lines[0] == CHTAB_NO_LINE && lines[ends[0]] == CHTAB_NO_LINE, "no arc leads to the first node of a route");
+    for (k = 0; k < 2; k++) {
+        begin = k ? ends[0] : 0;
+        end = ends[k];
+        expect(chtab_route(network, sources[k], targets[k], &found, way, 100000) == CHTAB_OK && found.weight == weights[k], "one route");
+        expect(found.nodes == end - begin && !memcmp(way, nodes + begin, (size_t)(end - begin) * sizeof *way), "the nodes of one route");
+    }
+    expect(chtab_routes(network, sources, 2, targets, 2, &routes, weights, 2, ends, 2, nodes, (size_t)ends[1] - 1, way, 0) == CHTAB_TOO_SHORT && routes == 1, "room for one route");
+}
+
+/* The sums of a source within two limits, over two places that it is one of, and a sum that is too large. */
+static void ask_sums(chtab *network) {
+    uint32_t source = 0, places[2] = {0, 0};
+    uint64_t values[2] = {3, 4}, limits[2] = {0, 9}, sums[2] = {5, 5}, rows = 9;
+    expect(chtab_near_places(network, 0, places, 2, CHTAB_NO_LIMIT, CHTAB_ALL) == CHTAB_OK, "places");
+    expect(chtab_near_sums(network, &source, 1, values, 1, limits, 2, &rows, sums, 2) == CHTAB_LENGTHS && rows == 9 && sums[0] == 5, "lengths of sums");
+    expect(chtab_near_sums(network, &source, 1, values, 2, limits, 2, &rows, sums, 2) == CHTAB_OK && rows == 1, "sums");
+    expect(sums[0] == 7 && sums[1] == 7, "a place that is the source counts");
+    values[0] = CHTAB_NO_LIMIT;
+    expect(chtab_near_sums(network, &source, 1, values, 2, limits, 2, &rows, sums, 2) == CHTAB_SUM_TOO_LARGE && rows == 0 && sums[0] == 7, "a sum too large");
+}
+
 /* The text of the hierarchy is that of its file. */
 static void save(chtab *network, const uint8_t *saved, size_t saved_len) {
     uint64_t size = 0;
@@ -142,6 +175,8 @@ int main(int count, char **words) {
     expect(chtab_close(&network) == CHTAB_CLOSED, "close again");
     ask(&other);
     ask_near(&other);
+    ask_routes(&other);
+    ask_sums(&other);
     ask_wrongly(&other);
     expect(chtab_close(&other) == CHTAB_OK, "close the other");
     return failures > 0;

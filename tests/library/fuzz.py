@@ -41,7 +41,7 @@ class Caller:
     """The files of a small network, its distances, and two handles in it."""
 
     def __init__(self, draw, case, library, tally):
-        self.draw, self.library, self.tally, self.count = draw, library, tally, case.nodes
+        self.draw, self.library, self.tally, self.count, self.arcs = draw, library, tally, case.nodes, case.arcs
         self.graph = "".join([f"p sp {case.nodes} {len(case.arcs)}\n", *(f"a {start} {end} {weight}\n" for start, end, weight in case.arcs)]).encode()
         self.saved = hierarchy_text(case.nodes, case.arcs, 5, "difference").encode()
         # The least weights and numbers of arcs, from each node to each, or None.
@@ -195,6 +195,73 @@ class Caller:
         pairs = [pair for row in owed[:rows] for pair in row]
         self.expect([*zip(weights, places)] == [*pairs, *[(7, 7)] * (room - len(pairs))], "near pairs", sources, room, told)
 
+    def line(self, one, other):
+        """The line of the arc from a node to another: of several the one of least weight, and of these the first; none before the first node."""
+        return ALL if one is None else min((weight, line) for line, (start, end, weight) in enumerate(self.arcs) if (start, end) == (one + 1, other + 1))[1]
+
+    def ask_routes(self):
+        handle, sources, room = self.draw.choice(self.handles), self.nodes(), self.draw.choice((0, 1, 2, 5, 40, 40, 80))
+        targets = [self.node() for _ in sources] if self.draw.random() < 0.9 else self.nodes()
+        rooms = [len(sources) if self.draw.random() < 0.9 else self.draw.randrange(9) for _ in range(2)]
+        rooms.append(self.draw.choice((0, room)) if self.draw.random() < 0.9 else self.draw.randrange(9))
+        status, routes, weights, ends, nodes, lines = told = self.library.routes(handle, sources, targets, room, *rooms)
+        wanted = "OK"
+        if not handle.is_open:
+            wanted = "CLOSED"
+        elif not len(targets) == rooms[0] == rooms[1] == len(sources) or rooms[2] not in (0, room):
+            wanted = "LENGTHS"
+        elif not self.are_nodes(sources, targets):
+            wanted = "NODE_RANGE"
+        if wanted != "OK":
+            self.expect(told == (STATUS[wanted], 7, *([7] * length for length in (*rooms[:2], room, rooms[2]))), "routes", sources, targets, wanted, told)
+            return
+        away = [self.away[source][target] for source, target in zip(sources, targets)]
+        begins = [0]
+        for one in away:
+            if begins[-1] + (one[1] + 1 if one else 0) > room:
+                break
+            begins.append(begins[-1] + (one[1] + 1 if one else 0))
+        left = len(sources) - routes
+        self.expect((status, routes) == (STATUS["TOO_SHORT" if left else "OK"], len(begins) - 1), "routes", sources, targets, room, told)
+        self.expect(ends == [*begins[1:], *[7] * left] and nodes[begins[-1]:] == [7] * (room - begins[-1]), "ends of routes", told)
+        self.expect(weights == [*(one[0] if one else NO_DISTANCE for one in away[:routes]), *[7] * left], "weights of routes", told)
+        for one, begin, end, source, target in zip(away, begins, begins[1:], sources, targets):
+            way = nodes[begin:end]
+            self.expect(not one or (way[0], way[-1]) == (source, target) and self.is_way(way, one[0]), "nodes of a route", told)
+            owed = [self.line(*pair) for pair in zip([None, *way], way)]
+            self.expect(not lines or lines[begin:end] == owed, "lines of a route", owed, told)
+        self.expect(lines[begins[-1]:] == [7] * (len(lines) and room - begins[-1]), "behind the lines", told)
+
+    def ask_sums(self):
+        handle, sources = self.draw.choice(self.handles), self.nodes()
+        places, *_ = self.kept.get(id(handle), ([],))
+        limits = [self.draw.choice((0, 1, 5, 100, 2**60)) for _ in range(self.draw.randrange(4))]
+        values = [self.draw.choice((0, 1, 9, 2**62, 2**63)) for _ in range(len(places) + (self.draw.random() < 0.1))]
+        room = len(sources) * len(limits) + (self.draw.random() < 0.1)
+        status, rows, sums = told = self.library.near_sums(handle, sources, values, limits, room)
+        wanted = "OK"
+        if not handle.is_open:
+            wanted = "CLOSED"
+        elif id(handle) not in self.kept:
+            wanted = "NO_PLACES"
+        elif len(values) != len(places) or room != len(sources) * len(limits):
+            wanted = "LENGTHS"
+        elif not self.are_nodes(sources):
+            wanted = "NODE_RANGE"
+        if wanted != "OK":
+            self.expect(told == (STATUS[wanted], 7, [7] * room), "sums", sources, values, limits, wanted, told)
+            return
+        owed = []
+        for source in sources:
+            row = self.near_row(handle, source)
+            here = [sum(values[place] for weight, place in row if weight <= limit) for limit in limits]
+            if max(here, default=0) >= 2**64:
+                break
+            owed.append(here)
+        flat = [word for here in owed for word in here]
+        self.expect((status, rows) == (STATUS["OK" if len(owed) == len(sources) else "SUM_TOO_LARGE"], len(owed)), "sums", sources, values, limits, told)
+        self.expect(sums == [*flat, *[7] * (room - len(flat))], "sums", sources, values, limits, owed, told)
+
     def is_way(self, nodes, least):
         """Whether the least weights from node to node add up."""
         return sum(self.away[one][other][0] for one, other in zip(nodes, nodes[1:])) == least
@@ -206,9 +273,9 @@ class Caller:
     def call(self):
         calls = (
             self.open_changed, self.open_or_close, self.share, self.ask_nodes, self.ask_distances, self.ask_table, self.ask_route,
-            self.keep_places, self.sweep, self.ask_near, self.save,
+            self.keep_places, self.sweep, self.ask_near, self.save, self.ask_routes, self.ask_sums,
         )
-        self.draw.choices(calls, (20, 5, 3, 2, 20, 15, 15, 10, 3, 20, 5))[0]()
+        self.draw.choices(calls, (20, 5, 3, 2, 20, 15, 15, 10, 3, 20, 5, 20, 15))[0]()
 
 
 def memory():

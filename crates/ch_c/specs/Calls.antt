@@ -5,7 +5,6 @@ use Rattle.ch_hierarchy.specs.declared.fault.CheckFault.{CheckFault}
 use Rattle.ch_hierarchy.specs.Hierarchy.{LevelsAndLegs, nodes_of}
 use Rattle.ch_read.specs.declared.fault.FaultKind.{FaultKind}
 use Rattle.ch_query.specs.declared.routes.Route.{Route}
-use Rattle.ch_query.specs.Distance.{IsKeptForSome}
 use Rattle.ch_text.specs.SaveText.{IsHierarchyText}
 use Rattle.ch_engine.specs.declared.fault.OpenError.{OpenError}
 use Rattle.ch_engine.specs.declared.fault.Refusal.{Refusal}
@@ -18,12 +17,13 @@ use Rattle.ch_engine.specs.declared.written.SumsEnd.{SumsEnd}
 use Rattle.ch_engine.specs.declared.written.SumsEnd.TheVariants as SumsEnd
 use Rattle.ch_engine.specs.declared.written.Summed.{Summed}
 use Rattle.ch_engine.specs.Held.{Held, only, with_places}
+use Rattle.ch_engine.specs.Lines.{IsOfSome, Lines}
 use Rattle.ch_engine.specs.NearRows.{AreRowsWritten, StaysFrom, begin_of}
 use Rattle.ch_engine.specs.Opened.{IsOpened}
 use Rattle.ch_engine.specs.Routes.{AreRoutesWritten, IsFound}
 use Rattle.ch_engine.specs.Sums.{AreSumsWritten}
 use Rattle.ch_engine.specs.Cells.{ArePairCells, AreTableCells, no_distance}
-use Rattle.ch_engine.specs.Refusals.{ArePairs, ArePlaces, AreRoutePairs, AreRowSources, AreSumSources, AreTableLists, IsNodePair, IsOpenError, IsRefusalOfPairs, IsRefusalOfPlaces, IsRefusalOfRoute, IsRefusalOfRoutes, IsRefusalOfRows, IsRefusalOfSums, IsRefusalOfSweep, IsRefusalOfTable}
+use Rattle.ch_engine.specs.Refusals.{AreNodes, ArePairs, ArePlaces, AreRouteLengths, AreRowSources, AreSumSources, AreTableLists, IsNodePair, IsOpenError, IsRefusalOfPairs, IsRefusalOfPlaces, IsRefusalOfRoute, IsRefusalOfRoutes, IsRefusalOfRows, IsRefusalOfSums, IsRefusalOfSweep, IsRefusalOfTable}
 use Rattle.ch_c.specs.declared.faults.Fault.{Fault}
 use Rattle.ch_c.specs.declared.answers.Found.{Found}
 use Rattle.ch_c.specs.declared.status.TheConstants.{OK, NO_MEMORY, CLOSED, IS_OPEN, NODE_RANGE, LENGTHS, TOO_LARGE, TOO_SHORT, BAD_GRAPH, BAD_SAVED, WRONG_SAVED, NO_PLACES, SUM_TOO_LARGE}
@@ -74,10 +74,10 @@ fault_of (OpenError.BadSaved f) = record { line = f.line; place = 0; kind = kind
 fault_of (OpenError.WrongSaved f) = check_fault f
 
 -- a call with a closed handle returns CLOSED, and all else stays. With an open one, its hierarchy is right for some
--- graph, and this holds of its network
+-- graph, its lines are those of this graph's arcs, and this holds of its network
 abbrev pub OfNetwork : Option Held → ℕ → Type 0 → (Held → Type 0) → Type 0
 OfNetwork None status Stays Answers = (status ≡ CLOSED) × Stays
-OfNetwork (Some held) status Stays Answers = IsKeptForSome held.hierarchy × Answers held
+OfNetwork (Some held) status Stays Answers = IsOfSome held.hierarchy held.lines × Answers held
 
 -- a call is done, or it is refused
 abbrev pub IsOutcome : ℕ → Type 0 → (Refusal → Type 0) → Type 0
@@ -126,7 +126,7 @@ IsSaved H size_before size before after status =
 abbrev pub IsOpening : List ℕ → List ℕ → Option Held → Option Held → Fault → Fault → ℕ → Type 0
 IsOpening graph saved (Some held) after fault_before fault status = (status ≡ IS_OPEN) × (after ≡ Some held) × (fault ≡ fault_before)
 IsOpening graph saved None after fault_before fault status =
-    ((status ≡ OK) × ((H : LevelsAndLegs) × (after ≡ Some (only H)) × IsOpened graph saved H) × (fault ≡ fault_before))
+    ((status ≡ OK) × ((H : LevelsAndLegs) × (lines : Lines) × (after ≡ Some (only H lines)) × IsOpened graph saved H lines) × (fault ≡ fault_before))
     ⊎ ((error : OpenError) × (status ≡ error_status error) × (after ≡ None) × (fault ≡ fault_of error) × IsOpenError graph saved error)
 
 -- an open handle is not opened again; a closed one gets the network of an open one, without its places, or there is
@@ -134,7 +134,7 @@ IsOpening graph saved None after fault_before fault status =
 abbrev pub IsSharing : Option Held → Option Held → Option Held → ℕ → Type 0
 IsSharing network (Some held) after status = (status ≡ IS_OPEN) × (after ≡ Some held)
 IsSharing None None after status = (status ≡ CLOSED) × (after ≡ None)
-IsSharing (Some held) None after status = ((status ≡ OK) × (after ≡ Some (only held.hierarchy))) ⊎ ((status ≡ NO_MEMORY) × (after ≡ None))
+IsSharing (Some held) None after status = ((status ≡ OK) × (after ≡ Some (only held.hierarchy held.lines))) ⊎ ((status ≡ NO_MEMORY) × (after ≡ None))
 
 -- the direction for a number: to the places for 0, and otherwise from them
 abbrev pub direction_of : ℕ → Direction
@@ -178,24 +178,27 @@ AreRowsAnswered held sources before after status =
     ⊎ ((refusal : Refusal) × (status ≡ refusal_status refusal) × (after ≡ before)
     × IsRefusalOfRows (nodes_of held.hierarchy) held.near sources (length before.ends) (length before.weights) (length before.places) refusal)
 
--- the arrays for routes: the number of routes, the weight of each, the end of its nodes, and the nodes
+-- the arrays for routes: the number of routes, the weight of each, the end of its nodes, the nodes, and the lines
 pub record RouteArrays : Type 0 where
   pub routes : ℕ
   pub weights : List ℕ
   pub ends : List ℕ
   pub nodes : List ℕ
+  pub lines : List ℕ
 
 -- behind so many routes and their nodes all is as before
 abbrev pub IsRouteRestKept : RouteArrays → RouteArrays → Type 0
 IsRouteRestKept before after = StaysFrom after.routes before.weights after.weights × StaysFrom after.routes before.ends after.ends
-    × StaysFrom (begin_of after.ends after.routes) before.nodes after.nodes
+    × StaysFrom (begin_of after.ends after.routes) before.nodes after.nodes × StaysFrom (begin_of after.ends after.routes) before.lines after.lines
 
 -- routes of pairs of nodes are written as far as there is room and memory, or they are refused and all is as before
-abbrev pub AreRoutesAnswered : LevelsAndLegs → List ℕ → List ℕ → RouteArrays → RouteArrays → ℕ → Type 0
-AreRoutesAnswered H sources targets before after status =
-    ((end : End) × (status ≡ end_status end) × AreRoutePairs (nodes_of H) sources targets (length before.weights) (length before.ends)
-    × AreRoutesWritten H sources targets after.weights after.ends after.nodes (record { count = after.routes; end = end }) × IsRouteRestKept before after)
-    ⊎ ((refusal : Refusal) × (status ≡ refusal_status refusal) × (after ≡ before) × IsRefusalOfRoutes (nodes_of H) sources targets (length before.weights) (length before.ends) refusal)
+abbrev pub AreRoutesAnswered : Held → List ℕ → List ℕ → RouteArrays → RouteArrays → ℕ → Type 0
+AreRoutesAnswered held sources targets before after status =
+    ((end : End) × (status ≡ end_status end) × AreRouteLengths (length sources) (length targets) (length before.weights) (length before.ends) (length before.nodes) (length before.lines)
+    × (AreNodes (nodes_of held.hierarchy) sources × AreNodes (nodes_of held.hierarchy) targets)
+    × AreRoutesWritten held sources targets after.weights after.ends after.nodes after.lines (record { count = after.routes; end = end }) × IsRouteRestKept before after)
+    ⊎ ((refusal : Refusal) × (status ≡ refusal_status refusal) × (after ≡ before)
+    × IsRefusalOfRoutes (nodes_of held.hierarchy) sources targets (length before.weights) (length before.ends) (length before.nodes) (length before.lines) refusal)
 
 -- the status for the reason why the sums of no more sources were written
 abbrev pub sums_status : SumsEnd → ℕ

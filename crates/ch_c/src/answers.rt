@@ -32,7 +32,7 @@ pub(crate) fn opened(
     graph: &[u8],
     saved: &[u8],
 ) -> Result<Box<Engine, Global>, OpenError>
-    ensures value { IfOk result (λ engine. (engine.value.near ≡ None) × IsOpened graph.now saved.now engine.value.hierarchy) }
+    ensures value { IfOk result (λ engine. (engine.value.near ≡ None) × IsOpened graph.now saved.now engine.value.hierarchy engine.value.lines) }
     ensures error { IfErr result (IsOpenError graph.now saved.now) }
 {
     let engine = Engine::open(alloc, graph, saved)?;
@@ -44,7 +44,7 @@ pub(crate) fn opened(
 
 /// Makes a second engine on the heap in the same network, or returns `None` if there is no memory.
 pub(crate) fn shared(alloc: Global, engine: &Engine) -> Option<Box<Engine, Global>>
-    ensures { (second : _) → result ≡ Some second → second.value ≡ only engine.now.hierarchy }
+    ensures { (second : _) → result ≡ Some second → second.value ≡ only engine.now.hierarchy engine.now.lines }
 {
     let Ok(second) = engine.share(alloc) else {
         return None;
@@ -148,11 +148,12 @@ pub(crate) fn write_routes(
     weights: &mut [u64],
     ends: &mut [u64],
     nodes: &mut [u32],
+    lines: &mut [u32],
 ) -> u32
-    ensures answered { AreRoutesAnswered engine.old.hierarchy sources.now targets.now (record { routes = routes.old; weights = weights.old; ends = ends.old; nodes = nodes.old }) (record { routes = routes.new; weights = weights.new; ends = ends.new; nodes = nodes.new }) result }
+    ensures answered { AreRoutesAnswered engine.old sources.now targets.now (record { routes = routes.old; weights = weights.old; ends = ends.old; nodes = nodes.old; lines = lines.old }) (record { routes = routes.new; weights = weights.new; ends = ends.new; nodes = nodes.new; lines = lines.new }) result }
     ensures same { engine.new ≡ engine.old }
 {
-    match engine.routes(alloc, sources, targets, weights, ends, nodes) {
+    match engine.routes(alloc, sources, targets, weights, ends, nodes, lines) {
         Ok(written) => {
             *routes = written.count;
             status_of_end(written.end)

@@ -1,7 +1,7 @@
 //! The handle that C holds, and the calls that it makes.
 ghost use Rattle.std.specs.Prelude.{◌≡◌, ◌↔◌, IfSome, IsSome, MatchOption, None, Some, ⊤};
 ghost use Rattle.ch_hierarchy.specs.Hierarchy.{nodes_of};
-ghost use Rattle.ch_query.specs.Distance.{IsKeptForSome};
+ghost use Rattle.ch_engine.specs.Lines.{IsOfSome};
 ghost use Rattle.ch_c.specs.Calls.{ArePairsAnswered, ArePlacesKept, AreRoutesAnswered, AreRowsAnswered, AreSumsAnswered, IsOpening, IsRouteAnswered, IsSaved, IsSharing, IsSwept, IsTableAnswered, OfNetwork};
 ghost use Rattle.ch_c.specs.declared.status.TheConstants.{OK};
 
@@ -54,7 +54,7 @@ impl Handle {
     /// Takes the engine out of an open handle, which is then closed. Returns `None` if the handle is closed already.
     fn take(&mut self, alloc: Global) -> Option<Box<Engine, Global>>
         ensures taken { MatchOption result (self.old.engine.network ≡ None) (λ engine. self.old.engine.network ≡ Some engine.value) }
-        ensures kept { IfSome result (λ engine. IsKeptForSome engine.value.hierarchy) }
+        ensures kept { IfSome result (λ engine. IsOfSome engine.value.hierarchy engine.value.lines) }
         ensures closed { self.new.engine.network ≡ None }
     {
         let Handle { is_open, engine } = mem::replace(self, Handle::closed(alloc));
@@ -62,7 +62,7 @@ impl Handle {
             return None;
         }
         let engine = engine.into_box();
-        // This call tells the proof that the engine's hierarchy is right for some graph.
+        // This call tells the proof that the engine's hierarchy and lines are those of some graph.
         let _ = engine.nodes();
         Some(engine)
     }
@@ -237,8 +237,8 @@ pub extern "C" fn chtab_route(
     status
 }
 
-/// Writes the routes of pairs, one after the other: the number of routes, the weight of each, the end of its nodes, and
-/// the nodes.
+/// Writes the routes of pairs, one after the other: the number of routes, the weight of each, the end of its nodes, the
+/// nodes, and on request the line of the arc that leads to each node.
 #[unsafe(no_mangle)]
 pub extern "C" fn chtab_routes(
     alloc: Global,
@@ -249,8 +249,9 @@ pub extern "C" fn chtab_routes(
     weights: &mut [u64],
     ends: &mut [u64],
     nodes: &mut [u32],
+    lines: &mut [u32],
 ) -> u32
-    ensures answered { OfNetwork handle.old.engine.network result ((routes.new ≡ routes.old) × (weights.new ≡ weights.old) × (ends.new ≡ ends.old) × (nodes.new ≡ nodes.old)) (λ held. AreRoutesAnswered held.hierarchy sources.now targets.now (record { routes = routes.old; weights = weights.old; ends = ends.old; nodes = nodes.old }) (record { routes = routes.new; weights = weights.new; ends = ends.new; nodes = nodes.new }) result) }
+    ensures answered { OfNetwork handle.old.engine.network result ((routes.new ≡ routes.old) × (weights.new ≡ weights.old) × (ends.new ≡ ends.old) × (nodes.new ≡ nodes.old) × (lines.new ≡ lines.old)) (λ held. AreRoutesAnswered held sources.now targets.now (record { routes = routes.old; weights = weights.old; ends = ends.old; nodes = nodes.old; lines = lines.old }) (record { routes = routes.new; weights = weights.new; ends = ends.new; nodes = nodes.new; lines = lines.new }) result) }
     ensures same { handle.new.engine.network ≡ handle.old.engine.network }
 {
     let Some(mut engine) = handle.take(alloc) else {
@@ -265,6 +266,7 @@ pub extern "C" fn chtab_routes(
         weights,
         ends,
         nodes,
+        lines,
     );
     handle.put(engine);
     status

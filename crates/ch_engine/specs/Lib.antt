@@ -1,5 +1,6 @@
 pub mod Cells
 pub mod Held
+pub mod Lines
 pub mod NearRows
 pub mod Refusals
 pub mod Routes

@@ -8,6 +8,7 @@ use Rattle.ch_hierarchy.specs.Saved.{NamesHierarchy}
 use Rattle.ch_contract.specs.declared.measure.OrderBy.TheVariants.{Depth}
 use Rattle.ch_contract.specs.Built.{IsHierarchyBy}
 use Rattle.ch_read.specs.Names.{NamesGraph, NamesSaved}
+use Rattle.ch_engine.specs.Lines.{AreLines, Lines}
 
 -- the hierarchy that the bytes of a saved one name. Without bytes it is the hierarchy by depth, with witnesses of at
 -- most 5 legs
@@ -15,6 +16,7 @@ abbrev pub IsSavedOrBuilt : Network → List ℕ → LevelsAndLegs → Type 0
 IsSavedOrBuilt g [] H = IsHierarchyBy Depth g 5 H
 IsSavedOrBuilt g (byte ∷ bytes) H = (s : OrderAndLegs) × NamesSaved (byte ∷ bytes) g.nodes s × NamesHierarchy s H
 
--- the hierarchy is right for the graph that the bytes name. It is saved or built
-abbrev pub IsOpened : List ℕ → List ℕ → LevelsAndLegs → Type 0
-IsOpened graph saved H = (g : Network) × NamesGraph graph g × IsWithinLimits g × IsKept g H × IsSavedOrBuilt g saved H
+-- the hierarchy is right for the graph that the bytes name, and the lines are those of this graph's arcs. The hierarchy
+-- is saved or built
+abbrev pub IsOpened : List ℕ → List ℕ → LevelsAndLegs → Lines → Type 0
+IsOpened graph saved H lines = (g : Network) × NamesGraph graph g × IsWithinLimits g × IsKept g H × IsSavedOrBuilt g saved H × AreLines g H lines

@@ -1,5 +1,5 @@
 -- When a network is not opened, when the arguments of a question fit, and when a question is refused.
-use Rattle.std.specs.Prelude.{◌≡◌, ◌≢◌, ℕ, ◌*◌, ◌<◌, ◌≤◌, List, [], length, All, Option, None, IsSome, MatchOption, ⊤}
+use Rattle.std.specs.Prelude.{◌≡◌, ◌≢◌, ℕ, ◌*◌, ◌<◌, ◌≤◌, ◌⊎◌, List, [], length, All, Option, None, IsSome, MatchOption, ⊤}
 use Rattle.ch_graph.specs.declared.limits.TheConstants.{MOST_LISTED}
 use Rattle.ch_graph.specs.Graph.{Network}
 use Rattle.ch_graph.specs.Saved.{OrderAndLegs}
@@ -60,19 +60,23 @@ IsRefusalOfRoute n source target Refusal.Lengths = ⊥
 IsRefusalOfRoute n source target Refusal.TooLarge = ⊥
 IsRefusalOfRoute n source target Refusal.NoPlaces = ⊥
 
--- routes of these pairs of nodes can be asked for, with arrays of these lengths for weights and ends
-abbrev pub AreRoutePairs : ℕ → List ℕ → List ℕ → ℕ → ℕ → Type 0
-AreRoutePairs n sources targets weights ends =
-    (length targets ≡ length sources) × (weights ≡ length sources) × (ends ≡ length sources) × AreNodes n sources × AreNodes n targets
+-- so many lines can be asked for with room for so many nodes: none, or as many
+abbrev pub IsLinesRoom : ℕ → ℕ → Type 0
+IsLinesRoom nodes lines = (lines ≡ 0) ⊎ (lines ≡ nodes)
 
--- the reason for refusing routes. Lengths come before nodes
-abbrev pub IsRefusalOfRoutes : ℕ → List ℕ → List ℕ → ℕ → ℕ → Refusal → Type 0
-IsRefusalOfRoutes n sources targets weights ends Refusal.NoMemory = ⊥
-IsRefusalOfRoutes n sources targets weights ends Refusal.NodeRange =
-    (length targets ≡ length sources) × (weights ≡ length sources) × (ends ≡ length sources) × (AreNodes n sources × AreNodes n targets → ⊥)
-IsRefusalOfRoutes n sources targets weights ends Refusal.Lengths = (length targets ≡ length sources) × (weights ≡ length sources) × (ends ≡ length sources) → ⊥
-IsRefusalOfRoutes n sources targets weights ends Refusal.TooLarge = ⊥
-IsRefusalOfRoutes n sources targets weights ends Refusal.NoPlaces = ⊥
+-- arrays of these lengths fit so many pairs
+abbrev pub AreRouteLengths : ℕ → ℕ → ℕ → ℕ → ℕ → ℕ → Type 0
+AreRouteLengths sources targets weights ends nodes lines = (targets ≡ sources) × (weights ≡ sources) × (ends ≡ sources) × IsLinesRoom nodes lines
+
+-- the reason for refusing routes, with arrays of these lengths for weights, ends, nodes and lines. Lengths come before
+-- nodes
+abbrev pub IsRefusalOfRoutes : ℕ → List ℕ → List ℕ → ℕ → ℕ → ℕ → ℕ → Refusal → Type 0
+IsRefusalOfRoutes n sources targets weights ends nodes lines Refusal.NoMemory = ⊥
+IsRefusalOfRoutes n sources targets weights ends nodes lines Refusal.NodeRange =
+    AreRouteLengths (length sources) (length targets) weights ends nodes lines × (AreNodes n sources × AreNodes n targets → ⊥)
+IsRefusalOfRoutes n sources targets weights ends nodes lines Refusal.Lengths = AreRouteLengths (length sources) (length targets) weights ends nodes lines → ⊥
+IsRefusalOfRoutes n sources targets weights ends nodes lines Refusal.TooLarge = ⊥
+IsRefusalOfRoutes n sources targets weights ends nodes lines Refusal.NoPlaces = ⊥
 
 -- these are places: nodes, and not too many
 abbrev pub ArePlaces : ℕ → List ℕ → Type 0

@@ -1,7 +1,8 @@
 //! Engines: a network, with room for the questions of one thread.
-ghost use Rattle.std.specs.Prelude.{◌≡◌, ◌<◌, length, IfErr, IfOk, None, OnOk, MatchOption, ⊤};
+ghost use Rattle.std.specs.Prelude.{◌≡◌, ◌<◌, length, All, IfErr, IfOk, None, OnOk, MatchOption, ⊤};
+ghost use Rattle.ch_graph.specs.Graph.{HasEnds};
 ghost use Rattle.ch_hierarchy.specs.Hierarchy.{nodes_of};
-ghost use Rattle.ch_query.specs.Distance.{IsKeptForSome};
+ghost use Rattle.ch_engine.specs.Lines.{IsOfSome};
 ghost use Rattle.ch_text.specs.SaveText.{IsHierarchyText};
 ghost use Rattle.ch_engine.specs.Held.{only};
 ghost use Rattle.ch_engine.specs.Opened.{IsOpened};
@@ -12,9 +13,8 @@ ghost use Rattle.ch_engine.specs.Refusals.{AreNodes, ArePairs, AreTableLists, Is
 use crate::fault::{OpenError, Refusal};
 use crate::network::Network;
 use crate::opening::opened;
-use crate::words::{are_nodes, word_of, write_table};
+use crate::words::{are_both_nodes, word_of, write_table};
 use ch_graph::limits::MOST_LISTED;
-use ch_hierarchy::Hierarchy;
 use ch_near::KeptTargets;
 use ch_query::{Route, Scratch, distance, route};
 use ch_table::table_alone;
@@ -45,9 +45,9 @@ impl Model for Engine {
 
     ghost Value = { Held };
 
-    ghost view = { λ engine. record { hierarchy = arc_value engine.network; near = option_map asked_by engine.kept } };
+    ghost view = { λ engine. record { hierarchy = (arc_value engine.network).0; lines = (arc_value engine.network).1; near = option_map asked_by engine.kept } };
 
-    ghost invariant = { λ engine. (engine.scratch ≡ nodes_of (arc_value engine.network)) × MatchOption engine.kept ⊤ (AreKeptIn (arc_value engine.network)) × MatchOption engine.kept ⊤ (λ kept. engine.places ≡ length (asked_by kept).targets) };
+    ghost invariant = { λ engine. (engine.scratch ≡ nodes_of (arc_value engine.network).0) × MatchOption engine.kept ⊤ (AreKeptIn (arc_value engine.network).0) × MatchOption engine.kept ⊤ (λ kept. engine.places ≡ length (asked_by kept).targets) };
 }
 
 impl Engine {
@@ -59,19 +59,19 @@ impl Engine {
     /// The first fault of the graph's bytes, otherwise that of the saved hierarchy's bytes, otherwise its first fault
     /// for the graph; or `NoMemory`.
     pub fn open(alloc: Global, graph: &[u8], saved: &[u8]) -> Result<Engine, OpenError>
-        ensures value { IfOk result (λ held. (held.near ≡ None) × IsOpened graph.now saved.now held.hierarchy) }
+        ensures value { IfOk result (λ held. (held.near ≡ None) × IsOpened graph.now saved.now held.hierarchy held.lines) }
         ensures error { IfErr result (IsOpenError graph.now saved.now) }
     {
-        let hierarchy = opened(alloc, graph, saved)?;
-        Ok(Engine::of(alloc, hierarchy)?)
+        let network = opened(alloc, graph, saved)?;
+        Ok(Engine::of(alloc, network)?)
     }
 
-    fn of(alloc: Global, hierarchy: Hierarchy) -> Result<Engine, AllocError>
-        requires { IsKeptForSome hierarchy }
-        ensures { IfOk result (λ held. held ≡ only hierarchy) }
+    fn of(alloc: Global, network: Network) -> Result<Engine, AllocError>
+        ensures { IfOk result (λ held. held ≡ only network.0 network.1) }
     {
-        let scratch = Scratch::new(alloc, hierarchy.nodes())?;
-        let network = Arc::new(alloc, Network { hierarchy })?;
+        let nodes = network.hierarchy().nodes();
+        let scratch = Scratch::new(alloc, nodes)?;
+        let network = Arc::new(alloc, network)?;
         Ok(for_any_thread(Engine {
             network,
             scratch,
@@ -85,7 +85,7 @@ impl Engine {
     /// # Errors
     /// `AllocError` if there is no memory, or if more engines share the network than can be counted.
     pub fn share(&self, alloc: Global) -> Result<Engine, AllocError>
-        ensures { IfOk result (λ held. held ≡ only self.now.hierarchy) }
+        ensures { IfOk result (λ held. held ≡ only self.now.hierarchy self.now.lines) }
     {
         let network = Arc::try_clone(&self.network)?;
         let scratch = Scratch::new(alloc, network.hierarchy().nodes())?;
@@ -100,7 +100,7 @@ impl Engine {
     /// Returns the number of nodes.
     pub fn nodes(&self) -> u32
         ensures nodes { result ≡ nodes_of self.now.hierarchy }
-        ensures kept { IsKeptForSome self.now.hierarchy }
+        ensures kept { IsOfSome self.now.hierarchy self.now.lines }
     {
         self.network.hierarchy().nodes()
     }
@@ -135,7 +135,7 @@ impl Engine {
             return Err(Refusal::Lengths);
         }
         let nodes = self.nodes();
-        if !are_nodes(sources, nodes) || !are_nodes(targets, nodes) {
+        if !are_both_nodes(sources, targets, nodes) {
             return Err(Refusal::NodeRange);
         }
         self.write_distances(sources, targets, out);
@@ -187,7 +187,7 @@ impl Engine {
             return Err(Refusal::Lengths);
         }
         let nodes = self.nodes();
-        if !are_nodes(sources, nodes) || !are_nodes(targets, nodes) {
+        if !are_both_nodes(sources, targets, nodes) {
             return Err(Refusal::NodeRange);
         }
         let most = MOST_LISTED as usize;
@@ -241,6 +241,7 @@ impl Engine {
         requires target { target < nodes_of self.old.hierarchy }
         ensures route { IfOk result (IsFound self.old.hierarchy source target) }
         ensures few { IfOk result (λ answer. MatchOption answer ⊤ (λ route. length route.arcs < nodes_of self.old.hierarchy)) }
+        ensures ends { IfOk result (λ answer. MatchOption answer ⊤ (λ route. All (HasEnds (nodes_of self.old.hierarchy)) route.arcs)) }
         ensures same { self.new ≡ self.old }
     {
         let hierarchy = self.network.hierarchy();

@@ -13,6 +13,7 @@
 
 mod engine;
 mod fault;
+mod lines;
 mod near;
 mod network;
 mod opening;
@@ -23,5 +24,6 @@ mod written;
 
 pub use engine::Engine;
 pub use fault::{OpenError, Refusal};
+pub use lines::NO_LINE;
 pub use words::NO_DISTANCE;
 pub use written::{End, Summed, SumsEnd, Written};

@@ -1,33 +1,83 @@
-//! The hierarchy that engines share.
-ghost use Rattle.std.specs.Prelude.{◌≡◌};
+//! The hierarchy that engines share, with the lines of its legs.
+ghost use Rattle.std.specs.Prelude.{◌≡◌, ◌≢◌, ◌<◌, IfOk};
+ghost use Rattle.ch_hierarchy.specs.Hierarchy.{nodes_of};
+ghost use Rattle.ch_hierarchy.specs.Kept.{IsKept};
 ghost use Rattle.ch_query.specs.Distance.{IsKeptForSome};
+ghost use Rattle.ch_engine.specs.Lines.{AreLines, IsLineBy, IsOfSome};
 
+use crate::lines::{lines_of, word_at};
+use ch_graph::{Graph, Rows};
 use ch_hierarchy::Hierarchy;
+use ch_query::Side;
+use std::alloc::{AllocError, Global};
 use std::marker::Model;
 
-/// A hierarchy that is right for some graph.
+/// A hierarchy that is right for some graph, and the lines of that graph's arcs. The graph itself is not kept.
 #[derive(Drop)]
 pub struct Network {
-    pub(crate) hierarchy: Hierarchy,
+    hierarchy: Hierarchy,
+    /// For each leg up, by node, the line of the arc between its ends.
+    ups: Rows<u32>,
+    /// The same for each leg down.
+    downs: Rows<u32>,
 }
 
 impl Model for Network {
     ghost use Rattle.ch_hierarchy.specs.Hierarchy.{LevelsAndLegs};
-    ghost use Rattle.ch_query.specs.Distance.{IsKeptForSome};
+    ghost use Rattle.ch_engine.specs.Lines.{IsOfSome, Lines};
 
-    ghost Value = { LevelsAndLegs };
+    ghost Value = { LevelsAndLegs × Lines };
 
-    ghost view = { λ network. network.hierarchy };
+    ghost view = { λ network. (network.hierarchy, record { up = network.ups; down = network.downs }) };
 
-    ghost invariant = { λ network. IsKeptForSome network.hierarchy };
+    ghost invariant = { λ network. IsOfSome network.hierarchy (record { up = network.ups; down = network.downs }) };
 }
 
 impl Network {
+    /// Finds the lines of a graph's arcs for the legs of its hierarchy.
+    ///
+    /// # Errors
+    /// `AllocError` if there is no memory.
+    pub(crate) fn of(
+        alloc: Global,
+        graph: &Graph,
+        hierarchy: Hierarchy,
+    ) -> Result<Network, AllocError>
+        requires { IsKept graph.now hierarchy }
+        ensures hierarchy { IfOk result (λ network. network.0 ≡ hierarchy) }
+        ensures lines { IfOk result (λ network. AreLines graph.now network.0 network.1) }
+    {
+        // This call tells the proof that the graph keeps the limits.
+        let _ = graph.arcs();
+        let ups = lines_of(alloc, graph, &hierarchy, Side::Up)?;
+        let downs = lines_of(alloc, graph, &hierarchy, Side::Down)?;
+        Ok(Network {
+            hierarchy,
+            ups,
+            downs,
+        })
+    }
+
     /// Returns the hierarchy.
     pub(crate) fn hierarchy(&self) -> &Hierarchy
-        ensures same { result.now ≡ self.now }
-        ensures kept { IsKeptForSome self.now }
+        ensures same { result.now ≡ self.now.0 }
+        ensures kept { IsKeptForSome self.now.0 }
+        ensures lines { IsOfSome self.now.0 self.now.1 }
     {
         &self.hierarchy
+    }
+
+    /// Returns the line of the arc from a node to another one, or [`NO_LINE`](crate::NO_LINE) if there is no such arc.
+    pub(crate) fn line(&self, from: u32, to: u32) -> u32
+        requires from { from < nodes_of self.now.0 }
+        requires to { to < nodes_of self.now.0 }
+        ensures { from ≢ to → IsLineBy self.now.0 self.now.1 from to result }
+    {
+        let hierarchy = &self.hierarchy;
+        if hierarchy.level(from) < hierarchy.level(to) {
+            word_at(hierarchy.up(from), self.ups.row(from), to)
+        } else {
+            word_at(hierarchy.down(to), self.downs.row(to), from)
+        }
     }
 }

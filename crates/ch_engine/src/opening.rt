@@ -1,11 +1,12 @@
-//! Opens a hierarchy from bytes, without workers.
+//! Opens a network from bytes, without workers.
 ghost use Rattle.std.specs.Prelude.{IfErr, IfOk};
 ghost use Rattle.ch_engine.specs.Opened.{IsOpened};
 ghost use Rattle.ch_engine.specs.Refusals.{IsOpenError};
 
 use crate::fault::OpenError;
+use crate::network::Network;
 use ch_contract::build_alone;
-use ch_hierarchy::{CheckError, Hierarchy};
+use ch_hierarchy::CheckError;
 use ch_query::check_alone;
 use ch_read::{ReadError, read_graph, read_saved};
 use std::alloc::Global;
@@ -13,35 +14,38 @@ use std::alloc::Global;
 /// The most legs of a witness, if the hierarchy is built. The command line uses the same number by default.
 const BUILT_HOPS: u32 = 5;
 
-/// Returns a hierarchy that is right for the graph that the bytes `graph` name. If `saved` is not empty, its bytes name
-/// the hierarchy. If `saved` is empty, the hierarchy is built by depth.
+/// Returns the network of the graph that the bytes `graph` name, with a hierarchy that is right for it. If `saved` is not
+/// empty, its bytes name the hierarchy. If `saved` is empty, the hierarchy is built by depth.
 ///
 /// # Errors
 /// The first fault of the graph's bytes, otherwise that of the saved hierarchy's bytes, otherwise its first fault for
 /// the graph; or `NoMemory`.
-pub(crate) fn opened(alloc: Global, graph: &[u8], saved: &[u8]) -> Result<Hierarchy, OpenError>
-    ensures value { IfOk result (IsOpened graph.now saved.now) }
+pub(crate) fn opened(alloc: Global, graph: &[u8], saved: &[u8]) -> Result<Network, OpenError>
+    ensures value { IfOk result (λ network. IsOpened graph.now saved.now network.0 network.1) }
     ensures error { IfErr result (IsOpenError graph.now saved.now) }
 {
-    let network = match read_graph(alloc, graph) {
-        Ok(network) => network,
+    let roads = match read_graph(alloc, graph) {
+        Ok(roads) => roads,
         Err(ReadError::Fault(fault)) => return Err(OpenError::BadGraph(fault)),
         Err(ReadError::NoMemory) => return Err(OpenError::NoMemory),
     };
     if saved.is_empty() {
-        let built = build_alone(alloc, &network, BUILT_HOPS)?;
-        return Ok(built);
+        let built = build_alone(alloc, &roads, BUILT_HOPS)?;
+        let lined = Network::of(alloc, &roads, built)?;
+        return Ok(lined);
     }
     // This call tells the proof that the graph keeps the limits.
-    let _ = network.arcs();
-    let hierarchy = match read_saved(alloc, saved, network.nodes()) {
+    let _ = roads.arcs();
+    let hierarchy = match read_saved(alloc, saved, roads.nodes()) {
         Ok(hierarchy) => hierarchy,
         Err(ReadError::Fault(fault)) => return Err(OpenError::BadSaved(fault)),
         Err(ReadError::NoMemory) => return Err(OpenError::NoMemory),
     };
-    match check_alone(alloc, &network, &hierarchy) {
-        Ok(right) => Ok(right),
-        Err(CheckError::Fault(fault)) => Err(OpenError::WrongSaved(fault)),
-        Err(CheckError::NoMemory) => Err(OpenError::NoMemory),
-    }
+    let right = match check_alone(alloc, &roads, &hierarchy) {
+        Ok(right) => right,
+        Err(CheckError::Fault(fault)) => return Err(OpenError::WrongSaved(fault)),
+        Err(CheckError::NoMemory) => return Err(OpenError::NoMemory),
+    };
+    let lined = Network::of(alloc, &roads, right)?;
+    Ok(lined)
 }

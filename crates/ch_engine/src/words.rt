@@ -31,6 +31,13 @@ pub(crate) fn are_nodes(numbers: &[u32], nodes: u32) -> bool
     true
 }
 
+/// Whether all numbers of both lists are nodes of a network of `nodes` nodes.
+pub(crate) fn are_both_nodes(sources: &[u32], targets: &[u32], nodes: u32) -> bool
+    ensures { IsTrue result ↔ AreNodes nodes sources.now × AreNodes nodes targets.now }
+{
+    are_nodes(sources, nodes) && are_nodes(targets, nodes)
+}
+
 /// Writes the words of a table's answers, row after row.
 pub(crate) fn write_table(table: &Table, rows: usize, columns: usize, out: &mut [u64])
     requires room { length out.old ≡ rows * columns }

@@ -22,8 +22,8 @@ NAME = "libchtab.so.1"
 OK, NO_MEMORY, CLOSED, IS_OPEN, NODE_RANGE, LENGTHS, TOO_LARGE, TOO_SHORT, BAD_GRAPH, BAD_SAVED, WRONG_SAVED, NO_PLACES, SUM_TOO_LARGE = range(13)
 # The limit that leaves out no distance, and the distance where there is no walk, which is -1 as a number of 64 bits with a sign.
 NO_LIMIT = NO_DISTANCE = 2**64 - 1
-# The number of places of a near row that leaves none out.
-ALL = 2**32 - 1
+# The number of places of a near row that leaves none out, and the line where no arc leads to a node.
+ALL = NO_LINE = 2**32 - 1
 # What is wrong with a file, by the number of `chtab_fault_kind`, in the words of the program.
 KINDS = (
     "", "unknown line", "bad problem line", "second problem line", "no problem line", "bad line", "node out of range", "weight too large",
@@ -66,7 +66,7 @@ CALLS = {
     "chtab_distances": (HANDLE, *ARRAY, *ARRAY, *ARRAY),
     "chtab_table": (HANDLE, *ARRAY, *ARRAY, ctypes.c_uint64, *ARRAY),
     "chtab_route": (HANDLE, ctypes.c_uint32, ctypes.c_uint32, ctypes.POINTER(Found), *ARRAY),
-    "chtab_routes": (HANDLE, *ARRAY, *ARRAY, ctypes.POINTER(ctypes.c_uint64), *ARRAY, *ARRAY, *ARRAY),
+    "chtab_routes": (HANDLE, *ARRAY, *ARRAY, ctypes.POINTER(ctypes.c_uint64), *ARRAY, *ARRAY, *ARRAY, *ARRAY),
     "chtab_near_places": (HANDLE, ctypes.c_uint32, *ARRAY, ctypes.c_uint64, ctypes.c_uint32),
     "chtab_near_sweep": (HANDLE,),
     "chtab_near_rows": (HANDLE, *ARRAY, ctypes.POINTER(ctypes.c_uint64), *ARRAY, *ARRAY, *ARRAY),
@@ -275,16 +275,25 @@ class Handle:
     def routes(self, sources, targets, room):
         """The routes from each source to the target beside it, columns of uint32, nodes from 0 on: of as many of the first pairs as there is room for
         with so many nodes. Their weights, int64, -1 where there is no walk; where the nodes of each end, int64; and the nodes, uint32."""
+        return self.find_many(sources, targets, numpy.empty(room, numpy.uint32), numpy.empty(0, numpy.uint32))[:3]
+
+    def routes_with_lines(self, sources, targets, room):
+        """The same, and for each node the line of the arc that leads to it, uint32: its place among the arcs of the graph's file, from 0 on. For the
+        first node of a route it is `NO_LINE`."""
+        return self.find_many(sources, targets, *numpy.empty((2, room), numpy.uint32))
+
+    def find_many(self, sources, targets, nodes, lines):
+        """Writes the routes of the first pairs, as far as there is room."""
         count, weights, ends = ctypes.c_uint64(), *numpy.empty((2, len(sources)), numpy.int64)
-        nodes = numpy.empty(room, numpy.uint32)
         given = [address(sources, numpy.uint32), len(sources), address(targets, numpy.uint32), len(targets), ctypes.byref(count)]
-        for array, kind in (weights, numpy.int64), (ends, numpy.int64), (nodes, numpy.uint32):
+        for array, kind in (weights, numpy.int64), (ends, numpy.int64), (nodes, numpy.uint32), (lines, numpy.uint32):
             given += [address(array, kind, True), len(array)]
         with self.lock:
             status = self.calls.chtab_routes(self.at, *given)
         see_that_done(OK if status == TOO_SHORT else status)
         ends = ends[:count.value]
-        return weights[:count.value], ends, nodes[:ends[-1] if len(ends) else 0]
+        end = ends[-1] if len(ends) else 0
+        return weights[:count.value], ends, nodes[:end], lines[:end]
 
     def keep_places(self, places, limit=NO_LIMIT, count=ALL, is_from=False):
         """Searches from places, a column of uint32, nodes from 0 on, and keeps what is found in place of what was kept: for rows of at most

@@ -9,10 +9,11 @@ invariant-loop-i l = record {
   weighed : length l.weights ≡ length l.fn.weights;
   as_many : length l.ends ≡ length l.fn.ends;
   long : length l.nodes ≡ length l.fn.nodes;
+  wide : length l.lines ≡ length l.fn.lines;
   here : l.begin ≡ begin_of l.ends l.i;
   low : (k : ℕ) → k < l.i → slice_index l.ends k ≤ l.begin;
   fits : l.begin ≤ length l.nodes;
   rest : StaysFrom l.i l.fn.weights l.weights × StaysFrom l.i l.fn.ends l.ends;
-  behind : StaysFrom l.begin l.fn.nodes l.nodes;
-  routes : AreRoutesAt l.fn.self.hierarchy l.sources l.targets l.weights l.ends l.nodes l.i;
+  behind : StaysFrom l.begin l.fn.nodes l.nodes × StaysFrom l.begin l.fn.lines l.lines;
+  routes : AreRoutesAt l.fn.self l.sources l.targets l.weights l.ends l.nodes l.lines l.i;
 }
