@@ -371,6 +371,8 @@ def check_versions(tally):
     """The engine, the Python package, the package that README names and the list of changes have one version."""
     version = re.search(r'^version = "(.*)"$', (ROOT / "python" / "pyproject.toml").read_text(), re.MULTILINE)[1]
     tally.expect((ROOT / "VERSION").read_text().startswith(f"chtab {version}\n"), f"VERSION and python/pyproject.toml, {version}, differ")
+    line = (ROOT / "VERSION").read_text().removeprefix("chtab ").rstrip("\n").replace("\n", "\\n")
+    tally.expect(f'const VERSION: &str = "{line}";' in FORM.read_text(), f"{told(FORM)} has another version than VERSION")
     package = re.search(r'^__version__ = "(.*)"$', (ROOT / "python" / "chtab" / "__init__.py").read_text(), re.MULTILINE)[1]
     tally.expect(package == version, f"chtab.__version__ is {package}, not {version}")
     named = re.findall(r"\bchtab_([\d.]+)_", (ROOT / "README.md").read_text())

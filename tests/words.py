@@ -3,7 +3,7 @@
 
 - Options and files in any order, numbers in each form and at their limits: the text shows what was read.
 - Words that are refused, each with part of what is told; numbers outside their ranges, at each tool that reads them.
-- Help: what it says of each word.
+- Help: what it says of each word. The version.
 - Where help can't be written, or refused words can't be told.
 
 The last line is 'N passed, N failed'.
@@ -11,7 +11,7 @@ The last line is 'N passed, N failed'.
 import tempfile
 from pathlib import Path
 
-from helpers.running import PROGRAM, Answer, Count, agrees, build, run
+from helpers.running import PROGRAM, ROOT, Answer, Count, agrees, build, run
 
 # A line of three nodes; four nodes with two shortest paths from 2 to 4, of which the orders by difference and by depth take one each; and
 # four nodes with two shortest paths from 4 to 1, of which only the order by rounds takes the one over 2.
@@ -236,43 +236,44 @@ REFUSED = [
 # Words that ask for help, and parts of what it says.
 HELPS = {
     "--help": [
-        "Usage: chtab <COMMAND>", "dist", "table", "near", "save", "ask", "chtab dist --routes roads.gr pairs.p2p",
+        "Usage: chtab <COMMAND>", "  dist   Write the distance of each query", "  table  Write the distances from each source", "  near   Write the nearest targets",
+        "  save   Write the hierarchy", "  ask    Answer requests", "-V, --version", "chtab dist --routes roads.gr pairs.p2p",
         "chtab table roads.gr depots.ss shops.ss", "chtab near --count 3 roads.gr homes.ss doctors.ss", "chtab save --deep roads.gr >roads.ch",
         "chtab ask --saved roads.ch roads.gr <requests.txt",
     ],
     "dist --help": [
-        "Usage: chtab dist [OPTIONS] <GRAPH> <QUERIES>", "--plain",
-        "All other options but --progress then have no effect [default: off]", "--routes", "in order [default: off]",
-        "--deep", "another may be written [default: off]", "--rounds", "Excludes --deep [default: off]", "--saved <FILE>",
-        "`chtab save` or any other program wrote it",
-        "refused, often by `saved line 1: size too large`", "Options on how to build one then have no effect [default: none]",
-        "--workers <N>", "no answer depends on N [default: 1]",
+        "Usage: chtab dist [OPTIONS] <GRAPH> <QUERIES>", "`d S T X`", "--plain", "All other options but --progress then have no effect", "--routes",
+        "--deep", "halves the time of building", "another may be written", "--rounds", "Cannot be combined with --deep", "--saved <FILE>",
+        "`chtab save` or any other program wrote it", "refused, often by `saved line 1: size too large`",
+        "Options on how to build one then have no effect [default: none]", "--workers <N>", "no answer depends on N [default: 1]",
         "--piece <K>", "from 1 to 1048576 [default: 64]", "--hops <H>", "from 1 to 16 [default: 5]", "--progress",
         "Example: chtab dist --routes roads.gr pairs.p2p",
     ],
     "table --help": [
-        "Usage: chtab table [OPTIONS] <GRAPH> <SOURCES> <TARGETS>", "--workers <N>", "--piece <K>", "--hops <H>", "p aux sp ss K",
-        "--within <R>", "from 0 to 1152921504606846976: each other cell is - [default: no limit]", "--saved <FILE>",
+        "Usage: chtab table [OPTIONS] <GRAPH> <SOURCES> <TARGETS>", "`t S X ..`", "--workers <N>", "--piece <K>", "--hops <H>", "p aux sp ss K",
+        "--within <R>", "from 0 to 1152921504606846976: such a cell of a table is - [default: no limit]", "--saved <FILE>",
         "--progress", "chtab table roads.gr depots.ss shops.ss", "chtab table --within 900000 roads.gr homes.ss doctors.ss",
     ],
     "near --help": [
         "Usage: chtab near [OPTIONS] <GRAPH> <SOURCES> <TARGETS>\n       chtab near [OPTIONS] --all <GRAPH> <TARGETS>\n", "`n S K T X ..`",
         "--count <K>", "from 1 to 65536 [default: all]", "--within <R>", "from 0 to 1152921504606846976 [default: no limit]", "--from", "--all",
-        "Then no SOURCES are given [default: off]", "--saved <FILE>", "--workers <N>", "--piece <K>", "--hops <H>", "--progress",
+        "in place of SOURCES", "--saved <FILE>", "--workers <N>", "--piece <K>", "--hops <H>", "--progress",
         "SOURCES and TARGETS, or with --all TARGETS alone", "p aux sp ss K", "chtab near --count 3 roads.gr homes.ss doctors.ss",
         "chtab near --all --within 900000 roads.gr doctors.ss",
     ],
     "save --help": [
-        "Usage: chtab save [OPTIONS] <GRAPH>", "--deep", "another may be written [default: off]", "--rounds", "Excludes --deep [default: off]",
+        "Usage: chtab save [OPTIONS] <GRAPH>", "--deep", "halves the time of building", "--rounds", "Cannot be combined with --deep",
         "--workers <N>", "--piece <K>", "--hops <H>", "--progress", "chtab save --deep roads.gr >roads.ch",
         "chtab save --rounds --workers 4 roads.gr >roads.ch",
     ],
     "ask --help": [
-        "Usage: chtab ask [OPTIONS] <GRAPH>", "as they come. `q S T` asks for a distance", "then come K lines `s V`, the sources",
-        "--routes", "--deep", "--rounds", "Excludes --deep [default: off]", "--within <R>", "--saved <FILE>", "--workers <N>", "--piece <K>", "--hops <H>", "--progress",
+        "Usage: chtab ask [OPTIONS] <GRAPH>", "  q S T      the distance", "  r S T ", "  t K L [R]  ", "  p L K ", "  n S [R] ",
+        "--routes", "--deep", "--rounds", "Cannot be combined with --deep", "--within <R>", "--saved <FILE>", "--workers <N>", "--piece <K>", "--hops <H>", "--progress",
         "Example: chtab ask --saved roads.ch roads.gr <requests.txt",
     ],
 }
+VERSION = (ROOT / "VERSION").read_bytes()
+MOST_COLUMNS = 100
 
 
 def asked(folder, line):
@@ -320,6 +321,18 @@ def check_help(tally, folder):
         tally.expect(agrees(answer, Answer(0, None, b"")), f"{line}: {answer}")
         for part in parts:
             tally.expect(part.encode() in answer.out, f"help by {line} does not say: {part}")
+        tally.expect(b"[default: off]" not in answer.out, f"help by {line} gives flags a default")
+    for line in asked(folder, "--help").out.splitlines():
+        tally.expect(len(line) <= MOST_COLUMNS, f"help has a line of {len(line)} columns: {line}")
+
+
+def check_version(tally, folder):
+    """The program's version and the kit's line, and words with them that no tool reads."""
+    for line in "--version", "-V":
+        answer = asked(folder, line)
+        tally.expect(answer == Answer(0, VERSION, b""), f"{line}: {answer}")
+    for line, part in ("dist --version g q", "--version"), ("--versions", "--versions"), ("version", "version"):
+        expect_refused(tally, folder, line, part)
 
 
 # The program on the words behind it, where its output or its errors are a full device.
@@ -331,7 +344,7 @@ FULL_BOTH = ["/bin/sh", "-c", '"$0" "$@" >/dev/full 2>/dev/full', PROGRAM]
 def check_full(tally, folder):
     """Help that can't be written is a fault, which is told where it can be; refused words have their status even so."""
     told = b"chtab: cannot write after 0 bytes\n"
-    for words in ["--help"], ["ask", "--help"]:
+    for words in ["--help"], ["ask", "--help"], ["--version"]:
         for command, wanted in (FULL_OUTPUT, Answer(3, b"", told)), (FULL_BOTH, Answer(3, b"", b"")):
             answer = run(words, folder, command=command)
             tally.expect(answer == wanted, f"{words} on a full device: {answer}")
@@ -350,7 +363,7 @@ def main():
         (folder / "line.ch").write_text(SAVED)
         for name, graph in ("ties.ch", "ties.gr"), ("deep.ch", "rounds.gr"):
             (folder / name).write_bytes(run(["save", "--deep", graph], folder).out)
-        for check in check_read, check_refused, check_help, check_full:
+        for check in check_read, check_refused, check_help, check_version, check_full:
             check(tally, folder)
     tally.finish()
 

@@ -21,16 +21,19 @@ use Rattle.ch_words.specs.declared.line.Line.{Line}
 use Rattle.ch_words.specs.declared.fault.LineFault.{LineFault}
 
 -- a command with the program's name and settings has the form of the program's own words
-pub program_set : (named unnamed requiring helpless : Command) → app_of named ≡ new_app (codes "chtab")
+pub program_set : (named unnamed requiring helpless versioned : Command) (text : Bor Text) → app_of named ≡ new_app (codes "chtab")
     → out-Command unnamed ≡ record (out-Command named) { no_binary_name = true }
     → out-Command requiring ≡ record (out-Command unnamed) { subcommand_required = true }
-    → out-Command helpless ≡ record (out-Command requiring) { disable_help_subcommand = true } → app_of helpless ≡ program_form
-program_set named unnamed requiring helpless is first second third =
+    → out-Command helpless ≡ record (out-Command requiring) { disable_help_subcommand = true }
+    → out-Command versioned ≡ record (out-Command helpless) { version = Some text } → app_of versioned ≡ program_form
+program_set named unnamed requiring helpless versioned text is first second third fourth =
     let with_first : app_of unnamed ≡ on_top (λ s. record s { no_binary_name = true }) (new_app (codes "chtab")) =
     ap app_of_fields first ∙ ap (on_top (λ s. record s { no_binary_name = true })) is in
     let with_second : app_of requiring ≡ on_top (λ s. record s { no_binary_name = true; subcommand_required = true }) (new_app (codes "chtab")) =
     ap app_of_fields second ∙ ap (on_top (λ s. record s { subcommand_required = true })) with_first in
-    ap app_of_fields third ∙ ap (on_top (λ s. record s { disable_help_subcommand = true })) with_second
+    let with_third : app_of helpless ≡ on_top (λ s. record s { no_binary_name = true; subcommand_required = true; disable_help_subcommand = true }) (new_app (codes "chtab")) =
+    ap app_of_fields third ∙ ap (on_top (λ s. record s { disable_help_subcommand = true })) with_second in
+    ap app_of_fields fourth ∙ ap (on_top (λ s. record s { has_version = true })) with_third
 
 -- the text of a flag decides its value
 flag_is : (text : Option Text) (flag : Bool) → (text ≡ None → flag ≡ false) → (text ≡ Some (codes "true") → flag ≡ true) → (text ≡ Some (codes "false") → flag ≡ false) → IsFlag text flag
@@ -119,10 +122,11 @@ given-by form words matches name given is matched is_name is_given =
 
 -- a fault that is reported for an error of the words is a fault of the words
 pub fault-told : (words : List Text) (kind : ErrorKind) (fault : LineFault) → IsToldOf kind fault → (kind ≡ OutOfMemory) ⊎ IsAmong kind (faults_of words) → IsFaultOf words fault
-fault-told words kind (LineFault.Help text) told (inl memory) = cc
-fault-told words kind (LineFault.Help text) told (inr among) = subst (λ (k : ErrorKind). IsAmong k (faults_of words)) told among
-fault-told words kind (LineFault.Refused text) told (inl memory) = absurd (told.1 memory)
-fault-told words kind (LineFault.Refused text) told (inr among) = inl (kind, told.0, among)
+fault-told words kind (LineFault.Help text) (inl help) (inl memory) = cc
+fault-told words kind (LineFault.Help text) (inr version) (inl memory) = cc
+fault-told words kind (LineFault.Help text) told (inr among) = (kind, told, among)
+fault-told words kind (LineFault.Refused text) told (inl memory) = absurd (told.2 memory)
+fault-told words kind (LineFault.Refused text) told (inr among) = inl (kind, told.0, told.1, among)
 fault-told words kind LineFault.NoMemory told among = tt
 
 -- the lists that are read are those that `near` is given
@@ -152,13 +156,15 @@ two-listed (x ∷ y ∷ z ∷ rest) d e two = absurd (omega arith)
 
 -- the fault that is reported for a wrong number of lists refuses them
 pub refused-lists : (given : List Row) (fault : LineFault) → IsToldOf WrongNumberOfValues fault → HasOtherLists given → AreRefusedLists (codes "near") given fault
-refused-lists given (LineFault.Help text) told other = cc
+refused-lists given (LineFault.Help text) (inl help) other = cc
+refused-lists given (LineFault.Help text) (inr version) other = cc
 refused-lists given (LineFault.Refused text) told other = (refl, other)
 refused-lists given LineFault.NoMemory told other = tt
 
 -- the fault that is reported for a conflict of arguments refuses both orders
 pub refused-orders : (given : List Row) (fault : LineFault) → IsToldOf ArgumentConflict fault → HasTwoOrders given → AreRefusedOrders given fault
-refused-orders given (LineFault.Help text) told both = cc
+refused-orders given (LineFault.Help text) (inl help) both = cc
+refused-orders given (LineFault.Help text) (inr version) both = cc
 refused-orders given (LineFault.Refused text) told both = both
 refused-orders given LineFault.NoMemory told both = tt
 

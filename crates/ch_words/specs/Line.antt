@@ -9,7 +9,7 @@ use Rattle.clap.specs.declared.builder.command.Command.{Command}
 use Rattle.clap.specs.declared.builder.command.Command.TheViews.{out-Command}
 use Rattle.clap.specs.declared.builder.value_parser.ValueParser.TheVariants as parser
 use Rattle.clap.specs.declared.error.kind.ErrorKind.{ErrorKind}
-use Rattle.clap.specs.declared.error.kind.ErrorKind.TheVariants.{DisplayHelp, OutOfMemory}
+use Rattle.clap.specs.declared.error.kind.ErrorKind.TheVariants.{DisplayHelp, DisplayVersion, OutOfMemory}
 use Rattle.ch_graph.specs.declared.limits.TheConstants.{MOST_HOPS, MOST_LISTED, MOST_WEIGHT}
 use Rattle.ch_work.specs.declared.limits.TheConstants.{MOST_WORKERS, MOST_PIECE}
 use Rattle.ch_work.specs.Plan.{Division, IsWithinLimits}
@@ -135,7 +135,7 @@ ask_form = tool_form (codes "ask") (routes_rule ∷ order_rules ++ within_rule �
 
 -- the program's own words, before its tools are added
 abbrev pub program_form : App
-program_form = on_top (λ s. record s { no_binary_name = true; subcommand_required = true; disable_help_subcommand = true }) (new_app (codes "chtab"))
+program_form = on_top (λ s. record s { no_binary_name = true; subcommand_required = true; disable_help_subcommand = true; has_version = true }) (new_app (codes "chtab"))
 
 -- the words after the program's name: a tool, and its words
 abbrev pub chtab_form : App
@@ -228,10 +228,14 @@ pub record IsReadFrom (words : List Text) (line : Line) : Type 0 where
   pub matched : given_by words ≡ Some (name_of line.tool, given)
   pub read : IsGivenBy given line
 
+-- an error of this kind is no fault: the words ask for help or for the version
+abbrev pub AsksForText : ErrorKind → Type 0
+AsksForText kind = (kind ≡ DisplayHelp) ⊎ (kind ≡ DisplayVersion)
+
 -- this fault may be reported for an error of this kind
 abbrev pub IsToldOf : ErrorKind → LineFault → Type 0
-IsToldOf kind (LineFault.Help _) = kind ≡ DisplayHelp
-IsToldOf kind (LineFault.Refused _) = (kind ≢ DisplayHelp) × (kind ≢ OutOfMemory)
+IsToldOf kind (LineFault.Help _) = AsksForText kind
+IsToldOf kind (LineFault.Refused _) = (kind ≢ DisplayHelp) × (kind ≢ DisplayVersion) × (kind ≢ OutOfMemory)
 IsToldOf kind LineFault.NoMemory = ⊤
 
 -- this text is the text that a value shows, if that is known
@@ -275,14 +279,14 @@ AreRefusedOrders given (LineFault.Help _) = ⊥
 AreRefusedOrders given (LineFault.Refused _) = HasTwoOrders given
 AreRefusedOrders given LineFault.NoMemory = ⊤
 
--- help is reported only if the words ask for it. Words are refused only if clap finds another fault, or if it finds none and the
--- lists of `near` are wrong or both orders are given
+-- help and the version are reported only if the words ask for them. Words are refused only if clap finds another fault, or if it finds
+-- none and the lists of `near` are wrong or both orders are given
 abbrev pub IsFaultOf : List Text → LineFault → Type 0
-IsFaultOf words (LineFault.Help _) = IsAmong DisplayHelp (faults_of words)
-IsFaultOf words (LineFault.Refused _) = ((kind : ErrorKind) × (kind ≢ DisplayHelp) × IsAmong kind (faults_of words)) ⊎ ((faults_of words ≡ []) × (NamesOtherLists (given_by words) ⊎ NamesTwoOrders (given_by words)))
+IsFaultOf words (LineFault.Help _) = (kind : ErrorKind) × AsksForText kind × IsAmong kind (faults_of words)
+IsFaultOf words (LineFault.Refused _) = ((kind : ErrorKind) × (kind ≢ DisplayHelp) × (kind ≢ DisplayVersion) × IsAmong kind (faults_of words)) ⊎ ((faults_of words ≡ []) × (NamesOtherLists (given_by words) ⊎ NamesTwoOrders (given_by words)))
 IsFaultOf words LineFault.NoMemory = ⊤
 
--- the exit status if no line is read: 0 for help, 2 for words that are refused, 3 for a lack of memory
+-- the exit status if no line is read: 0 for help and for the version, 2 for words that are refused, 3 for a lack of memory
 abbrev pub line_status_of : LineFault → ℕ
 line_status_of (LineFault.Help _) = 0
 line_status_of (LineFault.Refused _) = 2

@@ -83,8 +83,8 @@ pub(crate) fn progress<'a>(alloc: Global) -> Arg<'a>
     flag(
         alloc,
         "progress",
-        "Report on standard error how far the run is. On a terminal that happens without this option, \
-        once a stage takes more than a second [default: off]",
+        "Report on standard error how far the run is. On a terminal this happens without the option, \
+        once a stage takes more than a second",
     )
 }
 
@@ -96,7 +96,7 @@ pub(crate) fn routes<'a>(alloc: Global) -> Arg<'a>
     flag(
         alloc,
         "routes",
-        "After each distance, write its route: `r K`, then K lines `a U V W`, the arcs in order [default: off]",
+        "After each distance, write its route: `r K`, then K lines `a U V W`, the arcs in order",
     )
 }
 
@@ -131,7 +131,7 @@ pub(crate) fn within<'a>(alloc: Global) -> Arg<'a>
 {
     limit_of_distances(
         alloc,
-        "In tables, write only distances of at most R, from 0 to 1152921504606846976: each other cell is - \
+        "Leave out distances above R, from 0 to 1152921504606846976: such a cell of a table is - \
         [default: no limit]",
     )
 }
@@ -145,8 +145,8 @@ pub(crate) fn saved<'a>(alloc: Global) -> Arg<'a>
         alloc,
         "saved",
         "FILE",
-        "Read the hierarchy from FILE and check it, instead of building one. `chtab save` or any other program \
-        wrote it, of this graph: one of another graph is refused, often by `saved line 1: size too large`. \
+        "Read the hierarchy from FILE and check it, in place of building one. `chtab save` or any other program \
+        wrote it for this graph: one of another graph is refused, often by `saved line 1: size too large`. \
         Options on how to build one then have no effect [default: none]",
     )
 }

@@ -14,7 +14,7 @@ use std::fmt;
 /// Why the words give no line.
 #[derive(Debug, Drop)]
 pub enum LineFault {
-    /// The words ask for help, and this is the text of it.
+    /// The words ask for help or for the version, and this is the text of it.
     Help(String),
     /// The words are refused, and this text says why.
     Refused(String),
@@ -43,8 +43,8 @@ impl From<AllocError> for LineFault {
 
 impl Error for LineFault {}
 
-/// Returns the program's exit status if no line is read. It is 0 for help, 2 for words that are refused, and
-/// 3 for a lack of memory.
+/// Returns the program's exit status if no line is read. It is 0 for help and for the version, 2 for words that
+/// are refused, and 3 for a lack of memory.
 pub fn line_status(fault: &LineFault) -> u8
     ensures { result ≡ line_status_of fault.now }
 {
@@ -103,7 +103,7 @@ pub(crate) fn fault_of<E: Refusal + fmt::Display>(alloc: Global, error: &E) -> L
     };
     match error.reason() {
         ErrorKind::OutOfMemory => LineFault::NoMemory,
-        ErrorKind::DisplayHelp => LineFault::Help(text),
+        ErrorKind::DisplayHelp | ErrorKind::DisplayVersion => LineFault::Help(text),
         _ => LineFault::Refused(text),
     }
 }

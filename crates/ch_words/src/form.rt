@@ -15,26 +15,40 @@ use ch_work::limits::{MOST_PIECE, MOST_WORKERS};
 use clap::{Arg, Command};
 use std::alloc::{AllocError, Global};
 
+/// The version of the program, and the line of the kit that it is proved with. The file VERSION has both.
+const VERSION: &str = "1.1\nrattle-kit-13f logic dac8208d650f15bf";
+
 /// The help of `--deep` for a hierarchy that is saved.
 const SAVED_BY_DEPTH: &str =
-    "Build the hierarchy in depth order: that is faster, and so are queries and tables by it. \
-    Of equally good routes another may be written [default: off]";
+    "Build the hierarchy in depth order, which halves the time of building and makes queries and tables \
+    faster. Of equally good routes, another may be written";
 
 /// The help of `--deep` for a hierarchy that gives routes.
 const ROUTES_BY_DEPTH: &str =
-    "With --routes, build the hierarchy in depth order, which is faster. Of equally good routes \
-    another may be written [default: off]";
+    "With --routes, build the hierarchy in depth order, which halves the time of building. Of equally good \
+    routes, another may be written";
 
 /// The help of `--rounds` for a hierarchy that gives the routes of a list of queries.
 const ROUTES_BY_ROUNDS: &str =
-    "With --routes, build the hierarchy by rounds, which several workers share: see --workers. \
-    Of equally good routes another may be written. Excludes --deep [default: off]";
+    "With --routes, build the hierarchy by rounds, which several workers share (--workers). Of equally good \
+    routes, another may be written. Cannot be combined with --deep";
 
 /// The help of `--rounds` for a hierarchy that is saved, or that answers requests. Each request may ask for its
 /// route.
 const BY_ROUNDS: &str =
-    "Build the hierarchy by rounds, which several workers share: see --workers. \
-    Of equally good routes another may be written. Excludes --deep [default: off]";
+    "Build the hierarchy by rounds, which several workers share (--workers). Of equally good routes, another \
+    may be written. Cannot be combined with --deep";
+
+/// What follows the help of `ask`.
+const REQUESTS: &str = "Requests, one a line:\n  \
+    q S T      the distance from node S to node T\n  \
+    r S T      the same, and the route\n  \
+    t K L [R]  a table: K lines `s V` follow with the sources, and then L with the targets\n  \
+    p L K      places: L lines `s V` follow. Each later `n` has the K nearest of them, or all if K is 0\n  \
+    n S [R]    the places nearest to node S, with their distances\n\
+    R leaves out distances above R. A route follows the saved hierarchy, or the one that is built: by rounds \
+    with --rounds, else in depth order, unless --routes is given without --deep.\n\n\
+    Example: chtab ask --saved roads.ch roads.gr <requests.txt";
 
 /// Adds an argument, if the command was made.
 fn with_arg<'a>(
@@ -76,7 +90,7 @@ fn with_numbers<'a>(
         "H",
         MOST_HOPS,
         "5",
-        "The most legs of a witness path while the hierarchy is built, from 1 to 16",
+        "The most edges of a witness path while the hierarchy is built, from 1 to 16",
     );
     with_arg(with_arg(with_arg(command, workers), piece), hops)
 }
@@ -149,13 +163,14 @@ fn dist_command<'a>(alloc: Global) -> Result<Command<'a>, AllocError>
         alloc,
         "plain",
         "Answer without a hierarchy, by rounds of relaxation over all arcs. All other options but --progress \
-        then have no effect [default: off]",
+        then have no effect",
     );
     let command = named(
         alloc,
         "dist",
-        "For each query, writes `d S T X`: X is the distance from S to T, or - if no path leads there",
-        "Example: chtab dist --routes roads.gr pairs.p2p",
+        "Write the distance of each query, and with --routes its route",
+        "For each query it writes `d S T X`: X is the distance from S to T, or - if no path leads there.\n\n\
+        Example: chtab dist --routes roads.gr pairs.p2p",
     );
     let command = with_routes(alloc, with_arg(Ok(command), plain), ROUTES_BY_ROUNDS);
     let queries = file(
@@ -174,9 +189,10 @@ fn table_command<'a>(alloc: Global) -> Result<Command<'a>, AllocError>
     let command = named(
         alloc,
         "table",
-        "For each source, writes `t S X ..`: an X for each target, the distance from S to it, or - \
-        if no path leads there",
-        "Examples:\n  \
+        "Write the distances from each source to each target",
+        "For each source it writes `t S X ..`: an X for each target, the distance from S to it, or - if no path \
+        leads there.\n\n\
+        Examples:\n  \
         chtab table roads.gr depots.ss shops.ss\n  \
         chtab table --within 900000 roads.gr homes.ss doctors.ss",
     );
@@ -212,12 +228,12 @@ fn with_nearness<'a>(
     let from = flag(
         alloc,
         "from",
-        "Take the distances from the targets to the source, and not those from the source to the targets [default: off]",
+        "Take the distances from the targets to the source, in place of those from the source to the targets",
     );
     let all = flag(
         alloc,
         "all",
-        "Take each node of the graph as a source, in order. Then no SOURCES are given [default: off]",
+        "Take each node of the graph as a source, in order, in place of SOURCES",
     );
     let command = with_arg(with_arg(command, count), within);
     with_arg(with_arg(command, from), all)
@@ -231,9 +247,10 @@ pub(crate) fn near_command<'a>(alloc: Global) -> Result<Command<'a>, AllocError>
     let command = named(
         alloc,
         "near",
-        "For each source, writes `n S K T X ..`: K is how many targets follow, and each T has its distance X \
-        from S. The nearest comes first, and of equally near ones that which TARGETS names first",
-        "Examples:\n  \
+        "Write the nearest targets of each source, or with --all of each node",
+        "For each source it writes `n S K T X ..`: K targets T follow, each with its distance X from S. The \
+        nearest comes first, and of equally near ones the one that TARGETS names first.\n\n\
+        Examples:\n  \
         chtab near --count 3 roads.gr homes.ss doctors.ss\n  \
         chtab near --all --within 900000 roads.gr doctors.ss",
     )
@@ -253,7 +270,7 @@ fn save_command<'a>(alloc: Global) -> Result<Command<'a>, AllocError>
     let command = named(
         alloc,
         "save",
-        "Writes the hierarchy of the graph, for --saved of `dist`, `table`, `near` and `ask`",
+        "Write the hierarchy of a graph, for --saved of the other tools",
         "Examples:\n  \
         chtab save --deep roads.gr >roads.ch\n  \
         chtab save --rounds --workers 4 roads.gr >roads.ch",
@@ -270,13 +287,8 @@ fn ask_command<'a>(alloc: Global) -> Result<Command<'a>, AllocError>
     let command = named(
         alloc,
         "ask",
-        "Loads the graph once, and answers requests from standard input as they come. `q S T` asks for a \
-        distance, and `r S T` for its route too. `t K L` asks for a table: then come K lines `s V`, the sources, \
-        and L lines `s V`, the targets. `p L K` gives places by L lines `s V`. After it `n S` asks for the K \
-        places that are nearest to S, or for all where K is 0. `t K L R` and `n S R` leave out what is farther \
-        than R. A route goes by the saved hierarchy, or by the one that the run builds. Without --rounds that one \
-        is in depth order, unless --routes is given without --deep",
-        "Example: chtab ask --saved roads.ch roads.gr <requests.txt",
+        "Answer requests from standard input as they come, on a graph that is loaded once",
+        REQUESTS,
     );
     let command = with_routes(alloc, Ok(command), BY_ROUNDS);
     with_saved(alloc, with_arg(command, within(alloc)))
@@ -299,7 +311,8 @@ pub(crate) fn ordering_command<'a>(alloc: Global, tool: &Tool) -> Result<Command
     }
 }
 
-/// Makes the program's own command, without its tools. It has only `--help`, and a tool must follow.
+/// Makes the program's own command, without its tools. It has only `--help` and `--version`, and else a tool must
+/// follow.
 fn program<'a>(alloc: Global) -> Result<Command<'a>, AllocError>
     ensures { IfOk result (λ c. app_of c ≡ program_form) }
 {
@@ -307,7 +320,7 @@ fn program<'a>(alloc: Global) -> Result<Command<'a>, AllocError>
         alloc,
         "chtab",
         "Exact shortest paths in road networks",
-        "See `chtab dist --help`, `chtab table --help`, `chtab near --help`, `chtab save --help` and `chtab ask --help`. \
+        "`chtab dist --help` explains dist, and so on.\n\n\
         Examples:\n  \
         chtab dist --routes roads.gr pairs.p2p\n  \
         chtab table roads.gr depots.ss shops.ss\n  \
@@ -318,6 +331,7 @@ fn program<'a>(alloc: Global) -> Result<Command<'a>, AllocError>
     .no_binary_name(true)
     .subcommand_required(true)
     .disable_help_subcommand(true)
+    .version(VERSION)
     .bin_name("chtab")
 }
 

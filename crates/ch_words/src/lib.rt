@@ -4,8 +4,8 @@
 //!
 //! - A line has the tool that the words name, and the values that clap matches to the tool's arguments.
 //!   Each number is within its limits.
-//! - It returns help only if the words ask for it. It refuses words only if something else is wrong with
-//!   them.
+//! - It returns the text of help or of the version only if the words ask for it. It refuses words only if
+//!   something else is wrong with them.
 #![tactic(auto)]
 
 mod arguments;

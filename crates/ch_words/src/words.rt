@@ -18,7 +18,7 @@ use std::alloc::Global;
 /// `ask [--routes] [--deep | --rounds] [--within R] [--saved FILE] [--workers N] [--piece K] [--hops H] [--progress] GRAPH`.
 ///
 /// # Errors
-/// `Help` if the words ask for it; `Refused` if they don't have one of these forms; `NoMemory`.
+/// `Help` if the words ask for help or for the version; `Refused` if they don't have one of these forms; `NoMemory`.
 pub fn read_words<'a>(alloc: Global, words: &'a [&'a str]) -> Result<Line, LineFault>
     ensures limits { IfOk result IsAllowed }
     ensures read { IfOk result (IsReadFrom (map (λ word. word.now) words.entry.now)) }
