@@ -514,3 +514,8 @@ def test_few_distances_are_those_of_their_pairs():
         handle.calls = type("Calls", (), {"chtab_distances": staticmethod(distances)})
         assert network.distances([(1, 3), (1, 2)]).tolist() == [9, 4] and inner == [[5, -1]]
     raises(chtab.ChtabError, network.distances, [(1, 3)], told="the network is closed")
+    for labels in [10, -5, 2**62], ["a", "b", "c"], [2**70, 5, -2**80]:
+        with chtab.Network.from_arrays(labels[:2], labels[1:], [4, 5], library=make(), program=PROGRAM) as network:
+            assert network.answers_by == "library" and network.distances([(labels[0], labels[2]), (labels[1], labels[0])]).tolist() == [9, -1]
+            for wrong in 0, 2**62 + 1, 2**63, -2**63 - 1, "x", True, None, 2**90:
+                raises((ValueError, TypeError), network.distances, [(labels[0], wrong)])

@@ -196,6 +196,18 @@ def test_what_is_refused_is_named():
         assert left() == own and network.distances([("inn", "mill")]).tolist() == [2.0]
 
 
+def test_files_that_were_written_anew_are_refused():
+    """Neither arcs nor places of other files go into a changed network."""
+    for name, text in ("own.gr", "p sp 2 1\na 1 2 7\n"), ("own.co", "p aux sp co 2\nv 1 9700000 47100000\nv 2 9520000 47110000\n"):
+        pathlib.Path("own.gr").write_text("p sp 2 1\na 1 2 5\n")
+        pathlib.Path("own.co").write_text("p aux sp co 2\nv 1 9500000 47100000\nv 2 9520000 47110000\n")
+        with chtab.Network.open("own.gr", program=PROGRAM) as network, temporary() as left:
+            time.sleep(0.02)
+            pathlib.Path(name).write_text(text)
+            raises(chtab.ProgramFault, network.changed, {0: 3}, told=f"{name} has changed since it was opened")
+            assert left() == []
+
+
 @needs("python3-scipy")
 def test_a_fork_in_the_middle_of_a_change():
     """Processes that are forked while a network is changed hold up neither the change nor its end, and leave its files alone."""

@@ -117,13 +117,16 @@ class Beside:
 
     def __init__(self, layers):
         base = os.path.splitext(layers.path)[0]
+        self.stamps = layers.stamps
         self.paths = {COORDINATES: layers.paths["coordinates"], NAMES: base + ".nodes"}
 
     def copy_to(self, folder):
-        """Copies them into a folder. Their comments say where trips end, so that they are not written anew."""
+        """Copies them into a folder, as long as they are those of the beginning. Their comments say where trips end, so that they are not written
+        anew."""
         for name, path in self.paths.items():
             if path is not None and os.path.exists(path):
                 shutil.copyfile(path, os.path.join(folder, name))
+        self.stamps.see_that_same()
 
 
 def digest_of(path):

@@ -6,10 +6,7 @@ import numpy
 
 from chtab.errors import DataFault
 from chtab.files import columns
-from chtab.files.columns import INTEGERS, TUPLES, row_of, told
-
-# Labels that are looked up by a dict where few of them are asked for: beyond that it would take too much memory.
-MOST_KEPT = 1 << 20
+from chtab.files.columns import GREATEST, INTEGERS, LEAST, TUPLES, row_of, told
 
 
 def fixed(values):
@@ -129,13 +126,16 @@ class Labels:
     def few(self, labels):
         """The nodes of a short list of labels, as a list; None where one of them has to be looked at more closely."""
         labels = [int(label) if type(label) is numpy.int64 else label for label in labels]
-        if not all(type(label) is int or type(label) is str for label in labels):
-            return None
-        if len(self.values) <= MOST_KEPT or self.values.dtype == object:
-            nodes = list(map(self.numbers.get, labels))
+        if self.values.dtype == object:
+            known = all(type(label) in (int, str) for label in labels)
+            nodes = list(map(self.numbers.get, labels)) if known else [None]
             return None if None in nodes else nodes
-        nodes = self.found(columns.labels_in("pairs", labels)).tolist()
-        return None if 0 in nodes else nodes
+        if not all(type(label) is int and LEAST <= label <= GREATEST for label in labels):
+            return None
+        values, nodes = self.sorted
+        places = values.searchsorted(labels).tolist()
+        is_there = all(place < len(values) and values[place] == label for place, label in zip(places, labels))
+        return [int(nodes[place]) for place in places] if is_there else None
 
     def of(self, nodes):
         """The labels of an array of nodes."""

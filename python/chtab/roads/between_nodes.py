@@ -69,11 +69,10 @@ class BetweenNodes:
         labels, or where another engine answers."""
         if not hasattr(self._engine, "few_distances") or not all(type(pair) is tuple and len(pair) == 2 for pair in pairs):
             return None
-        sources, targets = zip(*pairs)
-        sources, targets = self._layers.labels.few(sources), self._layers.labels.few(targets)
-        if sources is None or targets is None:
+        nodes = self._layers.labels.few([label for pair in pairs for label in pair])
+        if nodes is None:
             return None
-        found = self._engine.few_distances(sources, targets)
+        found = self._engine.few_distances(nodes[0::2], nodes[1::2])
         return None if found is None else numpy.array(found, numpy.int64)
 
     @whole
