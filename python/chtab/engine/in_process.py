@@ -224,21 +224,30 @@ class InProcess:
     @timed
     def walks(self, pairs):
         """The same, of pairs in an array (n, 2), as `walks.Walks`."""
+        return self.walks_of(*self.found(pairs, library.Handle.routes))
+
+    @timed
+    def lines(self, pairs):
+        """The weights of the routes of pairs, -1 where there is no walk, how many arcs each has, and the lines of all arcs in the graph, from 0 on."""
+        weights, counts, _, lines = self.found(pairs, library.Handle.routes_with_lines)
+        return weights, numpy.maximum(counts - 1, 0), lines[lines != library.NO_LINE].astype(numpy.int64)
+
+    def found(self, pairs, call):
+        """What a call for routes gives of pairs: weights, how many nodes each route has, and columns with an item for each of these."""
         sources, targets = library.nodes_of(pairs, self.nodes).T.copy()
         found, start = [], 0
         while start < len(sources):
             some = slice(start, start + ROUTES)
-            weights, ends, nodes = self.call(len(sources[some]), self.handle().routes, sources[some], targets[some], self.room)
+            weights, ends, *columns = self.call(len(sources[some]), call, self.handle(), sources[some], targets[some], self.room)
             if not len(weights):
                 if self.room >= max(self.nodes, ROOM):
                     raise unasked()
                 self.room = 2 * self.room
-            found.append((weights, numpy.diff(ends, prepend=0), nodes))
+            found.append((weights, numpy.diff(ends, prepend=0), *columns))
             start += len(weights)
-        columns = zip(*found) if found else numpy.zeros((3, 1, 0), numpy.int64)
-        return self.walks_of(*map(numpy.concatenate, columns))
+        return list(map(numpy.concatenate, zip(*found))) if found else list(numpy.zeros((4, 0), numpy.int64))
 
-    def walks_of(self, weights, counts, nodes):
+    def walks_of(self, weights, counts, nodes, *_):
         """The walks over some nodes from 0 on, so many of each walk."""
         lasts = numpy.cumsum(counts)
         is_tail, is_head = numpy.ones((2, len(nodes)), bool)

@@ -114,6 +114,27 @@ def unit_of(lines):
     return told[0] if told and told[0] in UNITS else ""
 
 
+def count_arcs(path):
+    """Reads how many arcs a graph's problem line declares, without the rest of the file.
+
+    Parameters
+    ----------
+    path : str or path
+        The graph (`.gr`).
+
+    Returns
+    -------
+    int
+        The number of arcs.
+
+    Raises
+    ------
+    FileFault
+        The file isn't of this kind; the text names it.
+    """
+    return counts_in(path)[1]
+
+
 def count_nodes(path):
     """Reads how many nodes a graph's problem line declares, without the rest of the file.
 
@@ -132,11 +153,16 @@ def count_nodes(path):
     FileFault
         The file isn't of this kind; the text names it, and the line where there is one.
     """
+    return counts_in(path)[0]
+
+
+def counts_in(path):
+    """How many nodes and arcs a graph's problem line declares."""
     with open(path, "rb") as file:
         for line in file:
             words = line.split()
-            if words[:2] == [b"p", b"sp"] and len(words) == 4 and words[2].isdigit():
-                return int(words[2])
+            if words[:2] == [b"p", b"sp"] and len(words) == 4 and words[2].isdigit() and words[3].isdigit():
+                return int(words[2]), int(words[3])
     raise FileFault(f"{path}: not a graph, whose problem line is `p sp N M`")
 
 

@@ -194,17 +194,24 @@ class BetweenNodes:
         --------
         >>> metres = network.along(frame["length"], [("inn", "school")])       # doctest: +SKIP
         """
-        rows, count = self._layers.rows, self._layers.row_count
+        count = self._layers.row_count
         values = in_rows(values, count)
         found = numpy.asarray(values)
         several = found.reshape(len(found), -1) if found.ndim == 2 else numpy.asarray(numbers_in("values", values), float)[:, None]
         if len(several) != count:
             raise DataFault(f"values has {len(several):,} rows, and there are {count:,} rows of arcs", "values")
-        walks = self._queries.walks(self._pairs(pairs, targets))
-        lines = self._layers.arcs.of(walks.tails, walks.heads)
-        sums = numpy.column_stack([walks.sums(column) for column in several[rows[lines]].astype(float).T])
-        sums[walks.weights < 0] = numpy.nan
+        weights, counts, lines = self._lines(self._pairs(pairs, targets))
+        owners, along = numpy.repeat(numpy.arange(len(weights)), counts), several[self._layers.rows_of(lines)].astype(float)
+        sums = numpy.column_stack([numpy.bincount(owners, column, len(weights)) for column in along.T]).astype(float)
+        sums[weights < 0] = numpy.nan
         return sums if found.ndim == 2 else sums[:, 0]
+
+    def _lines(self, pairs):
+        """The weights of the routes of pairs, how many arcs each has, and the lines of all arcs in the graph."""
+        if hasattr(self._engine, "lines"):
+            return self._engine.lines(pairs)
+        walks = self._queries.walks(pairs)
+        return walks.weights, walks.counts(), self._layers.arcs.of(walks.tails, walks.heads)
 
     matrix = table
 

@@ -71,20 +71,20 @@ class Layers:
     @property
     def rows(self):
         """For each arc the row of the caller's columns that it is of, from 0 on; of a graph of files its line."""
-        def make():
-            labelling, arcs = self.labelling, numpy.arange(len(self.graph.tails))
-            if labelling is not None and labelling.arcs is not None:
-                return numpy.array(labelling.arcs, numpy.int64)
-            return arcs if labelling is None or not labelling.rows else arcs % labelling.rows
+        return self.read("rows", lambda: self.rows_of(numpy.arange(len(self.graph.tails))))
 
-        return self.read("rows", make)
+    def rows_of(self, arcs):
+        """The same of some arcs, by their numbers from 0 on."""
+        labelling = self.labelling
+        if labelling is not None and labelling.arcs is not None:
+            return self.read("rows of arcs", lambda: numpy.array(labelling.arcs, numpy.int64))[arcs]
+        return arcs if labelling is None or not labelling.rows else arcs % labelling.rows
 
     @property
     def row_count(self):
         """How many rows of arcs there are, also those whose arcs are closed."""
         labelling = self.labelling
-        own = 0 if labelling is None or labelling.rows is None else labelling.rows
-        return max(own, int(self.rows.max(initial=-1)) + 1)
+        return files.count_arcs(self.path) if labelling is None or labelling.rows is None else labelling.rows
 
     @property
     def arcs_by_ends(self):
