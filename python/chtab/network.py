@@ -101,9 +101,10 @@ class Network(FromArcs, Scenarios, BetweenNodes, BetweenPlaces, Accessibility):
             everything. A further one is started if several threads ask at a time.
         library : "auto", bool or path
             Whether the library for C answers in this process, and no run of the program: sooner, above all one question at a time. It has one
-            worker. "auto", the default: if `libchtab.so.1` is beside the program, and `workers` and `timeout` are not given. True, or the path of the library: it answers, or an error says why it can't. Without `saved` it builds the hierarchy by depth.
-            Ctrl-C breaks off the wait for a long call, which then ends by itself. False: a run of the program, in a process apart, which can be
-            ended at any time. `answers_by` says who answers.
+            worker. "auto", the default: if `libchtab.so.1` is beside the program, and `workers` and `timeout` are not given. True, or the path of
+            the library: it answers, or an error says why it can't. Without `saved` it builds the hierarchy by depth. Ctrl-C breaks off the wait for
+            a long call, which then ends by itself. False: a run of the program, in a process apart, which can be ended at any time. `answers_by`
+            says who answers.
 
         Returns
         -------

@@ -21,8 +21,8 @@ What is read may be a path, an open file or lines; what is written a path or an 
 from chtab.errors import FileFault
 from chtab.files.forms import whole
 from chtab.files.graphs import (
-    UNITS, Coordinates, Graph, count_arcs, count_nodes, read_bends, read_coordinates, read_graph, read_unit, scale_comment, write_bends, write_coordinate_columns,
-    write_coordinates, write_graph, write_graph_columns,
+    UNITS, Coordinates, Graph, count_arcs, count_nodes, read_bends, read_coordinates, read_graph, read_unit, scale_comment, write_bends,
+    write_coordinate_columns, write_coordinates, write_graph, write_graph_columns,
 )
 from chtab.files.labelling import Labelling, read_labels, write_labels
 from chtab.files.lists import (
@@ -34,8 +34,8 @@ from chtab.files.texts import (
 )
 
 __all__ = [
-    "SIDES", "UNITS", "Answer", "Coordinates", "FileFault", "Graph", "Labelling", "Place", "Street", "Streets", "count_arcs", "count_nodes", "read_answers",
-    "read_bends", "read_coordinates", "read_graph", "read_labels", "read_list", "read_names", "read_near", "read_places", "read_queries",
+    "SIDES", "UNITS", "Answer", "Coordinates", "FileFault", "Graph", "Labelling", "Place", "Street", "Streets", "count_arcs", "count_nodes",
+    "read_answers", "read_bends", "read_coordinates", "read_graph", "read_labels", "read_list", "read_names", "read_near", "read_places", "read_queries",
     "read_routes", "read_row_texts", "read_rows", "read_streets", "read_unit", "scale_comment", "whole", "write_bends", "write_coordinate_columns",
     "write_coordinates", "write_csv", "write_csv_of_texts", "write_graph", "write_graph_columns", "write_labels", "write_list", "write_list_column",
     "write_names", "write_npy_of_texts", "write_queries", "write_streets",

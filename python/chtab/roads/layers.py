@@ -132,7 +132,9 @@ class Layers:
             from chtab.files import node_labels
 
             found = self.labelling
-            return node_labels.Numbers(files.count_nodes(self.path)) if found is None or found.labels is None else node_labels.labels_of_nodes("labels", found.labels)
+            if found is None or found.labels is None:
+                return node_labels.Numbers(files.count_nodes(self.path))
+            return node_labels.labels_of_nodes("labels", found.labels)
 
         return self.read("labels", make)
 
