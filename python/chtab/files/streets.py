@@ -105,7 +105,7 @@ def told_of(line):
 
 
 def street_in(value):
-    """The street of an object of JSON, all of whose fields are texts."""
+    """The street of an object of JSON, whose fields are all texts."""
     if not isinstance(value, dict) or not all(key in FIELDS and isinstance(text, str) for key, text in value.items()):
         raise ValueError
     return Street(**value)

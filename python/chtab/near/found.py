@@ -19,8 +19,8 @@ if TYPE_CHECKING:
 class Near:
     """The targets near each source, in compressed form.
 
-    Those of source k stand from `offsets[k]` to before `offsets[k + 1]` of the two other columns, the nearest first, and of equally near ones
-    the first of the list of targets first.
+    The targets of source k are the rows from `offsets[k]` to before `offsets[k + 1]` of the two other columns, the nearest first. Of equally
+    near ones, the one that comes first in the list of targets is first.
 
     Attributes
     ----------

@@ -22,7 +22,7 @@ KNOWN = weakref.WeakSet()
 
 @dataclass(frozen=True)
 class Block:
-    """The rows of some sources among some of the targets: where both begin, and what is asked."""
+    """The rows of some sources among some of the targets: where both start, and what is asked."""
 
     row: int
     column: int
@@ -43,7 +43,7 @@ def cut(question, nodes, workers=1):
 
 
 def parts_of(sources, nodes, most, workers):
-    """The sources in parts, each with the place at which it begins. A row has at most so many pairs."""
+    """The sources in parts, each with the place at which it starts. A row has at most so many pairs."""
     if sources is None and workers == 1 and nodes * most <= PAIRS:
         return [(0, None)] if nodes else []
     sources = numpy.arange(1, nodes + 1) if sources is None else sources

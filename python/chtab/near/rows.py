@@ -63,7 +63,7 @@ def beside(parts, count=None):
 
 
 class Places:
-    """The places at which nodes stand in a list of targets, on a network of so many nodes."""
+    """The places of nodes in a list of targets, on a network of so many nodes."""
 
     def __init__(self, targets, nodes):
         self.order = numpy.argsort(targets, kind="stable")
@@ -74,7 +74,7 @@ class Places:
         self.are_apart = bool(is_new.all())
 
     def of(self, nodes, owners):
-        """The places of the nodes of rows, in the order of `owners`. A node that stands in the list again has its places in their order. One
+        """The places of the nodes of rows, in the order of `owners`. A node that is in the list again has its places in their order. One
         that does not stand there so often is a fault."""
         if (nodes < 1).any() or (nodes >= len(self.firsts)).any():
             raise unasked()
@@ -87,7 +87,7 @@ class Places:
 
 
 def times_before(owners, nodes):
-    """How often the node of each pair stands before it in its row."""
+    """How often the node of each pair comes before it in its row."""
     order = numpy.lexsort([nodes, owners])
     is_new = numpy.ones(len(order), bool)
     is_new[1:] = (numpy.diff(owners[order]) != 0) | (numpy.diff(nodes[order]) != 0)

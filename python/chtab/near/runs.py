@@ -116,7 +116,7 @@ class NearRun:
         return child.fault_of(self.told.read(), status) if status else None
 
     def kill(self):
-        """Ends the run, so that a thread that reads its answer is told. Any thread may do so."""
+        """Ends the run, so that a thread that reads its answer sees the end. Any thread may do so."""
         if os.getpid() == self.owner:
             child.kill(self.process)
 
@@ -155,7 +155,7 @@ class NearRuns:
         forks.follow(self)
 
     def leave_parent(self):
-        """Begins with no run, and with a lock that nobody holds: in a process that was forked too."""
+        """Starts with no run, and with a lock that nobody holds: in a process that was forked too."""
         self.lock, self.under_way = threading.RLock(), set()
 
     def see_that_there(self):
@@ -214,7 +214,7 @@ class NearRuns:
                 self.under_way.discard(runs)
 
     def kill(self):
-        """Ends the runs that are under way, whose calls fail, and begins no more."""
+        """Ends the runs that are under way, whose calls fail, and starts no more."""
         with self.lock:
             self.is_closed = True
             under_way = list(self.under_way)

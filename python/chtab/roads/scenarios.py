@@ -28,9 +28,9 @@ class Scenarios:
     ) -> Self:
         """Makes a network with the same nodes, labels, places and bends, and other arcs. This one goes on answering as it did.
 
-        An arc is named by its place, the row of the columns or of the frame that the network was made of (of files the line of the graph), from 0 on;
-        by the pair of its nodes, which is all arcs from the one to the other; or by a triple of these and the key of the edge, of a graph of
-        networkx or osmnx with several edges between two nodes. The place of a row that leads both ways is both arcs.
+        There are three ways to name arcs: by the row of the columns or of the frame that the network was made of, from 0 on (of files, the arc's
+        place in the graph); by the pair of nodes, which is all arcs from the one to the other; or by a triple of nodes and the key of the edge,
+        if a graph of networkx or osmnx has several edges between two nodes. A row that leads both ways is both arcs.
 
         Parameters
         ----------
