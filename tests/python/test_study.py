@@ -488,3 +488,23 @@ def test_building_says_how_far_it_is():
     done = subprocess.run([PYTHON, "-c", text, ROOT / "python", PROGRAM], capture_output=True, text=True)
     assert done.returncode == 0 and done.stderr.startswith("chtab: ") and " of " in done.stderr, done
     raises(TypeError, lambda: chtab.Network.open(ROOT / "examples" / "first.gr", progress=True, program=PROGRAM), told="open has no argument 'progress'")
+
+
+def test_a_signal_leaves_no_part_of_a_folder():
+    """A process that is ended while it builds the network of a folder leaves neither the folder nor the part that was there."""
+    slow = pathlib.Path("slow")
+    slow.write_text(f"#!/bin/sh\n[ \"$1\" = save ] && exec sleep 5\nexec {PROGRAM} \"$@\"\n")
+    slow.chmod(0o755)
+    pathlib.Path("own").mkdir()
+    text = "import sys; sys.path.insert(0, sys.argv[1]); import chtab; chtab.Network.from_arrays([1], [2], [3], folder='own/made', program=sys.argv[2])"
+    for number in signal.SIGTERM, signal.SIGKILL:
+        with subprocess.Popen([PYTHON, "-c", text, ROOT / "python", slow.absolute()]) as process:
+            until = time.monotonic() + 30
+            while not list(pathlib.Path("own").glob("made.part-*/network.ch")) and time.monotonic() < until:
+                time.sleep(0.05)
+            assert len(list(pathlib.Path("own").iterdir())) == 1
+            process.send_signal(number)
+        until = time.monotonic() + 10
+        while list(pathlib.Path("own").iterdir()) and time.monotonic() < until:
+            time.sleep(0.05)
+        assert list(pathlib.Path("own").iterdir()) == [], number

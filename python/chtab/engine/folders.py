@@ -19,10 +19,17 @@ class Folder:
 
     A shell outlives the process for that. It has a process group of its own, and waits for the end of a pipe, which comes when all processes that
     could write to it are gone. So a process that was forked closes it.
+
+    Parameters
+    ----------
+    path : str, optional
+        Where it is made; without it among the system's temporary folders.
     """
 
-    def __init__(self):
-        self.path = tempfile.mkdtemp(prefix="chtab-")
+    def __init__(self, path=None):
+        if path is not None:
+            os.mkdir(path)
+        self.path = tempfile.mkdtemp(prefix="chtab-") if path is None else path
         self.remove = weakref.finalize(self, remove_in, os.getpid(), self.path, None)
         with forks.STEADY:
             watcher = watched(self.path)

@@ -13,6 +13,7 @@ import tempfile
 import numpy
 
 from chtab import files
+from chtab.engine import folders
 from chtab.engine.child import fault_of
 from chtab.errors import FileFault, ProgramFault
 from chtab.files.node_labels import Labels
@@ -32,7 +33,7 @@ def begun(folder):
     see_that_free(folder)
     part = f"{folder}.part-{secrets.token_hex(8)}"
     try:
-        os.mkdir(part)
+        kept = folders.Folder(part)
     except OSError as fault:
         # The caller knows the folder by this name alone.
         raise type(fault)(fault.errno, fault.strerror, folder) from None
@@ -41,7 +42,7 @@ def begun(folder):
         see_that_free(folder)
         os.rename(part, folder)
     finally:
-        shutil.rmtree(part, ignore_errors=True)
+        kept.remove()
 
 
 def see_that_free(folder):
