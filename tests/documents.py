@@ -14,7 +14,7 @@ from pathlib import Path
 
 import believe
 from helpers import layers
-from helpers.prose import CODE, FIELD, check_prose, check_sentence, prose
+from helpers.prose import CODE, check_prose, check_sentence, prose
 from helpers.running import ROOT, Count
 
 PAGES = (
@@ -23,8 +23,6 @@ PAGES = (
 )
 PROVED, MEASUREMENTS, REFERENCE = (ROOT / "docs" / name for name in ("PROVED.md", "MEASUREMENTS.md", "REFERENCE.md"))
 MOST_LINES_OF_README, MOST_WORDS_OF_ARCHITECTURE = 120, 4_500
-# The pages that do not follow all rules of `helpers.prose` yet, only those on lines, paragraphs and long sentences.
-NOT_JUDGED = ("docs/GUIDE.md",)
 # A name of a file or folder with a slash; one without, of what a document is about; and the suffixes of text.
 PATH = re.compile(r"[\w.-]+(?:/[\w.-]+)+/?|[\w-]+/")
 FILE = re.compile(r"[\w-]+\.(?:antt|c|cpp|md|py|rs|rt|sh|toml)")
@@ -211,7 +209,7 @@ def check_help(tally, path):
     tally.expect(texts[0], f"{told(path)} has no text of help")
     for block in filter(None, re.split(r"\n\n|\n  ", "\n\n".join(map(str, texts)))):
         for sentence in re.split(r"(?<=[.?!:;]) ", " ".join(block.split())):
-            check_sentence(tally, path, sentence, FIELD)
+            check_sentence(tally, path, sentence)
 
 
 # What docs/REFERENCE.md has once.
@@ -431,7 +429,7 @@ def main():
         check_links(tally, page)
         check_names(tally, page)
         check_commits(tally, page)
-        check_prose(tally, page, str(told(page)) not in NOT_JUDGED)
+        check_prose(tally, page)
     for path in sorted(COMMANDS.glob("*.py")):
         check_help(tally, path)
     check_proved(tally)

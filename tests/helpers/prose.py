@@ -18,7 +18,7 @@ FOREIGN = (
     r"words of the (?:command )?line|processor (?:time|seconds)|\w*(?:seconds|minutes) of processors?|by the clock|made[- ]up"
     r"|hangs? (?:apart|together)|(?:a|its|the|one|clean|each) rooms? of|stands?(?! for\b)(?!-)|stood|beg(?:in|ins|an|un)"
 )
-PLAIN, FIELD = (re.compile(rf"\b(?:{words})\b", re.IGNORECASE) for words in (HARD, f"{HARD}|{FOREIGN}"))
+FIELD = re.compile(rf"\b(?:{HARD}|{FOREIGN})\b", re.IGNORECASE)
 # In pages for users a hierarchy has edges, and a graph has paths; *walk* is named where its definition is meant.
 OF_USERS = re.compile(r"\blegs?\b|(?<!\*)\bwalks?\b(?!\*)", re.IGNORECASE)
 FOR_USERS = "README.md", "docs/GUIDE.md", "docs/REFERENCE.md", "docs/PYTHON.md"
@@ -58,10 +58,10 @@ def count(sentence):
     return len(re.findall(r"\w[\w.,'-]*", sentence))
 
 
-def check_sentence(tally, path, sentence, words=PLAIN):
+def check_sentence(tally, path, sentence):
     """A sentence is short, and has none of the words."""
     tally.expect(count(sentence) <= MOST_WORDS, f"{path.relative_to(ROOT)}: {count(sentence)} words: {sentence}")
-    found = words.search(sentence)
+    found = FIELD.search(sentence)
     tally.expect(not found, f"{path.relative_to(ROOT)} has '{found and found[0]}': {sentence}")
 
 
@@ -95,12 +95,11 @@ def check_words(tally, page):
             tally.expect(not found, f"{name} has '{found and found[0]}': {line.strip()[:120]}")
 
 
-def check_prose(tally, page, judged):
-    """Lines, sentences and words of a page are those that a reader understands at once; `judged` by all rules, or by those that came first."""
+def check_prose(tally, page):
+    """Lines, sentences and words of a page are those that a reader understands at once."""
     check_layout(tally, page)
     for paragraph in paragraphs(page):
         for sentence in sentences(paragraph):
             check_sentence(tally, page, sentence)
-    if judged:
-        check_rhythm(tally, page)
-        check_words(tally, page)
+    check_rhythm(tally, page)
+    check_words(tally, page)
