@@ -7,6 +7,7 @@ systemd.
 
 Clients ask for SECONDS (10). What needs a package that is missing is told and left out. The last line is 'N passed, N failed'.
 """
+import collections
 import concurrent.futures
 import contextlib
 import http.client
@@ -262,17 +263,18 @@ def the_library_answers_where_it_fits():
 
 def what_takes_too_long_is_broken_off():
     """The library is asked in parts, and its time is looked at between them: a client is told, and the next one has its answer."""
-    many = ";".join(f"{VADUZ[0] + place / 10_000:.6f},{VADUZ[1]:.6f}" for place in range(100))
-    saved = saved_for(f"{COUNTRY}.gr")
-    with service(COUNTRY, "--library", make(), "--saved", saved, "--timeout", "0.001") as (_, address):
-        status, value = ask(address, f"/table/v1/car/{many}?annotations=distance")
-        assert (status, value["message"]) == (504, "the answer took too long"), (status, value)
+    coordinates, draw = files.read_coordinates(f"{COUNTRY}.co"), random.Random("too long")
+    many = ";".join("{:.6f},{:.6f}".format(*coordinates.of(node)) for node in draw.choices(coordinates.known(), k=4_000))
+    words = "--library", make(), "--saved", saved_for(f"{COUNTRY}.gr"), "--max-viaroute-size", 4_000
+    with service(COUNTRY, *words, "--timeout", "0.001") as (_, address):
+        status, value = ask(address, f"/route/v1/car/{many}?overview=false")
+        assert (status, value.get("message")) == (504, "the answer took too long"), (status, str(value)[:200])
         until = time.monotonic() + 30
         while ask(address, f"{ROUTE}?overview=false")[0] != 200:
             assert time.monotonic() < until
-    with service(COUNTRY, "--library", make(), "--saved", saved) as (_, address):
-        status, value = ask(address, f"/table/v1/car/{many}?annotations=distance")
-        assert status == 200 and len(value["distances"][99]) == 100
+    with service(COUNTRY, *words) as (_, address):
+        status, value = ask(address, f"/route/v1/car/{many}?overview=false")
+        assert status == 200 and len(value["routes"][0]["legs"]) == 3_999
     assert open("told").read() == "", open("told").read()
 
 
@@ -292,12 +294,43 @@ def requests_are_counted_and_logged():
             return found["chtab_requests_total", ("service", service_name), ("status", str(status))]
 
         assert (count("route", 200), count("route", 400), count("table", 200), count("api", 200), count("page", 404)) == (6, 3, 1, 1, 2), found
-        assert found["chtab_request_seconds_count",] == 13 and 0 < found["chtab_request_seconds_sum",] < 60
-        assert 0 < found["chtab_request_seconds", ("quantile", "0.5")] <= found["chtab_request_seconds", ("quantile", "0.99")] < 10
+        for name, requests in ("route", 9), ("table", 1), ("api", 1):
+            labels = ("service", name)
+            ranges = [value for key, value in found.items() if key[0] == "chtab_request_seconds_bucket" and labels in key]
+            assert len(ranges) == 16 and ranges == sorted(ranges) and ranges[-1] == requests == found["chtab_request_seconds_count", labels], (name, ranges)
+            assert 0 < found["chtab_request_seconds_sum", labels] < 60
+        assert found["chtab_refusals_total", ("reason", "InvalidQuery")] == 3 and found["chtab_refusals_total", ("reason", "page")] == 2, found
     lines = open("access.log").read().splitlines()
-    form = re.compile(r'\d{4}-\d\d-\d\dT\d\d:\d\d:\d\dZ 127\.0\.0\.1 "(GET|POST) \S+" \d{3} \d+ \d+\.\d')
+    form = re.compile(r'\d{4}-\d\d-\d\dT\d\d:\d\d:\d\dZ 127\.0\.0\.1 "(GET|POST) \S+" \d{3} \d+ \d+\.\d( "\w+: [^"]+")?')
     assert len(lines) == 14 and all(map(form.fullmatch, lines)), lines
+    assert sum(line.endswith('"InvalidQuery: steps: one of false, true"') for line in lines) == 3, lines
     assert sum(f'"GET {ROUTE}?overview=false" 200' in line for line in lines) == 6 and sum("/health%0aforged" in line for line in lines) == 1
+
+
+def free_ports(count):
+    """Ports that nobody listens on."""
+    with contextlib.ExitStack() as stack:
+        return [stack.enter_context(socket.create_server(("127.0.0.1", 0))).getsockname()[1] for _ in range(count)]
+
+
+def what_nginx_does_itself(through, path, wanted, plain):
+    """Compression, HTTP/2, version 6 of IP, the way from port 80 to TLS, and what it refuses itself, in JSON."""
+    assert through(f"{path}?overview=full", "-6", host="[::1]") == (200, wanted)
+    assert through(f"{path}?overview=full", "-w", "\n%{http_version}\n%{http_code}")[1].rpartition("\n")[2] == "2"
+    sizes = [int(through(f"{path}?overview=full&geometries=geojson&steps=true", "-o", "/dev/null", "-w", "%{size_download}\n%{http_code}", *words)[1])
+             for words in ((), ("-H", "Accept-Encoding: gzip"))]
+    assert sizes[1] < sizes[0] / 3, sizes
+    assert through(f"{path}?overview=full", "--compressed") == (200, wanted)
+    line = ["curl", "-s", "-o", "/dev/null", "-w", "%{http_code} %{redirect_url}", "-H", "Host: routes.example.org", f"http://127.0.0.1:{plain}{path}"]
+    assert subprocess.run(line, capture_output=True, text=True).stdout == f"308 https://routes.example.org{path}"
+    for told, words, status in ("1,048,576 bytes", ("--data-binary", "@large"), 413), ("too long", ("-H", "x: " + "a" * 60_000, "--http1.1"), 400):
+        pathlib.Path("large").write_bytes(b" " * 2_000_000)
+        found, body = through("/api/route", *words)
+        value = json.loads(body)
+        assert (found, set(value)) == (status, {"error", "code", "message"}) and told in value["error"] == value["message"], (found, body)
+    _, body = through("/health?[1-1500]", "-w", "\n%{http_code}")
+    statuses = collections.Counter(re.findall(r"\n(\d{3})", body))
+    assert set(statuses) <= {"200", "429"} and statuses["429"] > 10 and body.count("too many requests from your address") >= statuses["429"], statuses
 
 
 def nginx_stands_before_it():
@@ -307,11 +340,11 @@ def nginx_stands_before_it():
         ["openssl", "req", "-x509", "-newkey", "rsa:2048", "-nodes", "-keyout", "key.pem", "-out", "cert.pem", "-days", "2", "-subj", "/CN=routes.example.org"],
         check=True, capture_output=True,
     )
-    with socket.create_server(("127.0.0.1", 0)) as probe:
-        port = probe.getsockname()[1]
-    with service(COUNTRY, "--proxy", "127.0.0.1", "--log", "access.log") as (_, address):
+    port, plain = free_ports(2)
+    with service(COUNTRY, "--proxy", "127.0.0.1", "--log", "access.log") as (child, address):
         here = os.getcwd()
-        for old, new in ("127.0.0.1:8080", f"127.0.0.1:{address.port}"), ("listen 443 ssl", f"listen 127.0.0.1:{port} ssl"), \
+        for old, new in ("127.0.0.1:8080", f"127.0.0.1:{address.port}"), ("listen 443 ssl http2", f"listen 127.0.0.1:{port} ssl http2"), \
+                ("listen [::]:443 ssl http2", f"listen [::1]:{port} ssl http2"), ("listen 80;", f"listen 127.0.0.1:{plain};"), ("listen [::]:80;", ""), \
                 ("/etc/ssl/CERTIFICATE.pem", f"{here}/cert.pem"), ("/etc/ssl/KEY.pem", f"{here}/key.pem"):
             assert old in text
             text = text.replace(old, new)
@@ -327,8 +360,8 @@ def nginx_stands_before_it():
             while socket.socket().connect_ex(("127.0.0.1", port)) and time.monotonic() < until:
                 time.sleep(0.1)
 
-            def through(path, *words):
-                line = ["curl", "-sk", "--path-as-is", "-w", "\n%{http_code}", "--resolve", f"routes.example.org:{port}:127.0.0.1", *words]
+            def through(path, *words, host="127.0.0.1"):
+                line = ["curl", "-sk", "--path-as-is", "-w", "\n%{http_code}", "--resolve", f"routes.example.org:{port}:{host}", *words]
                 done = subprocess.run([*line, f"https://routes.example.org:{port}{path}"], capture_output=True, text=True, check=True)
                 body, _, status = done.stdout.rpartition("\n")
                 return int(status), body
@@ -340,24 +373,39 @@ def nginx_stands_before_it():
             status, body = through(f"/route/v1/car/{many}?overview=false")
             assert status == 200 and len(json.loads(body)["routes"][0]["legs"]) == 499
             assert through("/metrics")[0] == 403 and through("/health")[0] == 200 and through("/")[0] == 200
+            what_nginx_does_itself(through, encoded, wanted, plain)
+            child.terminate()
+            child.wait(40)
+            status, body = through("/health")
+            assert status == 503 and "does not answer" in json.loads(body)["message"], (status, body)
         finally:
             server.terminate()
             server.wait(20)
         assert "10.9.9.9" not in open("access.log").read() and encoded in open("access.log").read()
 
 
-def the_unit_is_one_of_systemd():
-    """systemd finds nothing wrong with the unit, thinks it well kept apart, and its command is one that the tool knows."""
-    text = (ROOT / "packaging" / "chtab-page.service").read_text()
-    [command] = re.findall(r"^ExecStart=(.*)$", text, re.MULTILINE)
-    pathlib.Path("chtab-page.service").write_text(text.replace(command.split()[0], "/usr/bin/python3").replace("Documentation=man:chtab-page(1)\n", ""))
-    done = subprocess.run(["systemd-analyze", "verify", "./chtab-page.service"], capture_output=True, text=True)
-    assert done.returncode == 0 and "chtab-page" not in done.stderr, done
-    done = subprocess.run(["systemd-analyze", "security", "--offline=yes", "--threshold=30", "./chtab-page.service"], capture_output=True, text=True)
-    assert done.returncode == 0, done.stdout[-300:]
-    words = [COUNTRY if word == "/var/lib/chtab/roads" else "roads.ch" if word.endswith(".ch") else word for word in command.split()[1:]]
+def units_are_some_of_systemd():
+    """systemd finds nothing wrong with the units, thinks them well kept apart, and their commands are some that the tool knows."""
     with open("roads.ch", "wb") as saved:
         subprocess.run([PROGRAM, "save", "--deep", f"{COUNTRY}.gr"], check=True, stdout=saved)
+    for source, name in ("chtab-page.service", "chtab-page.service"), ("chtab-page@.service", "chtab-page@roads.service"):
+        text = (ROOT / "packaging" / source).read_text()
+        [command] = re.findall(r"^ExecStart=(.*)$", text, re.MULTILINE)
+        assert "\nType=notify\n" in text
+        check_unit(text.replace(command.split()[0], "/usr/bin/python3").replace("Documentation=man:chtab-page(1)\n", ""), name)
+        check_command(command.replace("%i", "roads").split()[1:])
+
+
+def check_unit(text, name):
+    pathlib.Path(name).write_text(text)
+    done = subprocess.run(["systemd-analyze", "verify", f"./{name}"], capture_output=True, text=True)
+    assert done.returncode == 0 and "chtab-page" not in done.stderr, done
+    done = subprocess.run(["systemd-analyze", "security", "--offline=yes", "--threshold=30", f"./{name}"], capture_output=True, text=True)
+    assert done.returncode == 0, done.stdout[-300:]
+
+
+def check_command(words):
+    words = [COUNTRY if word == "/var/lib/chtab/roads" else "roads.ch" if word.endswith(".ch") else word for word in words]
     line = [PYTHON, ROOT / "tools" / "page.py", "--port", 0, "--program", PROGRAM, *words]
     child = subprocess.Popen(list(map(str, line)), stdout=subprocess.PIPE, text=True)
     try:
@@ -376,7 +424,7 @@ GROUPS = (
     ]),
     ((*SERVICE, "python3-prometheus-client"), by_both(requests_are_counted_and_logged)),
     ((*SERVICE, "nginx", "openssl", "curl"), [nginx_stands_before_it]),
-    ((*SERVICE, "systemd"), [the_unit_is_one_of_systemd]),
+    ((*SERVICE, "systemd"), [units_are_some_of_systemd]),
 )
 
 if __name__ == "__main__":

@@ -57,8 +57,9 @@ def by_both(*checks):
 
 @contextlib.contextmanager
 def service(out=COUNTRY, *words, program=PROGRAM):
-    """A service on a free port: its process, host and port. It ends well."""
-    command = [PYTHON, ROOT / "tools" / "page.py", "--port", 0, "--program", program, *words_of_library(out, program), *words, out]
+    """A service of a network, None where the words name networks, on a free port: its process, host and port. It ends well."""
+    named = [] if out is None else [*words_of_library(out, program), out]
+    command = [PYTHON, ROOT / "tools" / "page.py", "--port", 0, "--program", program, *words, *named]
     child = subprocess.Popen(list(map(str, command)), stdout=subprocess.PIPE, stderr=open("told", "w"), text=True)
     try:
         address = urllib.parse.urlsplit(child.stdout.readline().strip())

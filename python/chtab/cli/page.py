@@ -1,9 +1,10 @@
-"""Serves a network as a page to click on, and as a small JSON interface for programs (docs/SERVICE.md).
+"""Serves networks as a page to click on, and OSRM's interface and JSON for programs (docs/SERVICE.md).
 
   page.py [OPTIONS] OUT
+  page.py [OPTIONS] --network NAME=OUT..
 
-First the network is read, and its hierarchy is built or, with --saved, checked. Then standard output has the address. Everybody who reaches
-that address may ask. Roads are drawn from the graph, and no other service is needed. Ctrl-C ends it.
+First the networks are read, and their hierarchies are built or, where they are saved, checked. Then standard output has the address. Everybody
+who reaches that address may ask. Roads are drawn from the graph, and no other service is needed. Ctrl-C ends it.
 
 It needs Debian's packages python3-aiohttp, python3-numpy, python3-scipy, python3-shapely and libjs-leaflet.
 
@@ -12,51 +13,86 @@ Example:  tools/page.py --places places.txt roads
 import argparse
 import logging
 import math
+import os
 import sys
 
 from chtab import cli, files
 from chtab.errors import ChtabError
 
-
 # The seconds after which a worker thread lets another one go on.
 TURN = 0.0005
+# The most of a size that may be asked for.
+MOST = 100_000
+# What the sizes of requests bound that have osrm-routed's names, as the arguments have them.
+SIZES = {"max_viaroute_size": "route", "max_table_size": "table", "max_trip_size": "trip", "max_matching_size": "match", "max_nearest_size": "nearest"}
 
 
-def port_of(word):
-    """A port from 0 to 65535."""
-    if not word.isdecimal() or int(word) > 65_535:
-        raise argparse.ArgumentTypeError(f"{word!r} is no port from 0 to 65535")
-    return int(word)
+def number_of(low, high, what):
+    """A kind of argument: a whole number of this range."""
+    def number(word):
+        if not (word.isascii() and word.isdecimal()) or not low <= int(word) <= high:
+            raise argparse.ArgumentTypeError(f"{word!r} is no {what} from {low} to {high}")
+        return int(word)
+
+    return number
 
 
-def processes_of(word):
-    """A number of processes from 1 to 64."""
-    if not word.isdecimal() or not 1 <= int(word) <= 64:
-        raise argparse.ArgumentTypeError(f"{word!r} is no number of processes from 1 to 64")
-    return int(word)
+def network_in(word):
+    """A network and what clients call it: (name, the start of the names of its files)."""
+    name, mark, out = word.partition("=")
+    if not (mark and out and name.isascii() and name.replace("-", "").replace("_", "").isalnum()):
+        raise argparse.ArgumentTypeError(f"{word!r} is no NAME=OUT, as car=roads")
+    return name, out
 
 
-def words_of(words):
-    """Reads the arguments. Those that are refused end the process with status 2."""
+def parser_of():
+    """The parser of this command."""
     parser = cli.parser_of("page", __doc__)
     parser.add_argument("--places", metavar="FILE", help="places with names, for labels: a longitude, a latitude and a name a line")
     parser.add_argument("--title", metavar="T", help="the title of the page (the name of OUT)")
     parser.add_argument(
         "--tiles", metavar="URL", help="a layer of map tiles under the roads, as 'https://tile.example.org/{z}/{x}/{y}.png'; the browser fetches them"
     )
-    parser.add_argument("--host", default="127.0.0.1", metavar="H", help="the address of this machine that is listened on (127.0.0.1)")
-    parser.add_argument("--port", type=port_of, default=8080, metavar="P", help="the port (8080); 0: any that is free")
     parser.add_argument(
         "--cors", action="append", default=[], metavar="ORIGIN",
         help="let pages of this site ask too, as 'https://example.org', or of any site: '*'; it may be given several times",
     )
     parser.add_argument(
-        "--profile", default="", metavar="NAME",
-        help="what clients of OSRM's interface call the network, such as driving (the name that the graph was made for, such as car)",
+        "--profile", action="append", default=[], metavar="NAME",
+        help="the name by which clients of OSRM's interface call the network, such as driving; it may be given several times (any name)",
     )
     parser.add_argument(
-        "--processes", type=processes_of, default=1, metavar="N", help="how many processes answer, 1 to 64 (1); each holds the network in memory"
+        "--network", action="append", default=[], type=network_in, metavar="NAME=OUT",
+        help="serve the network OUT to clients of OSRM's interface that ask for the profile NAME; it may be given several times. OUT.ch is its saved "
+             "hierarchy, if it exists. The first one is that of the page",
     )
+    add_listening(parser)
+    add_engines(parser)
+    add_limits(parser)
+    cli.add_runs(parser)
+    parser.add_argument("out", nargs="?", metavar="OUT", help="the network: OUT.gr, OUT.co and, where they exist, OUT.bends, OUT.names and OUT.nodes")
+    return parser
+
+
+def add_listening(parser):
+    """The options of what the service listens on, and of what it writes about it."""
+    parser.add_argument("--host", default="127.0.0.1", metavar="H", help="the address of this machine that is listened on (127.0.0.1)")
+    parser.add_argument("--port", type=number_of(0, 65_535, "port"), default=8080, metavar="P", help="the port (8080); 0: any that is free")
+    parser.add_argument(
+        "--takeover", action="store_true", help="take the port over from the service that listens there, which goes on until it is ended: then no request is lost"
+    )
+    parser.add_argument(
+        "--processes", type=number_of(1, 64, "number of processes"), default=1, metavar="N",
+        help="how many processes answer, 1 to 64 (1); each holds the network in memory",
+    )
+    parser.add_argument("--log", metavar="FILE", help="write a line for each request to the end of FILE; '-' is standard output")
+    parser.add_argument(
+        "--proxy", metavar="ADDRESS", help="the address of your proxy, such as 127.0.0.1; its header X-Forwarded-For names the client that asks"
+    )
+
+
+def add_engines(parser):
+    """The options of what answers."""
     engines = parser.add_mutually_exclusive_group()
     engines.add_argument(
         "--library", nargs="?", const="", metavar="FILE",
@@ -64,67 +100,135 @@ def words_of(words):
              "without this and --pipe it is taken if it is there and --saved is given",
     )
     engines.add_argument("--pipe", action="store_true", help="answer by a run of the program beside each process, which can be ended at any time")
-    parser.add_argument("--log", metavar="FILE", help="write a line for each request to the end of FILE; '-' is standard output")
-    parser.add_argument(
-        "--proxy", metavar="ADDRESS", help="the address of your proxy, such as 127.0.0.1; its header X-Forwarded-For names the client that asks"
-    )
-    parser.add_argument("--waiting", type=int, default=200, metavar="N", help="how many requests may wait (200); the service answers further ones that it is busy")
+
+
+def add_limits(parser):
+    """The limits of requests and of connections."""
+    size = {"type": number_of(1, MOST, "number"), "metavar": "N"}
+    parser.add_argument("--max-viaroute-size", **size, help="the most coordinates of route (500)")
+    parser.add_argument("--max-table-size", **size, help="the most coordinates of table (1,000); each table of that size is answered, with distances too")
+    parser.add_argument("--max-trip-size", **size, help="the most coordinates of trip (100)")
+    parser.add_argument("--max-matching-size", **size, help="the most coordinates of match (500)")
+    parser.add_argument("--max-nearest-size", **size, help="the most roads that nearest may be asked for (100)")
+    parser.add_argument("--waiting", **size, default=200, help="how many requests may wait (200); the service answers further ones that it is busy")
+    parser.add_argument("--max-connections", **size, default=1_000, help="how many connections one process takes (1,000)")
+    parser.add_argument("--max-connections-of-address", **size, default=250, help="how many of these from one address that is not the proxy's (250)")
     for name, seconds in ("--timeout", 60), ("--sending", 30), ("--idle", 60), ("--ending", 30):
         parser.add_argument(name, type=float, default=seconds, help=argparse.SUPPRESS)
-    cli.add_runs(parser)
-    parser.add_argument("out", metavar="OUT", help="the network: OUT.gr, OUT.co and, if it exists, OUT.bends")
-    return parser.parse_args(words)
 
 
-def chosen(words):
+def words_of(words):
+    """The choices that the words of the command line make. Words that are refused end the process with status 2."""
+    parser = parser_of()
+    found = parser.parse_args(words)
+    names = [name for name, _ in found.network]
+    if bool(found.out) == bool(names):
+        parser.error("one network OUT is served, or those of --network" if names else "a network is needed: OUT, or --network NAME=OUT")
+    if len(set(names)) < len(names):
+        parser.error("each --network has a name of its own")
+    if names and (found.profile or found.saved):
+        parser.error("with --network a network has the name and the hierarchy that stand there: leave --profile and --saved out")
+    return found
+
+
+def named(words):
+    """The networks of the command line."""
+    from chtab.server.networks import Named
+
+    if words.out:
+        return [Named("", words.out, words.saved)]
+    return [Named(name, out, f"{out}.ch" if os.path.exists(f"{out}.ch") else None) for name, out in words.network]
+
+
+def chosen(words, networks):
     """Whether the library answers, or its file; without words about it, whether it fits."""
     from chtab.engine import choosing
 
+    saved = [each.saved for each in networks]
     if words.library is not None:
         # The library would build one, but no time limit ends that.
-        if words.saved is None:
+        if None in saved:
             raise ChtabError("--library needs a saved hierarchy: give --saved, the file of `chtab save`")
         return words.library or True
-    return not words.pipe and choosing.fits(words.program, words.saved, words.workers)
+    return not words.pipe and all(choosing.fits(words.program, each, words.workers) for each in saved)
+
+
+def sizes_of(words):
+    """The limits of OSRM's interface. Where the size of tables is chosen, each table of that size may be asked for, with distances too."""
+    from chtab.server.osrm import answering
+
+    found = {name: getattr(words, option) for option, name in SIZES.items() if getattr(words, option) is not None}
+    if "table" in found:
+        found |= dict.fromkeys(("cells", "cells_with_distances"), found["table"] ** 2)
+    return answering.Limits(**found)
+
+
+def choices_of(words):
+    """What the words of the command line choose for the service."""
+    from chtab.server.connections import caps_of
+    from chtab.server.requests import Limits
+    from chtab.server.service import Choices
+
+    return Choices(
+        title=words.title or "", places=tuple(files.read_places(words.places)) if words.places else (), tiles=words.tiles,
+        limits=Limits(waiting=words.waiting, sending=words.sending, idle=words.idle, ending=words.ending), osrm=sizes_of(words),
+        caps=caps_of(words.max_connections, words.max_connections_of_address), allowed=tuple(words.cors), profiles=tuple(words.profile), proxy=words.proxy,
+    )
 
 
 def main(words):
-    """Serves the page that the words ask for, until a signal ends it."""
+    """Serves what the words ask for, until a signal ends it."""
     # Help needs none of the modules below.
     words = words_of(words)
-    import asyncio
-
-    from chtab.network import Network
-    from chtab.server.metrics import Metrics
+    from chtab.server import web_policy
+    from chtab.server.networks import Networks
+    from chtab.server.ports import port_at
     from chtab.server.recording import log_to
-    from chtab.server.requests import Limits
-    from chtab.server.service import LEAFLET, Service
-    from chtab.server.serving import Family, address_of, listener, serve
+    from chtab.server.service import LEAFLET
 
     logging.basicConfig(format="chtab-page: %(message)s")
     if not LEAFLET.is_dir():
         raise ChtabError("the page needs Debian's package libjs-leaflet")
     if words.log:
         log_to(words.log)
-    places = list(files.read_places(words.places)) if words.places else []
-    title = words.title or words.out.rpartition("/")[2]
-    limits = Limits(waiting=words.waiting, sending=words.sending, idle=words.idle, ending=words.ending)
-    metrics = Metrics(words.processes)
+    choices = choices_of(words)
+    web_policy.tile_sources(choices.tiles)
     sys.setswitchinterval(TURN)
+    networks = named(words)
     more = {"program": words.program, "workers": words.workers, "timeout": words.timeout, "load": words.processes == 1}
-    with Network.open(words.out + ".gr", words.saved, library=chosen(words), **more) as network:
-        def service(row):
-            network._engine.load()
-            return Service(network, title, places, words.tiles, limits, words.cors, words.profile, words.proxy, metrics, row)
+    # A port that is taken is told before the time that reading takes.
+    port = port_at(words.host, words.port, words.takeover)
+    with Networks(networks, library=chosen(words, networks), **more) as served:
+        status = serve_all(words, served, choices, port)
+    if status:
+        sys.exit(status)
 
-        if words.processes == 1:
-            listening = listener(words.host, words.port, False)
-            asyncio.run(serve(service(0), listening, lambda: print(address_of(listening), flush=True)))
-        else:
-            # What is read before processes are forked is in memory once.
-            network.snap(0, 0, math.inf)
-            family = Family(words.processes, service, metrics, words.host, words.port)
-            family.run(lambda: print(address_of(family.listening), flush=True))
+
+def serve_all(words, networks, choices, port):
+    """Serves networks by one process or several, until a signal ends it; the status of the process."""
+    import asyncio
+
+    from chtab.server.metrics import Metrics
+    from chtab.server.ports import notify
+    from chtab.server.service import Service
+    from chtab.server.serving import Family, serve
+
+    metrics = Metrics(words.processes)
+
+    def service(row):
+        networks.load()
+        return Service(networks, choices, metrics, row)
+
+    def tell():
+        print(port.address, flush=True)
+        notify("READY=1")
+
+    if words.processes == 1:
+        return asyncio.run(serve(service(0), port, tell))
+    # What is read before processes are forked is in memory once.
+    for each in networks:
+        each.network.snap(0, 0, math.inf)
+    return Family(words.processes, service, metrics, port, networks.told).run(tell)
 
 
 def command():

@@ -37,11 +37,13 @@ def totals(added, is_there, between, along):
 
 class Trace(NamedTuple):
     """How a leg lies: its places in degrees (n, 2), rounded to millionths, none of which follows on itself, and for each of them the weight
-    and the metres up to there."""
+    and the metres up to there. The leg leads along the first road, its arcs and the last road, or along one road: each of these pieces stops
+    at one of `stops`, numbers of places."""
 
     places: numpy.ndarray
     weights: numpy.ndarray
     metres: numpy.ndarray
+    stops: numpy.ndarray
 
 
 @dataclass(frozen=True)
@@ -135,9 +137,13 @@ def traced(places, owners, counts, weights, totals):
     is_kept[:-1] = (leg[1:] != leg[:-1]) | (places[1:] != places[:-1]).any(axis=1)
     cuts = numpy.append(0, numpy.cumsum(is_kept))
     rounded, passed, metres = places[is_kept].round(6), passed[is_kept], (along - along[leg_firsts][leg])[is_kept]
+    # Where a piece stops is the place that was kept of those that are the same.
+    piece_stops = cuts[numpy.cumsum(counts) - 1] - numpy.repeat(cuts[leg_firsts], numpy.bincount(owners, minlength=len(totals)))
+    piece_cuts = numpy.searchsorted(owners, numpy.arange(len(totals) + 1))
     found = []
-    for first, last in zip(cuts[leg_firsts].tolist(), cuts[leg_lasts].tolist()):
-        found.append(Trace(rounded[first:last], passed[first:last], metres[first:last]))
+    for leg, (first, last) in enumerate(zip(cuts[leg_firsts].tolist(), cuts[leg_lasts].tolist())):
+        stops = piece_stops[piece_cuts[leg]:piece_cuts[leg + 1]]
+        found.append(Trace(rounded[first:last], passed[first:last], metres[first:last], stops))
     return found
 
 

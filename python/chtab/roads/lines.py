@@ -104,6 +104,20 @@ class Lines:
         lines = numpy.searchsorted(self.firsts, steps, "right") - 1
         return lines, self.parts[steps] + shares * (self.parts[steps + 1] - self.parts[steps]), *degrees(*at.T)
 
+    def nearest_facing(self, longitude, latitude, fits):
+        """The nearest step of all for which `fits` holds, how far along it the point nearest to a place stands, from 0 to 1, and that point;
+        arrays of one, or of none where there is no such step."""
+        if self.pieces is None:
+            self.pieces = Pieces(self)
+        steps, shares, at = self.pieces.nearest_fitting(mercator([longitude], [latitude]), fits)
+        return steps, shares, degrees(*at.T)
+
+    def bearings(self, steps):
+        """The directions in which steps lead, in degrees clockwise from north."""
+        if self.pieces is None:
+            self.pieces = Pieces(self)
+        return numpy.degrees(numpy.arctan2(*self.pieces.ways[steps].T)) % 360
+
 
 class Pieces:
     """The steps of lines, to be looked for: cut into pieces of at most a length, whose middles stand in a k-d tree."""
@@ -170,3 +184,20 @@ class Pieces:
         # What is as near as the last of these may lie on a piece whose middle is farther away.
         [near] = self.within(place, numpy.sqrt(apart[-1:]))
         return best_of(self.steps[numpy.asarray(near, int)])[:3]
+
+    def nearest_fitting(self, place, fits):
+        """The same of one place and the nearest step for which `fits`, which judges an array of steps, holds."""
+        count, found = 16, numpy.zeros(0, int)
+        while not len(found):
+            distances, near = self.tree.query(place[0], min(count, len(self.steps)))
+            distances, steps = numpy.atleast_1d(distances), numpy.unique(self.steps[numpy.atleast_1d(near)])
+            steps = steps[fits(steps)]
+            shares, apart, at = self.feet(steps, place)
+            # No point of a step that was not looked at is nearer than this.
+            least = numpy.inf if count >= len(self.steps) else distances[-1] - self.reach
+            found = numpy.lexsort([steps, apart])[:1]
+            found = found[numpy.sqrt(apart[found]) <= least]
+            if count >= len(self.steps):
+                break
+            count *= 4
+        return steps[found], shares[found], at[found]

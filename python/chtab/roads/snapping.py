@@ -16,8 +16,12 @@ from chtab.roads.lines import Lines, metres_between
 
 # No arc leads along a road in this direction; a place doesn't leave or arrive by this end.
 NONE = -1
+# The directions along a road that a spot may be left and come to in: a set of these.
+FORWARD, BACKWARD = 1, 2
 # A place that is nearer than so many metres to an end of its road stands at the end.
 AT_END = 1.0
+# The part of a road that lies between its end and a spot that is near to it, and does not stand at it.
+INSIDE = 1e-9
 
 
 def places_in(longitudes, latitudes):
@@ -51,7 +55,8 @@ class Spots:
     `longitudes`, `latitudes` are the points on the roads in degrees, and `metres` says how far from the places these are. Spot k lies on road
     `roads[k]` at the part `parts[k]` of it (0 at `first`, 1 at `last`). It leaves by the nodes `out_nodes[k]` at the weights
     `out_weights[k]`, and arrives by `in_nodes[k]` at `in_weights[k]`; `NONE` where there is none. The first half of each of these are nodes
-    of `first`, the second of `last`: one each, or several where turns are restricted.
+    of `first`, the second of `last`: one each, or several where turns are restricted. `sides[k]` has the directions in which the road may be
+    driven along at the spot, `FORWARD`, `BACKWARD` or both; the road itself may be closed in one of them.
     """
 
     longitudes: numpy.ndarray
@@ -63,6 +68,7 @@ class Spots:
     out_weights: numpy.ndarray
     in_nodes: numpy.ndarray
     in_weights: numpy.ndarray
+    sides: numpy.ndarray
 
     def __len__(self):
         return len(self.roads)
@@ -70,6 +76,18 @@ class Spots:
     def __getitem__(self, which):
         """Some of them: a slice or an array of places."""
         return Spots(*(column[which] for column in vars(self).values()))
+
+
+def one_sided(spots, sides):
+    """Spots that are left and come to in some directions of their roads alone."""
+    half = spots.out_nodes.shape[1] // 2
+    # Who drives forward comes from `first` and goes to `last`.
+    backward, forward = ((sides & side == 0)[:, None] for side in (BACKWARD, FORWARD))
+    closed = numpy.repeat(numpy.hstack([backward, forward]), half, axis=1)
+    shut = numpy.repeat(numpy.hstack([forward, backward]), half, axis=1)
+    outs = (numpy.where(closed, NONE, column) for column in (spots.out_nodes, spots.out_weights))
+    ins = (numpy.where(shut, NONE, column) for column in (spots.in_nodes, spots.in_weights))
+    return Spots(spots.longitudes, spots.latitudes, spots.metres, spots.roads, spots.parts, *outs, *ins, sides)
 
 
 class Ways(NamedTuple):
@@ -219,14 +237,37 @@ class Roads:
             nodes[at_node, column], weights[at_node, column] = nodes_there, 0
             return nodes, weights
 
-        return Spots(longitudes, latitudes, metres, roads, parts, *ways(self.out_ways, begins), *ways(self.in_ways, stops))
+        sides = numpy.full(len(roads), FORWARD | BACKWARD)
+        return Spots(longitudes, latitudes, metres, roads, parts, *ways(self.out_ways, begins), *ways(self.in_ways, stops), sides)
+
+    def find_facing(self, longitude, latitude, bearing, within):
+        """One place, taken to the nearest point at which one may drive in a direction, in degrees clockwise from north, or at most `within` degrees
+        off it; and it is left and come to in that direction alone. There are no spots where no road leads so."""
+        steps, share, at = self.lines.nearest_facing(longitude, latitude, lambda steps: self.facing(steps, bearing, within) > 0)
+        roads = numpy.searchsorted(self.lines.firsts, steps, "right") - 1
+        before, after = self.lines.parts[steps], self.lines.parts[steps + 1]
+        # A spot at an end of its road would be left by any other road.
+        parts = (before + share * (after - before)).clip(INSIDE, 1 - INSIDE)
+        metres = metres_between(numpy.full(len(steps), longitude), numpy.full(len(steps), latitude), *at)
+        return one_sided(self.spots(*at, metres, roads, parts), self.facing(steps, bearing, within))
+
+    def facing(self, steps, bearing, within):
+        """The directions along its road in which each step of a line may be driven along and leads in a direction."""
+        leads = self.lines.bearings(steps)
+        roads = numpy.searchsorted(self.lines.firsts, steps, "right") - 1
+        found = numpy.zeros(len(steps), numpy.int64)
+        for side, off, weights in (FORWARD, 0, self.forward), (BACKWARD, 180, self.backward):
+            is_near = abs((leads + off - bearing + 180) % 360 - 180) <= within
+            found |= numpy.where(is_near & (weights[roads] != NONE), side, 0)
+        return found
 
     def along(self, starts, ends):
         """The weights from spots to others along the roads on which both lie, `NONE` where they don't, or no arc leads that way. The
         arrays of both are taken together by numpy's rules."""
         parts = ends.parts - starts.parts
         weights = numpy.where(parts >= 0, self.forward[starts.roads], self.backward[starts.roads])
-        is_there = (starts.roads == ends.roads) & ((weights != NONE) | (parts == 0))
+        may = starts.sides & ends.sides & numpy.where(parts >= 0, FORWARD, BACKWARD)
+        is_there = (starts.roads == ends.roads) & ((weights != NONE) & (may > 0) | (parts == 0))
         return numpy.where(is_there, numpy.round(abs(parts) * numpy.maximum(weights, 0)), NONE).astype(numpy.int64)
 
     # How roads lie.

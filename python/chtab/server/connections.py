@@ -1,28 +1,54 @@
-"""Connections of the service: which client asks, and those that are closed because their clients do nothing.
+"""Connections of the service: how many there may be, which client asks, and those that are closed because their clients do nothing.
 
 aiohttp closes a connection that is idle after a request. It waits for ever for one that sends no request, or half of one, or that reads no
-answer. Here each connection is closed on which no request is being answered and no byte moves.
+answer. Here each connection is closed on which no request is being answered and no byte moves. Where there are as many as there may be, the one
+that has been idle longest makes way for a new one.
 """
 import asyncio
 import ipaddress
+import re
+import resource
+from typing import NamedTuple
 
 from aiohttp import web
+
+# Files that a service opens beside connections: those of networks, pipes to runs, and the log.
+RESERVE = 64
+# An address with a port behind it, as some proxies name clients.
+WITH_PORT = re.compile(r"\[(?P<six>[^\]]*)\](?::\d+)?|(?P<four>[^:]*):\d+")
+
+
+class Caps(NamedTuple):
+    """How many connections there may be in all, and from one address that is not the proxy's."""
+
+    total: int
+    of_address: int
+
+
+def caps_of(total, of_address):
+    """The caps that are asked for, at most as many as there may be files. The limit of files is raised as far as it may be."""
+    low, high = resource.getrlimit(resource.RLIMIT_NOFILE)
+    if high == resource.RLIM_INFINITY or low < high:
+        resource.setrlimit(resource.RLIMIT_NOFILE, (high if high != resource.RLIM_INFINITY else max(low, total + RESERVE), high))
+    most = resource.getrlimit(resource.RLIMIT_NOFILE)[0]
+    return Caps(max(1, min(total, most - RESERVE if most > 2 * RESERVE else most // 2)), max(1, of_address))
 
 
 class Connection(asyncio.Protocol):
     """A connection: it hands on what comes to the protocol of aiohttp, and remembers since when it is idle."""
 
     def __init__(self, inner, connections):
-        self.inner, self.connections, self.transport = inner, connections, None
+        self.inner, self.connections, self.transport, self.address = inner, connections, None, ""
         self.underway, self.since, self.unsent = 0, 0.0, 0
 
     def connection_made(self, transport):
         self.transport, self.since = transport, self.connections.now()
-        self.connections.by_transport[transport] = self
+        self.address = network_of((transport.get_extra_info("peername") or ("",))[0])
+        self.connections.add(self)
         self.inner.connection_made(transport)
 
     def connection_lost(self, fault):
-        self.connections.by_transport.pop(self.transport, None)
+        self.connections.remove(self)
         self.inner.connection_lost(fault)
 
     def data_received(self, data):
@@ -46,14 +72,16 @@ class Connection(asyncio.Protocol):
 
 
 class Handler(web.RequestHandler):
-    """The protocol of aiohttp. What is no request of HTTP gets JSON with a line, in the forms of both interfaces, and is not logged."""
+    """The protocol of aiohttp. What is no request of HTTP gets JSON with a line, in the forms of both interfaces."""
 
-    __slots__ = ()
+    __slots__ = ("recorder",)
 
     def handle_error(self, request, status=500, exc=None, message=None):
         if status >= 500:
             return super().handle_error(request, status, exc, message)
         text = "this is no request of HTTP, or its address or a header is too long"
+        peer = (self.transport.get_extra_info("peername") if self.transport else None) or ("",)
+        self.recorder.note_event("http", network_of(peer[0]), status, text)
         value = {"error": text, "code": "InvalidUrl", "message": text}
         response = web.json_response(value, status=status, headers={"X-Content-Type-Options": "nosniff"})
         response.force_close()
@@ -61,32 +89,64 @@ class Handler(web.RequestHandler):
 
 
 class Connections:
-    """The connections of a service, of which each is closed that is idle for so many seconds."""
+    """The connections of a service, of which each is closed that is idle for so many seconds. Those of the address `proxy` are of many clients."""
 
-    def __init__(self, seconds):
-        self.seconds, self.by_transport = seconds, {}
+    def __init__(self, seconds, caps, recorder, proxy=None):
+        self.seconds, self.caps, self.recorder, self.proxy = seconds, caps, recorder, proxy
+        self.by_transport, self.of_addresses = {}, {}
         self.now = asyncio.get_running_loop().time
+
+    def __len__(self):
+        return len(self.by_transport)
 
     def watched(self, server, **more):
         """The factory of protocols of such a server, with more words for each, all of them watched."""
         loop = asyncio.get_running_loop()
-        return lambda: Connection(Handler(server, loop=loop, **more), self)
 
-    def middleware(self):
-        """A middleware: the connection of a request is not idle while the request is answered."""
-        @web.middleware
-        async def mark(request, handler):
-            connection = self.by_transport.get(request.transport)
-            if connection is None:
-                return await handler(request)
+        def make():
+            handler = Handler(server, loop=loop, **more)
+            handler.recorder = self.recorder
+            return Connection(handler, self)
+
+        return make
+
+    def add(self, connection):
+        """Takes a new connection in, where need be in the place of another one; if each of the others is busy the new one is closed."""
+        address = connection.address
+        self.by_transport[connection.transport] = connection
+        own = self.of_addresses.setdefault(address, {})
+        own[connection] = None
+        if address != self.proxy and len(own) > self.caps.of_address:
+            self.make_way(own, connection)
+        elif len(self.by_transport) > self.caps.total:
+            self.make_way(max(self.of_addresses.values(), key=len), connection)
+
+    def make_way(self, crowd, new):
+        """Closes the connection of a crowd that has been idle longest, or the new one where each is busy."""
+        idle = min((one for one in crowd if not one.underway and one is not new), key=lambda one: one.since, default=new)
+        self.recorder.note_event("connections", idle.address, 0, "more connections than there may be")
+        self.remove(idle)
+        idle.transport.abort()
+
+    def remove(self, connection):
+        if self.by_transport.pop(connection.transport, None) is not None:
+            own = self.of_addresses[connection.address]
+            del own[connection]
+            if not own:
+                del self.of_addresses[connection.address]
+
+    def begin(self, request):
+        """The connection of a request that begins to be answered; None where it was closed."""
+        connection = self.by_transport.get(request.transport)
+        if connection is not None:
             connection.underway += 1
-            try:
-                return await handler(request)
-            finally:
-                connection.underway -= 1
-                connection.since = self.now()
+        return connection
 
-        return mark
+    def end(self, connection):
+        """Notes that a request of a connection has been answered."""
+        if connection is not None:
+            connection.underway -= 1
+            connection.since = self.now()
 
     async def close_idle(self):
         """Closes idle connections, until it is cancelled."""
@@ -95,19 +155,34 @@ class Connections:
             moment = self.now() - self.seconds
             for connection in list(self.by_transport.values()):
                 if connection.is_idle_since(moment):
+                    self.recorder.note_event("idle", connection.address, 0, f"idle for {self.seconds:g} seconds")
                     connection.transport.abort()
+
+    async def empty(self, seconds):
+        """Waits until each connection is closed, at most so many seconds. Those that are idle by then are left."""
+        until = self.now() + seconds
+        while self.by_transport and self.now() < until:
+            await asyncio.sleep(0.02)
 
 
 # Who asks.
 
 
 def client_of(request, proxy):
-    """The address that a request counts for: that of the client, and of one that comes by the proxy the last one that it names."""
+    """The address that a request counts for: that of the client, and of one that comes by the proxy the one that it names, which is the last of the
+    last line: what stands before is from whoever came to the proxy."""
     address = request.remote or ""
     if proxy is not None and address == proxy:
-        named = request.headers.get("X-Forwarded-For", "").rpartition(",")[2].strip()
+        lines = request.headers.getall("X-Forwarded-For", [""])
+        named = without_port(lines[-1].rpartition(",")[2].strip())
         address = named or address
     return network_of(address)
+
+
+def without_port(address):
+    """An address without the port that stands behind it, and without brackets."""
+    found = WITH_PORT.fullmatch(address)
+    return (found["six"] or found["four"] or "") if found else address
 
 
 def network_of(address):

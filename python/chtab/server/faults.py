@@ -1,7 +1,9 @@
 """What the service tells of a request that it can't answer: JSON with a line, in the form of the interface that was asked."""
+import errno
 import logging
 
 from aiohttp import web
+from aiohttp.http_exceptions import BadHttpMessage
 
 from chtab.errors import ChtabError, TimedOut
 from chtab.server import web_policy
@@ -12,39 +14,42 @@ from chtab.server.requests import Refused
 LOG = logging.getLogger("chtab.service")
 # Faults of the service itself, for which OSRM has no code.
 INTERNAL = "InternalError"
+# What a system says of a name that no file can have.
+NO_NAMES = errno.ENAMETOOLONG, errno.EINVAL, errno.ENOENT, errno.ENOTDIR, errno.ELOOP
+# The reasons of statuses, as the metrics count them.
+REASONS = {404: "page", 405: "page", 403: "page", 408: "sending", 413: "size", 415: "form", 499: "gone", 503: "busy", 504: "time", 500: "fault"}
 
 
-def fault(request, text, status, code=INTERNAL):
-    """The answer to a request that was not answered."""
+def fault(request, text, status, code=INTERNAL, reason=None):
+    """The answer to a request that was not answered. The request keeps why."""
+    request["refused"] = reason or REASONS.get(status, "form"), text
     value = {"code": code, "message": text} if web_policy.is_osrm(request.path) else {"error": text}
     return web.json_response(value, status=status, headers={"Retry-After": "1"} if status == 503 else None)
 
 
-def fault_teller(most_bytes):
-    """A middleware that tells each fault as JSON with a line."""
-    @web.middleware
-    async def tell(request, handler):
-        try:
-            return await handler(request)
-        except Refusal as refusal:
-            return fault(request, str(refusal), 400, refusal.code)
-        except Refused as refused:
-            return fault(request, str(refused), refused.status)
-        except Busy:
+def fault_of(request, raised, most_bytes, told):
+    """The answer that tells of a fault. `told` gives files the names that the user knows."""
+    match raised:
+        case Refusal():
+            return fault(request, str(raised), 400, raised.code, raised.code)
+        case Refused():
+            return fault(request, str(raised), raised.status)
+        case Busy():
             return fault(request, "too many requests are waiting; try again in a second", 503)
-        except TimedOut:
+        case TimedOut():
             return fault(request, "the answer took too long", 504)
-        except web.HTTPRequestEntityTooLarge:
+        case web.HTTPRequestEntityTooLarge():
             return fault(request, f"a request has at most {most_bytes:,} bytes", 413)
-        except web.HTTPException as known:
-            return fault(request, known.reason, known.status)
-        except (ConnectionError, Gone):
+        case web.HTTPException():
+            return fault(request, raised.reason, raised.status)
+        case BadHttpMessage() | web.RequestPayloadError():
+            return fault(request, "the body of the request can't be read", 400)
+        case ConnectionError() | Gone():
             return fault(request, "the client went away", 499)
-        except ChtabError as broken:
-            LOG.error("%s", broken)
-            return fault(request, "the program did not answer; try again", 503)
-        except Exception:
-            LOG.exception("a request failed")
-            return fault(request, "the service has a fault", 500)
-
-    return tell
+        case OSError() if raised.errno in NO_NAMES:
+            return fault(request, "Not Found", 404)
+        case ChtabError():
+            LOG.error("%s", told(str(raised)))
+            return fault(request, "the program did not answer; try again", 503, reason="program")
+    LOG.error("a request failed", exc_info=raised)
+    return fault(request, "the service has a fault", 500)

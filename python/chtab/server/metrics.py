@@ -1,24 +1,27 @@
-"""What a service counts, as Prometheus reads it: requests by their status, their seconds, and what waits.
+"""What a service counts, as Prometheus reads it: requests by their status, their seconds, refusals by their reasons, and what waits.
 
 The counts stand in memory that all processes of a service share. Each has a row of its own, which it alone changes, so that no lock is needed;
 the sums are those of all rows.
 """
 import bisect
 import mmap
-import time
 
 import numpy
 
-SERVICES = "route", "table", "nearest", "api", "page"
-STATUSES = 200, 204, 206, 304, 400, 403, 404, 405, 408, 413, 416, 499, 500, 503, 504
-QUANTILES = 0.5, 0.9, 0.99
-# Quantiles are those of the last minutes, and one is told as the upper end of its range; each range is a tenth longer than the one before.
-MINUTES = 10
-EDGES = [0.0001 * 1.1**step for step in range(160)]
-# What stands in a row: requests, microseconds and bytes of all answers, the minute that each list of ranges is of, and the states.
-COUNTS = len(SERVICES) * (len(STATUSES) + 1)
-STATES = "waiting", "engines", "begun", "memory"
-WIDTH = COUNTS + 2 + MINUTES * (2 + len(EDGES)) + len(STATES)
+SERVICES = "route", "table", "nearest", "trip", "match", "api", "page"
+STATUSES = 200, 204, 206, 304, 400, 403, 404, 405, 408, 413, 415, 416, 499, 500, 503, 504
+# Why requests are refused: OSRM's codes, then those of requests in JSON and of the service, and what is done to connections.
+CODES = (
+    "InvalidUrl", "InvalidService", "InvalidVersion", "InvalidQuery", "InvalidOptions", "InvalidValue", "NoSegment", "NoRoute", "NoTrips", "NoMatch",
+    "TooBig",
+)
+REASONS = *CODES, "form", "page", "size", "sending", "gone", "busy", "time", "program", "fault", "http", "idle", "connections", "system"
+# The upper ends of the ranges of seconds, beside the last one, which has no end.
+EDGES = 0.001, 0.0025, 0.005, 0.01, 0.025, 0.05, 0.1, 0.25, 0.5, 1.0, 2.5, 5.0, 10.0, 25.0, 60.0
+STATES = "waiting", "engines", "begun", "memory", "connections"
+# What stands in a row: requests by service and status, microseconds of each service, ranges of each service, refusals, and the states.
+PARTS = len(SERVICES) * (len(STATUSES) + 1), len(SERVICES), len(SERVICES) * (len(EDGES) + 1), len(REASONS), len(STATES)
+WIDTH = sum(PARTS)
 
 
 class Metrics:
@@ -32,32 +35,34 @@ class Metrics:
     def text(self):
         """The counts in Prometheus' text, version 0.0.4."""
         rows = self.of_processes
-        lines = ["# HELP chtab_requests_total Requests that were answered.", "# TYPE chtab_requests_total counter"]
-        counts = sum(row.counts for row in rows)
-        for service, statuses in zip(SERVICES, counts.tolist()):
+        lines = [*head("chtab_requests_total", "counter", "Requests that were answered.")]
+        for service, statuses in zip(SERVICES, sum(row.counts for row in rows).tolist()):
             for status, count in zip((*STATUSES, "other"), statuses):
                 if count:
                     lines.append(f'chtab_requests_total{{service="{service}",status="{status}"}} {count}')
         lines += self.seconds(rows)
+        lines += head("chtab_refusals_total", "counter", "Requests that were refused, and connections that were closed, by reason.")
+        lines += [f'chtab_refusals_total{{reason="{name}"}} {count}' for name, count in zip(REASONS, sum(row.refusals for row in rows).tolist()) if count]
         for name, kind, about, value in self.states(rows):
-            lines += [f"# HELP {name} {about}", f"# TYPE {name} {kind}", f"{name} {value}"]
+            lines += [*head(name, kind, about), f"{name} {value}"]
         return "\n".join(lines) + "\n"
 
     def seconds(self, rows):
-        """The seconds of answers, by quantiles of the last minutes, with the sum and the count of all."""
-        recent = numpy.cumsum(sum(row.recent() for row in rows))
-        lines = ["# HELP chtab_request_seconds Seconds from a request to its answer, in the last ten minutes.", "# TYPE chtab_request_seconds summary"]
-        for quantile in QUANTILES:
-            place = int(numpy.searchsorted(recent, quantile * recent[-1]))
-            value = f"{EDGES[min(place, len(EDGES) - 1)]:.4g}" if recent[-1] else "NaN"
-            lines.append(f'chtab_request_seconds{{quantile="{quantile}"}} {value}')
-        lines.append(f"chtab_request_seconds_sum {sum(int(row.sums[0]) for row in rows) / 1e6}")
-        return [*lines, f"chtab_request_seconds_count {sum(int(row.sums[1]) for row in rows)}"]
+        """The seconds from requests to their answers: a histogram for each service that was asked."""
+        name = "chtab_request_seconds"
+        lines = head(name, "histogram", "Seconds from a request to its answer.")
+        for service, ranges, micros in zip(SERVICES, sum(row.ranges for row in rows), sum(row.micros for row in rows).tolist()):
+            sums = numpy.cumsum(ranges).tolist()
+            if sums[-1]:
+                lines += [f'{name}_bucket{{service="{service}",le="{edge}"}} {count}' for edge, count in zip((*EDGES, "+Inf"), sums)]
+                lines += [f'{name}_sum{{service="{service}"}} {micros / 1e6}', f'{name}_count{{service="{service}"}} {sums[-1]}']
+        return lines
 
     def states(self, rows):
-        waiting, engines, begun, memory = (sum(row.of(state) for row in rows) for state in STATES)
+        waiting, engines, begun, memory, connections = (sum(row.of(state) for row in rows) for state in STATES)
         return [
             ("chtab_requests_waiting", "gauge", "Requests that are underway or wait.", waiting),
+            ("chtab_connections", "gauge", "Connections of clients.", connections),
             ("chtab_engines", "gauge", "Runs of the program that answer.", engines),
             ("chtab_engines_begun_total", "counter", "Runs of the program that were begun.", begun),
             ("chtab_processes", "gauge", "Processes of the service.", sum(row.of("memory") > 0 for row in rows)),
@@ -65,37 +70,36 @@ class Metrics:
         ]
 
 
+def head(name, kind, about):
+    return [f"# HELP {name} {about}", f"# TYPE {name} {kind}"]
+
+
 class Row:
     """What one process counts."""
 
     def __init__(self, row):
-        self.counts = row[:COUNTS].reshape(len(SERVICES), len(STATUSES) + 1)
-        self.sums = row[COUNTS:COUNTS + 2]
-        minutes = row[COUNTS + 2:COUNTS + 2 + MINUTES * (2 + len(EDGES))].reshape(MINUTES, -1)
-        self.minutes, self.ranges = minutes[:, 0], minutes[:, 1:]
-        self.states = row[-len(STATES):]
-        self.places = {status: place for place, status in enumerate(STATUSES)}
+        counts, self.micros, ranges, self.refusals, self.states = numpy.split(row, numpy.cumsum(PARTS)[:-1])
+        self.counts, self.ranges = counts.reshape(len(SERVICES), -1), ranges.reshape(len(SERVICES), -1)
+        self.services, self.statuses, self.reasons, self.names = (
+            {name: place for place, name in enumerate(names)} for names in (SERVICES, STATUSES, REASONS, STATES)
+        )
 
     def add(self, service, status, seconds):
         """Counts an answer."""
-        self.counts[SERVICES.index(service), self.places.get(status, len(STATUSES))] += 1
-        self.sums += int(seconds * 1e6), 1
-        minute = int(time.monotonic() // 60)
-        place = minute % MINUTES
-        if self.minutes[place] != minute:
-            self.ranges[place], self.minutes[place] = 0, minute
+        place = self.services[service]
+        self.counts[place, self.statuses.get(status, len(STATUSES))] += 1
+        self.micros[place] += int(seconds * 1e6)
         self.ranges[place, bisect.bisect_left(EDGES, seconds)] += 1
 
-    def recent(self):
-        """How many answers of the last minutes took how long."""
-        is_recent = self.minutes > time.monotonic() // 60 - MINUTES
-        return (self.ranges * is_recent[:, None]).sum(axis=0)
+    def refuse(self, reason):
+        """Counts a refusal."""
+        self.refusals[self.reasons[reason]] += 1
 
     def of(self, state):
         """What was noted last of a state."""
-        return int(self.states[STATES.index(state)])
+        return int(self.states[self.names[state]])
 
     def note(self, **states):
         """Notes how things stand now; a process that ended has nothing."""
         for name, value in states.items():
-            self.states[STATES.index(name)] = value
+            self.states[self.names[name]] = value

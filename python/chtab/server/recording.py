@@ -3,12 +3,15 @@ import logging
 import logging.handlers
 import time
 
-from aiohttp import web
-
 from chtab.server import web_policy
 from chtab.server.connections import client_of
+from chtab.server.metrics import REASONS, SERVICES
 
-ACCESS = logging.getLogger("chtab.access")
+ACCESS, LOG = logging.getLogger("chtab.access"), logging.getLogger("chtab.service")
+# Seconds between two lines on standard error about one kind of event.
+MINUTE = 60.0
+# What is told of events that come often, and that one who runs the service has to know of.
+TOLD = {"connections": "connections were closed because there were more than there may be", "system": "times the system refused a connection"}
 
 
 def log_to(path):
@@ -24,28 +27,54 @@ def service_of(path):
     """The service that a request counts for."""
     if web_policy.is_osrm(path):
         name = path.split("/")[1]
-        return name if name in ("route", "table", "nearest") else "page"
+        return name if name in SERVICES else "page"
     return "api" if path.startswith("/api/") else "page"
 
 
-def recorder(row, proxy):
-    """A middleware that counts each request, and logs it where a log was asked for."""
-    @web.middleware
-    async def record(request, handler):
-        begun = time.monotonic()
-        response = await handler(request)
-        seconds = time.monotonic() - begun
-        row.add(service_of(request.path), response.status, seconds)
+def escaped(text):
+    """A text as it stands between quotes in the log: ASCII, without quotes, blanks of other kinds or ends of lines."""
+    plain = text.encode("ascii", "backslashreplace").decode()
+    return "".join(letter if letter.isprintable() and letter != '"' else f"\\x{ord(letter):02x}" for letter in plain)
+
+
+class Recorder:
+    """Counts what is answered in a row of metrics, and logs it where a log was asked for. Requests of the address `proxy` are those of the clients
+    that it names."""
+
+    def __init__(self, row, proxy=None):
+        self.row, self.proxy = row, proxy
+        # For each kind of event how often it came since it was told, and when that was.
+        self.events = {kind: [0, -MINUTE] for kind in TOLD}
+
+    def note(self, request, response, seconds):
+        """Notes a request that was answered. `request["refused"]` is the reason of a refusal with its line, where there is one."""
+        reason, why = request.get("refused", ("", ""))
+        self.row.add(service_of(request.path), response.status, seconds)
+        if reason:
+            self.row.refuse(reason)
         if ACCESS.handlers:
-            ACCESS.info("%s", line_of(request, response, seconds, proxy))
-        return response
+            size = response.content_length or 0
+            self.log(client_of(request, self.proxy), f"{request.method} {request.raw_path}", response.status, size, seconds, f"{reason}: {why}" if reason else "")
 
-    return record
+    def log(self, address, asked, status, size, seconds, why):
+        """When, who, what, the status, the bytes of the answer, the milliseconds that it took, and why it was refused."""
+        now = time.strftime("%Y-%m-%dT%H:%M:%SZ", time.gmtime())
+        more = f' "{escaped(why)}"' if why else ""
+        ACCESS.info("%s", f'{now} {escaped(address) or "-"} "{escaped(asked)}" {status} {size} {1000 * seconds:.1f}{more}')
 
+    def note_event(self, kind, address, status, why):
+        """Notes what happened to a connection that has no request."""
+        if kind in REASONS:
+            self.row.refuse(kind)
+        if ACCESS.handlers:
+            self.log(address, "-", status, 0, 0.0, f"{kind}: {why}")
+        if kind in TOLD:
+            self.tell(kind)
 
-def line_of(request, response, seconds, proxy):
-    """When, who, what, the status, the bytes of the answer, and the milliseconds that it took."""
-    now = time.strftime("%Y-%m-%dT%H:%M:%SZ", time.gmtime())
-    target = request.raw_path.encode("ascii", "backslashreplace").decode()
-    size = response.content_length or 0
-    return f'{now} {client_of(request, proxy)} "{request.method} {target}" {response.status} {size} {1000 * seconds:.1f}'
+    def tell(self, kind):
+        """Tells of an event on standard error, where that was not done within the last minute."""
+        event, now = self.events[kind], time.monotonic()
+        event[0] += 1
+        if now - event[1] >= MINUTE:
+            LOG.warning("%d %s", event[0], TOLD[kind])
+            event[:] = 0, now

@@ -1,6 +1,10 @@
 """Requests in JSON: their limits, and their fields, which are judged before anything is looked up."""
 import json
+import zlib
 from dataclasses import dataclass
+
+# What zlib calls the forms of bodies that are packed.
+PACKED = {"gzip": 31, "x-gzip": 31, "deflate": 15}
 
 
 @dataclass(frozen=True)
@@ -16,9 +20,9 @@ class Limits:
     # Metres from a place to the nearest road.
     metres: float = 1_000.0
     # Requests that are answered at once, and that wait; what is answered together, in legs of routes.
-    at_once: int = 3
+    at_once: int = 2
     waiting: int = 200
-    together: int = 32
+    together: int = 64
     # Seconds for the body of a request, those after which a connection is closed on which nothing happens, and those in which what is
     # underway has to end when the service does.
     sending: float = 30.0
@@ -32,6 +36,25 @@ class Refused(Exception):
     def __init__(self, text, status=400):
         super().__init__(text)
         self.status = status
+
+
+def bytes_in(body, encoding, most):
+    """The bytes of a body, unpacked where it says that it is packed; never more than `most`."""
+    encoding = encoding.strip().lower()
+    if encoding in ("", "identity"):
+        return body
+    if encoding not in PACKED:
+        raise Refused("a body is packed by gzip or deflate, or not at all", 415)
+    unpacking = zlib.decompressobj(PACKED[encoding])
+    try:
+        found = unpacking.decompress(body, most + 1)
+    except zlib.error:
+        raise Refused(f"the body is not packed by {encoding}") from None
+    if len(found) > most:
+        raise Refused(f"a request has at most {most:,} bytes", 413)
+    if not unpacking.eof:
+        raise Refused(f"the body is not packed by {encoding}")
+    return found
 
 
 def number_in(value, low, high, name):

@@ -1,4 +1,4 @@
-"""A service of one network over HTTP, for the page and for programs: docs/SERVICE.md has its forms.
+"""A service of networks over HTTP, for the page and for programs: docs/SERVICE.md has its forms.
 
 Requests wait for their turn in lines of bounded length, and a few are answered at once, in threads. Whatever goes wrong, a client gets JSON
 with a line that says what, and never a traceback.
@@ -8,53 +8,86 @@ import json
 import math
 import pathlib
 import resource
+import time
+from dataclasses import dataclass
 
 import numpy
 from aiohttp import web
 
+from chtab.errors import ChtabError
 from chtab.roads.snapping import length_text
 from chtab.server import web_policy
-from chtab.server.connections import client_of, is_gone
-from chtab.server.faults import fault_teller
+from chtab.server.connections import Caps, client_of, is_gone
+from chtab.server.faults import fault_of
 from chtab.server.metrics import Metrics
-from chtab.server.osrm.answering import Answers
+from chtab.server.osrm import answering, url
+from chtab.server.osrm.options import Refusal
 from chtab.server.queue import Job, Turns
-from chtab.server.requests import Limits, Refused, fields_of, number_in, place_in, places_in
+from chtab.server.requests import Limits, Refused, bytes_in, fields_of, number_in, place_in, places_in
 from chtab.server.tiles import Tiles
-from chtab.server.web_policy import header_adder
 
 PAGE = pathlib.Path(__file__).parent / "page"
 # Debian's package libjs-leaflet.
 LEAFLET = pathlib.Path("/usr/share/javascript/leaflet")
 # What the places of a route are called, as on the page.
 ENDS = "A", "B"
+# The least and the most characters of an address, and of a header, that are read; the service refuses shorter ones with a line.
+LONGEST, LONGEST_OF_ALL = 1 << 16, 1 << 24
+# A pair of nodes whose distance is asked for to see whether something answers.
+PROBE = numpy.array([[1, 1]])
+
+
+@dataclass(frozen=True)
+class Choices:
+    """What who runs the service chose: the title of the page, places with names, the address of a layer of map tiles or None, the limits of
+    requests in JSON and of OSRM's interface, how many connections there may be, the origins whose pages may ask too, the names by which clients
+    of OSRM's interface may call the network, none where by any, and the address of the proxy or None."""
+
+    title: str = ""
+    places: tuple = ()
+    tiles: str | None = None
+    limits: Limits = Limits()
+    osrm: answering.Limits = answering.Limits()
+    caps: Caps = Caps(1_000, 250)
+    allowed: tuple = ()
+    profiles: tuple = ()
+    proxy: str | None = None
 
 
 class Service:
-    """The answers to requests, by a network that it keeps and doesn't close.
+    """The answers to requests, by `networks` that it keeps and doesn't close. `row` counts what this process answers, among those of `metrics`."""
 
-    Pages of the `allowed` origins may ask too. `profile` is what OSRM's interface calls the network, where that is not the name that it was
-    made for. Requests that come from the address `proxy` are those of the clients that it names. `row` counts what this process answers, among
-    those of `metrics`.
-    """
-
-    def __init__(self, network, title="", places=(), tiles=None, limits=Limits(), allowed=(), profile="", proxy=None, metrics=None, row=0):
-        self.network, self.title, self.places, self.tile_layer, self.limits = network, title, places, tiles, limits
-        self.allowed, self.proxy = allowed, proxy
+    def __init__(self, networks, choices=Choices(), metrics=None, row=0):
+        first = networks.first
+        self.networks, self.network, self.choices, self.limits = networks, first.network, choices, choices.limits
+        self.title, self.caps, self.proxy = choices.title or first.title, choices.caps, choices.proxy
         self.metrics = metrics or Metrics()
         self.row = self.metrics.of_processes[row]
         # What was begun by a process that ended, and that this one stands in for.
         self.begun_before = self.row.of("begun")
-        self.tiles = Tiles(network.roads, network.unit == "milliseconds")
-        self.osrm = Answers(network, profile)
+        self.tiles = Tiles(self.network.roads, self.network.unit == "milliseconds")
+        self.osrm = [
+            answering.Answers(each.network, (each.name,) if each.name else choices.profiles, choices.osrm, each.streets, each.numbers) for each in networks
+        ]
+        self.by_name = {each.name: answers for each, answers in zip(networks, self.osrm) if each.name}
         # What places are looked for in is made now, and not while the first client waits.
-        network.roads.find_any([0.0], [0.0])
-        self.turns = Turns(limits.at_once, limits.waiting, limits.together)
+        for each in networks:
+            each.network.roads.find_any([0.0], [0.0])
+        self.turns = Turns(self.limits.at_once, self.limits.waiting, self.limits.together)
+        self.headers = web_policy.headers(choices.tiles)
+        # Whether what answers failed, since when it has to be looked at; and whether the service ends.
+        self.is_failing, self.doubt, self.is_ending = False, asyncio.Event(), False
 
-    def application(self, middlewares=()):
-        preflight = [web_policy.preflight] if self.allowed else []
-        app = web.Application(client_max_size=self.limits.body, middlewares=[*middlewares, *preflight, fault_teller(self.limits.body)])
+    @property
+    def longest(self):
+        """The characters of an address, and of a header, that are read."""
+        return min(max(LONGEST, 2 * self.choices.osrm.address), LONGEST_OF_ALL)
+
+    def application(self, connections, recorder):
+        """The application of aiohttp, whose requests come by some connections and are recorded."""
+        app = web.Application(client_max_size=self.limits.body, middlewares=[self.middleware(connections, recorder)])
         app.add_routes([
+            web.get(web_policy.OSRM, self.answer_osrm),
             web.get("/", lambda request: web.FileResponse(PAGE / "index.html")),
             web.static("/page", PAGE),
             web.static("/leaflet", LEAFLET, follow_symlinks=True),
@@ -65,13 +98,40 @@ class Service:
             web.post("/api/route", self.answer_route),
             web.post("/api/table", self.answering(self.table)),
             web.post("/api/reach", self.answering(self.reach)),
-            web.get(web_policy.OSRM, self.answer_osrm),
         ])
-        if self.allowed:
-            app.on_response_prepare.append(web_policy.allower(self.allowed))
         app.on_cleanup.append(self.close)
-        app.on_response_prepare.append(header_adder(self.tile_layer))
         return app
+
+    def middleware(self, connections, recorder):
+        """What surrounds each answer: a fault is told as JSON with a line, headers are added, and the request is recorded."""
+        allow = web_policy.allower(self.choices.allowed)
+
+        @web.middleware
+        async def around(request, handler):
+            begun, connection = time.monotonic(), connections.begin(request)
+            try:
+                response = web_policy.preflight(request) if allow and web_policy.is_preflight(request) else await handler(request)
+            except Exception as raised:
+                response = self.fault(request, raised)
+            finally:
+                connections.end(connection)
+            web_policy.add_headers(response, self.headers)
+            if allow:
+                allow(request, response)
+            if self.is_ending:
+                response.force_close()
+            recorder.note(request, response, time.monotonic() - begun)
+            return response
+
+        return around
+
+    def fault(self, request, raised):
+        """The answer that tells of a fault. Where what answers failed, it is looked at."""
+        response = fault_of(request, raised, self.limits.body, self.networks.told)
+        if request.get("refused", ("",))[0] == "program":
+            self.is_failing = True
+            self.doubt.set()
+        return response
 
     async def close(self, app):
         self.turns.close()
@@ -88,9 +148,10 @@ class Service:
     async def body_of(self, request):
         """The bytes of a request, once all are there."""
         try:
-            return await asyncio.wait_for(request.read(), self.limits.sending)
+            body = await asyncio.wait_for(request.read(), self.limits.sending)
         except asyncio.TimeoutError:
             raise Refused("the request took too long to come", 408) from None
+        return bytes_in(body, request.headers.get("Content-Encoding", ""), self.limits.body)
 
     def answering(self, call):
         """A handler that answers the body of a request with JSON."""
@@ -107,37 +168,59 @@ class Service:
         return json_of(await self.answer(request, self.route_texts, places, is_shared=True))
 
     async def answer_osrm(self, request):
-        """Answers a request of OSRM's interface; routes together with those that wait beside them."""
-        question = self.osrm.question(request.raw_path)
+        """Answers a request of OSRM's interface; routes, and the nearest roads, together with those that wait beside them."""
+        words = url.words_of(request.raw_path, self.choices.osrm.address)
+        answers = self.answers_for(words.profile)
+        question = answers.question(words)
         if question.service == "route":
-            return json_of(await self.answer(request, self.osrm.routes, question, True, len(question.coordinates) - 1))
-        return json_of(await self.answer_alone(request, getattr(self.osrm, question.service), question))
+            return json_of(await self.answer(request, answers.routes, question, True, len(question.coordinates) - 1))
+        if question.service == "nearest" and question.own == 1:
+            return json_of(await self.answer(request, answers.nearest_ones, question, True))
+        return json_of(await self.answer_alone(request, getattr(answers, question.service), question))
+
+    def answers_for(self, profile):
+        """The answers of the network that a profile names; where one network is served, they know by which names it is called."""
+        if len(self.osrm) == 1:
+            return self.osrm[0]
+        if profile not in self.by_name:
+            raise Refusal("InvalidValue", f"the profiles are {', '.join(self.by_name)}")
+        return self.by_name[profile]
 
     async def health(self, request):
-        """Whether a request that comes now is taken. It is answered at once, whatever waits."""
-        is_full, waiting = self.turns.is_full, self.turns.unanswered
-        return web.json_response({"status": "busy" if is_full else "ready", "waiting": waiting}, status=503 if is_full else 200)
+        """Whether a request that comes now is taken and can be answered. It is told at once, whatever waits."""
+        state = "ending" if self.is_ending else "failing" if self.is_failing else "busy" if self.turns.is_full else "ready"
+        return web.json_response({"status": state, "waiting": self.turns.unanswered}, status=200 if state == "ready" else 503)
+
+    def try_engines(self):
+        """Begins what answers, where it is not there, and asks it a question. What fails is a `ChtabError`."""
+        for each in self.networks:
+            each.engine.load()
+            if each.network.nodes and each.engine.distances(PROBE).tolist() != [0]:
+                raise ChtabError("what answers says that a node is not at itself")
 
     async def tell_metrics(self, request):
         """What all processes of the service counted."""
         self.note()
         return web.Response(body=self.metrics.text().encode(), headers={"Content-Type": "text/plain; version=0.0.4; charset=utf-8"})
 
-    def note(self):
+    def note(self, connections=None):
         """Notes how things stand in this process, for whichever process tells the metrics."""
-        engine = self.network._engine
-        self.row.note(waiting=self.turns.unanswered, engines=engine.living(), begun=self.begun_before + engine.begun, memory=resident_bytes())
+        engines = [each.engine for each in self.networks]
+        living, begun = sum(engine.living() for engine in engines), sum(engine.begun for engine in engines)
+        self.row.note(waiting=self.turns.unanswered, engines=living, begun=self.begun_before + begun, memory=resident_bytes())
+        if connections is not None:
+            self.row.note(connections=connections)
 
     async def describe(self, request):
         """What the page has to know."""
-        coordinates, limits = self.network.coordinates, self.limits
+        coordinates, limits, choices = self.network.coordinates, self.limits, self.choices
         xs, ys = ([x for x in column if not math.isnan(x)] for column in (coordinates.longitudes, coordinates.latitudes))
         notes = "© OpenStreetMap contributors" if any("OpenStreetMap" in comment for comment in coordinates.comments) else ""
         return web.json_response({
-            "title": self.title, "nodes": self.network.nodes, "unit": self.network.unit, "notes": notes, "tiles": self.tile_layer,
-            "bounds": [min(xs), min(ys), max(xs), max(ys)],
-            "places": [{"name": place.name, "at": [place.longitude, place.latitude]} for place in self.places if place.name],
-            "limits": {"list": limits.list, "cells": limits.cells, "bands": limits.bands, "metres": limits.metres},
+            "title": self.title, "nodes": self.network.nodes, "unit": self.network.unit, "notes": notes, "tiles": choices.tiles,
+            "bounds": [min(xs), min(ys), max(xs), max(ys)], "profile": (*self.by_name, *choices.profiles, "driving")[0],
+            "places": [{"name": place.name, "at": [place.longitude, place.latitude]} for place in choices.places if place.name],
+            "limits": {"list": limits.list, "cells": limits.cells, "bands": limits.bands, "metres": limits.metres, "route": choices.osrm.route},
         })
 
     async def tile(self, request):

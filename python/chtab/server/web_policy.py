@@ -47,16 +47,11 @@ def headers(tiles):
     }
 
 
-def header_adder(tiles):
-    """A handler of `on_response_prepare` that adds the headers to each answer. The address of `tiles` is judged now."""
-    added = headers(tiles)
-
-    async def add(request, response):
-        response.headers.update(added)
-        # The page's files are asked for anew each time, because files of two versions don't fit together.
-        response.headers.setdefault("Cache-Control", "no-cache")
-
-    return add
+def add_headers(response, added):
+    """Adds headers to an answer that is not sent yet."""
+    response.headers.update(added)
+    # The page's files are asked for anew each time, because files of two versions don't fit together.
+    response.headers.setdefault("Cache-Control", "no-cache")
 
 
 # Pages of other sites.
@@ -71,8 +66,9 @@ def is_open(request):
 
 
 def allower(origins):
-    """A signal for answers, which names the origin that asks where it is one of these; `*` stands for all."""
-    async def allow(request, response):
+    """A call for a request and its answer, which names the origin that asks where it is one of these; `*` stands for all. None where there is no
+    origin."""
+    def allow(request, response):
         if not is_open(request):
             return
         origin = request.headers.get("Origin")
@@ -83,14 +79,16 @@ def allower(origins):
             if origin in origins:
                 response.headers["Access-Control-Allow-Origin"] = origin
 
-    return allow
+    return allow if origins else None
 
 
-@web.middleware
-async def preflight(request, handler):
-    """Answers what a browser asks before it sends JSON for a page of another site."""
-    if request.method != "OPTIONS" or not is_open(request):
-        return await handler(request)
+def is_preflight(request):
+    """Whether a browser asks what a page of another site may send."""
+    return request.method == "OPTIONS" and is_open(request)
+
+
+def preflight(request):
+    """The answer to that."""
     return web.Response(status=204, headers={
         "Access-Control-Allow-Methods": "GET, POST", "Access-Control-Allow-Headers": "Content-Type", "Access-Control-Max-Age": str(REMEMBERED),
     })

@@ -1,6 +1,5 @@
 """Answers to requests of OSRM's interface, by one network."""
 import json
-import os
 from typing import NamedTuple
 
 import numpy
@@ -8,28 +7,38 @@ import numpy
 from chtab.maps import profiles
 from chtab.roads.legs import FAR, legs_between, legs_by, table_ways, ways_between
 from chtab.roads.snapping import Spots, length_text
-from chtab.server.osrm import options, telling, url
+from chtab.server.osrm import matching, options, telling, tours, url
+from chtab.server.osrm.crossings import Crossings
 from chtab.server.osrm.options import Refusal
+from chtab.server.osrm.steps import Steps
 
 # OSRM's words for ways of travelling.
 MODES = {"car": "driving", "bicycle": "cycling", "foot": "walking"}
 # Cells of a table whose routes are asked for together.
 BATCH = 1_024
+# Characters of a coordinate with seven digits behind the point, and of what else stands in an address.
+OF_COORDINATE, OF_ADDRESS = 28, 4_096
 
 
 class Limits(NamedTuple):
-    """What one request may ask for: characters of its address, coordinates of each service, cells of a table and those with distances, whose
-    routes have to be found, and roads of nearest."""
+    """What one request may ask for: coordinates of each service, cells of a table and those with distances, whose routes have to be found, and
+    roads of nearest."""
 
-    address: int = 32_768
     route: int = 500
     table: int = 1_000
+    trip: int = 100
+    match: int = 500
     cells: int = 100_000
     cells_with_distances: int = 10_000
     nearest: int = 100
 
+    @property
+    def address(self):
+        """The characters of an address."""
+        return max(32_768, OF_ADDRESS + OF_COORDINATE * max(self.route, self.table, self.trip, self.match))
+
     def coordinates(self, service):
-        return {"route": self.route, "table": self.table, "nearest": 1}[service]
+        return 1 if service == "nearest" else getattr(self, service)
 
 
 class Question(NamedTuple):
@@ -50,21 +59,21 @@ def profile_of(comments):
 
 
 class Answers:
-    """Answers by a network. Requests call it by the name `profile`. Without one that is the way of travelling that the graph was made for."""
+    """Answers by a network. Clients may call it by each of the names `profiles`, and where there is none by any name. `streets` are what its arcs
+    are called, `files.Streets` or None, and `numbers` what the map calls its nodes, or None."""
 
-    def __init__(self, network, profile="", limits=Limits()):
-        made_for = profile_of(network.coordinates.comments)
-        self.network, self.limits = network, limits
-        self.profile, self.mode = profile or made_for, MODES.get(made_for, "driving")
-        self.names = names_of(os.path.splitext(network._layers.path)[0] + ".nodes", network.nodes)
+    def __init__(self, network, profiles=(), limits=Limits(), streets=None, numbers=None):
+        coordinates = network.coordinates
+        self.network, self.limits, self.profiles = network, limits, profiles
+        steps = Steps(Crossings(network.roads, coordinates.copies(), streets))
+        self.voice = telling.Voice(steps, numbers, MODES.get(profile_of(coordinates.comments), "driving"))
 
-    def question(self, target):
-        """The question of a request's target, which is read before anything is looked up."""
-        words = url.words_of(target, self.limits.address)
+    def question(self, words):
+        """The question of a request's words, which is read before anything is looked up."""
         if self.network.unit != "milliseconds":
             raise Refusal("InvalidService", "the weights of this network are not milliseconds, so that it has no durations")
-        if words.profile != self.profile:
-            raise Refusal("InvalidValue", f"the profile of this network is {self.profile or 'not known'}")
+        if self.profiles and words.profile not in self.profiles:
+            raise Refusal("InvalidValue", f"the profile of this network is {' or '.join(self.profiles)}")
         coordinates = url.coordinates_of(words.coordinates, self.limits.coordinates(words.service))
         general, own = options.read(words.service, words.options, len(coordinates))
         question = Question(words.service, coordinates, general, own)
@@ -75,43 +84,129 @@ class Answers:
         limits, own = self.limits, question.own
         if question.service == "nearest" and own > limits.nearest:
             raise Refusal("TooBig", f"number: at most {limits.nearest:,}")
+        if question.service == "nearest" and own > 1 and question.general.has_bearings:
+            raise Refusal("InvalidOptions", "bearings: with number=1 alone")
+        if question.service == "match" and question.general.has_bearings:
+            raise options.unsupported("bearings")
         if question.service == "table":
             most = limits.cells_with_distances if own.has_distances else limits.cells
             if len(own.sources) * len(own.destinations) > most:
                 raise Refusal("TooBig", f"a table{' with distances' * own.has_distances} has at most {most:,} cells")
 
+    # Where coordinates are taken to.
+
+    def spots_of(self, questions):
+        """The spots of questions, one after the other, and the faults of those that have a coordinate without a road: {place: fault}."""
+        roads = self.network.roads
+        spots = roads.find_any(*zip(*(place for question in questions for place in question.coordinates)))
+        faults, first = {}, 0
+        for place, question in enumerate(questions):
+            facing = [index for index, bearing in enumerate(question.general.bearings) if bearing]
+            if facing:
+                spots, fault = facing_spots(roads, spots, question, first, facing)
+            else:
+                fault = None
+            fault = fault or far_fault(spots.metres[first:first + len(question.coordinates)], question.general.radiuses)
+            if fault:
+                faults[place] = fault
+            first += len(question.coordinates)
+        return spots, faults
+
+    def own_spots(self, question):
+        """The spots of one question. What lies near no road is a fault."""
+        spots, faults = self.spots_of([question])
+        for fault in faults.values():
+            raise fault
+        return spots
+
+    def waypoints(self, spots, has_hints):
+        """OSRM's waypoints of spots. Hints are empty."""
+        columns = (spots.longitudes.round(6).tolist(), spots.latitudes.round(6).tolist(), spots.metres.round(1).tolist())
+        steps, hint = self.voice.steps, {"hint": ""} if has_hints else {}
+        names = [steps.streets[street].name for street in steps.known.street_of[2 * spots.roads].tolist()]
+        return [{"location": [x, y], "name": name, "distance": metres, **hint} for x, y, metres, name in zip(*columns, names)]
+
     # Routes.
 
     def routes(self, questions):
         """The answers to questions for routes, as texts or faults, found together."""
-        spots = spots_of(self.network, [place for question in questions for place in question.coordinates])
+        spots, faults = self.spots_of(questions)
         cuts = numpy.cumsum([0, *(len(question.coordinates) for question in questions)]).tolist()
         # A leg leads from each spot to the next one, but from the last of a question.
         firsts = numpy.delete(numpy.arange(len(spots)), numpy.array(cuts[1:]) - 1)
         legs = legs_between(self.network._trips, spots[firsts], spots[firsts + 1])
-        whole = [slice(first, last) for first, last in zip(cuts, cuts[1:])]
         which = [list(range(first - place, last - place - 1)) for place, (first, last) in enumerate(zip(cuts, cuts[1:]))]
-        faults = [fault_of(question, spots[own], legs, some) for question, own, some in zip(questions, whole, which)]
-        wanted = [leg for question, some, fault in zip(questions, which, faults) if question.own.has_lines and not fault for leg in some]
-        traces = dict(zip(wanted, legs.traces(wanted)))
+        for place, some in enumerate(which):
+            if place not in faults and (legs.weights[some] < 0).any():
+                faults[place] = Refusal("NoRoute", "no way leads over the coordinates in this order")
+        told = [place for place in range(len(questions)) if place not in faults]
+        texts = self.route_texts(legs, [which[place] for place in told], [questions[place].own for place in told])
+        found = dict(zip(told, texts))
         return [
-            fault or self.route_text(question, spots[own], legs, some, [traces[leg] for leg in some if leg in traces])
-            for question, own, some, fault in zip(questions, whole, which, faults)
+            faults.get(place) or self.route_answer(question, found[place], spots[cuts[place]:cuts[place + 1]])
+            for place, question in enumerate(questions)
         ]
 
-    def route_text(self, question, spots, legs, which, traces):
-        found = {"code": "Ok", "routes": [telling.route(legs, which, traces, question.own, self.names, self.mode)]}
-        if question.general.has_waypoints:
-            found["waypoints"] = waypoints_of(spots, question.general.has_hints)
-        return json.dumps(found)
+    def route_texts(self, legs, parts, own):
+        """The texts of routes, each over a part of the legs, and told with its own options."""
+        wanted = [leg for part, each in zip(parts, own) if each.has_lines for leg in part]
+        return telling.routes(self.voice, legs, parts, dict(zip(wanted, legs.traces(wanted))), own)
+
+    def route_answer(self, question, text, spots):
+        general = question.general
+        more = f', "waypoints": {json.dumps(self.waypoints(spots, general.has_hints))}' if general.has_waypoints else ""
+        return f'{{"code": "Ok", "routes": [{text}]{more}}}'
+
+    # Round trips and tracks.
+
+    def trip(self, question):
+        """A trip over all coordinates, in an order that is short."""
+        own, general = question.own, question.general
+        spots = self.own_spots(question)
+        best, _ = table_ways(self.network._trips, spots, spots)
+        order = tours.tour(numpy.where(best < FAR, best, -1), own.is_round, own.is_first_fixed, own.is_last_fixed)
+        stops = spots[numpy.append(order, order[:1]) if own.is_round else order]
+        legs = legs_between(self.network._trips, stops[:-1], stops[1:])
+        if (legs.weights < 0).any():
+            raise Refusal("NoTrips", "no way leads over all coordinates")
+        [text] = self.route_texts(legs, [list(range(len(legs)))], [own.route])
+        more = ""
+        if general.has_waypoints:
+            ranks = numpy.argsort(order).tolist()
+            told = [{**each, "trips_index": 0, "waypoint_index": rank} for each, rank in zip(self.waypoints(spots, general.has_hints), ranks)]
+            more = f', "waypoints": {json.dumps(told)}'
+        return f'{{"code": "Ok", "trips": [{text}]{more}}}'
+
+    def match(self, question):
+        """The likeliest roads of a track."""
+        own, general = question.own, question.general
+        track = matching.Track(numpy.array(question.coordinates), general.radiuses, own.timestamps)
+        parts = matching.matched(self.network._trips, track, own.is_parted, own.is_tidied)
+        if not parts:
+            raise Refusal("NoMatch", "no roads lead along the coordinates")
+        starts, ends = (matching.together([part.spots[some] for part in parts]) for some in (slice(-1), slice(1, None)))
+        legs = legs_between(self.network._trips, starts, ends)
+        cuts = numpy.cumsum([0, *(len(part.places) - 1 for part in parts)]).tolist()
+        texts = self.route_texts(legs, [list(range(*pair)) for pair in zip(cuts, cuts[1:])], [own.route] * len(parts))
+        matchings = ", ".join(f'{text[:-1]}, "confidence": {part.confidence}}}' for text, part in zip(texts, parts))
+        more = f', "tracepoints": {json.dumps(self.tracepoints(question, parts))}' if general.has_waypoints else ""
+        return f'{{"code": "Ok", "matchings": [{matchings}]{more}}}'
+
+    def tracepoints(self, question, parts):
+        """Where each coordinate was taken to; null for one that was left out."""
+        found = [None] * len(question.coordinates)
+        for number, part in enumerate(parts):
+            told = self.waypoints(part.spots, question.general.has_hints)
+            for index, (place, each, others) in enumerate(zip(part.places, told, part.others)):
+                found[place] = {**each, "matchings_index": number, "waypoint_index": index, "alternatives_count": others}
+        return found
 
     # Tables.
 
     def table(self, question):
         """The durations of a table, the metres of the routes that these are of, or both."""
         own, general = question.own, question.general
-        spots = spots_of(self.network, question.coordinates)
-        see_that_near(spots, general.radiuses)
+        spots = self.own_spots(question)
         starts, ends = spots[own.sources], spots[own.destinations]
         best, ways = table_ways(self.network._trips, starts, ends)
         found = {"code": "Ok"}
@@ -121,7 +216,7 @@ class Answers:
         if own.has_distances:
             found["distances"] = with_nulls(self.metres(starts, ends, best, ways), best)
         if general.has_waypoints:
-            found["sources"], found["destinations"] = (waypoints_of(some, general.has_hints) for some in (starts, ends))
+            found["sources"], found["destinations"] = (self.waypoints(some, general.has_hints) for some in (starts, ends))
         return json.dumps(found)
 
     def metres(self, starts, ends, best, ways):
@@ -138,33 +233,30 @@ class Answers:
     # The nearest roads.
 
     def nearest(self, question):
+        """As many of the nearest roads as are asked for."""
         [(longitude, latitude)] = question.coordinates
         spots = self.network.roads.find_some(longitude, latitude, question.own)
         see_that_near(spots[:1], question.general.radiuses)
         spots = spots[numpy.argsort(spots.metres, kind="stable")]
-        spots = spots[spots.metres <= question.general.radiuses[0]]
+        return self.nearest_answer(question, spots[spots.metres <= question.general.radiuses[0]])
+
+    def nearest_ones(self, questions):
+        """The answers to questions for the one nearest road, as texts or faults, found together."""
+        spots, faults = self.spots_of(questions)
+        return [faults.get(place) or self.nearest_answer(question, spots[place:place + 1]) for place, question in enumerate(questions)]
+
+    def nearest_answer(self, question, spots):
         found = {"code": "Ok"}
         if question.general.has_waypoints:
-            waypoints = waypoints_of(spots, question.general.has_hints)
+            waypoints = self.waypoints(spots, question.general.has_hints)
             found["waypoints"] = [{"nodes": self.ends_of(spots, place), **waypoint} for place, waypoint in enumerate(waypoints)]
         return json.dumps(found)
 
     def ends_of(self, spots: Spots, place):
         """The numbers of the nodes at both ends of a spot's road."""
-        roads = self.network.roads
+        roads, numbers = self.network.roads, self.voice.numbers
         nodes = [int(column[spots.roads[place]]) for column in (roads.firsts, roads.lasts)]
-        return nodes if self.names is None else self.names[numpy.array(nodes) - 1].tolist()
-
-
-def fault_of(question, spots, legs, which):
-    """Why a question for a route has no answer; None where it has one."""
-    try:
-        see_that_near(spots, question.general.radiuses)
-    except Refusal as fault:
-        return fault
-    if (legs.weights[which] < 0).any():
-        return Refusal("NoRoute", "no way leads over the coordinates in this order")
-    return None
+        return nodes if numbers is None else numbers[numpy.array(nodes) - 1].tolist()
 
 
 def with_nulls(cells, best):
@@ -178,7 +270,7 @@ def with_nulls(cells, best):
 # Where coordinates were taken to.
 
 
-def names_of(path, count):
+def numbers_in(path, count):
     """The map's numbers of nodes 1, 2, .. by a file of names, or None where there is none, or not each name is a number."""
     try:
         with open(path, "rb") as file:
@@ -189,20 +281,29 @@ def names_of(path, count):
     return numpy.array(numbers, numpy.int64) if fits else None
 
 
-def spots_of(network, coordinates):
-    """The nearest points of roads."""
-    return network.roads.find_any(*zip(*coordinates))
+def facing_spots(roads, spots, question, first, facing):
+    """The spots with those of some coordinates of a question in their place, which face the direction that is asked for, and the fault where one has
+    none. The spots of the question begin at `first`."""
+    found = []
+    for index in facing:
+        one = roads.find_facing(*question.coordinates[index], *question.general.bearings[index])
+        if not len(one):
+            return spots, Refusal("NoSegment", f"no road leads in the direction of coordinate {index}")
+        found.append(one)
+    every = matching.together([spots, *found])
+    which = numpy.arange(len(spots))
+    which[[first + index for index in facing]] = len(spots) + numpy.arange(len(facing))
+    return every[which], None
+
+
+def far_fault(metres, radiuses):
+    """The refusal of a coordinate that has no road within its radius, None where each has one."""
+    far = numpy.flatnonzero(~(metres <= radiuses))[:1].tolist()
+    return Refusal("NoSegment", f"coordinate {far[0]} is {length_text(metres[far[0]])} from the nearest road, more than its radius") if far else None
 
 
 def see_that_near(spots, radiuses):
     """Refuses a coordinate that has no road within its radius."""
-    for index in numpy.flatnonzero(~(spots.metres <= radiuses)).tolist():
-        told = length_text(spots.metres[index])
-        raise Refusal("NoSegment", f"coordinate {index} is {told} from the nearest road, more than its radius")
-
-
-def waypoints_of(spots, has_hints):
-    """OSRM's waypoints of spots. Roads have no names in a graph, and hints are empty."""
-    columns = (spots.longitudes.round(6).tolist(), spots.latitudes.round(6).tolist(), spots.metres.round(1).tolist())
-    hint = {"hint": ""} if has_hints else {}
-    return [{"location": [x, y], "name": "", "distance": metres, **hint} for x, y, metres in zip(*columns)]
+    fault = far_fault(spots.metres, radiuses)
+    if fault:
+        raise fault

@@ -8,8 +8,10 @@ NUMBER = re.compile(r"\d+(?:\.\d*)?|\.\d+", re.ASCII)
 INDEX = re.compile(r"\d{1,9}", re.ASCII)
 # By greater factors durations might be no numbers of JSON.
 MOST_SCALE = 1_000_000_000
-ROUTE_ANNOTATIONS = "duration", "distance", "nodes"
-OTHER_ANNOTATIONS = "datasources", "weight", "speed"
+ANNOTATIONS = "duration", "distance", "nodes", "weight", "speed", "datasources"
+ALTERNATIVES = re.compile(r"true|false|\d{1,9}", re.ASCII)
+BEARING = re.compile(r"(\d{1,3}),(\d{1,3})", re.ASCII)
+TIMESTAMP = re.compile(r"\d{1,18}", re.ASCII)
 
 
 class Refusal(Exception):
@@ -26,12 +28,17 @@ def unsupported(name):
 
 
 class General(NamedTuple):
-    """What all services take: for each coordinate the metres within which a road has to lie, whether waypoints have hints, which are empty, and
-    whether there are waypoints."""
+    """What all services take: for each coordinate the metres within which a road has to lie, and the direction in which it has to be driven along
+    with how many degrees off it are taken, or None; whether waypoints have hints, which are empty, and whether there are waypoints."""
 
     radiuses: list
+    bearings: list
     has_hints: bool
     has_waypoints: bool
+
+    @property
+    def has_bearings(self):
+        return any(self.bearings)
 
 
 class Route(NamedTuple):
@@ -46,6 +53,26 @@ class Route(NamedTuple):
     def has_lines(self):
         """Whether it has to be known how the route lies."""
         return self.has_steps or self.overview != "false" or any(name != "nodes" for name in self.annotations)
+
+
+class Trip(NamedTuple):
+    """What a round trip is told with; whether it leads back to its beginning, and whether the first coordinate is its beginning, and the last one
+    its end."""
+
+    route: Route
+    is_round: bool
+    is_first_fixed: bool
+    is_last_fixed: bool
+
+
+class Match(NamedTuple):
+    """What a matched track is told with: the seconds of its coordinates, or None; whether it is parted where much time passes; and whether
+    coordinates are left out that say little."""
+
+    route: Route
+    timestamps: list | None
+    is_parted: bool
+    is_tidied: bool
 
 
 class Table(NamedTuple):
@@ -129,23 +156,40 @@ def general(reader):
     """What all services take."""
     texts = reader.elements("radiuses")
     radiuses = [math.inf if text in ("", "unlimited") else reader.number("radiuses", text) for text in texts]
-    for name in "hints", "bearings":
-        reader.only(name)
+    bearings = [bearing_in(text) for text in reader.elements("bearings")]
+    # Hints, which other servers give, would only make the search for a road shorter.
+    reader.take("hints", "")
     reader.only("approaches", "unrestricted")
-    if reader.take("snapping", "default") != "default":
-        raise unsupported("snapping")
+    # A trip may begin on each road of a graph, so that these are the same.
+    reader.choice("snapping", "default", "any")
     reader.refuse("exclude")
-    return General(radiuses, reader.boolean("generate_hints", True), not reader.boolean("skip_waypoints", False))
+    return General(radiuses, bearings, reader.boolean("generate_hints", True), not reader.boolean("skip_waypoints", False))
+
+
+def bearing_in(text):
+    """A direction from 0 to 360 degrees and how many degrees off it are taken, from 0 to 180; None where none is given."""
+    if not text:
+        return None
+    found = BEARING.fullmatch(text)
+    if not found or int(found[1]) > 360 or int(found[2]) > 180:
+        raise Refusal("InvalidQuery", "bearings: a direction from 0 to 360 and a range from 0 to 180 degrees, as 90,20")
+    return int(found[1]), int(found[2])
 
 
 def route(reader):
     if reader.count < 2:
         raise Refusal("InvalidOptions", "a route has at least two coordinates")
-    if reader.take("alternatives", "false") not in ("false", "0"):
-        raise unsupported("alternatives")
+    # One route is a right answer where others are asked for too: OSRM doesn't promise them.
+    if not ALTERNATIVES.fullmatch(reader.take("alternatives", "false")):
+        raise Refusal("InvalidQuery", "alternatives: true, false or a number")
     reader.refuse("waypoints")
     # All routes go on as they come: taken, and without effect.
     reader.choice("continue_straight", "default", "true", "false")
+    return told_route(reader)
+
+
+def told_route(reader):
+    """What routes of all services are told with."""
     geometries = reader.choice("geometries", "polyline", "polyline6", "geojson")
     overview = reader.choice("overview", "simplified", "full", "false")
     return Route(geometries, overview, reader.boolean("steps", False), route_annotations(reader.take("annotations", "false")))
@@ -153,14 +197,43 @@ def route(reader):
 
 def route_annotations(text):
     if text in ("true", "false"):
-        return ROUTE_ANNOTATIONS if text == "true" else ()
-    names = text.split(",", len(ROUTE_ANNOTATIONS + OTHER_ANNOTATIONS))
-    for name in names:
-        if name in OTHER_ANNOTATIONS:
-            raise unsupported(f"annotations={name}")
-        if name not in ROUTE_ANNOTATIONS:
-            raise Refusal("InvalidQuery", f"annotations: true, false or some of {', '.join(ROUTE_ANNOTATIONS)}")
-    return tuple(name for name in ROUTE_ANNOTATIONS if name in names)
+        return ANNOTATIONS if text == "true" else ()
+    names = text.split(",", len(ANNOTATIONS))
+    if not set(names) <= set(ANNOTATIONS):
+        raise Refusal("InvalidQuery", f"annotations: true, false or some of {', '.join(ANNOTATIONS)}")
+    return tuple(name for name in ANNOTATIONS if name in names)
+
+
+def trip(reader):
+    """A trip over all coordinates, in whichever order is short."""
+    if reader.count < 2:
+        raise Refusal("InvalidOptions", "a trip has at least two coordinates")
+    is_round = reader.boolean("roundtrip", True)
+    source, destination = reader.choice("source", "any", "first"), reader.choice("destination", "any", "last")
+    return Trip(told_route(reader), is_round, source == "first", destination == "last")
+
+
+def match(reader):
+    """The roads of a track."""
+    if reader.count < 2:
+        raise Refusal("InvalidOptions", "a track has at least two coordinates")
+    gaps, is_tidied = reader.choice("gaps", "split", "ignore"), reader.boolean("tidy", False)
+    reader.refuse("waypoints")
+    return Match(told_route(reader), timestamps(reader), gaps == "split", is_tidied)
+
+
+def timestamps(reader):
+    """The seconds of a track's coordinates, each later than the one before or as late; None where none are given."""
+    if "timestamps" not in reader.given:
+        return None
+    found = []
+    for text in reader.elements("timestamps"):
+        if not TIMESTAMP.fullmatch(text):
+            raise Refusal("InvalidQuery", "timestamps: whole seconds from 0 on")
+        found.append(int(text))
+    if any(later < earlier for earlier, later in zip(found, found[1:])):
+        raise Refusal("InvalidOptions", "timestamps: each is at least the one before")
+    return found
 
 
 def table(reader):
@@ -184,7 +257,7 @@ def nearest(reader):
     return number
 
 
-OF_SERVICE = {"route": route, "table": table, "nearest": nearest}
+OF_SERVICE = {"route": route, "table": table, "nearest": nearest, "trip": trip, "match": match}
 
 
 def read(service, given, count):

@@ -10,11 +10,15 @@ SHIFTS = 5 * numpy.arange(MOST_GROUPS, dtype=numpy.int32)
 
 def encoded(places, precision):
     """The text of places (n, 2), longitude and latitude in degrees, with so many digits behind the point."""
-    if not len(places):
-        return ""
+    return encoded_each(places, [0], precision)[0] if len(places) else ""
+
+
+def encoded_each(places, firsts, precision):
+    """The texts of several lines of at least one place each, which stand one after the other and begin at `firsts`."""
     whole = numpy.floor(places[:, ::-1] * 10.0**precision + 0.5).astype(numpy.int32)
     steps = whole.copy()
     steps[1:] -= whole[:-1]
+    steps[firsts] = whole[firsts]
     steps = steps.reshape(-1)
     numbers = (steps << 1) ^ (steps >> 31)
     # A column for each group, of all numbers as many as the largest one has.
@@ -22,7 +26,12 @@ def encoded(places, precision):
     letters = ((groups & 31) + numpy.where(groups >= 32, 32 + 63, 63)).astype(numpy.uint8)
     is_there = groups > 0
     is_there[:, 0] = True
-    return letters[is_there].tobytes().decode("ascii")
+    text = letters[is_there].tobytes().decode("ascii")
+    if len(firsts) == 1:
+        return [text]
+    before = numpy.append(0, numpy.cumsum(is_there.sum(axis=1)))
+    cuts = before[2 * numpy.append(firsts, len(places))].tolist()
+    return [text[start:end] for start, end in zip(cuts, cuts[1:])]
 
 
 def decoded(text, precision, most):

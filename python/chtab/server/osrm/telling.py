@@ -1,89 +1,91 @@
 """Routes as OSRM tells them: `routes` with their legs, steps and annotations."""
+import json
 import math
+from typing import NamedTuple
 
 import numpy
 
 from chtab.server.osrm import polylines
+from chtab.server.osrm.steps import DIGITS, Steps
 
 # A point of a simplified line is left out where it lies off the line by less than so much of the longer side of the route.
 COARSE = 1 / 1_000
 MILLISECONDS = 1_000
-DIGITS = {"polyline": 5, "polyline6": 6}
+# Where the durations of all arcs are from.
+METADATA = {"datasource_names": ["graph"]}
+
+
+class Voice(NamedTuple):
+    """What the routes of a network are told by: the steps of its crossings, the map's numbers of nodes or None, and OSRM's word for the way of
+    travelling."""
+
+    steps: Steps
+    numbers: numpy.ndarray | None
+    mode: str
 
 
 def seconds(milliseconds):
     return int(milliseconds) / MILLISECONDS
 
 
-def route(legs, which, traces, options, names, mode):
-    """The route over some legs, one after the other. `traces` are how they lie, where that is asked for."""
-    weights = [int(legs.weights[leg]) for leg in which]
-    whole = {
-        "distance": round(float(legs.metres[which].sum()), 1), "duration": seconds(sum(weights)), "weight": seconds(sum(weights)),
-        "weight_name": "duration",
-        "legs": [leg_of(legs, leg, traces and traces[place], options, names, mode) for place, leg in enumerate(which)],
+def routes(voice, legs, parts, traces, options):
+    """The texts of routes, each over some legs, one after the other: `parts` has the numbers of each. `traces` says how legs lie, where that is
+    asked for, and `options` what each route is told with."""
+    stepping = {}
+    for part, option in zip(parts, options):
+        if option.has_steps:
+            stepping.setdefault(option.geometries, []).extend(part)
+    told = {
+        leg: each for form, some in stepping.items()
+        for leg, each in zip(some, voice.steps.of(legs, some, [traces[leg] for leg in some], voice.mode, form))
     }
+    return [route(voice, legs, part, traces, option, told) for part, option in zip(parts, options)]
+
+
+def route(voice, legs, which, traces, options, told):
+    """The text of the route over some legs, one after the other."""
+    duration = seconds(legs.weights[which].sum())
+    whole = {"distance": round(float(legs.metres[which].sum()), 1), "duration": duration, "weight": duration, "weight_name": "duration"}
     if options.overview != "false":
-        lines = [trace.places for trace in traces]
+        lines = [traces[leg].places for leg in which]
         if options.overview == "simplified":
             lines = simplified(lines)
         whole["geometry"] = geometry(joined(lines), options.geometries)
-    return whole
+    texts = ", ".join(leg_text(voice, legs, leg, traces, options, told.get(leg)) for leg in which)
+    return f'{json.dumps(whole)[:-1]}, "legs": [{texts}]}}'
 
 
-def leg_of(legs, leg, trace, options, names, mode):
+def leg_text(voice, legs, leg, traces, options, told):
     weight = seconds(legs.weights[leg])
-    found = {"distance": round(float(legs.metres[leg]), 1), "duration": weight, "weight": weight, "summary": "", "steps": []}
-    if options.has_steps:
-        found["steps"] = steps(found, trace.places, options.geometries, mode)
+    found = {"distance": round(float(legs.metres[leg]), 1), "duration": weight, "weight": weight, "summary": told.summary if told else ""}
     if options.annotations:
-        found["annotation"] = annotation(legs, leg, trace, options.annotations, names)
-    return found
+        found["annotation"] = annotation(legs, leg, traces.get(leg), options.annotations, voice.numbers)
+    return f'{json.dumps(found)[:-1]}, "steps": {told.steps if told else "[]"}}}'
 
 
-def annotation(legs, leg, trace, wanted, names):
+def annotation(legs, leg, trace, wanted, numbers):
     """What lies between each two places of the full line, and the nodes that the leg passes. What lies between sums up to the whole leg."""
     found = {}
-    if "duration" in wanted:
-        found["duration"] = [seconds(part) for part in between(trace.weights)]
-    if "distance" in wanted:
-        found["distance"] = [round(part, 3) for part in between(trace.metres)]
     if "nodes" in wanted:
         nodes = legs.nodes(leg)
-        numbers = nodes if names is None else names[numpy.array(nodes, int) - 1].tolist()
-        found["nodes"] = [number for place, number in enumerate(numbers) if not place or number != numbers[place - 1]]
-    return found
+        called = nodes if numbers is None else numbers[numpy.array(nodes, int) - 1].tolist()
+        found["nodes"] = [number for place, number in enumerate(called) if not place or number != called[place - 1]]
+    if trace is None:
+        return found
+    weights, metres = numpy.array(between(trace.weights)), numpy.array(between(trace.metres))
+    durations = (weights / MILLISECONDS).tolist()
+    speeds = numpy.where(weights > 0, metres / numpy.where(weights > 0, weights / MILLISECONDS, 1), 0)
+    columns = {
+        "duration": durations, "weight": durations, "distance": metres.round(3).tolist(), "speed": speeds.round(1).tolist(),
+        "datasources": [0] * len(durations),
+    }
+    found |= {name: column for name, column in columns.items() if name in wanted}
+    return found | ({"metadata": METADATA} if "datasources" in wanted else {})
 
 
 def between(column):
     """The differences along a line. A line of one place is told as two."""
     return (numpy.diff(column) if len(column) > 1 else column).tolist()
-
-
-def steps(leg, places, geometries, mode):
-    """The two steps of a leg: it departs, and it arrives."""
-    totals = {name: leg[name] for name in ("distance", "duration", "weight")}
-    line = joined([places])
-    begins, stops = bearing(line[0], line[1]), bearing(line[-2], line[-1])
-    depart = {"type": "depart", "location": line[0].tolist(), "bearing_before": 0, "bearing_after": begins}
-    arrive = {"type": "arrive", "location": line[-1].tolist(), "bearing_before": stops, "bearing_after": 0}
-    crossings = (
-        {"location": depart["location"], "bearings": [begins], "entry": [True], "out": 0},
-        {"location": arrive["location"], "bearings": [(stops + 180) % 360], "entry": [True], "in": 0},
-    )
-    return [
-        {**totals, "name": "", "mode": mode, "geometry": geometry(line, geometries), "maneuver": depart, "intersections": [crossings[0]]},
-        {**dict.fromkeys(totals, 0.0), "name": "", "mode": mode, "geometry": geometry(line[[-1, -1]], geometries), "maneuver": arrive,
-         "intersections": [crossings[1]]},
-    ]
-
-
-def bearing(start, end):
-    """The direction from one place to another in whole degrees, clockwise from north; 0 where they are the same."""
-    (x, y), (u, v) = numpy.radians([start, end]).tolist()
-    east = math.sin(u - x) * math.cos(v)
-    north = math.cos(y) * math.sin(v) - math.sin(y) * math.cos(v) * math.cos(u - x)
-    return round(math.degrees(math.atan2(east, north))) % 360
 
 
 def joined(lines):

@@ -6,9 +6,9 @@ from typing import NamedTuple
 from chtab.server.osrm.options import Refusal, unsupported
 from chtab.server.osrm.polylines import decoded
 
-SERVICES = "route", "table", "nearest"
-# Services that OSRM has besides.
-OTHERS = "match", "trip", "tile"
+SERVICES = "route", "table", "nearest", "trip", "match"
+# A service that OSRM has besides.
+OTHERS = ("tile",)
 VERSION = "v1"
 BROKEN = re.compile("%(?![0-9A-Fa-f]{2})")
 # No exponent, no NaN and no infinity, as OSRM reads numbers.

@@ -1,0 +1,115 @@
+"""The networks that a service answers by, and their files.
+
+Files are opened when the service begins, and are open as long as it goes on: whatever is read later, by a process that is begun anew or by a run
+of the program, is what was there at first, also where another file has taken the name since.
+"""
+import os
+from typing import NamedTuple
+
+from chtab import files
+from chtab.errors import ChtabError
+from chtab.network import Network
+from chtab.server.osrm.answering import numbers_in
+
+# What a network has besides its graph and its coordinates, where it is there.
+OPTIONAL = "bends", "names", "nodes"
+
+
+class Named(NamedTuple):
+    """A network as the command line names it: what clients call it, empty where they may call it anything, the start of the names of its files, and
+    its saved hierarchy or None."""
+
+    name: str
+    out: str
+    saved: str | None
+
+
+class Kept:
+    """Files that are open, each with a path that leads to what was opened, in this process and in those beside it."""
+
+    def __init__(self):
+        self.paths, self.open = {}, []
+
+    def path(self, name):
+        """The path of a file that is opened now."""
+        file = open(name, "rb")
+        self.open.append(file)
+        path = f"/proc/{os.getpid()}/fd/{file.fileno()}"
+        self.paths[path] = name
+        return path
+
+    def told(self, text):
+        """A text in which files have the names that they were opened by."""
+        # The longest first, because one path may begin another.
+        for path in sorted(self.paths, key=len, reverse=True):
+            text = text.replace(path, self.paths[path])
+        return text
+
+    def close(self):
+        for file in self.open:
+            file.close()
+
+
+class Served:
+    """A network with what its arcs are called, `files.Streets` or None, and what the map calls its nodes, or None."""
+
+    def __init__(self, named, kept, **running):
+        paths = {suffix: kept.path(f"{named.out}.{suffix}") for suffix in ("gr", "co")}
+        paths |= {suffix: kept.path(f"{named.out}.{suffix}") for suffix in OPTIONAL if os.path.exists(f"{named.out}.{suffix}")}
+        saved = None if named.saved is None else kept.path(named.saved)
+        self.name, self.title = named.name, named.out.rpartition("/")[2]
+        self.network = Network.open(paths["gr"], saved, coordinates=paths["co"], bends=paths.get("bends"), **running)
+        arcs = len(self.network.roads.tails)
+        self.streets = files.read_streets(paths["names"], arcs) if "names" in paths else None
+        self.numbers = numbers_in(paths["nodes"], self.network.nodes) if "nodes" in paths else None
+
+    @property
+    def engine(self):
+        return self.network._engine
+
+
+class Networks:
+    """The networks of a service, each opened with these options of `Network.open`. The first one is that of the page and of requests in JSON."""
+
+    def __init__(self, named, **running):
+        self.kept, self.served = Kept(), []
+        try:
+            for each in named:
+                self.served.append(Served(each, self.kept, **running))
+        except ChtabError as fault:
+            self.close()
+            raise ChtabError(self.told(str(fault))) from None
+        except BaseException:
+            self.close()
+            raise
+
+    def __iter__(self):
+        return iter(self.served)
+
+    @property
+    def first(self):
+        return self.served[0]
+
+    def told(self, text):
+        """A text in which files have the names that the command line gave them."""
+        return self.kept.told(text)
+
+    def load(self):
+        """Begins what answers, where it is not there."""
+        for each in self.served:
+            each.engine.load()
+
+    def are_ready(self):
+        """Whether something is there that answers by each network."""
+        return all(each.engine.living() for each in self.served)
+
+    def close(self):
+        for each in self.served:
+            each.network.close()
+        self.kept.close()
+
+    def __enter__(self):
+        return self
+
+    def __exit__(self, *_):
+        self.close()

@@ -1,0 +1,116 @@
+"""Crossings: the ends of roads that meet there, where each leads, and which of them are open from which node.
+
+An end of a road is numbered: 2k is the end of road k at its first place, and 2k + 1 the one at its last. Who drives along road k leaves by the
+end 2k and comes to the crossing by 2k + 1, and the other way round who drives back. So the number of an end is also that of leaving by it.
+"""
+from typing import NamedTuple
+
+import numpy
+
+from chtab.files import Street
+from chtab.roads.lines import ranges
+from chtab.roads.snapping import NONE
+
+# The direction in which a road leads away is that of the point so many metres along it.
+AHEAD = 10.0
+RAMPS, FAST, FERRY = ("motorway_link", "trunk_link"), ("motorway", "trunk"), "ferry"
+
+
+class Meeting(NamedTuple):
+    """The ends of roads that meet at some crossings, one after the other: to which of the crossings each belongs, and the end."""
+
+    owners: numpy.ndarray
+    ends: numpy.ndarray
+
+
+def bearings(starts, ends):
+    """The directions from places to others (n, 2) in whole degrees, clockwise from north; 0 where they are the same."""
+    (x, y), (u, v) = numpy.radians(starts).T, numpy.radians(ends).T
+    east = numpy.sin(u - x) * numpy.cos(v)
+    north = numpy.cos(y) * numpy.sin(v) - numpy.sin(y) * numpy.cos(v) * numpy.cos(u - x)
+    return numpy.rint(numpy.degrees(numpy.arctan2(east, north))).astype(numpy.int64) % 360
+
+
+def turned(bearing, other):
+    """The angle from one direction to another, from -180 to 179 degrees; above 0 is to the right."""
+    return (other - bearing + 180) % 360 - 180
+
+
+def leading(lines):
+    """For each end of each line the direction in which the line leads away from there."""
+    count = len(lines)
+    shares = numpy.minimum(1.0, AHEAD / numpy.where(lines.metres > 0, lines.metres, 1.0))
+    # The parts of a line's places lie from 2k to 2k + 1, so that all lines are looked up at once.
+    keys = numpy.repeat(2.0 * numpy.arange(count), numpy.diff(lines.firsts)) + lines.parts
+    found = numpy.empty((count, 2), numpy.int64)
+    for side, parts, ends in (0, shares, lines.firsts[:-1]), (1, 1 - shares, lines.firsts[1:] - 1):
+        after = numpy.searchsorted(keys, 2.0 * numpy.arange(count) + parts).clip(lines.firsts[:-1] + 1, lines.firsts[1:] - 1)
+        wide = lines.parts[after] - lines.parts[after - 1]
+        share = ((parts - lines.parts[after - 1]) / numpy.where(wide > 0, wide, 1)).clip(0, 1)[:, None]
+        ahead = lines.places[after - 1] + share * (lines.places[after] - lines.places[after - 1])
+        found[:, side] = bearings(lines.places[ends], ahead)
+    return found.reshape(-1)
+
+
+class Crossings:
+    """The crossings of some roads, whose arcs have streets, `files.Streets` or None. `copies` are the nodes that stand for others."""
+
+    def __init__(self, roads, copies, streets=None):
+        self.roads = roads
+        self.streets, self.side = [Street(), *(streets.streets if streets else ())], streets and streets.side
+        self.street_of_arc = numpy.array(streets.of_arcs, numpy.int64) if streets else numpy.zeros(len(roads.tails), numpy.int64)
+        self.crossing = numpy.arange(len(roads.places) + 1)
+        for copy, node in copies.items():
+            self.crossing[copy] = node
+        self.leads = leading(roads.lines)
+        self.find_ends()
+        self.find_open()
+        self.judge_streets()
+
+    def find_ends(self):
+        """The ends at each crossing, clockwise from north: those of crossing c are `ends[firsts[c]:firsts[c + 1]]`."""
+        nodes = numpy.column_stack([self.roads.firsts, self.roads.lasts]).reshape(-1)
+        self.ends = numpy.lexsort([numpy.arange(len(nodes)), self.leads, nodes])
+        self.firsts = numpy.searchsorted(nodes[self.ends], numpy.arange(len(self.crossing) + 1))
+        self.rank = numpy.empty(len(nodes), numpy.int64)
+        self.rank[self.ends] = numpy.arange(len(nodes)) - self.firsts[nodes[self.ends]]
+
+    def find_open(self):
+        """By which ends each node is left, and the street of leaving by each: that of the lightest arc, or where the road is closed that way
+        that of coming back."""
+        kept = numpy.flatnonzero(self.roads.road_of != NONE)
+        ends = 2 * self.roads.road_of[kept] + self.roads.is_back[kept]
+        self.open_keys = numpy.unique(self.roads.tails[kept] << 32 | ends)
+        order = numpy.lexsort([kept, self.roads.weights[kept]])[::-1]
+        known = numpy.full(len(self.leads), -1)
+        known[ends[order]] = self.street_of_arc[kept[order]]
+        self.street_of = numpy.where(known < 0, known.reshape(-1, 2)[:, ::-1].reshape(-1), known).clip(0)
+
+    def judge_streets(self):
+        """What has to be known of streets: rings, ramps, fast roads, ferries, and numbers by which those of one kind or one name are the same."""
+        def flags(test):
+            return numpy.array([test(street) for street in self.streets], bool)
+
+        def numbers(key):
+            known = {}
+            return numpy.array([known.setdefault(key(street), len(known)) for street in self.streets])
+
+        self.is_ring = flags(lambda street: bool(street.junction))
+        self.is_ramp = flags(lambda street: street.highway in RAMPS)
+        self.is_link = flags(lambda street: street.highway.endswith("_link"))
+        self.is_fast = flags(lambda street: street.highway in FAST)
+        self.is_ferry = flags(lambda street: street.highway == FERRY)
+        self.is_called = flags(lambda street: bool(street.name or street.ref))
+        self.kind, self.called = numbers(lambda street: street.highway), numbers(lambda street: (street.name, street.ref))
+
+    def meeting(self, nodes):
+        """The ends that meet at the crossings of some nodes."""
+        crossings = self.crossing[nodes]
+        counts = self.firsts[crossings + 1] - self.firsts[crossings]
+        return Meeting(numpy.repeat(numpy.arange(len(nodes)), counts), self.ends[ranges(self.firsts[crossings], counts)])
+
+    def is_open(self, nodes, ends):
+        """Whether a node may be left by an end, of each pair."""
+        keys = nodes << 32 | ends
+        at = numpy.searchsorted(self.open_keys, keys).clip(0, max(len(self.open_keys) - 1, 0))
+        return self.open_keys[at] == keys if len(self.open_keys) else numpy.zeros(len(keys), bool)

@@ -1,0 +1,189 @@
+"""Tracks taken to roads: the likeliest points of roads for the places of a track, by a hidden Markov model (Newson and Krumm 2009).
+
+A place is likelier to lie near its road, and the way between two points to be about as long as the straight line between the places. A place
+to which no way leads that is about as long is left out. Where many are, the track is parted, and so it is where much time passes.
+"""
+from typing import NamedTuple
+
+import numpy
+
+from chtab.roads.legs import legs_between
+from chtab.roads.lines import metres_between
+from chtab.roads.snapping import Spots
+
+# The metres by which a place lies off its road, where none are told, and within how many times as many roads are looked for; and how many.
+PRECISION, TIMES, MOST_ROADS = 5.0, 3.0, 6
+# Metres by which ways and straight lines differ in the mean, and at most; legs that are looked for together.
+BETA, MOST_OFF, BATCH = 10.0, 1_000.0, 1_024
+# Places that may be left out one after the other before the track is parted, and the seconds after which it is.
+MOST_LEFT_OUT, GAP = 10, 60
+# Metres and seconds from the place before within which a place says little.
+TIDY_METRES, TIDY_SECONDS = 15.0, 5
+# The means and widths of Laplace's distributions of the logarithm of a right and of a wrong match's length by the track's, and how many are
+# right, as OSRM has measured them.
+RIGHT, WRONG, SHARE_RIGHT = (0.005986, 0.016646), (0.054385, 0.458432), 0.696774
+
+
+class Track(NamedTuple):
+    """A track: its places in degrees (n, 2), the metres of `radiuses` by which each lies off its road, infinite where that is not told, and the
+    seconds of each, or None."""
+
+    places: numpy.ndarray
+    radiuses: list
+    timestamps: list | None
+
+
+class Part(NamedTuple):
+    """A part of a track that hangs together: the numbers of its places, the points on roads that they were taken to, how many other roads were
+    near each, and how sure it is, from 0 to 1."""
+
+    places: list
+    spots: Spots
+    others: list
+    confidence: float
+
+
+def matched(trips, track, is_parted=True, is_tidied=False):
+    """The parts of a track, each of at least two places."""
+    kept = tidied(track) if is_tidied else list(range(len(track.places)))
+    model = Model(trips, track)
+    model.look_up(kept)
+    left, chains = [place for place in kept if len(model.spots[place])], []
+    while left:
+        chain, left = begun(model, left, is_parted)
+        chains.append(chain)
+    return [chain.part() for chain in chains if len(chain.places) > 1]
+
+
+def begun(model, places, is_parted):
+    """The chain from the first of some places on, and the places from which the next one begins."""
+    chain = Chain(model, places[0])
+    for at, place in enumerate(places[1:], 1):
+        if is_parted and is_gap(model.track, places[at - 1], place):
+            return chain, [*chain.left_out, *places[at:]]
+        if not chain.take(place) and len(chain.left_out) > MOST_LEFT_OUT:
+            return chain, [*chain.left_out, *places[at + 1:]]
+    return chain, chain.left_out if len(chain.left_out) > 1 else []
+
+
+def tidied(track):
+    """The places but those that lie near the one before, in place or in time."""
+    kept, steps = [0], track.places
+    for place in range(1, len(steps)):
+        (x, y), (u, v) = steps[kept[-1]], steps[place]
+        is_far = metres_between(*map(numpy.atleast_1d, (x, y, u, v)))[0] >= TIDY_METRES
+        is_later = track.timestamps is None or track.timestamps[place] - track.timestamps[kept[-1]] >= TIDY_SECONDS
+        if is_far and is_later:
+            kept.append(place)
+    return kept
+
+
+def is_gap(track, before, place):
+    return track.timestamps is not None and track.timestamps[place] - track.timestamps[before] > GAP
+
+
+class Model:
+    """What is known of the places of a track: the points on roads near each, and the ways between those of two places."""
+
+    def __init__(self, trips, track):
+        self.trips, self.track, self.ways = trips, track, {}
+        self.spreads = [radius if numpy.isfinite(radius) and radius > 0 else PRECISION for radius in track.radiuses]
+        self.spots = [self.near(place) for place in range(len(track.places))]
+
+    def near(self, place):
+        found = self.trips.roads.find_some(*self.track.places[place], MOST_ROADS)
+        return found[found.metres <= TIMES * self.spreads[place]]
+
+    def emission(self, place):
+        """The logarithms of how likely each point is, by its distance."""
+        return -0.5 * (self.spots[place].metres / self.spreads[place]) ** 2
+
+    def look_up(self, kept):
+        """Looks up the ways between each two places that follow on each other and have roads near them."""
+        there = [place for place in kept if len(self.spots[place])]
+        self.find(list(zip(there, there[1:])))
+
+    def find(self, pairs):
+        """Looks up the metres of the ways between the points of pairs of places, infinite where there is none."""
+        starts, ends = [], []
+        for before, place in pairs:
+            one, other = self.spots[before], self.spots[place]
+            starts.append(one[numpy.repeat(numpy.arange(len(one)), len(other))])
+            ends.append(other[numpy.tile(numpy.arange(len(other)), len(one))])
+        if not pairs:
+            return
+        starts, ends = together(starts), together(ends)
+        metres = numpy.empty(len(starts))
+        for first in range(0, len(starts), BATCH):
+            some = slice(first, first + BATCH)
+            legs = legs_between(self.trips, starts[some], ends[some])
+            metres[some] = numpy.where(legs.weights >= 0, legs.metres, numpy.inf)
+        at = 0
+        for before, place in pairs:
+            shape = len(self.spots[before]), len(self.spots[place])
+            self.ways[before, place] = metres[at:at + shape[0] * shape[1]].reshape(shape)
+            at += shape[0] * shape[1]
+
+    def transition(self, before, place):
+        """The logarithms of how likely each way between two places is; minus infinity where there is none that is about as long as the straight
+        line."""
+        if (before, place) not in self.ways:
+            self.find([(before, place)])
+        off = abs(self.ways[before, place] - self.straight(before, place))
+        return numpy.where(off <= MOST_OFF, -off / BETA, -numpy.inf)
+
+    def straight(self, before, place):
+        """The metres between two places of the track."""
+        (x, y), (u, v) = self.track.places[before], self.track.places[place]
+        return float(metres_between(*map(numpy.atleast_1d, (x, y, u, v)))[0])
+
+
+class Chain:
+    """Places that follow on each other by ways of roads, with the best way to each point of each (Viterbi 1967)."""
+
+    def __init__(self, model, place):
+        self.model, self.places, self.left_out = model, [place], []
+        self.scores, self.before = [model.emission(place)], []
+
+    def take(self, place):
+        """Adds a place, where a way leads to it; whether one does."""
+        total = self.scores[-1][:, None] + self.model.transition(self.places[-1], place)
+        best = total.max(axis=0)
+        if not numpy.isfinite(best).any():
+            self.left_out.append(place)
+            return False
+        self.before.append(total.argmax(axis=0))
+        self.scores.append(best + self.model.emission(place))
+        self.places.append(place)
+        self.left_out = []
+        return True
+
+    def part(self):
+        """The likeliest points."""
+        picked = [int(self.scores[-1].argmax())]
+        for before in reversed(self.before):
+            picked.append(int(before[picked[-1]]))
+        picked.reverse()
+        steps = list(zip(self.places, self.places[1:]))
+        metres = sum(float(self.model.ways[step][one, other]) for step, one, other in zip(steps, picked, picked[1:]))
+        straight = sum(self.model.straight(*step) for step in steps)
+        spots = together([self.model.spots[place][[pick]] for place, pick in zip(self.places, picked)])
+        others = [len(self.model.spots[place]) - 1 for place in self.places]
+        return Part(self.places, spots, others, confidence(straight, metres))
+
+
+def confidence(straight, metres):
+    """How likely a match of so many metres is right for a track of so many."""
+    if not straight or not metres:
+        return 1.0 if straight == metres else 0.0
+
+    def density(middle, width):
+        return numpy.exp(-abs(numpy.log(metres / straight) - middle) / width) / (2 * width)
+
+    right, wrong = SHARE_RIGHT * density(*RIGHT), (1 - SHARE_RIGHT) * density(*WRONG)
+    return round(float(right / (right + wrong)), 6)
+
+
+def together(parts):
+    """Several spots, one after the other."""
+    return Spots(*(numpy.concatenate(columns) for columns in zip(*(vars(part).values() for part in parts))))

@@ -1,0 +1,124 @@
+"""What a service listens on, and how another one takes it over: the second service gets the socket itself, so that no connection is lost that waits
+in it.
+
+The owner of a port answers at an abstract address of Unix that has the name of the port. Whoever runs as the same user gets the sockets there.
+"""
+import contextlib
+import errno
+import os
+import socket
+import struct
+
+from chtab.errors import ChtabError
+
+# Seconds that a service has to hand over its port.
+PATIENCE = 10.0
+CREDENTIALS = struct.Struct("3i")
+
+
+class Listening(socket.socket):
+    """A socket that gives one connection at a time. asyncio takes as many as there are, one after the other, and one process would have all of those
+    that come together."""
+
+    is_next = True
+
+    def accept(self):
+        """The next connection; none is there each time after one was."""
+        self.is_next = not self.is_next
+        if self.is_next:
+            raise BlockingIOError
+        return super().accept()
+
+
+class Port:
+    """A port that is listened on, and the socket at which it can be asked for."""
+
+    def __init__(self, listening, control):
+        self.listening, self.control = listening, control
+        control.setblocking(False)
+
+    @property
+    def address(self):
+        host, port = self.listening.getsockname()[:2]
+        return f"http://{f'[{host}]' if ':' in host else host}:{port}/"
+
+    def hand_over(self):
+        """Gives the port to the service that asks for it; whether one did. It goes on here until this service ends."""
+        try:
+            asking, _ = self.control.accept()
+        except OSError:
+            return False
+        with asking:
+            if user_of(asking) not in (os.getuid(), 0):
+                return False
+            asking.settimeout(PATIENCE)
+            with contextlib.suppress(OSError):
+                socket.send_fds(asking, [b"."], [self.listening.fileno(), self.control.fileno()])
+                return True
+        return False
+
+    def close(self):
+        self.listening.close()
+        self.control.close()
+
+
+def user_of(connection):
+    """The number of the user at the other end."""
+    _, user, _ = CREDENTIALS.unpack(connection.getsockopt(socket.SOL_SOCKET, socket.SO_PEERCRED, CREDENTIALS.size))
+    return user
+
+
+def name_of(listening):
+    """The address of Unix at which a port is asked for."""
+    return "\0chtab-page/{}/{}".format(*listening.getsockname()[:2])
+
+
+def port_at(host, port, takes_over=False):
+    """The port of an address: that of the service that listens there, where it is to be taken over, and else one that nobody has."""
+    family, kind, protocol, _, address = socket.getaddrinfo(host, port, type=socket.SOCK_STREAM, flags=socket.AI_PASSIVE)[0]
+    listening = Listening(family, kind, protocol)
+    listening.setsockopt(socket.SOL_SOCKET, socket.SO_REUSEADDR, 1)
+    try:
+        listening.bind(address)
+    except OSError as fault:
+        listening.close()
+        if fault.errno != errno.EADDRINUSE:
+            raise
+        if takes_over:
+            return taken_over(address)
+        raise ChtabError(f"port {port} of {host} is taken: a second service there would share its requests; give --takeover to replace one") from None
+    control = socket.socket(socket.AF_UNIX)
+    try:
+        control.bind(name_of(listening))
+    except OSError:
+        # Another service still has the name of a port that it has left. This one can't be asked for its port, which is served all the same.
+        control.bind("")
+    control.listen()
+    return Port(listening, control)
+
+
+def taken_over(address):
+    """The port of a service that runs, which it gives to this one."""
+    host, port = address[:2]
+    try:
+        with socket.socket(socket.AF_UNIX) as asking:
+            asking.settimeout(PATIENCE)
+            asking.connect(f"\0chtab-page/{host}/{port}")
+            if user_of(asking) != os.getuid():
+                raise ChtabError(f"the service at port {port} of {host} is another user's")
+            _, found, _, _ = socket.recv_fds(asking, 1, 2)
+    except OSError:
+        found = ()
+    if len(found) != 2:
+        raise ChtabError(f"what listens at port {port} of {host} is no service of this kind and of this user, which could be taken over")
+    for number in found:
+        os.set_inheritable(number, False)
+    return Port(Listening(fileno=found[0]), socket.socket(fileno=found[1]))
+
+
+def notify(state):
+    """Tells systemd how the service stands, where it waits for that (`Type=notify`)."""
+    name = os.environ.get("NOTIFY_SOCKET")
+    if name:
+        with socket.socket(socket.AF_UNIX, socket.SOCK_DGRAM) as there, contextlib.suppress(OSError):
+            there.sendto(state.encode(), "\0" + name[1:] if name.startswith("@") else name)

@@ -1,0 +1,383 @@
+#!/usr/bin/python3
+"""Tests the service as one who runs it meets it: files that are replaced, too many connections, proxies and forged addresses, bodies that are packed,
+a second service on the port, one that takes the port over without losing a request, and what the log and the metrics say.
+
+What needs a package that is missing is told and left out. The last line is 'N passed, N failed'.
+"""
+import collections
+import concurrent.futures
+import contextlib
+import gzip
+import http.client
+import json
+import os
+import pathlib
+import re
+import resource
+import shutil
+import signal
+import socket
+import subprocess
+import threading
+import time
+import urllib.parse
+
+from helpers import running
+from helpers.moods import STANDIN, mood
+from helpers.packages import PYTHON, run_checks
+from helpers.running import PROGRAM, ROOT
+from helpers.serving import COUNTRY, SERVICE, ask, by_both, send, words_of_library
+
+ROUTE = "/route/v1/car/9.5209,47.1410;9.5450,47.2200?overview=false"
+# The status of a service that can't begin what answers.
+GIVEN_UP = 70
+
+
+@contextlib.contextmanager
+def running_service(*words, out=COUNTRY, program=PROGRAM, limit=None, told="told", port=0, environment=None):
+    """A service: its process and its address. Who asks for it ends it, or it is ended."""
+    command = [PYTHON, ROOT / "tools" / "page.py", "--port", port, "--program", program, *words_of_library(out, program), *words, out]
+
+    def lower():
+        if limit:
+            resource.setrlimit(resource.RLIMIT_NOFILE, limit)
+
+    child = subprocess.Popen(
+        list(map(str, command)), stdout=subprocess.PIPE, stderr=open(told, "w"), text=True, preexec_fn=lower, env=environment and os.environ | environment
+    )
+    try:
+        yield child, urllib.parse.urlsplit(child.stdout.readline().strip())
+    finally:
+        if child.poll() is None:
+            child.terminate()
+            child.wait(40)
+        child.stdout.close()
+
+
+def until(holds, seconds=30):
+    """Waits until something holds."""
+    end = time.monotonic() + seconds
+    while not holds():
+        assert time.monotonic() < end, open("told").read()
+        time.sleep(0.05)
+
+
+def runs_below(number):
+    """The runs of the program below a process."""
+    found = []
+    for child in children_of(number):
+        name = pathlib.Path(f"/proc/{child}/cmdline").read_bytes().split(b"\0")
+        found += [child] if b"ask" in name else runs_below(child)
+    return found
+
+
+def children_of(number):
+    try:
+        return [int(child) for child in pathlib.Path(f"/proc/{number}/task/{number}/children").read_text().split()]
+    except FileNotFoundError:
+        return []
+
+
+def copied(out):
+    """A network of one's own."""
+    for suffix in "gr", "co":
+        shutil.copy(f"{COUNTRY}.{suffix}", f"{out}.{suffix}")
+
+
+def replaced(path):
+    """Writes a file anew, with the same bytes, as tools do it: beside it, and then under its name."""
+    shutil.copy(path, f"{path}.new")
+    os.replace(f"{path}.new", path)
+
+
+def files_that_are_replaced():
+    """Another file takes the name of one of the network, and then the run dies, or a process: the service answers on by what it was begun with."""
+    copied("net")
+    for words in (), ("--processes", 2):
+        with running_service(*words, out="net") as (child, address):
+            before = ask(address, ROUTE)
+            for suffix in "gr", "co":
+                replaced(f"net.{suffix}")
+            pathlib.Path("net.gr").write_text("p sp 1 0\n")
+            victims = children_of(child.pid) if words else runs_below(child.pid)
+            for victim in victims:
+                os.kill(victim, signal.SIGKILL)
+            time.sleep(0.3)
+            until(lambda: answers_well(address) and (not words or len(set(children_of(child.pid)) - set(victims)) == 2))
+            assert all(ask(address, ROUTE) == before for _ in range(10)) and ask(address, "/health")[1]["status"] == "ready"
+        assert child.returncode == 0, (child.returncode, open("told").read())
+        copied("net")
+
+
+def answers_well(address):
+    with contextlib.suppress(OSError, http.client.HTTPException):
+        return ask(address, ROUTE)[0] == 200
+    return False
+
+
+def files_that_are_changed():
+    """A file that is written over, so that what was there is gone, and then the run dies: health is no longer well at once, and the service ends with
+    a status of its own; and so it does where no process can be begun."""
+    for words in (), ("--processes", 2):
+        copied("net")
+        with running_service(*words, out="net") as (child, address):
+            assert ask(address, ROUTE)[0] == 200 and ask(address, "/health")[0] == 200
+            with open("net.gr", "a") as file:
+                file.write("c changed\n")
+            victims = runs_below(child.pid) if not words else children_of(child.pid)
+            assert victims
+            for victim in victims:
+                os.kill(victim, signal.SIGKILL)
+            seen, begun = set(), time.monotonic()
+            while child.poll() is None and time.monotonic() < begun + 60:
+                with contextlib.suppress(OSError, http.client.HTTPException, ValueError):
+                    status, value = ask(address, "/health")
+                    seen.add((status, value["status"]))
+                time.sleep(0.02)
+            assert child.poll() == GIVEN_UP, (child.poll(), open("told").read())
+            assert words or (503, "failing") in seen, seen
+        told = open("told").read()
+        assert "net.gr has changed since it was opened" in told and "Traceback" not in told and told.count("\n") < 30, told
+
+
+def health_is_no_better_than_answers():
+    """Where each run dies at its first question nothing is answered, and health says so."""
+    with mood("dies=1"), running_service(program=STANDIN) as (child, address):
+        assert ask(address, ROUTE)[0] == 503
+        assert ask(address, "/health") == (503, {"status": "failing", "waiting": 0})
+
+
+def too_many_connections():
+    """Idle connections, more than there may be files, stop nobody: those that have been idle longest make way, and it is told once."""
+    for limit, words in ((128, 128), ()), (None, ("--max-connections", 40)), (None, ("--max-connections-of-address", 30)):
+        with running_service(*words, limit=limit, told="told") as (child, address), contextlib.ExitStack() as stack:
+            for place in range(300):
+                client = stack.enter_context(socket.create_connection((address.hostname, address.port), timeout=5))
+                if place % 3 == 0:
+                    with contextlib.suppress(OSError):
+                        client.sendall(b"GET / HT")
+                if place % 60 == 0:
+                    assert ask(address, "/health")[0] == 200 and ask(address, ROUTE)[0] == 200, place
+            for _ in range(5):
+                begun = time.monotonic()
+                assert ask(address, ROUTE)[0] == 200 and time.monotonic() - begun < 3
+            text = send(address, "/metrics")[2].decode()
+            assert int(re.search(r'refusals_total\{reason="connections"\} (\d+)', text)[1]) > 100, text
+        told = open("told").read()
+        assert "Traceback" not in told and told.count("\n") == 1 and "more than there may be" in told, told
+    with running_service(limit=(64, 4_096)) as (child, _):
+        limits = pathlib.Path(f"/proc/{child.pid}/limits").read_text()
+        assert re.search(r"Max open files +4096 +4096", limits), limits
+
+
+def a_busy_connection_is_kept():
+    """A connection whose request is underway makes way for none; one too many is closed then."""
+    with mood("slow=1.5"), running_service("--max-connections-of-address", 3, program=STANDIN) as (_, address):
+        with concurrent.futures.ThreadPoolExecutor(3) as clients:
+            waiting = [clients.submit(ask, address, ROUTE) for _ in range(3)]
+            time.sleep(0.7)
+            with socket.create_connection((address.hostname, address.port), timeout=5) as client:
+                client.settimeout(1)
+                with contextlib.suppress(ConnectionError):
+                    assert client.recv(1) == b"", "it is closed"
+            assert [each.result()[0] for each in waiting] == [200] * 3
+
+
+def addresses_that_proxies_name():
+    """The client is the last one of the last line, without a port; what a client claims itself counts for nothing, nor does it break the log."""
+    cases = (
+        (["1.2.3.4"], "1.2.3.4"), (["9.9.9.9, 1.2.3.4"], "1.2.3.4"), (["9.9.9.9", "1.2.3.4"], "1.2.3.4"), (["1.2.3.4", "9.9.9.9, 5.6.7.8"], "5.6.7.8"),
+        (["1.2.3.4:5678"], "1.2.3.4"), (["[2001:db8::1]:5678"], "2001:db8::/64"), (["[2001:db8::1]"], "2001:db8::/64"), (["2001:db8::1"], "2001:db8::/64"),
+        (["::ffff:1.2.3.4"], "1.2.3.4"), (['x" 200 "'], "x\\x22 200 \\x22"), ([""], "127.0.0.1"), (["1.2.3.4, "], "127.0.0.1"), ([], "127.0.0.1"),
+    )
+    with running_service("--proxy", "127.0.0.1", "--log", "access.log") as (_, address):
+        for number, (lines, _) in enumerate(cases):
+            head = "".join(f"X-Forwarded-For: {line}\r\n" for line in lines)
+            assert raw(address, f'GET /health?{number}"quoted" HTTP/1.1\r\nHost: x\r\nConnection: close\r\n{head}\r\n').startswith(b"HTTP/1.1 200")
+    with running_service("--log", "direct.log") as (_, address):
+        raw(address, "GET /health HTTP/1.1\r\nHost: x\r\nConnection: close\r\nX-Forwarded-For: 1.2.3.4\r\n\r\n")
+    lines = open("access.log").read().splitlines()
+    for number, (line, (_, wanted)) in enumerate(zip(lines, cases, strict=True)):
+        assert line.split(" ", 1)[1].startswith(f'{wanted} "GET /health?{number}\\x22quoted\\x22" 200 '), (line, wanted)
+    assert open("direct.log").read().split()[1] == "127.0.0.1", "without a proxy the header says nothing"
+
+
+def raw(address, text):
+    """What the service sends back for these bytes, until it closes the connection."""
+    with socket.create_connection((address.hostname, address.port), timeout=20) as client:
+        client.sendall(text if isinstance(text, bytes) else text.encode("latin-1"))
+        found = b""
+        with contextlib.suppress(ConnectionError):
+            while part := client.recv(1 << 16):
+                found += part
+    return found
+
+
+def requests_that_once_failed():
+    """Names that no file can have, bodies that are not packed as they say, and a packed one that is huge: each is refused with a line, and no trace."""
+    def post(body, encoding):
+        head = f"POST /api/route HTTP/1.1\r\nHost: x\r\nConnection: close\r\nContent-Encoding: {encoding}\r\nContent-Length: {len(body)}\r\n\r\n"
+        return raw(address, head.encode() + body)
+
+    question = json.dumps({"from": [9.5209, 47.1410], "to": [9.5450, 47.2200]}).encode()
+    with running_service() as (child, address):
+        for path in "/page/" + "a" * 256, "/page/" + "a/" * 2_000, "/page/%00", "/leaflet/" + "b" * 300, "/page/" + "c" * 20_000, "/page/%2e%2e/service.py":
+            status, _, text = send(address, path)
+            assert (status, set(json.loads(text))) == (404, {"error"}), (path[:40], status, text)
+        before = memory_of(child.pid)
+        for body, encoding, status in (
+            (b"abcde", "gzip", 400), (gzip.compress(question)[:-9], "gzip", 400), (gzip.compress(question), "gzip", 200), (question, "br", 415),
+            (gzip.compress(b" " * 200_000_000), "gzip", 413), (b"abcde", "deflate", 400), (question, "identity", 200), (gzip.compress(b" " * 5_000_000), "gzip", 413),
+        ):
+            found = post(body, encoding)
+            assert found.startswith(f"HTTP/1.1 {status} ".encode()), (encoding, status, found[:300])
+        assert memory_of(child.pid) < before + 50e6
+        assert ask(address, ROUTE)[0] == 200
+    assert open("told").read() == "", open("told").read()
+
+
+def memory_of(number):
+    return 1024 * int(re.search(r"VmHWM:\s+(\d+)", pathlib.Path(f"/proc/{number}/status").read_text())[1])
+
+
+def a_second_service_on_the_port():
+    """A second service doesn't share the port of one that runs, whatever its processes, unless it takes the port over; nor does it take what is no
+    service of this kind."""
+    for first in (), ("--processes", 2):
+        with running_service(*first) as (_, address):
+            for second in (), ("--processes", 2):
+                command = [PYTHON, ROOT / "tools" / "page.py", "--port", address.port, "--program", PROGRAM, *second, COUNTRY]
+                done = subprocess.run(list(map(str, command)), capture_output=True, text=True, timeout=60)
+                assert (done.returncode, done.stdout, done.stderr.count("\n")) == (1, "", 1) and "is taken" in done.stderr and "--takeover" in done.stderr, done
+            assert ask(address, ROUTE)[0] == 200
+    with socket.create_server(("127.0.0.1", 0)) as other:
+        command = [PYTHON, ROOT / "tools" / "page.py", "--port", other.getsockname()[1], "--takeover", "--program", PROGRAM, COUNTRY]
+        done = subprocess.run(list(map(str, command)), capture_output=True, text=True, timeout=60)
+        assert (done.returncode, done.stderr.count("\n")) == (1, 1) and "could be taken over" in done.stderr, done
+
+
+class Load:
+    """Clients that ask on and on: half of them on one connection, as long as the service keeps it, the others on a new one for each request."""
+
+    def __init__(self, address, clients):
+        self.address, self.is_over, self.found = address, False, collections.Counter()
+        self.threads = [threading.Thread(target=self.go, args=(place % 2 == 0,)) for place in range(clients)]
+        for thread in self.threads:
+            thread.start()
+
+    def go(self, is_kept):
+        connection = None
+        while not self.is_over:
+            if connection is None:
+                connection = http.client.HTTPConnection(self.address.hostname, self.address.port, timeout=30)
+            try:
+                connection.request("GET", ROUTE, headers={} if is_kept else {"Connection": "close"})
+                answer = connection.getresponse()
+                value = json.loads(answer.read())
+                self.found[answer.status if value["code"] == "Ok" else value["code"]] += 1
+                is_over = answer.will_close
+            except Exception as fault:
+                self.found[repr(fault)] += 1
+                is_over = True
+            if is_over:
+                connection.close()
+                connection = None
+
+    def end(self):
+        self.is_over = True
+        for thread in self.threads:
+            thread.join()
+        return self.found
+
+
+def a_new_network_without_a_lost_request():
+    """Services take the port over from each other, while clients ask more than 5,000 times: none of the requests is lost, and none goes unanswered."""
+    with contextlib.ExitStack() as stack:
+        child, address = stack.enter_context(running_service(told="told0"))
+        load = Load(address, 8)
+        try:
+            for place, words in enumerate(((), ("--processes", 2), (), ("--processes", 2), ()), 1):
+                time.sleep(1)
+                then, same = stack.enter_context(running_service("--takeover", *words, told=f"told{place}", port=address.port))
+                assert same == address, open(f"told{place}").read()
+                time.sleep(0.5)
+                child.terminate()
+                assert child.wait(40) == 0
+                child = then
+            end = time.monotonic() + 120
+            while load.found.total() <= 5_000 and time.monotonic() < end:
+                time.sleep(0.2)
+        finally:
+            found = load.end()
+        assert set(found) == {200} and found[200] > 5_000, found
+        assert all(open(f"told{place}").read() == "" for place in range(6))
+
+
+def it_says_that_connections_close():
+    """While it ends after another service took its port over, each answer says that the connection closes, and idle clients have a while for one."""
+    with contextlib.ExitStack() as stack:
+        child, address = stack.enter_context(running_service(told="first"))
+        connection = http.client.HTTPConnection(address.hostname, address.port, timeout=30)
+        connection.request("GET", ROUTE)
+        first = connection.getresponse()
+        assert first.read() and not first.will_close
+        stack.enter_context(running_service("--takeover", told="second", port=address.port))
+        child.terminate()
+        time.sleep(1)
+        connection.request("GET", ROUTE)
+        then = connection.getresponse()
+        assert then.status == 200 and then.read() and then.will_close
+        begun = time.monotonic()
+        assert child.wait(20) == 0 and time.monotonic() - begun < 3
+    with running_service() as (child, address), socket.create_connection((address.hostname, address.port)):
+        begun = time.monotonic()
+        child.terminate()
+        assert child.wait(20) == 0 and time.monotonic() - begun < 5, "idle clients keep a service that nobody takes over from ending no longer"
+
+
+def systemd_is_notified():
+    """A unit of `Type=notify` is ready once the service answers, and hears that it ends."""
+    for words, name in ((), "notify"), (("--processes", 2), "\0chtab-test-notify"):
+        with socket.socket(socket.AF_UNIX, socket.SOCK_DGRAM) as heard:
+            heard.bind(name)
+            heard.settimeout(60)
+            path = name.replace("\0", "@") if name[0] == "\0" else os.path.abspath(name)
+            with running_service(*words, environment={"NOTIFY_SOCKET": path}) as (child, address):
+                assert heard.recv(100) == b"READY=1" and ask(address, ROUTE)[0] == 200
+                child.terminate()
+                assert heard.recv(100) == b"STOPPING=1"
+
+
+def the_log_says_why():
+    """Why a request was refused, what was no request of HTTP, and which connection was closed for doing nothing."""
+    with running_service("--log", "access.log", "--idle", 1) as (_, address):
+        ask(address, "/route/v1/car/9.5,47.1;9.6,47.2?steps=perhaps")
+        ask(address, "/api/route", {"from": [9.5, 47.1]})
+        raw(address, b"\x16\x03\x01\x02\x00\x01\x00what\r\n\r\n")
+        with socket.create_connection((address.hostname, address.port)) as silent:
+            silent.settimeout(10)
+            with contextlib.suppress(ConnectionError):
+                assert silent.recv(1) == b""
+        text = send(address, "/metrics")[2].decode()
+    lines = open("access.log").read()
+    for told in (
+        '" 400 .* "InvalidQuery: steps: one of false, true"\n', '" 400 .* "form: to is missing"\n', '127.0.0.1 "-" 400 0 0.0 "http: this is no request of HTTP',
+        '127.0.0.1 "-" 0 0 0.0 "idle: idle for 1 seconds"\n',
+    ):
+        assert re.search(told, lines), (told, lines)
+    for reason in "InvalidQuery", "form", "http", "idle":
+        assert f'chtab_refusals_total{{reason="{reason}"}} 1\n' in text, text
+    assert re.search(r"^chtab_connections \d+$", text, re.MULTILINE)
+
+
+GROUPS = (
+    (SERVICE, [
+        files_that_are_changed, health_is_no_better_than_answers, too_many_connections, a_busy_connection_is_kept, addresses_that_proxies_name,
+        requests_that_once_failed, a_second_service_on_the_port, it_says_that_connections_close, systemd_is_notified, the_log_says_why,
+        *by_both(files_that_are_replaced, a_new_network_without_a_lost_request),
+    ]),
+)
+
+if __name__ == "__main__":
+    running.build()
+    run_checks(GROUPS)
