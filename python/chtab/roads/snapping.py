@@ -54,9 +54,9 @@ class Spots:
 
     `longitudes`, `latitudes` are the points on the roads in degrees, and `metres` says how far from the places these are. Spot k lies on road
     `roads[k]` at the part `parts[k]` of it (0 at `first`, 1 at `last`). It leaves by the nodes `out_nodes[k]` at the weights
-    `out_weights[k]`, and arrives by `in_nodes[k]` at `in_weights[k]`; `NONE` where there is none. The first half of each of these are nodes
-    of `first`, the second of `last`: one each, or several where turns are restricted. `sides[k]` has the directions in which the road may be
-    driven along at the spot, `FORWARD`, `BACKWARD` or both; the road itself may be closed in one of them.
+    `out_weights[k]`, and arrives by `in_nodes[k]` at `in_weights[k]`, in whole numbers of the graph; `NONE` where there is none. The first half of
+    each of these are nodes of `first`, the second of `last`: one each, or several where turns are restricted. `sides[k]` has the directions in
+    which the road may be driven along at the spot, `FORWARD`, `BACKWARD` or both; the road itself may be closed in one of them.
     """
 
     longitudes: numpy.ndarray
