@@ -87,6 +87,7 @@ def test_nodes_are_whole_numbers():
 @each_way
 def test_limits_are_exact():
     """Past 2^53 too, of each kind of number: what is farther by one is left out, and what is just as far is not."""
+    import decimal
     import fractions
 
     import numpy
@@ -94,7 +95,7 @@ def test_limits_are_exact():
     far = 2**53 + 1
     files.write_graph("far.gr", 3, [(1, 2, far), (2, 3, 1)])
     with chtab.Network.open("far.gr", program=PROGRAM) as network:
-        for within in far, numpy.int64(far), numpy.uint64(far), fractions.Fraction(2 * far + 1, 2):
+        for within in far, numpy.int64(far), numpy.uint64(far), fractions.Fraction(2 * far + 1, 2), decimal.Decimal(far):
             assert network.table([1], [2, 3], within).tolist() == [[far, -1]], repr(within)
             assert network.near([1], [2, 3], within=within).weights.tolist() == [far], repr(within)
         for within in far - 1, float(far - 1), numpy.float64(far - 1), numpy.uint64(far - 1), numpy.float32(far - 1):

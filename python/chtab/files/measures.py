@@ -4,6 +4,7 @@ An answer of w in the graph is w / factor in the caller's unit, as a float. A li
 limit, as those floats compare.
 """
 import datetime
+import decimal
 import math
 import numbers
 from dataclasses import dataclass
@@ -81,7 +82,7 @@ class Measure:
             if self.unit not in TIMES:
                 raise TypeError(f"{name} is a duration, and the network's unit is {self.unit or 'not known'}: {', '.join(TIMES)} are units of time")
             return Fraction(microseconds(given), 1_000 * TIMES[self.unit])
-        if isinstance(given, bool | numpy.bool_) or not isinstance(given, numbers.Real | numpy.integer | numpy.floating):
+        if isinstance(given, bool | numpy.bool_) or not isinstance(given, numbers.Real | decimal.Decimal | numpy.integer | numpy.floating):
             raise TypeError(f"{name} is a number, not {given!r}")
         return given
 
