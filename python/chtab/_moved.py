@@ -1,9 +1,14 @@
 """Modules and classes that documents of version 1.1 named at another place. They go on for one version, with a DeprecationWarning."""
+from __future__ import annotations
+
 import importlib
 import importlib.abc
 import importlib.machinery
 import sys
 import warnings
+from collections.abc import Sequence
+from types import ModuleType
+from typing import Any
 
 MODULES = {
     "chtab.accessibility": "chtab.near.accessibility", "chtab.labels": "chtab.files.node_labels", "chtab.program": "chtab.engine.program",
@@ -13,24 +18,24 @@ MODULES = {
 CLASSES = {"chtab.roads.Roads": "chtab.roads.snapping", "chtab.roads.Spots": "chtab.roads.snapping"}
 
 
-def warn(old, new, level):
+def warn(old: str, new: str, level: int) -> None:
     warnings.warn(f"{old} is {new} now; the old name goes with the next version", DeprecationWarning, stacklevel=level)
 
 
 class Finder(importlib.abc.MetaPathFinder, importlib.abc.Loader):
     """Finds modules by their old names. Such a module has all names of the new one."""
 
-    def find_spec(self, name, path=None, target=None):
+    def find_spec(self, name: str, path: Sequence[str] | None = None, target: ModuleType | None = None) -> importlib.machinery.ModuleSpec | None:
         return importlib.machinery.ModuleSpec(name, self) if name in MODULES else None
 
-    def exec_module(self, module):
+    def exec_module(self, module: ModuleType) -> None:
         new = MODULES[module.__name__]
         warn(module.__name__, new, 3)
         found = vars(importlib.import_module(new))
         vars(module).update((name, value) for name, value in found.items() if not name.startswith("__"))
 
 
-def attribute(package, name):
+def attribute(package: str, name: str) -> Any:
     """What a package had by this name: one of its modules, or a class. An AttributeError where it had none."""
     old = f"{package}.{name}"
     if old in MODULES:

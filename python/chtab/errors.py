@@ -1,6 +1,7 @@
 """What can go wrong. Each error is a `ChtabError`, and its text is one line for a user. Errors go from process to process by pickle."""
+from __future__ import annotations
 
-
+from collections.abc import Iterable, Mapping
 class ChtabError(Exception):
     """An error of this package."""
 
@@ -20,7 +21,7 @@ class DataFault(ChtabError, ValueError):
         The place of the value in the column, from 0 on; None where the column is refused as a whole.
     """
 
-    def __init__(self, text, column="", row=None):
+    def __init__(self, text: str, column: str = "", row: int | None = None) -> None:
         super().__init__(text)
         self.column, self.row = column, row
 
@@ -34,7 +35,7 @@ class TooFar(ChtabError, ValueError):
         The metres from the nearest road or node, by the index of each such place.
     """
 
-    def __init__(self, text, places=()):
+    def __init__(self, text: str, places: Mapping[int, float] | Iterable[tuple[int, float]] = ()) -> None:
         super().__init__(text)
         self.places = dict(places)
 
@@ -54,7 +55,7 @@ class ProgramFault(ChtabError, RuntimeError):
     """
 
     # The defaults are for pickle, which sets the attributes of its own.
-    def __init__(self, text, status=0, line=0, kind="", place=0):
+    def __init__(self, text: str, status: int = 0, line: int = 0, kind: str = "", place: int = 0) -> None:
         super().__init__(text)
         self.status, self.line, self.kind, self.place = status, line, kind, place
 
@@ -63,6 +64,6 @@ class TimedOut(ChtabError, TimeoutError):
     """The program took longer than is allowed, and was ended."""
 
 
-def unasked():
+def unasked() -> ProgramFault:
     """The fault of a run that writes what is no answer to what it was asked."""
     return ProgramFault("chtab wrote what it was not asked for", 0)

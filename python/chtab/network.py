@@ -10,7 +10,7 @@ distance is -1, because columns of int64 have no other number to say so, and amo
 from __future__ import annotations
 
 import os
-from typing import Any, Self
+from typing import TYPE_CHECKING, Any, Self
 
 from numpy.typing import NDArray
 
@@ -24,13 +24,16 @@ from chtab.near.accessibility import Accessibility
 from chtab.near.by_library import near_of
 from chtab.roads.between_nodes import BetweenNodes
 from chtab.roads.between_places import BetweenPlaces
-from chtab.roads.from_arcs import FromArcs, warn_of_scale
+from chtab.roads.from_arcs import warn_of_scale
 from chtab.roads.layers import layers_of
 from chtab.roads.scenarios import Scenarios
 from chtab.roads.trips import Trips
 
+if TYPE_CHECKING:
+    from chtab.engine.folders import Folder
 
-class Network(FromArcs, Scenarios, BetweenNodes, BetweenPlaces, Accessibility):
+
+class Network(Scenarios, BetweenNodes, BetweenPlaces, Accessibility):
     """Answers on one graph. `Network.open` opens one of files; `Network.from_arrays`, `from_frame`, `from_geodataframe`, `from_networkx` and
     `from_sparse` make one of your own arcs.
 
@@ -44,7 +47,7 @@ class Network(FromArcs, Scenarios, BetweenNodes, BetweenPlaces, Accessibility):
     when the network is no longer used, and when the interpreter ends. The last four networks that a process unpickled are used until then.
     """
 
-    def __init__(self, opened: opening.Opening, folder=None, known=None):
+    def __init__(self, opened: opening.Opening, folder: Folder | None = None, known: dict[str, Any] | None = None) -> None:
         if not isinstance(opened, opening.Opening):
             raise TypeError("Network is not called: Network.open(\"roads.gr\") opens files, and Network.from_frame and others make one of arcs")
         self._opened, self._folder = opened, folder
@@ -126,19 +129,19 @@ class Network(FromArcs, Scenarios, BetweenNodes, BetweenPlaces, Accessibility):
             A file can't be opened.
         """
         asked = Asked(unit, scale, raw)
-        running = opening.running_of("open", running, asked, ("saved", "coordinates", "bends", "scale"))
-        network = cls(opening.opening_of(graph, saved, coordinates, bends, running))
+        settings = opening.running_of("open", running, asked, ("saved", "coordinates", "bends", "scale"))
+        network = cls(opening.opening_of(graph, saved, coordinates, bends, settings))
         made = network._layers.labelling
         if made is not None and made.scale is not None and made.unit is None and asked == Asked():
             warn_of_scale(made.scale, 3)
-        network._load(running)
+        network._load(settings)
         return network
 
     def _load(self, running: opening.Running) -> None:
         if running.load:
             self._engine.load()
 
-    def __reduce__(self):
+    def __reduce__(self) -> tuple[Any, ...]:
         return reopened, (self._opened,)
 
     def __repr__(self) -> str:
@@ -210,10 +213,11 @@ class Network(FromArcs, Scenarios, BetweenNodes, BetweenPlaces, Accessibility):
 
 
 # The networks that were unpickled in this process, those of one opening once, so that a pool's tasks don't each begin a run.
-REOPENED, MOST_REOPENED = {}, 4
+REOPENED: dict[opening.Opening, Network] = {}
+MOST_REOPENED = 4
 
 
-def reopened(opened):
+def reopened(opened: opening.Opening) -> Network:
     """The network of an opening, in a process where one was unpickled. Its run starts with the first question."""
     network = REOPENED.pop(opened, None)
     if network is None or network._engine.is_closed:

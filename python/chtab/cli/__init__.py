@@ -3,6 +3,8 @@
 A fault is one line on standard error and status 1. Ctrl-C, SIGTERM and a closed pipe end a command as they end any other, by the
 signal and without a message. What the command had started (children, files that are not whole) is cleared away first.
 """
+from __future__ import annotations
+
 import argparse
 import importlib
 import os
@@ -10,8 +12,13 @@ import pathlib
 import re
 import signal
 import sys
+from collections.abc import Callable, Iterable, Sequence
+from typing import TYPE_CHECKING, Any, NoReturn
 
 from chtab.errors import ChtabError
+
+if TYPE_CHECKING:
+    from chtab.network import Network
 
 
 # The names of the commands, which are those of the modules beside this one.
@@ -24,18 +31,18 @@ class Terminated(BaseException):
     """SIGTERM came. It is raised in the main thread, so that all that was opened is closed."""
 
 
-def raise_terminated(number, frame):
+def raise_terminated(number: int, frame: Any) -> NoReturn:
     """The handler of SIGTERM."""
     raise Terminated
 
 
-def end_by(number):
+def end_by(number: int) -> None:
     """Ends this process by a signal, as its caller expects of a process that a signal ended."""
     signal.signal(number, signal.SIG_DFL)
     os.kill(os.getpid(), number)
 
 
-def as_called(text):
+def as_called(text: str) -> str:
     """A help text as it reads where the commands are installed: there they and the documents have other names."""
     text = re.sub(rf"(?:tools/)?\b({'|'.join(NAMES)})\.py\b", lambda found: "chtab-" + found[1].replace("_", "-"), text)
     return text.replace("./chtab ", "chtab ").replace("docs/", documents())
@@ -44,7 +51,7 @@ def as_called(text):
 class Parser(argparse.ArgumentParser):
     """A parser whose help names the commands as this one was called."""
 
-    def format_help(self):
+    def format_help(self) -> str:
         """The help text, with the names of commands as this one was called."""
         text = super().format_help()
         return as_called(text) if self.prog.startswith("chtab-") else text
@@ -53,12 +60,12 @@ class Parser(argparse.ArgumentParser):
 class Formatter(argparse.RawDescriptionHelpFormatter):
     """Help as a text has it, with headings as the program chtab has them, from which manual pages are made."""
 
-    def add_usage(self, usage, actions, groups, prefix=None):
+    def add_usage(self, usage: Any, actions: Any, groups: Any, prefix: str | None = None) -> None:
         """The forms of the words, below the heading Usage."""
         super().add_usage(usage, actions, groups, "Usage: ")
 
 
-def parser_of(name, about):
+def parser_of(name: str, about: str | None) -> Parser:
     """The parser of a command.
 
     Its help is made of a text: a line on what the command does, lines with the forms of its words, and what there is to know besides. It uses
@@ -67,7 +74,7 @@ def parser_of(name, about):
     called = os.path.basename(sys.argv[0])
     if not called.startswith("chtab-"):
         called = f"{name}.py"
-    does, forms, *rest = about.strip().split("\n\n")
+    does, forms, *rest = (about or "").strip().split("\n\n")
     usage = "\n   or: ".join(form.strip() for form in forms.splitlines())
     examples = next((at for at, part in enumerate(rest) if part.startswith("Example:")), len(rest))
     parser = Parser(
@@ -77,42 +84,42 @@ def parser_of(name, about):
     return parser
 
 
-def documents():
+def documents() -> str:
     """What comes before the name of a document: the folder where it was installed along with the package, and else its folder of a checkout."""
     package = os.path.dirname(os.path.dirname(os.path.realpath(__file__)))
     folder = os.path.abspath(os.path.join(package, "../../../../share/doc/chtab/docs"))
     return f"{folder}/" if os.path.isdir(folder) else "docs/"
 
 
-def add_network(parser):
+def add_network(parser: argparse.ArgumentParser) -> None:
     """The words of a command that opens a network and takes places to its roads."""
     add_max_metres(parser, "road")
     add_runs(parser)
     parser.add_argument("out", metavar="OUT", help="the network: OUT.gr, OUT.co and, if it exists, OUT.bends")
 
 
-def add_max_metres(parser, what):
+def add_max_metres(parser: argparse.ArgumentParser, what: str) -> None:
     """The option of a command that refuses places which lie too far from each road, or each node."""
     parser.add_argument(
         "--max-metres", type=float, default=1_000, metavar="M", help=f"refuse a place that is more than M metres from each {what} (1,000)"
     )
 
 
-def add_runs(parser):
+def add_runs(parser: argparse.ArgumentParser) -> None:
     """The words of a command that runs the program."""
     parser.add_argument("--saved", metavar="FILE", help=SAVED)
     parser.add_argument("--workers", type=int, default=1, metavar="W", help="threads of the program, 1 to 64 (1)")
     parser.add_argument("--program", metavar="FILE", help="the program chtab, if it is neither beside this command nor on the path")
 
 
-def open_network(words):
+def open_network(words: argparse.Namespace) -> Network:
     """The network of such words, of which one kind of question is asked."""
     from chtab.network import Network
 
     return Network.open(words.out + ".gr", words.saved, program=words.program, workers=words.workers, load=False)
 
 
-def ask_for(needs):
+def ask_for(needs: Iterable[str]) -> None:
     """Ends the command where one of these modules is missing."""
     for module in needs:
         try:
@@ -121,7 +128,7 @@ def ask_for(needs):
             raise ChtabError(f"{module} is missing (Debian's package python3-{module})") from None
 
 
-def run(name, main, needs=()):
+def run(name: str, main: Callable[[Sequence[str]], object], needs: Iterable[str] = ()) -> None:
     """Runs a command on its arguments, and ends the process where it doesn't end well. `needs` are the modules without
     which it can do nothing but tell of itself."""
     signal.signal(signal.SIGTERM, raise_terminated)

@@ -13,15 +13,19 @@ Dask makes its block again. If a block fails, the fault names it, no more blocks
 
 Example:  tools/blocks.py --processes 2 roads.gr from.ss to.ss table.csv
 """
+from __future__ import annotations
+
+import argparse
 import logging
 import os
+from collections.abc import Sequence
 
 from chtab import cli, files
 from chtab.engine import asking, blocks
 from chtab.engine.program import program_of
 
 
-def words_of(words):
+def words_of(arguments: Sequence[str]) -> argparse.Namespace:
     """Reads the arguments. Those that are refused end the process with status 2."""
     parser = cli.parser_of("blocks", __doc__)
     parser.add_argument("--side", type=int, metavar="K", help="make blocks of K by K cells, 1 to 2,048 (as large as a table may be)")
@@ -34,15 +38,15 @@ def words_of(words):
         ("out", "OUT", "OUT.csv or OUT.npy"),
     ):
         parser.add_argument(name, metavar=shown, help=told)
-    words = parser.parse_args(words)
+    words = parser.parse_args(arguments)
     if not (1 <= (words.side or 1) <= 2_048 and words.processes >= 1):
         parser.error("a side is from 1 to 2,048, and there is at least one process")
     return words
 
 
-def main(words):
+def main(arguments: Sequence[str]) -> None:
     """Makes the table that the words ask for, and prints how large it is."""
-    words = words_of(words)
+    words = words_of(arguments)
     saved = os.path.abspath(words.saved) if words.saved else None
     setting = asking.Setting(program_of(words.program), os.path.abspath(words.graph), saved, words.workers, within=words.within)
     if words.scheduler:
@@ -53,6 +57,6 @@ def main(words):
     print(f"{len(sources):,} by {len(targets):,} cells in {words.out}, from {count:,} blocks")
 
 
-def command():
+def command() -> None:
     """Runs this command on the words that the process was called with."""
     cli.run("blocks", main)

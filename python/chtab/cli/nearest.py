@@ -14,7 +14,11 @@ lie at one point, the one with the least number is taken. From Python, `chtab.Ne
 
 Example:  echo "9.5209 47.1410 Vaduz" | tools/nearest.py roads.co
 """
+from __future__ import annotations
+
+import argparse
 import sys
+from collections.abc import Sequence
 
 from chtab import cli, files
 from chtab.engine.progress import Progress
@@ -25,7 +29,7 @@ from chtab.roads import nearest
 MANY = 1_000
 
 
-def words_of(words):
+def words_of(arguments: Sequence[str]) -> argparse.Namespace:
     """Reads the arguments. Those that are refused end the process with status 2."""
     parser = cli.parser_of("nearest", __doc__)
     kinds = parser.add_mutually_exclusive_group()
@@ -36,13 +40,14 @@ def words_of(words):
     cli.add_max_metres(parser, "node")
     parser.add_argument("coordinates", metavar="OUT.co", help="the coordinates of the nodes")
     parser.add_argument("places", metavar="PLACES", nargs="?", help="the file of places (standard input)")
-    return parser.parse_intermixed_args(words)
+    return parser.parse_intermixed_args(arguments)
 
 
-def found_at(places, coordinates, words):
+def found_at(places: Sequence[files.Place], coordinates: files.Coordinates, words: argparse.Namespace) -> tuple[list[int], list[str]]:
     """The node of each place and the comment that tells of it. Targets of queries, and of --targets, are the nodes where trips end."""
     index = nearest.index_of(coordinates, words.plain)
-    nodes, notes, ends = [], [], coordinates.ends() if words.queries or words.targets else {}
+    nodes: list[int] = []
+    notes, ends = [], coordinates.ends() if words.queries or words.targets else {}
     with Progress("nearest", len(places), "places") as progress:
         for start in range(0, len(places), MANY):
             part = places[start:start + MANY]
@@ -59,9 +64,9 @@ def found_at(places, coordinates, words):
     return nodes, notes
 
 
-def main(words):
+def main(arguments: Sequence[str]) -> None:
     """Writes the list or the queries that the words ask for to standard output."""
-    words = words_of(words)
+    words = words_of(arguments)
     coordinates = files.read_coordinates(words.coordinates)
     if words.all:
         return files.write_list(sys.stdout, coordinates.known())
@@ -75,6 +80,6 @@ def main(words):
         files.write_list(sys.stdout, nodes, notes)
 
 
-def command():
+def command() -> None:
     """Runs this command on the words that the process was called with."""
     cli.run("nearest", main)

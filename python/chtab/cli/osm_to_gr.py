@@ -15,8 +15,11 @@ docs/MAPS.md says what becomes a road, for whom and how fast. Lengths are those 
 
 Example:  tools/osm_to_gr.py liechtenstein.osm.bz2 roads
 """
+from __future__ import annotations
+
 import argparse
 import sys
+from collections.abc import Sequence
 
 from chtab import cli, files
 from chtab.maps import converting, profiles
@@ -24,7 +27,7 @@ from chtab.maps import converting, profiles
 UNITS = {"time": "milliseconds", "metres": "metres"}
 
 
-def part_of(word):
+def part_of(word: str) -> str | int:
     """`all`, `largest` or a rank."""
     if word in ("all", "largest"):
         return word
@@ -33,7 +36,7 @@ def part_of(word):
     return int(word)
 
 
-def words_of(words):
+def words_of(arguments: Sequence[str]) -> argparse.Namespace:
     """Reads the arguments. Those that are refused end the process with status 2."""
     parser = cli.parser_of("osm_to_gr", __doc__)
     parser.add_argument("--profile", choices=profiles.NAMES, default="car", help="who travels, which decides on ways, access, barriers and speeds (car)")
@@ -58,12 +61,12 @@ def words_of(words):
         help="OpenStreetMap's XML, plain or packed (.gz, .bz2, .xz), or .osm.pbf (by Debian's package python3-pyosmium); - is standard input",
     )
     parser.add_argument("out", metavar="OUT", help="the files that are written, without their suffix")
-    return parser.parse_args(words)
+    return parser.parse_args(arguments)
 
 
-def main(words):
+def main(arguments: Sequence[str]) -> None:
     """Makes the graph that the words ask for, and reports what was left out of the map."""
-    words = words_of(words)
+    words = words_of(arguments)
     choices = converting.Choices(**{name: getattr(words, name) for name in converting.Choices._fields})
     made, report = converting.convert(words.map, choices, not words.quiet, words.log is not None)
     names = converting.write(words.out, made, converting.comments_of(words.map, choices), UNITS[words.metric])
@@ -75,6 +78,6 @@ def main(words):
     print(f"{len(made.names):,} nodes and {len(made.arcs):,} arcs in {', '.join(names[:-1])} and {names[-1]}")
 
 
-def command():
+def command() -> None:
     """Runs this command on the words that the process was called with."""
     cli.run("osm_to_gr", main)

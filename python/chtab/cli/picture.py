@@ -19,7 +19,11 @@ The picture has minutes or kilometres if a comment of OUT.gr says that weights a
 
 Example:  ./chtab table --within 600000 roads.gr from.ss all.ss | tools/picture.py reach roads --limit 600000 all.ss > reach.svg
 """
+from __future__ import annotations
+
+import argparse
 import sys
+from collections.abc import Sequence
 
 from chtab import cli, files
 from chtab.roads import picture
@@ -28,7 +32,7 @@ from chtab.roads import picture
 FILES = {"network": (), "routes": ("TEXT",), "reach": ("TARGETS.ss", "TEXT"), "near": ("TEXT",)}
 
 
-def words_of(words):
+def words_of(arguments: Sequence[str]) -> argparse.Namespace:
     """Reads the arguments. Those that are refused end the process with status 2."""
     parser = cli.parser_of("picture", __doc__)
     parser.add_argument("--size", type=int, default=800, metavar="P", help="pixels of the longer side of the map (800)")
@@ -40,7 +44,7 @@ def words_of(words):
     parser.add_argument("kind", choices=FILES, help="what is drawn")
     parser.add_argument("out", metavar="OUT", help="the network")
     parser.add_argument("files", metavar="FILE", nargs="*", help="what the kind of picture needs, as above")
-    words = parser.parse_intermixed_args(words)
+    words = parser.parse_intermixed_args(arguments)
     takes = FILES[words.kind]
     if not max(0, len(takes) - 1) <= len(words.files) <= len(takes):
         parser.error(f"after OUT, {words.kind} takes {' '.join(takes) or 'no file'}")
@@ -50,7 +54,7 @@ def words_of(words):
     return words
 
 
-def reach_of(words):
+def reach_of(words: argparse.Namespace) -> tuple[int, dict[int, int]]:
     """The source of a row of a table, and the weight to each node that is reached."""
     targets = files.read_list(words.files[0])
     rows = list(files.read_rows(words.text, len(targets)))
@@ -60,13 +64,14 @@ def reach_of(words):
     return source, {node: cell for node, cell in zip(targets, cells) if cell is not None}
 
 
-def main(words):
+def main(arguments: Sequence[str]) -> None:
     """Writes the picture that the words ask for to standard output."""
-    words = words_of(words)
+    words = words_of(arguments)
     network = picture.Network(files.read_graph(words.out + ".gr"), files.read_coordinates(words.out + ".co"), words.size)
     names = files.read_names(words.names) if words.names else {}
+    legend: picture.Legend = []
     if words.kind == "network":
-        shapes, legend = picture.roads(network), []
+        shapes = picture.roads(network)
     elif words.kind == "routes":
         shapes, legend = picture.draw_routes(network, list(files.read_routes(words.text)), names)
     elif words.kind == "near":
@@ -77,6 +82,6 @@ def main(words):
     picture.write(network, words.title, shapes, legend, sys.stdout)
 
 
-def command():
+def command() -> None:
     """Runs this command on the words that the process was called with."""
     cli.run("picture", main)

@@ -13,15 +13,18 @@ It needs Debian's packages python3-numpy, python3-scipy and python3-shapely. Fro
 
 Example:  echo "9.5209 47.1410 Vaduz" | tools/reach.py --limits 300000,600000 roads > reach.geojson
 """
+from __future__ import annotations
+
 import argparse
 import itertools
 import json
 import sys
+from collections.abc import Sequence
 
 from chtab import cli, files
 
 
-def limits_of(word):
+def limits_of(word: str) -> list[int]:
     """Whole numbers above 0 with commas between them."""
     parts = word.split(",")
     if not all(part.isdecimal() and 0 < int(part) <= 2**60 for part in parts):
@@ -29,18 +32,18 @@ def limits_of(word):
     return [int(part) for part in parts]
 
 
-def words_of(words):
+def words_of(arguments: Sequence[str]) -> argparse.Namespace:
     """Reads the arguments. Those that are refused end the process with status 2."""
     parser = cli.parser_of("reach", __doc__)
     parser.add_argument("--limits", type=limits_of, required=True, metavar="R,R..", help="limits in the graph's unit, from 1 to 2^60")
     cli.add_network(parser)
     parser.add_argument("place", metavar="PLACE", nargs="?", help="the file with the place (standard input)")
-    return parser.parse_intermixed_args(words)
+    return parser.parse_intermixed_args(arguments)
 
 
-def main(words):
+def main(arguments: Sequence[str]) -> None:
     """Writes the polygons that the words ask for to standard output."""
-    words = words_of(words)
+    words = words_of(arguments)
     places = list(itertools.islice(files.read_places(words.place or sys.stdin), 1))
     if not places:
         raise files.FileFault("there is no place to begin at")
@@ -53,6 +56,6 @@ def main(words):
     sys.stdout.write("\n")
 
 
-def command():
+def command() -> None:
     """Runs this command on the words that the process was called with."""
     cli.run("reach", main, needs=("numpy", "scipy", "shapely"))

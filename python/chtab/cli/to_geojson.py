@@ -11,13 +11,21 @@ TEXT is what chtab wrote (standard input if you leave it out). The result goes t
 
 Example:  ./chtab dist --routes roads.gr trip.p2p | tools/to_geojson.py routes roads.co > trip.geojson
 """
+from __future__ import annotations
+
+import argparse
 import sys
+from collections.abc import Mapping, Sequence
+from typing import IO, TYPE_CHECKING
 
 from chtab import cli, files
 from chtab.files import geojson
 
+if TYPE_CHECKING:
+    from chtab.typing import Path, Source
 
-def words_of(words):
+
+def words_of(arguments: Sequence[str]) -> argparse.Namespace:
     """Reads the arguments. Those that are refused end the process with status 2."""
     parser = cli.parser_of("to_geojson", __doc__)
     parser.add_argument(
@@ -26,12 +34,12 @@ def words_of(words):
     parser.add_argument("kind", choices=("routes", "table"), help="what TEXT holds")
     parser.add_argument("file", metavar="FILE", help="OUT.co of routes, TARGETS.ss of a table")
     parser.add_argument("text", metavar="TEXT", nargs="?", help="the text (standard input)")
-    return parser.parse_intermixed_args(words)
+    return parser.parse_intermixed_args(arguments)
 
 
-def write_table(path, names, text, out):
+def write_table(path: Path, names: Mapping[int, str], text: Source, out: IO[str]) -> None:
     """Writes a table as CSV. `path` names the list of its targets, `names` has the names of nodes."""
-    def called(node):
+    def called(node: int) -> str | int:
         return names.get(node, node)
 
     targets = files.read_list(path)
@@ -39,9 +47,9 @@ def write_table(path, names, text, out):
     files.write_csv(out, map(called, targets), rows)
 
 
-def main(words):
+def main(arguments: Sequence[str]) -> None:
     """Writes the text that the words name to standard output, as GeoJSON or CSV."""
-    words = words_of(words)
+    words = words_of(arguments)
     names = files.read_names(words.names) if words.names else {}
     text = words.text or sys.stdin
     if words.kind == "routes":
@@ -50,6 +58,6 @@ def main(words):
         write_table(words.file, names, text, sys.stdout)
 
 
-def command():
+def command() -> None:
     """Runs this command on the words that the process was called with."""
     cli.run("to_geojson", main)

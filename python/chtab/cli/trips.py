@@ -13,15 +13,25 @@ Example:  tools/trips.py roads places.txt
 
 It needs Debian's packages python3-numpy and python3-scipy. From Python, `chtab.Network` does the same.
 """
+from __future__ import annotations
+
+import argparse
 import csv
 import json
 import sys
+from collections.abc import Sequence
+from typing import IO, TYPE_CHECKING
 
 from chtab import cli, files
 from chtab.files import geojson
 
+if TYPE_CHECKING:
+    from chtab.roads.routes import Trip
+    from chtab.roads.snapping import Spots
+    from chtab.typing import Integers
 
-def words_of(words):
+
+def words_of(arguments: Sequence[str]) -> argparse.Namespace:
     """Reads the arguments. Those that are refused end the process with status 2."""
     parser = cli.parser_of("trips", __doc__)
     kinds = parser.add_mutually_exclusive_group()
@@ -29,10 +39,10 @@ def words_of(words):
     kinds.add_argument("--geojson", action="store_true", help="write a line for each trip that has a way, with both names, its weight and its metres")
     cli.add_network(parser)
     parser.add_argument("places", metavar="PLACES", nargs="?", help="the places (standard input)")
-    return parser.parse_intermixed_args(words)
+    return parser.parse_intermixed_args(arguments)
 
 
-def write_trips(places, spots, weights, out):
+def write_trips(places: Sequence[files.Place], spots: Spots, weights: Integers, out: IO[str]) -> None:
     """A line for each trip, from place 2 k to place 2 k + 1."""
     lines = csv.writer(out, lineterminator="\n")
     lines.writerow(["from", "to", "weight", "from_metres", "to_metres"])
@@ -42,13 +52,13 @@ def write_trips(places, spots, weights, out):
         lines.writerow([places[start].told(), places[end].told(), "" if weight < 0 else weight, metres[start], metres[end]])
 
 
-def write_table(names, table, out):
+def write_table(names: Sequence[str], table: Integers, out: IO[str]) -> None:
     """Writes a table of all places as CSV, by their names, with an empty cell where there is no way."""
     rows = ((name, [None if weight < 0 else weight for weight in row]) for name, row in zip(names, table.tolist()))
     files.write_csv(out, names, rows)
 
 
-def write_lines(places, trips, out):
+def write_lines(places: Sequence[files.Place], trips: Sequence[Trip], out: IO[str]) -> None:
     """A feature for each trip that has a way."""
     ends = zip(places[::2], places[1::2])
     features = [trip.to_geojson({"from": start.told(), "to": end.told()}) for (start, end), trip in zip(ends, trips) if trip.line]
@@ -56,9 +66,9 @@ def write_lines(places, trips, out):
     out.write("\n")
 
 
-def main(words):
+def main(arguments: Sequence[str]) -> None:
     """Writes the trips that the words ask for to standard output."""
-    words = words_of(words)
+    words = words_of(arguments)
     places = list(files.read_places(words.places or sys.stdin))
     if len(places) % 2 and not words.table:
         raise files.FileFault("a trip needs two places, and the last line has no second")
@@ -72,6 +82,6 @@ def main(words):
             write_trips(places, spots, network.trips(spots[::2], spots[1::2]), sys.stdout)
 
 
-def command():
+def command() -> None:
     """Runs this command on the words that the process was called with."""
     cli.run("trips", main, needs=("numpy", "scipy"))

@@ -4,13 +4,19 @@ A question goes between two guards. A guard is a query from a node to itself, wh
 answer that belongs to another question is found out before a number of it is used. Within the guards each line is matched too: the ends of a
 distance, the arcs of a route, the source of a row and the number of its cells. What doesn't match is a `ProgramFault`.
 """
+from __future__ import annotations
+
 import abc
 import re
 import secrets
-from typing import NamedTuple
+from collections.abc import Iterable, Sequence
+from typing import TYPE_CHECKING, Any, NamedTuple
 
 from chtab import files
 from chtab.errors import unasked
+
+if TYPE_CHECKING:
+    from chtab.typing import Integers
 
 # The weight of what no walk leads to.
 NO_WALK = -1
@@ -33,11 +39,11 @@ class Question(abc.ABC):
         How often it has the mark.
     """
 
-    def __init__(self, request, mark, count):
+    def __init__(self, request: bytes, mark: bytes, count: int) -> None:
         self.request, self.mark, self.count = request, mark, count
 
     @abc.abstractmethod
-    def value_of(self, text):
+    def value_of(self, text: bytes) -> Any:
         """The value of the answer, from its whole text. Where that is the answer to another question, that is a `ProgramFault`."""
 
 
@@ -48,7 +54,7 @@ class Guard(NamedTuple):
     answer: bytes
 
 
-def guard(nodes):
+def guard(nodes: int) -> Guard:
     """A guard at one of the nodes from 1 to `nodes`."""
     node = 1 + secrets.randbelow(nodes)
     return Guard(b"q %d %d\n" % (node, node), b"d %d %d 0\n" % (node, node))
@@ -65,14 +71,14 @@ class Answer:
         How many nodes the graph of the run has, at least 1.
     """
 
-    def __init__(self, question, nodes):
+    def __init__(self, question: Question, nodes: int) -> None:
         self.question, self.text = question, bytearray()
         before, behind = guard(nodes), guard(nodes)
         self.request = before.request + question.request + behind.request
         self.before, self.behind = before.answer, behind.answer
         self.lacks = question.count + (self.before + self.behind).count(question.mark)
 
-    def feed(self, chunk):
+    def feed(self, chunk: bytes) -> None:
         """Takes what came next. Where it can't become the answer that is due, that is a `ProgramFault`."""
         self.text += chunk
         self.lacks -= chunk.count(self.question.mark)
@@ -80,21 +86,21 @@ class Answer:
         if begun != self.before[:len(begun)] or self.lacks < 0 or not (self.lacks or self.behind.startswith(self.end())):
             raise unasked()
 
-    def end(self):
+    def end(self) -> bytes:
         """What came from the last distance on, which answers the guard behind where no mark is lacking."""
         return bytes(self.text[self.text.rindex(b"d"):])
 
     @property
-    def is_whole(self):
+    def is_whole(self) -> bool:
         """Whether all of it came."""
         return not self.lacks and len(self.end()) == len(self.behind)
 
-    def value(self):
+    def value(self) -> Any:
         """The value of the whole answer."""
         return self.question.value_of(bytes(self.text[len(self.before):-len(self.behind)]))
 
 
-def request_lines(kind, pairs):
+def request_lines(kind: str, pairs: Iterable[Sequence[int]]) -> bytes:
     """A request of a kind for each pair: `q` for a distance, `r` for a route."""
     return "".join([f"{kind} {start} {end}\n" for start, end in pairs]).encode()
 
@@ -102,11 +108,11 @@ def request_lines(kind, pairs):
 class Distances(Question):
     """Asks for the distances of pairs of nodes, an array (n, 2) of int64. The value is their weights, int64 (n,), -1 where there is no walk."""
 
-    def __init__(self, pairs):
+    def __init__(self, pairs: Integers) -> None:
         super().__init__(request_lines("q", pairs.tolist()), b"\n", len(pairs))
         self.pairs = pairs
 
-    def value_of(self, text):
+    def value_of(self, text: bytes) -> Integers:
         if not DISTANCES.fullmatch(text):
             raise unasked()
         rows = numbers(text, 3)
@@ -118,28 +124,29 @@ class Distances(Question):
 class Routes(Question):
     """Asks for the routes of pairs of nodes. The value is a list of `files.Answer`."""
 
-    def __init__(self, pairs):
+    def __init__(self, pairs: Iterable[Sequence[int]]) -> None:
         self.pairs = list(pairs)
         super().__init__(request_lines("r", self.pairs), b"d", len(self.pairs))
 
-    def value_of(self, text):
+    def value_of(self, text: bytes) -> list[files.Answer]:
         if not ROUTES.fullmatch(text):
             raise unasked()
-        found, at, letters = [], 0, []
+        found: list[files.Answer] = []
+        at, letters = 0, []
         words = numbers(text, 1)[:, 0]
         for pair in self.pairs:
             answer, at = route_at(words, at)
             if [answer.source, answer.target] != list(pair):
                 raise unasked()
             found.append(answer)
-            letters.append("d" if answer.nodes is None else "dr" + "a" * len(answer.weights))
+            letters.append("d" if answer.nodes is None else "dr" + "a" * len(answer.weights or ()))
         # Numbers are taken as they come; each has to stand in a line of its kind.
         if at != len(words) or text.translate(None, b"0123456789 -\n") != "".join(letters).encode():
             raise unasked()
         return found
 
 
-def route_at(words, at):
+def route_at(words: Integers, at: int) -> tuple[files.Answer, int]:
     """The answer to one query, whose numbers stand from a place on, and where the next ones do. The arcs have to lead from its source to its
     target, and weigh what it says."""
     if at + 3 > len(words):
@@ -161,13 +168,13 @@ def route_at(words, at):
 class Table(Question):
     """Asks for a table, which leaves out what is above the limit. The value is its text: a row for each source."""
 
-    def __init__(self, sources, targets, limit=None):
+    def __init__(self, sources: Sequence[int], targets: Sequence[int], limit: int | None = None) -> None:
         self.sources, self.width, self.limit = list(sources), len(targets), limit
         nodes = "".join([f"s {node}\n" for part in (self.sources, targets) for node in part])
         own = "" if limit is None else f" {limit}"
         super().__init__(f"t {len(self.sources)} {self.width}{own}\n{nodes}".encode(), b"\n", len(self.sources))
 
-    def value_of(self, text):
+    def value_of(self, text: bytes) -> bytes:
         if not ROWS.fullmatch(text) or text.count(b"\n") != len(self.sources):
             raise unasked()
         for source, row in zip(self.sources, text.split(b"\n")):
@@ -182,7 +189,7 @@ class Tables(Question):
     """Asks for several small tables, each a pair of lists of nodes. The value is all their cells in one column,
     int64, row after row, -1 where there is no walk."""
 
-    def __init__(self, parts):
+    def __init__(self, parts: Sequence[tuple[Sequence[int], Sequence[int]]]) -> None:
         import numpy
 
         lines = [f"t {len(sources)} {len(targets)}\n" + "".join([f"s {node}\n" for node in (*sources, *targets)]) for sources, targets in parts]
@@ -190,7 +197,7 @@ class Tables(Question):
         self.widths = numpy.array([len(targets) for sources, targets in parts for _ in sources], numpy.int64)
         super().__init__("".join(lines).encode(), b"\n", len(self.heads))
 
-    def value_of(self, text):
+    def value_of(self, text: bytes) -> Integers:
         import numpy
 
         if not ROWS.fullmatch(text):
@@ -206,12 +213,12 @@ class Tables(Question):
         return numpy.delete(words, firsts)
 
 
-def most_of(text):
+def most_of(text: bytes) -> int:
     """The largest cell of a table's text, 0 where there is none."""
     return max(map(int, re.findall(rb" (\d+)(?= |$)", re.sub(rb"^t \d+", b"", text, flags=re.MULTILINE), re.MULTILINE)), default=0)
 
 
-def numbers(text, width):
+def numbers(text: bytes, width: int) -> Integers:
     """The numbers of lines that were matched, int64 (n, width), -1 for `-`."""
     import numpy
 

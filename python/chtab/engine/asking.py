@@ -1,15 +1,23 @@
 """What is asked of the program: distances, routes and tables, by runs of `chtab ask` that are kept."""
+from __future__ import annotations
+
 import collections
 import contextlib
 import os
 import threading
+from collections.abc import Callable, Iterator, Sequence
 from dataclasses import dataclass
+from typing import TYPE_CHECKING, Any, TypeAlias
 
 from chtab import files
 from chtab.engine import answers, deadlines, forks
 from chtab.engine.child import Child, see_to
 from chtab.engine.stamps import Stamps
 from chtab.errors import ChtabError, ProgramFault
+
+if TYPE_CHECKING:
+    from chtab.engine.walks import Walks
+    from chtab.typing import Integers
 
 # Queries that are sent together: for distances, and for routes, which are as long as they have arcs.
 MANY, FEW = 1 << 16, 1 << 10
@@ -45,19 +53,19 @@ class Setting:
     runs: int = 1
     within: int | None = None
 
-    def command(self):
+    def command(self) -> list[str]:
         """The words of a run that answers requests."""
         return [self.program, "ask", "--deep", *self.words(), self.graph]
 
-    def near_command(self, options, lists):
+    def near_command(self, options: Sequence[str], lists: Sequence[str]) -> list[str]:
         """The words of a run that tells near rows of the nodes in these files."""
         return [self.program, "near", *options, *self.words(), self.graph, *lists]
 
-    def stamps(self):
+    def stamps(self) -> Stamps:
         """What tells the files from those that are written in their place later."""
         return Stamps(self.graph, self.saved)
 
-    def words(self):
+    def words(self) -> list[str]:
         """The options of each run: its threads and its hierarchy."""
         saved = () if self.saved is None else ("--saved", self.saved)
         return ["--workers", str(self.workers), *saved]
@@ -69,13 +77,14 @@ class Run:
     The child is begun by the first question. One whose exchange was broken off is ended before the next question, and another is begun.
     """
 
-    def __init__(self, engine):
+    def __init__(self, engine: Engine) -> None:
         self.setting, self.nodes, self.stamps, self.tally = engine.setting, engine.nodes, engine.stamps, engine.tally
         # The thread that holds the lock may come again: the handler of a signal asks, or closes, in the middle of a question.
-        self.lock, self.is_held, self.child, self.is_killed = threading.RLock(), False, None, False
+        self.lock, self.is_held, self.is_killed = threading.RLock(), False, False
+        self.child: Child | None = None
 
     @contextlib.contextmanager
-    def held(self):
+    def held(self) -> Iterator[None]:
         """Holds the lock for a question. One in the middle of another is refused."""
         with self.lock:
             if self.is_held:
@@ -86,34 +95,34 @@ class Run:
             finally:
                 self.is_held = False
 
-    def ask(self, question):
+    def ask(self, question: answers.Question | None) -> Any:
         """The value of the answer to a question, or of None when the child has loaded."""
         if self.child is not None and (self.child.is_busy or not self.child.is_open):
             self.child.close()
             self.child = None
-        if self.child is None:
-            self.begin()
+        child = self.begin() if self.child is None else self.child
         with deadlines.uncounted():
-            self.child.load()
-        return None if question is None else self.child.ask(question, deadlines.current(self.setting.timeout))
+            child.load()
+        return None if question is None else child.ask(question, deadlines.current(self.setting.timeout))
 
-    def begin(self):
+    def begin(self) -> Child:
         """Begins a child."""
         self.stamps.see_that_same()
-        self.child = Child(self.setting.command(), self.nodes)
+        self.child = child = Child(self.setting.command(), self.nodes)
         self.tally["begun"] += 1
         if self.is_killed:
-            self.child.close()
+            child.close()
             raise ChtabError(CLOSED)
+        return child
 
-    def kill(self):
+    def kill(self) -> None:
         """Ends the child at once. A question that is under way fails."""
         self.is_killed = True
         child = self.child
         if child is not None:
             child.kill()
 
-    def end(self):
+    def end(self) -> None:
         """Ends the child that was killed, once the question that is under way has failed."""
         with self.lock:
             # A question of this thread itself ends it.
@@ -131,7 +140,7 @@ class Engine:
     A run belongs to the process that began it. A process that was forked begins runs of its own, and leaves those of its parent alone.
     """
 
-    def __init__(self, setting):
+    def __init__(self, setting: Setting) -> None:
         see_to(setting.program)
         if setting.saved is not None:
             # The program doesn't name a file that it can't open; this fault does, as that of the graph.
@@ -141,43 +150,45 @@ class Engine:
         self.leave_parent()
         forks.follow(self)
 
-    def leave_parent(self):
+    def leave_parent(self) -> None:
         """Begins with no run, and with a lock that nobody holds: in a process that was forked too."""
-        self.lock, self.runs = threading.RLock(), []
-        self.owner, self.tally = os.getpid(), collections.Counter()
+        self.lock = threading.RLock()
+        self.runs: list[Run] = []
+        self.owner = os.getpid()
+        self.tally: collections.Counter[str] = collections.Counter()
 
-    def load(self):
+    def load(self) -> None:
         """Begins a run, so that a file that is refused is told now. Of a graph without nodes nothing can be asked."""
         if self.nodes:
             self.ask(None)
 
-    def distances(self, pairs):
+    def distances(self, pairs: Integers) -> Integers:
         """The distances of pairs of nodes, an array (n, 2): int64 (n,), -1 where there is no walk."""
         return self.ask(answers.Distances(pairs))
 
-    def routes(self, pairs):
+    def routes(self, pairs: Sequence[Sequence[int]]) -> list[files.Answer]:
         """The routes of pairs of nodes, as a list of `files.Answer`."""
         return self.ask(answers.Routes(pairs))
 
-    def walks(self, pairs):
+    def walks(self, pairs: Integers) -> Walks:
         """The same, of pairs in an array (n, 2), as `walks.Walks`."""
         from chtab.engine.walks import WalkQuestion
 
         return self.ask(WalkQuestion(pairs))
 
-    def table(self, sources, targets, within=None):
+    def table(self, sources: Sequence[int], targets: Sequence[int], within: int | None = None) -> bytes:
         """What `chtab table` writes for these lists of nodes, with this limit or that of the setting."""
         return self.ask(answers.Table(sources, targets, self.setting.within if within is None else within))
 
-    def cells(self, sources, targets, within=None):
+    def cells(self, sources: Integers, targets: Integers, within: int | None = None) -> Integers:
         """The numbers of the same, of nodes in columns: int64 (k, l), -1 where there is no walk or a cell is left out."""
         return answers.numbers(self.table(sources.tolist(), targets.tolist(), within), 1 + len(targets))[:, 1:]
 
-    def tables(self, parts):
+    def tables(self, parts: Sequence[tuple[Sequence[int], Sequence[int]]]) -> Integers:
         """The cells of several small tables, pairs of lists of nodes, in one column."""
         return self.ask(answers.Tables(parts))
 
-    def ask(self, question):
+    def ask(self, question: answers.Question | None) -> Any:
         """The value of the answer to a question."""
         if self.owner != os.getpid():
             self.leave_parent()
@@ -192,7 +203,7 @@ class Engine:
                     raise ChtabError(CLOSED) from None
                 raise
 
-    def run_for_question(self):
+    def run_for_question(self) -> Run:
         """A run that nobody asks, or a new one, or the one that was chosen longest ago."""
         with self.lock:
             if self.is_closed:
@@ -204,16 +215,16 @@ class Engine:
             return run
 
     @property
-    def begun(self):
+    def begun(self) -> int:
         """How many programs were begun in this process."""
         return self.tally["begun"]
 
-    def living(self):
+    def living(self) -> int:
         """How many runs have a program that answers."""
         children = [run.child for run in list(self.runs)]
         return sum(child is not None and child.is_open and child.process.poll() is None for child in children)
 
-    def close(self):
+    def close(self) -> None:
         """Ends all runs. A call that is under way in another thread fails."""
         if self.owner != os.getpid():
             self.leave_parent()
@@ -224,8 +235,8 @@ class Engine:
             run.kill()
             run.end()
 
-    def __enter__(self):
+    def __enter__(self) -> Engine:
         return self
 
-    def __exit__(self, *_):
+    def __exit__(self, *_: object) -> None:
         self.close()

@@ -1,5 +1,7 @@
 """Tables of any size, in blocks, by several runs of the program on this machine or on those of a Dask cluster. Each run is kept, and makes
 one block after the other."""
+from __future__ import annotations
+
 import concurrent.futures
 import contextlib
 import os
@@ -8,12 +10,17 @@ import queue
 import tempfile
 import threading
 import zipfile
+from collections.abc import Iterator, Sequence
 from dataclasses import dataclass
+from typing import TYPE_CHECKING, Any
 
 from chtab import files
 from chtab.engine import asking
 from chtab.engine.progress import Progress
 from chtab.errors import ChtabError, ProgramFault
+
+if TYPE_CHECKING:
+    from chtab.typing import Path
 
 # The limits of one table: its cells, and the length of each list.
 CELLS, LENGTH = 2**22, 2**16
@@ -35,15 +42,15 @@ class Block:
 
     row: int
     column: int
-    sources: list
-    targets: list
+    sources: Any
+    targets: Any
 
-    def name(self):
+    def name(self) -> str:
         row, column = self.row, self.column
         return f"sources {row + 1} to {row + len(self.sources)}, targets {column + 1} to {column + len(self.targets)}"
 
 
-def sides(height, width, side=None):
+def sides(height: int, width: int, side: int | None = None) -> tuple[int, int]:
     """How many sources and targets a block has: `side` of each, or as many as the limits of a table let it have."""
     if side is not None:
         return side, side
@@ -51,7 +58,7 @@ def sides(height, width, side=None):
     return rows, max(1, min(width, LENGTH, CELLS // rows))
 
 
-def cut(sources, targets, side=None):
+def cut(sources: Any, targets: Any, side: int | None = None) -> Iterator[Block]:
     """The blocks of a table, row of blocks by row of blocks."""
     height, width = sides(len(sources), len(targets), side)
     for row in range(0, len(sources), height):
@@ -59,7 +66,7 @@ def cut(sources, targets, side=None):
             yield Block(row, column, sources[row:row + height], targets[column:column + width])
 
 
-def made(running, block):
+def made(running: asking.Engine, block: Block) -> bytes:
     """What the program writes for a block. It runs in any process, on any machine."""
     try:
         return running.table(block.sources, block.targets)
@@ -72,33 +79,34 @@ class Pool:
 
     as_completed = staticmethod(concurrent.futures.as_completed)
 
-    def __init__(self, setting, count):
-        self.engines, self.idle = [asking.Engine(setting) for _ in range(count)], queue.SimpleQueue()
+    def __init__(self, setting: asking.Setting, count: int) -> None:
+        self.engines = [asking.Engine(setting) for _ in range(count)]
+        self.idle: queue.SimpleQueue[asking.Engine] = queue.SimpleQueue()
         for running in self.engines:
             self.idle.put(running)
         self.threads = concurrent.futures.ThreadPoolExecutor(count)
 
-    def begin(self, block):
+    def begin(self, block: Block) -> concurrent.futures.Future[bytes]:
         return self.threads.submit(self.run, block)
 
-    def run(self, block):
+    def run(self, block: Block) -> bytes:
         running = self.idle.get()
         try:
             return made(running, block)
         finally:
             self.idle.put(running)
 
-    def __enter__(self):
+    def __enter__(self) -> Pool:
         return self
 
-    def __exit__(self, kind, *_):
+    def __exit__(self, kind: type[BaseException] | None, *_: object) -> None:
         self.threads.shutdown(wait=kind is None, cancel_futures=True)
         for running in self.engines:
             running.close()
         self.threads.shutdown()
 
 
-def run_on_worker(block, setting):
+def run_on_worker(block: Block, setting: asking.Setting) -> bytes:
     """A block on a worker of Dask, by the run that its thread keeps."""
     import distributed
 
@@ -109,13 +117,13 @@ def run_on_worker(block, setting):
     return made(kept[key], block)
 
 
-def close_on_worker(dask_worker):
+def close_on_worker(dask_worker: Any) -> None:
     """Closes what a worker keeps."""
     for running in dask_worker.__dict__.pop("chtab_engines", {}).values():
         running.close()
 
 
-def send_package(client):
+def send_package(client: Any) -> None:
     """Sends the code of this package to all workers, also to those that come later."""
     folder = pathlib.Path(__file__).parent.parent
     with tempfile.TemporaryDirectory() as kept:
@@ -129,7 +137,7 @@ def send_package(client):
 class Cluster:
     """The same on the workers of a Dask scheduler."""
 
-    def __init__(self, setting, address):
+    def __init__(self, setting: asking.Setting, address: str) -> None:
         try:
             import distributed
         except ImportError:
@@ -149,18 +157,18 @@ class Cluster:
                 raise Failed(f"the Dask scheduler at {address} has no worker, after {PATIENCE} seconds") from None
             raise
 
-    def begin(self, block):
+    def begin(self, block: Block) -> Any:
         return self.client.submit(run_on_worker, block, self.setting, pure=False)
 
-    def __enter__(self):
+    def __enter__(self) -> Cluster:
         return self
 
-    def __exit__(self, *_):
+    def __exit__(self, *_: object) -> None:
         with self.client:
             self.client.run(close_on_worker, on_error="ignore")
 
 
-def compute(pool, blocks, folder):
+def compute(pool: Any, blocks: Sequence[Block], folder: pathlib.Path) -> None:
     """Runs all blocks; the text of each is kept in a file of its own."""
     begun = {pool.begin(block): block for block in blocks}
     with Progress("blocks", len(blocks), "blocks") as progress:
@@ -176,7 +184,7 @@ def compute(pool, blocks, folder):
                 future.cancel()
 
 
-def rows(folder, sources, targets, height, width):
+def rows(folder: pathlib.Path, sources: Sequence[int], targets: Sequence[int], height: int, width: int) -> Iterator[bytes]:
     """The text of each row, its source and its cells, in order and put together from the blocks' files."""
     for row in range(0, len(sources), height):
         parts = [targets[column:column + width] for column in range(0, len(targets), width)]
@@ -192,7 +200,10 @@ def rows(folder, sources, targets, height, width):
                 yield b" ".join([source, *(cells for _, cells in found)])
 
 
-def make(setting, sources, targets, out, side=None, processes=1, scheduler=None):
+def make(
+    setting: asking.Setting, sources: Sequence[int], targets: Sequence[int], out: Path, side: int | None = None, processes: int = 1,
+    scheduler: str | None = None,
+) -> int:
     """Makes the table of these nodes in OUT (.csv or .npy), which is there once it is whole. The number of its blocks is answered."""
     out = pathlib.Path(out)
     if out.suffix not in (".csv", ".npy"):
@@ -202,7 +213,8 @@ def make(setting, sources, targets, out, side=None, processes=1, scheduler=None)
     count = max(1, min(processes, len(blocks), -(-len(sources) * len(targets) // WORTH) if side is None else processes))
     with tempfile.TemporaryDirectory(prefix=f".{out.name}.", dir=out.parent) as kept:
         folder = pathlib.Path(kept)
-        with Cluster(setting, scheduler) if scheduler else Pool(setting, count) as pool:
+        chosen: Any = Cluster(setting, scheduler) if scheduler else Pool(setting, count)
+        with chosen as pool:
             compute(pool, blocks, folder)
         made_rows = rows(folder, sources, targets, height, width)
         whole = folder / "whole"

@@ -3,6 +3,8 @@
 A run is ended, with its process group, when it is closed or no longer used, when the interpreter ends, when an answer takes too long or is
 another's, and when anything else (Ctrl-C among it) breaks a question off. One whose owner was killed ends by itself, because its input ends.
 """
+from __future__ import annotations
+
 import atexit
 import contextlib
 import functools
@@ -12,6 +14,8 @@ import signal
 import subprocess
 import tempfile
 import weakref
+from collections.abc import Sequence
+from typing import IO, Any, Protocol
 
 from chtab.engine import answers, forks
 from chtab.engine.deadlines import Deadline
@@ -24,7 +28,7 @@ PATIENCE = 1
 
 
 @functools.cache
-def see_to(program):
+def see_to(program: str) -> None:
     """Sees to it that the program can be run: the script of a checkout proves and builds it first, and tells of that on standard error."""
     try:
         done = subprocess.run([program, "--help"], stdin=subprocess.DEVNULL, stdout=subprocess.DEVNULL)
@@ -34,7 +38,7 @@ def see_to(program):
         raise fault_of(b"", done.returncode)
 
 
-def fault_of(told, status):
+def fault_of(told: bytes, status: int) -> ProgramFault:
     """The fault of a run that ended, by what it told on standard error: its own line, where there is one."""
     lines = told.decode(errors="replace").strip().splitlines()
     lines = [line for line in lines if line.startswith(("chtab: ", "error: "))] or lines
@@ -42,11 +46,17 @@ def fault_of(told, status):
     return ProgramFault(lines[-1] if lines and status >= 0 else " ".join([f"chtab {how}", *lines[-1:]]), status)
 
 
+class Begun(Protocol):
+    """What asks a run: whether it still does."""
+
+    is_open: bool
+
+
 # The runs that were begun and have not been ended, each with the process that began it, what leads to it, and a reference to its child.
-BEGUN = {}
+BEGUN: dict[subprocess.Popen[bytes], tuple[int, tuple[IO[bytes], ...], weakref.ref[Begun]]] = {}
 
 
-def end_unused():
+def end_unused() -> None:
     """Ends the runs whose children are closed or no longer there, also those whose end was broken off before. In a process that was forked
     from their owner only what leads to them is closed."""
     for process, (owner, streams, reference) in list(BEGUN.items()):
@@ -66,7 +76,7 @@ def end_unused():
 
 
 @atexit.register
-def end_all():
+def end_all() -> None:
     """Ends all runs, at the end of the interpreter."""
     for _, _, reference in list(BEGUN.values()):
         child = reference()
@@ -75,7 +85,7 @@ def end_all():
     end_unused()
 
 
-def kill(process):
+def kill(process: subprocess.Popen[bytes]) -> None:
     """Ends a run and all that it began, where it hasn't ended. Any thread may do so."""
     if process.poll() is None:
         with contextlib.suppress(ProcessLookupError):
@@ -83,7 +93,7 @@ def kill(process):
     process.wait()
 
 
-def begin(command, told):
+def begin(command: Sequence[str], told: IO[bytes]) -> tuple[subprocess.Popen[bytes], IO[bytes], IO[bytes]]:
     """Begins a run that writes its errors to a file: its process, and the ends of both pipes.
 
     The pipes are not those of the process's object. That one keeps them open where it is dropped early.
@@ -115,7 +125,7 @@ class Child:
         How many nodes its graph has, at least 1.
     """
 
-    def __init__(self, command, nodes):
+    def __init__(self, command: Sequence[str], nodes: int) -> None:
         self.nodes = nodes
         # A run whose exchange was broken off anywhere is busy, and can't be asked again.
         self.is_open, self.is_loaded, self.is_busy = True, False, False
@@ -127,17 +137,17 @@ class Child:
             weakref.finalize(self, end_unused).atexit = False
             forks.follow(self)
 
-    def leave_parent(self):
+    def leave_parent(self) -> None:
         """Closes, in a process that was forked, what leads to the parent's run. The run goes on."""
         self.close()
 
-    def load(self):
+    def load(self) -> None:
         """Asks a first question where none was asked. Its answer comes when the run has read what it answers by, which may take any time."""
         if not self.is_loaded:
             self.ask(answers.Table([1], [1]))
             self.is_loaded = True
 
-    def ask(self, question, deadline=Deadline(None)):
+    def ask(self, question: answers.Question, deadline: Deadline = Deadline(None)) -> Any:
         """The value of the answer to a question, which has to be there in time. Whatever goes wrong ends the run."""
         self.is_busy = True
         try:
@@ -150,7 +160,7 @@ class Child:
         self.is_busy = False
         return value
 
-    def exchange(self, answer, deadline):
+    def exchange(self, answer: answers.Answer, deadline: Deadline) -> None:
         """Writes the request of an answer and reads what is there of the answer, in turns, so that neither side waits for the other."""
         if self.read():
             raise unasked()
@@ -160,7 +170,7 @@ class Child:
             left = self.write(left)
             answer.feed(self.read())
 
-    def wait(self, left, deadline):
+    def wait(self, left: memoryview, deadline: Deadline) -> None:
         """Waits until there is something to read, or something of what is left can be written."""
         ready = select.poll()
         ready.register(self.answered, select.POLLIN)
@@ -168,7 +178,7 @@ class Child:
             ready.register(self.requests, select.POLLOUT)
         ready.poll(deadline.milliseconds())
 
-    def write(self, left):
+    def write(self, left: memoryview) -> memoryview:
         """What is left after as much was written as the pipe takes. A run that reads no more gets no more, and its output tells why."""
         try:
             return left[os.write(self.requests.fileno(), left[:CHUNK]):]
@@ -177,7 +187,7 @@ class Child:
         except BrokenPipeError:
             return left[:0]
 
-    def read(self):
+    def read(self) -> bytes:
         """What the run has written by now."""
         try:
             chunk = os.read(self.answered.fileno(), CHUNK)
@@ -187,7 +197,7 @@ class Child:
             raise self.fault()
         return chunk
 
-    def fault(self):
+    def fault(self) -> ProgramFault:
         """Why the run closed its output."""
         try:
             status = self.process.wait(PATIENCE)
@@ -196,12 +206,12 @@ class Child:
         self.told.seek(0)
         return fault_of(self.told.read(), status)
 
-    def kill(self):
+    def kill(self) -> None:
         """Ends the run, so that a thread that waits for its answer is told. Any thread may do so."""
         if os.getpid() == self.owner:
             kill(self.process)
 
-    def close(self):
+    def close(self) -> None:
         """Ends the run, and closes what leads to it."""
         self.is_open = False
         end_unused()

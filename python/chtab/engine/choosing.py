@@ -1,13 +1,23 @@
 """Who answers for a network: the library for C in this process, or runs of the program."""
+from __future__ import annotations
+
+from collections.abc import Callable
+from typing import TYPE_CHECKING
+
 from chtab.engine import asking, library
 from chtab.engine.in_process import InProcess
 from chtab.engine.program import program_of
 from chtab.errors import ChtabError
 
+if TYPE_CHECKING:
+    from chtab import files
+    from chtab.engine.walks import ArcIndex
+    from chtab.typing import Path
+
 AUTO = "auto"
 
 
-def engine_of(setting, choice, arcs):
+def engine_of(setting: asking.Setting, choice: bool | str, arcs: Callable[[], ArcIndex]) -> asking.Engine | InProcess:
     """The engine of a setting: the library in this process where it is chosen and fits, and else runs of the program.
 
     Parameters
@@ -22,22 +32,22 @@ def engine_of(setting, choice, arcs):
     """
     if choice is False or choice == AUTO and setting.timeout is not None:
         return asking.Engine(setting)
-    path = library.beside(setting.program) if choice in (AUTO, True) else choice
+    path = library.beside(setting.program) if choice is True or choice == AUTO else choice
     lack = lack_of(setting, path)
-    if lack is None:
+    if lack is None and path is not None:
         return InProcess(setting, library.loaded(path), arcs)
     if choice == AUTO:
         return asking.Engine(setting)
     raise ChtabError(f"the library can't answer: {lack}")
 
 
-def fits(program, saved, workers):
+def fits(program: Path | None, saved: str | None, workers: int) -> bool:
     """Whether the library stands beside a program, and answers for a network with a saved hierarchy as runs with these options would."""
     setting = asking.Setting(program_of(program), "", saved, workers)
     return saved is not None and lack_of(setting, library.beside(setting.program)) is None
 
 
-def lack_of(setting, path):
+def lack_of(setting: asking.Setting, path: str | None) -> str | None:
     """Why the library does not fit a setting, None where it does."""
     if path is None:
         return f"there is no {library.NAME} beside the program {setting.program}, or it is older than the sources; `packaging/library` makes it"

@@ -1,25 +1,29 @@
 """Until when an answer has to be there: `timeout` of a network holds for a whole call, however many questions that takes."""
+from __future__ import annotations
+
 import contextlib
 import functools
 import math
 import threading
 import time
-from collections.abc import Callable
+from collections.abc import Callable, Iterator
 from typing import Concatenate, ParamSpec, TypeVar
 
 from chtab.errors import TimedOut
 
-Given, Found, Asker = ParamSpec("Given"), TypeVar("Found"), TypeVar("Asker")
+Given = ParamSpec("Given")
+Found = TypeVar("Found")
+Asker = TypeVar("Asker")
 
 
 class Deadline:
     """When an answer has to be there: so many seconds from now, or at any time (None)."""
 
-    def __init__(self, seconds):
+    def __init__(self, seconds: float | None) -> None:
         self.seconds = math.inf if seconds is None else seconds
         self.until = time.monotonic() + self.seconds
 
-    def milliseconds(self):
+    def milliseconds(self) -> float | None:
         """What is left, None where that has no end. Where nothing is, that is a `TimedOut`."""
         left = self.until - time.monotonic()
         if left <= 0:
@@ -30,19 +34,19 @@ class Deadline:
 class OfThread(threading.local):
     """The deadline of the call that a thread makes, None between calls."""
 
-    deadline = None
+    deadline: Deadline | None = None
 
 
 CALL = OfThread()
 
 
-def current(seconds):
+def current(seconds: float | None) -> Deadline:
     """The deadline of the call that this thread makes; outside of a call one from now on."""
     return CALL.deadline or Deadline(seconds)
 
 
 @contextlib.contextmanager
-def taken(deadline):
+def taken(deadline: Deadline | None) -> Iterator[None]:
     """Makes a deadline that of this thread: another thread works for its call."""
     before, CALL.deadline = CALL.deadline, deadline
     try:
@@ -52,7 +56,7 @@ def taken(deadline):
 
 
 @contextlib.contextmanager
-def uncounted():
+def uncounted() -> Iterator[None]:
     """What is done within doesn't count, such as the loading of a network."""
     begun = time.monotonic()
     try:

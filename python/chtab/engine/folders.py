@@ -1,10 +1,13 @@
 """Temporary folders that are removed with what keeps them, and also when the process is ended by a signal."""
+from __future__ import annotations
+
 import contextlib
 import os
 import shutil
 import subprocess
 import tempfile
 import weakref
+from typing import IO, cast
 
 from chtab.engine import forks
 
@@ -26,7 +29,7 @@ class Folder:
         Where it is made; without it among the system's temporary folders.
     """
 
-    def __init__(self, path=None):
+    def __init__(self, path: str | None = None) -> None:
         if path is not None:
             os.mkdir(path)
         self.path = tempfile.mkdtemp(prefix="chtab-") if path is None else path
@@ -38,21 +41,21 @@ class Folder:
             self.watcher = watcher
             forks.follow(self)
 
-    def leave_parent(self):
+    def leave_parent(self) -> None:
         """Closes, in a process that was forked, what the shell waits for."""
         if self.watcher is not None:
-            self.watcher.stdin.close()
+            cast(IO[bytes], self.watcher.stdin).close()
             # The shell is no child of this process, which must not wait for it.
             self.watcher.returncode = 0
 
-    def __enter__(self):
+    def __enter__(self) -> str:
         return self.path
 
-    def __exit__(self, *_):
+    def __exit__(self, *_: object) -> None:
         self.remove()
 
 
-def watched(path):
+def watched(path: str) -> subprocess.Popen[bytes] | None:
     """The shell that removes a folder when this process is gone; None where none can be begun."""
     words = ["/bin/sh", "-c", SCRIPT, "chtab", path]
     with contextlib.suppress(OSError):
@@ -60,15 +63,16 @@ def watched(path):
     return None
 
 
-def remove_in(owner, path, watcher):
+def remove_in(owner: int, path: str, watcher: subprocess.Popen[bytes] | None) -> None:
     """Removes a folder in the process that made it, and ends the shell."""
     if os.getpid() != owner:
         return
     shutil.rmtree(path, ignore_errors=True)
     if watcher is not None:
+        line = cast(IO[bytes], watcher.stdin)
         with contextlib.suppress(OSError, ValueError):
-            watcher.stdin.write(b"\n")
-            watcher.stdin.flush()
+            line.write(b"\n")
+            line.flush()
         with contextlib.suppress(OSError, ValueError):
-            watcher.stdin.close()
+            line.close()
         watcher.wait()

@@ -1,9 +1,14 @@
 """What is asked of the library for C, in this process: distances, routes and tables, by a handle for each thread, and handles for near rows."""
+from __future__ import annotations
+
 import contextlib
+import ctypes
 import functools
 import os
 import threading
 import weakref
+from collections.abc import Callable, Iterator, Sequence
+from typing import TYPE_CHECKING, Any, TypeVar, cast
 
 import numpy
 
@@ -12,6 +17,12 @@ from chtab.engine import deadlines, forks, library
 from chtab.engine.interruptible import LONG, interruptible
 from chtab.engine.walks import Walks
 from chtab.errors import ChtabError, ProgramFault, unasked
+
+if TYPE_CHECKING:
+    from numpy.typing import NDArray
+    from chtab.engine import asking
+    from chtab.engine.walks import ArcIndex
+    from chtab.typing import Integers
 
 # What one call of the library answers at most: distances, and targets of a table. So few calls take more than a second, none more than some
 # seconds, and time is looked at between them.
@@ -22,27 +33,32 @@ ROUTES, ROOM = 1 << 11, 1 << 16
 NO_PLACES = numpy.zeros(0, numpy.uint32)
 
 
-def timed(question):
+Question = TypeVar("Question", bound=Callable[..., Any])
+Value = TypeVar("Value")
+
+
+def timed(question: Question) -> Question:
     """A question whose answer may take the time of the setting, which is counted from when the network is open. It is looked at before each call, and
     behind the last one, because one call may answer all."""
     @functools.wraps(question)
-    def ask(self, *words):
+    def ask(self: InProcess, *words: Any) -> Any:
         self.handle()
         deadline = self.of_thread.deadline = deadlines.current(self.setting.timeout)
         found = question(self, *words)
         deadline.milliseconds()
         return found
 
-    return ask
+    return cast(Question, ask)
 
 
 class OfThread(threading.local):
     """What a thread has: its handle, and until when the answer to its question has to be there."""
 
-    handle, deadline = None, deadlines.Deadline(None)
+    handle: library.Handle | None = None
+    deadline = deadlines.Deadline(None)
 
 
-def files_of(setting):
+def files_of(setting: asking.Setting) -> list[str]:
     """The files that the library opens: the graph, and the saved hierarchy if there is one."""
     return [path for path in (setting.graph, setting.saved) if path is not None]
 
@@ -56,7 +72,7 @@ class InProcess:
     A process that was forked opens the network anew with its first question, and leaves the handles of its parent alone.
     """
 
-    def __init__(self, setting, calls, arcs):
+    def __init__(self, setting: asking.Setting, calls: ctypes.CDLL, arcs: Callable[[], ArcIndex]) -> None:
         for path in files_of(setting):
             open(path, "rb").close()
         self.setting, self.calls, self.arcs, self.stamps = setting, calls, arcs, setting.stamps()
@@ -64,16 +80,23 @@ class InProcess:
         self.leave_parent()
         forks.follow(self)
 
-    def leave_parent(self):
+    def leave_parent(self) -> None:
         """Begins with no handle, and with a lock that nobody holds: in a process that was forked too."""
         self.lock, self.owner, self.begun = threading.RLock(), os.getpid(), 0
-        self.of_thread, self.handles = OfThread(), weakref.WeakSet()
-        self.first, self.asker, self.spare = None, None, []
+        self.of_thread = OfThread()
+        self.handles: weakref.WeakSet[library.Handle] = weakref.WeakSet()
+        self.first: library.Handle | None = None
+        self.asker: threading.Thread | None = None
+        self.spare: list[library.Handle] = []
 
     # Handles.
 
-    def load(self):
+    def load(self) -> None:
         """Opens the network, so that a file that is refused is told now."""
+        self.first_handle()
+
+    def first_handle(self) -> library.Handle:
+        """The first handle, which opens the network."""
         if self.owner != os.getpid():
             self.leave_parent()
         with self.lock:
@@ -84,8 +107,9 @@ class InProcess:
                     self.first = self.opened()
                 self.handles.add(self.first)
                 self.begun += 1
+            return self.first
 
-    def opened(self):
+    def opened(self) -> library.Handle:
         """The first handle."""
         contents = []
         for path in files_of(self.setting):
@@ -99,7 +123,7 @@ class InProcess:
             raise unasked()
         return handle
 
-    def handle(self):
+    def handle(self) -> library.Handle:
         """The handle of the thread that asks."""
         if self.is_closed:
             raise ChtabError(library.GONE)
@@ -109,16 +133,15 @@ class InProcess:
             self.of_thread.handle = self.handle_of_new_thread()
         return self.of_thread.handle
 
-    def handle_of_new_thread(self):
+    def handle_of_new_thread(self) -> library.Handle:
         with self.lock:
-            self.load()
-            first = self.first
+            first = self.first_handle()
             if self.asker is None or not self.asker.is_alive():
                 self.asker = threading.current_thread()
                 return first
         return self.another(first)
 
-    def another(self, first):
+    def another(self, first: library.Handle) -> library.Handle:
         """A further handle. This waits for the call that the thread of the first one makes, and holds no lock meanwhile."""
         made = first.share()
         with self.lock:
@@ -128,7 +151,7 @@ class InProcess:
         return made
 
     @contextlib.contextmanager
-    def near_handle(self):
+    def near_handle(self) -> Iterator[library.Handle]:
         """A handle for one question on near rows, which no other question has meanwhile. Afterwards its places are freed."""
         handle = self.spare_handle()
         # In a process that is forked meanwhile this is the list of the parent alone, as its handles are.
@@ -139,29 +162,28 @@ class InProcess:
             handle.keep_places(NO_PLACES)
             spare.append(handle)
 
-    def spare_handle(self):
+    def spare_handle(self) -> library.Handle:
         if self.is_closed:
             raise ChtabError(library.GONE)
         if self.owner != os.getpid():
             self.leave_parent()
         with self.lock:
-            self.load()
-            first = self.first
+            first = self.first_handle()
             if self.spare:
                 return self.spare.pop()
         return self.another(first)
 
-    def living(self):
+    def living(self) -> int:
         """Whether the network is open in this process: 1, or else 0."""
         return int(self.first is not None)
 
     @property
-    def runs(self):
+    def runs(self) -> list[library.Handle]:
         """The handles of this process: none before the network was opened."""
         with self.lock:
             return list(self.handles)
 
-    def close(self):
+    def close(self) -> None:
         """Closes all handles, each after the call that is under way with it. A question of another thread that takes several calls fails."""
         self.is_closed = True
         if self.owner != os.getpid():
@@ -171,25 +193,25 @@ class InProcess:
         for handle in handles:
             handle.close()
 
-    def __enter__(self):
+    def __enter__(self) -> InProcess:
         return self
 
-    def __exit__(self, *_):
+    def __exit__(self, *_: object) -> None:
         self.close()
 
     # Questions.
 
-    def call(self, searches, call, *words):
+    def call(self, searches: int, call: Callable[..., Value], *words: Any) -> Value:
         """The value of a call that makes so many searches, if there is time left for it."""
         self.of_thread.deadline.milliseconds()
         return interruptible(searches, call, *words)
 
-    def few_distances(self, sources, targets):
+    def few_distances(self, sources: Sequence[int], targets: Sequence[int]) -> list[int] | None:
         """The distances of at most `library.FEW` pairs of nodes from 1 to `nodes`, two lists; None where they have to be asked for by arrays."""
         return self.handle().few_distances([node - 1 for node in sources], [node - 1 for node in targets])
 
     @timed
-    def distances(self, pairs):
+    def distances(self, pairs: Integers) -> Integers:
         """The distances of pairs of nodes, an array (n, 2): int64 (n,), -1 where there is no walk."""
         sources, targets = library.nodes_of(pairs, self.nodes).T.copy()
         parts = [slice(start, start + TOGETHER) for start in range(0, len(sources), TOGETHER)]
@@ -197,21 +219,21 @@ class InProcess:
         return found[0] if len(found) == 1 else numpy.concatenate([numpy.zeros(0, numpy.int64), *found])
 
     @timed
-    def cells(self, sources, targets, within=None):
+    def cells(self, sources: Integers, targets: Integers, within: int | None = None) -> Integers:
         """The distances from each node of one column to each of another, int64 (k, l), -1 where there is no walk, or none of at most `within`."""
-        sources, targets = (library.nodes_of(nodes, self.nodes) for nodes in (sources, targets))
-        table, limit = numpy.empty((len(sources), len(targets)), numpy.int64), library.NO_LIMIT if within is None else within
-        for start in range(0, len(targets) if len(sources) else 0, WIDTH):
-            some = targets[start:start + WIDTH]
-            table[:, start:start + WIDTH] = self.call(len(sources) + len(some), self.handle().table, sources, some, limit)
+        rows, columns = (library.nodes_of(nodes, self.nodes) for nodes in (sources, targets))
+        table, limit = numpy.empty((len(rows), len(columns)), numpy.int64), library.NO_LIMIT if within is None else within
+        for start in range(0, len(columns) if len(rows) else 0, WIDTH):
+            some = columns[start:start + WIDTH]
+            table[:, start:start + WIDTH] = self.call(len(rows) + len(some), self.handle().table, rows, some, limit)
         return table
 
-    def tables(self, parts):
+    def tables(self, parts: Sequence[tuple[Sequence[int], Sequence[int]]]) -> Integers:
         """The cells of several small tables, pairs of lists of nodes, in one column."""
         pairs = [(source, target) for sources, targets in parts for source in sources for target in targets]
         return self.distances(numpy.array(pairs, numpy.int64).reshape(-1, 2))
 
-    def routes(self, pairs):
+    def routes(self, pairs: Sequence[Sequence[int]]) -> list[files.Answer]:
         """The routes of pairs of nodes, as a list of `files.Answer`."""
         found = self.walks(numpy.array(pairs, numpy.int64).reshape(-1, 2))
         firsts, heads, weights = found.firsts.tolist(), found.heads.tolist(), found.arc_weights.tolist()
@@ -222,17 +244,17 @@ class InProcess:
         ]
 
     @timed
-    def walks(self, pairs):
+    def walks(self, pairs: Integers) -> Walks:
         """The same, of pairs in an array (n, 2), as `walks.Walks`."""
         return self.walks_of(*self.found(pairs, library.Handle.routes))
 
     @timed
-    def lines(self, pairs):
+    def lines(self, pairs: Integers) -> tuple[Integers, Integers, Integers]:
         """The weights of the routes of pairs, -1 where there is no walk, how many arcs each has, and the lines of all arcs in the graph, from 0 on."""
         weights, counts, _, lines = self.found(pairs, library.Handle.routes_with_lines)
         return weights, numpy.maximum(counts - 1, 0), lines[lines != library.NO_LINE].astype(numpy.int64)
 
-    def found(self, pairs, call):
+    def found(self, pairs: Integers, call: Callable[..., Any]) -> list[NDArray[Any]]:
         """What a call for routes gives of pairs: weights, how many nodes each route has, and columns with an item for each of these."""
         sources, targets = library.nodes_of(pairs, self.nodes).T.copy()
         found, start = [], 0
@@ -245,9 +267,10 @@ class InProcess:
                 self.room = 2 * self.room
             found.append((weights, numpy.diff(ends, prepend=0), *columns))
             start += len(weights)
-        return list(map(numpy.concatenate, zip(*found))) if found else list(numpy.zeros((4, 0), numpy.int64))
+        parts: Any = zip(*found) if found else numpy.zeros((4, 1, 0), numpy.int64)
+        return [numpy.concatenate(column) for column in parts]
 
-    def walks_of(self, weights, counts, nodes, *_):
+    def walks_of(self, weights: Integers, counts: Integers, nodes: NDArray[Any], *_: object) -> Walks:
         """The walks over some nodes from 0 on, so many of each walk."""
         lasts = numpy.cumsum(counts)
         is_tail, is_head = numpy.ones((2, len(nodes)), bool)
@@ -262,6 +285,6 @@ class InProcess:
             raise self.changed()
         return walks
 
-    def changed(self):
+    def changed(self) -> ProgramFault:
         """The fault of a graph whose arcs are not those that the library opened."""
         return ProgramFault(f"{self.setting.graph} has changed since it was opened", 1)

@@ -3,17 +3,25 @@
 C trusts its caller. So nothing is handed to it here that was not checked before: each array is one of numpy, of the right kind of numbers, in one
 piece, at an address for such numbers, and as long as the call is told; what is written to may be written to; and nodes are numbers of 32 bits.
 """
+from __future__ import annotations
+
 import ctypes
 import functools
 import glob
 import os
 import threading
 import weakref
+from collections.abc import Callable, Sequence
+from typing import TYPE_CHECKING, Any, NoReturn, TypeAlias
 
 import numpy
 
 from chtab.engine import forks
 from chtab.errors import ChtabError, ProgramFault
+
+if TYPE_CHECKING:
+    from numpy.typing import ArrayLike, DTypeLike, NDArray
+    from chtab.typing import Integers
 
 # The version of the library that this package calls, as `CHTAB_VERSION` of the header has it.
 VERSION = 1_001_000
@@ -34,6 +42,11 @@ GONE = "the network is closed"
 ROOM = 1_024
 # Pairs whose distances are asked for without arrays.
 FEW = 16
+
+
+# Nodes as the library counts them, from 0 on; and numbers without a sign.
+Nodes: TypeAlias = "NDArray[numpy.uint32]"
+Unsigned: TypeAlias = "NDArray[numpy.uint64]"
 
 
 class Block(ctypes.Structure):
@@ -74,7 +87,7 @@ CALLS = {
 }
 
 
-def beside(program):
+def beside(program: str) -> str | None:
     """The library beside a program, None where there is none.
 
     It stands in the folder of the program (that of a wheel), where `packaging/library` puts it in a checkout, unless sources of the crates are newer,
@@ -87,7 +100,7 @@ def beside(program):
     return (found + [made] * is_up_to_date(made, folder) + [None])[0]
 
 
-def is_up_to_date(made, checkout):
+def is_up_to_date(made: str, checkout: str) -> bool:
     """Whether the library that was made in a checkout is there, and no source of its crates is newer."""
     if not os.path.isfile(made):
         return False
@@ -96,7 +109,7 @@ def is_up_to_date(made, checkout):
 
 
 @functools.cache
-def loaded(path):
+def loaded(path: str) -> ctypes.CDLL:
     """The calls of the library of this path. One that can't be loaded, or is of another version, is a `ChtabError`."""
     try:
         with forks.STEADY:
@@ -113,7 +126,7 @@ def loaded(path):
     return calls
 
 
-def address(array, kind, is_written=False):
+def address(array: NDArray[Any], kind: DTypeLike, is_written: bool = False) -> int:
     """Where the numbers of an array stand. One that C would not read as is meant is refused."""
     if type(array) is not numpy.ndarray or array.dtype != kind or array.ndim != 1 or not (array.flags.c_contiguous and array.flags.aligned):
         what = f"{array.dtype} of shape {array.shape}" if isinstance(array, numpy.ndarray) else type(array).__name__
@@ -126,7 +139,7 @@ def address(array, kind, is_written=False):
     return found
 
 
-def nodes_of(numbers, count):
+def nodes_of(numbers: ArrayLike, count: int) -> Nodes:
     """The nodes of numbers from 1 to `count`, as the library counts them: uint32, from 0 on, in one piece. Any other number is refused."""
     numbers = numpy.asarray(numbers)
     if numbers.dtype != numpy.int64:
@@ -140,7 +153,7 @@ def nodes_of(numbers, count):
     return lowered.astype(numpy.uint32, order="C")
 
 
-def close(call, block, owner):
+def close(call: Callable[[Any], int], block: Block, owner: int) -> None:
     """Closes what is open. In a process that was forked from its owner it is left alone."""
     if os.getpid() == owner:
         call(ctypes.byref(block))
@@ -152,19 +165,20 @@ class Handle:
     It is closed by `close`, and when it is no longer used. It isn't copied, and it doesn't go to another process.
     """
 
-    def __init__(self, calls):
+    def __init__(self, calls: ctypes.CDLL) -> None:
         self.calls, self.block, self.lock = calls, Block(), threading.RLock()
         self.at, self.room = ctypes.byref(self.block), ROOM
         # Room for few distances, which one question at a time has.
         self.sources, self.targets, self.weights = (ctypes.c_uint32 * FEW)(), (ctypes.c_uint32 * FEW)(), (ctypes.c_int64 * FEW)()
-        self.rooms, self.is_asked = tuple(map(ctypes.addressof, (self.sources, self.targets, self.weights))), False
+        self.rooms = ctypes.addressof(self.sources), ctypes.addressof(self.targets), ctypes.addressof(self.weights)
+        self.is_asked = False
         # What is opened from here on is closed, whatever breaks this off. At the end of the interpreter threads may still be in a call.
         weakref.finalize(self, close, calls.chtab_close, self.block, os.getpid()).atexit = False
 
-    def __reduce__(self):
+    def __reduce__(self) -> NoReturn:
         raise TypeError("a handle is neither copied nor pickled")
 
-    def open(self, graph, saved=None):
+    def open(self, graph: bytes, saved: bytes | None = None) -> None:
         """Opens the network of a graph and its saved hierarchy, the bytes of both files. Without `saved` the library builds a hierarchy by depth.
 
         What is wrong with the files is a `ProgramFault`.
@@ -180,7 +194,7 @@ class Handle:
         if status:
             raise fault_of(status, fault)
 
-    def share(self):
+    def share(self) -> Handle:
         """Another handle in the same network, for another thread."""
         other = Handle(self.calls)
         with self.lock:
@@ -188,19 +202,19 @@ class Handle:
         see_that_done(status)
         return other
 
-    def close(self):
+    def close(self) -> None:
         """Closes the handle, once the call that is under way has ended. Then each further call is refused."""
         with self.lock:
             self.calls.chtab_close(self.at)
 
-    def nodes(self):
+    def nodes(self) -> int:
         """How many nodes the network has."""
         count = ctypes.c_uint32()
         with self.lock:
             see_that_done(self.calls.chtab_nodes(self.at, ctypes.byref(count)))
         return count.value
 
-    def save(self):
+    def save(self) -> bytes:
         """The hierarchy, the bytes that `chtab save` writes for it."""
         size, text = ctypes.c_uint64(), numpy.empty(0, numpy.uint8)
         with self.lock:
@@ -211,10 +225,10 @@ class Handle:
         see_that_done(status)
         return text.tobytes()
 
-    def write_text(self, size, text):
+    def write_text(self, size: ctypes.c_uint64, text: NDArray[numpy.uint8]) -> int:
         return self.calls.chtab_save(self.at, ctypes.byref(size), address(text, numpy.uint8, True), len(text))
 
-    def distances(self, sources, targets):
+    def distances(self, sources: Nodes, targets: Nodes) -> Integers:
         """The distances from each source to the target beside it, columns of uint32, nodes from 0 on: int64, -1 where there is no walk."""
         out = numpy.empty(len(sources), numpy.int64)
         places = address(sources, numpy.uint32), address(targets, numpy.uint32), address(out, numpy.int64, True)
@@ -223,7 +237,7 @@ class Handle:
         see_that_done(status)
         return out
 
-    def few_distances(self, sources, targets):
+    def few_distances(self, sources: Sequence[int], targets: Sequence[int]) -> list[int] | None:
         """The same of at most `FEW` pairs, as lists of numbers from 0 to below 2^32. In a tenth of the time, because no array is made or looked at.
         The handler of a signal that asks in the middle of such a question has to use arrays: then this is None."""
         count = len(sources)
@@ -232,7 +246,7 @@ class Handle:
                 return None
             try:
                 self.is_asked = True
-                self.sources[:count], self.targets[:count] = sources, targets
+                self.sources[:count], self.targets[:count] = list(sources), list(targets)
                 status = self.calls.chtab_distances(self.at, self.rooms[0], count, self.rooms[1], count, self.rooms[2], count)
                 found = self.weights[:count]
             finally:
@@ -241,7 +255,7 @@ class Handle:
             see_that_done(status)
         return found
 
-    def table(self, sources, targets, limit=NO_LIMIT):
+    def table(self, sources: Nodes, targets: Nodes, limit: int = NO_LIMIT) -> Integers:
         """The distances from each source to each target (k, l), -1 where there is no walk, or none of at most `limit`."""
         if not 0 <= limit <= NO_LIMIT:
             raise ValueError("a limit is a number of 64 bits")
@@ -252,7 +266,7 @@ class Handle:
         see_that_done(status)
         return out.reshape(len(sources), len(targets))
 
-    def route(self, source, target):
+    def route(self, source: int, target: int) -> tuple[int, Nodes]:
         """The weight of a route between two nodes, from 0 on, and its nodes, uint32; -1 and no nodes where there is no walk."""
         if not (0 <= source < 2**32 and 0 <= target < 2**32):
             raise ValueError("a node is a number of 32 bits")
@@ -267,26 +281,28 @@ class Handle:
         see_that_done(status)
         return -1 if found.weight == NO_DISTANCE else found.weight, nodes[:found.nodes].copy()
 
-    def find(self, source, target, found, nodes):
+    def find(self, source: int, target: int, found: Found, nodes: Nodes) -> int:
         """Writes the route, where there is room for its nodes."""
         at = address(nodes, numpy.uint32, True)
         return self.calls.chtab_route(self.at, source, target, ctypes.byref(found), at, len(nodes))
 
-    def routes(self, sources, targets, room):
+    def routes(self, sources: Nodes, targets: Nodes, room: int) -> tuple[Integers, Integers, Nodes]:
         """The routes from each source to the target beside it, columns of uint32, nodes from 0 on: of as many of the first pairs as there is room for
         with so many nodes. Their weights, int64, -1 where there is no walk; where the nodes of each end, int64; and the nodes, uint32."""
         return self.find_many(sources, targets, numpy.empty(room, numpy.uint32), numpy.empty(0, numpy.uint32))[:3]
 
-    def routes_with_lines(self, sources, targets, room):
+    def routes_with_lines(self, sources: Nodes, targets: Nodes, room: int) -> tuple[Integers, Integers, Nodes, Nodes]:
         """The same, and for each node the line of the arc that leads to it, uint32: its place among the arcs of the graph's file, from 0 on. For the
         first node of a route it is `NO_LINE`."""
-        return self.find_many(sources, targets, *numpy.empty((2, room), numpy.uint32))
+        return self.find_many(sources, targets, numpy.empty(room, numpy.uint32), numpy.empty(room, numpy.uint32))
 
-    def find_many(self, sources, targets, nodes, lines):
+    def find_many(self, sources: Nodes, targets: Nodes, nodes: Nodes, lines: Nodes) -> tuple[Integers, Integers, Nodes, Nodes]:
         """Writes the routes of the first pairs, as far as there is room."""
-        count, weights, ends = ctypes.c_uint64(), *numpy.empty((2, len(sources)), numpy.int64)
-        given = [address(sources, numpy.uint32), len(sources), address(targets, numpy.uint32), len(targets), ctypes.byref(count)]
-        for array, kind in (weights, numpy.int64), (ends, numpy.int64), (nodes, numpy.uint32), (lines, numpy.uint32):
+        count = ctypes.c_uint64()
+        weights, ends = numpy.empty(len(sources), numpy.int64), numpy.empty(len(sources), numpy.int64)
+        given: list[Any] = [address(sources, numpy.uint32), len(sources), address(targets, numpy.uint32), len(targets), ctypes.byref(count)]
+        columns: list[tuple[NDArray[Any], type]] = [(weights, numpy.int64), (ends, numpy.int64), (nodes, numpy.uint32), (lines, numpy.uint32)]
+        for array, kind in columns:
             given += [address(array, kind, True), len(array)]
         with self.lock:
             status = self.calls.chtab_routes(self.at, *given)
@@ -295,7 +311,7 @@ class Handle:
         end = ends[-1] if len(ends) else 0
         return weights[:count.value], ends, nodes[:end], lines[:end]
 
-    def keep_places(self, places, limit=NO_LIMIT, count=ALL, is_from=False):
+    def keep_places(self, places: Nodes, limit: int = NO_LIMIT, count: int = ALL, is_from: bool = False) -> None:
         """Searches from places, a column of uint32, nodes from 0 on, and keeps what is found in place of what was kept: for rows of at most
         `count` of them, of at most `limit`, by the distances to the places or from them."""
         if not (0 <= limit <= NO_LIMIT and 0 <= count <= ALL):
@@ -305,19 +321,20 @@ class Handle:
             status = self.calls.chtab_near_places(self.at, int(is_from), at, len(places), limit, count)
         see_that_done(status)
 
-    def sweep(self):
+    def sweep(self) -> None:
         """Makes the rows of all nodes to the kept places, and keeps them with these."""
         with self.lock:
             status = self.calls.chtab_near_sweep(self.at)
         see_that_done(status)
 
-    def near_rows(self, sources, pairs):
+    def near_rows(self, sources: Nodes, pairs: int) -> tuple[Integers, Integers, Integers]:
         """The rows of the first sources, a column of uint32, nodes from 0 on, to the kept places: of as many sources as there is room for with so
         many pairs. Where each row ends, its weights and its places, int64."""
         rows, ends = ctypes.c_uint64(), numpy.empty(len(sources), numpy.int64)
         weights, places = numpy.empty(pairs, numpy.int64), numpy.empty(pairs, numpy.uint32)
-        given = [address(sources, numpy.uint32), len(sources), ctypes.byref(rows)]
-        for array, kind in (ends, numpy.int64), (weights, numpy.int64), (places, numpy.uint32):
+        given: list[Any] = [address(sources, numpy.uint32), len(sources), ctypes.byref(rows)]
+        columns: list[tuple[NDArray[Any], type]] = [(ends, numpy.int64), (weights, numpy.int64), (places, numpy.uint32)]
+        for array, kind in columns:
             given += [address(array, kind, True), len(array)]
         with self.lock:
             status = self.calls.chtab_near_rows(self.at, *given)
@@ -326,12 +343,13 @@ class Handle:
         end = ends[-1] if len(ends) else 0
         return ends, weights[:end], places[:end].astype(numpy.int64)
 
-    def near_sums(self, sources, values, limits):
+    def near_sums(self, sources: Nodes, values: Unsigned, limits: Unsigned) -> Unsigned:
         """The sums over the rows of sources, a column of uint32, nodes from 0 on, to the kept places: for each source and each limit, columns of
         uint64, of the values of the places that are at most as far, uint64 (n, m). A sum of 2^64 or more is a `ValueError`."""
         count, sums = ctypes.c_uint64(), numpy.empty(len(sources) * len(limits), numpy.uint64)
-        given = []
-        for array, kind in (sources, numpy.uint32), (values, numpy.uint64), (limits, numpy.uint64):
+        given: list[int] = []
+        columns: list[tuple[NDArray[Any], type]] = [(sources, numpy.uint32), (values, numpy.uint64), (limits, numpy.uint64)]
+        for array, kind in columns:
             given += [address(array, kind), len(array)]
         with self.lock:
             status = self.calls.chtab_near_sums(self.at, *given, ctypes.byref(count), address(sums, numpy.uint64, True), len(sums))
@@ -339,7 +357,7 @@ class Handle:
         return sums.reshape(len(sources), len(limits))
 
 
-def see_that_done(status):
+def see_that_done(status: int) -> None:
     """Tells why a call did nothing."""
     if status == CLOSED:
         raise ChtabError(GONE)
@@ -359,7 +377,7 @@ def see_that_done(status):
         raise ProgramFault(f"chtab's library answered {status}", 0)
 
 
-def fault_of(status, fault):
+def fault_of(status: int, fault: Fault) -> ProgramFault:
     """The fault of files that are not opened, in the words of the program."""
     kind = KINDS[fault.kind] if fault.kind < len(KINDS) else str(fault.kind)
     if status not in (BAD_GRAPH, BAD_SAVED, WRONG_SAVED):

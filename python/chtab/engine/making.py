@@ -1,4 +1,6 @@
 """The files of a network that is made of arcs: its graph, and its hierarchy, which is built once and saved."""
+from __future__ import annotations
+
 import array
 import contextlib
 import hashlib
@@ -9,6 +11,8 @@ import shutil
 import subprocess
 import sys
 import tempfile
+from collections.abc import Iterator
+from typing import IO, TYPE_CHECKING, Any
 
 import numpy
 
@@ -17,6 +21,12 @@ from chtab.engine import folders
 from chtab.engine.child import fault_of
 from chtab.errors import FileFault, ProgramFault
 from chtab.files.node_labels import Labels
+
+if TYPE_CHECKING:
+    from chtab.engine.opening import Running
+    from chtab.engine.progress import Asked as Progress
+    from chtab.files.arc_columns import Arcs
+    from chtab.typing import Path
 
 # The files of a network in its folder.
 GRAPH, SAVED, COORDINATES, BENDS, LABELS = "network.gr", "network.ch", "network.co", "network.bends", "network.json"
@@ -27,7 +37,7 @@ PROGRESS = re.compile(r"chtab: [^,]+, ([\d,]*\d) of ([\d,]*\d) ")
 
 
 @contextlib.contextmanager
-def begun(folder):
+def begun(folder: Path) -> Iterator[str]:
     """A folder beside the one that is wanted, which takes its name when all was written without a fault, and else is gone."""
     folder = os.path.realpath(folder)
     see_that_free(folder)
@@ -45,12 +55,12 @@ def begun(folder):
         kept.remove()
 
 
-def see_that_free(folder):
+def see_that_free(folder: str) -> None:
     if os.path.lexists(folder) and not (os.path.isdir(folder) and not os.listdir(folder)):
         raise FileExistsError(f"{folder} is there and is not empty; Network.open opens the network of a folder")
 
 
-def write(arcs, folder, program, running):
+def write(arcs: Arcs, folder: str, program: str, running: Running) -> None:
     """Writes the files of arcs into a folder, and builds their hierarchy. `running` says by how many workers, and whom it tells how far it is."""
     graph, saved, coordinates, bends, labels = (os.path.join(folder, name) for name in (GRAPH, SAVED, COORDINATES, BENDS, LABELS))
     comments = [f"Weights are {arcs.base}."] * bool(arcs.base) + ([] if arcs.scale is None else [files.scale_comment(arcs.scale)])
@@ -69,7 +79,7 @@ def write(arcs, folder, program, running):
     save(program, graph, saved, running)
 
 
-def watch(process, lines, progress):
+def watch(process: subprocess.Popen[bytes], lines: IO[bytes], progress: Progress) -> None:
     """Waits for the end of a process that builds. Meanwhile its lines of progress go to a caller: to standard error, or to a call as numbers."""
     if not progress:
         process.wait()
@@ -86,7 +96,7 @@ def watch(process, lines, progress):
             tell(line, progress)
 
 
-def tell(line, progress):
+def tell(line: str, progress: Progress) -> None:
     """Tells a caller of a line of progress."""
     found = PROGRESS.match(line)
     if found and callable(progress):
@@ -96,7 +106,7 @@ def tell(line, progress):
 
 
 @contextlib.contextmanager
-def told_of(path):
+def told_of(path: str) -> Iterator[None]:
     """A fault of the system names the file that is written within, such as on a disk that is full."""
     try:
         yield
@@ -106,7 +116,7 @@ def told_of(path):
         raise
 
 
-def labelling_of(arcs, digest):
+def labelling_of(arcs: Arcs, digest: str) -> files.Labelling:
     """What the file of labels has of arcs, whose graph has this SHA-256."""
     labels = arcs.labels.values.tolist() if isinstance(arcs.labels, Labels) else None
     rows = None if arcs.arcs is None else arcs.arcs.tolist()
@@ -116,12 +126,12 @@ def labelling_of(arcs, digest):
 class Beside:
     """The files of a network that another one has too: the places of its nodes, and what these are called on the map."""
 
-    def __init__(self, layers):
+    def __init__(self, layers: Any) -> None:
         base = os.path.splitext(layers.path)[0]
         self.stamps = layers.stamps
         self.paths = {COORDINATES: layers.paths["coordinates"], NAMES: base + ".nodes"}
 
-    def copy_to(self, folder):
+    def copy_to(self, folder: str) -> None:
         """Copies them into a folder, as long as they are those of the beginning. Their comments say where trips end, so that they are not written
         anew."""
         for name, path in self.paths.items():
@@ -130,13 +140,13 @@ class Beside:
         self.stamps.see_that_same()
 
 
-def digest_of(path):
+def digest_of(path: str) -> str:
     """The SHA-256 of a file. It tells whether labels are those of a graph."""
     with open(path, "rb") as file:
         return hashlib.file_digest(file, "sha256").hexdigest()
 
 
-def save(program, graph, saved, running):
+def save(program: str, graph: str, saved: str, running: Running) -> None:
     """Builds the hierarchy of a graph, and saves it. A fault of the program is a `ProgramFault`."""
     command = [program, "save", "--deep", *["--progress"] * bool(running.progress), "--workers", str(running.workers), graph]
     # Faults come by a file and not by a pipe, which a process that is forked meanwhile would keep open.
@@ -153,15 +163,16 @@ def save(program, graph, saved, running):
             raise ProgramFault(f"{fault} ({saved})" if "cannot write" in str(fault) else str(fault), fault.status)
 
 
-def layers_of(arcs):
+def layers_of(arcs: Arcs) -> dict[str, Any]:
     """What the files of arcs hold, as the layers of a network have it: its labels, and the places of its nodes."""
-    layers = {"labels": arcs.labels, "labelling": labelling_of(arcs, "")}
+    layers: dict[str, Any] = {"labels": arcs.labels, "labelling": labelling_of(arcs, "")}
     if arcs.places is not None:
-        layers["coordinates"] = files.Coordinates(*(array.array("d", (numpy.rint(part * 1e6) / 1e6).tobytes()) for part in arcs.places), [])
+        x, y = (array.array("d", (numpy.rint(part * 1e6) / 1e6).tobytes()) for part in arcs.places)
+        layers["coordinates"] = files.Coordinates(x, y, [])
     return layers
 
 
-def read_labelling(path, graph):
+def read_labelling(path: str, graph: str) -> files.Labelling:
     """What `network.labels` and its neighbours answer by: the labels, and the file's other entries. They have to be those of the graph."""
     found = files.read_labels(path)
     if found.labels is not None and len(found.labels) != files.count_nodes(graph) or found.graph != digest_of(graph):

@@ -1,9 +1,20 @@
 """Distances, tables and routes between nodes by their numbers, in arrays, over the runs of one engine."""
+from __future__ import annotations
+
+from collections.abc import Iterator, Sequence
+from typing import TYPE_CHECKING, Any
+
 import numpy
 
 from chtab.engine import asking, blocks
-from chtab.engine.progress import progress_of
+from chtab.engine.progress import Asked as Progress, progress_of
 from chtab.engine.walks import together
+
+if TYPE_CHECKING:
+    from chtab import files
+    from chtab.engine.in_process import InProcess
+    from chtab.engine.walks import Walks
+    from chtab.typing import Integers
 
 # Beside a run that is kept, near rows of all nodes by a saved hierarchy take as long as a row of a table with this share of the nodes.
 SHARE = 2 / 3
@@ -13,24 +24,24 @@ class NodeQueries:
     """What is asked of an engine between nodes from 1 on. Questions of any size are cut into those that a run takes at once. `near` are the
     runs of `chtab near` on the same network, and `progress` is what `progress_of` takes: nothing is reported where nobody asks for it."""
 
-    def __init__(self, runs, near):
+    def __init__(self, runs: asking.Engine | InProcess, near: Any) -> None:
         self.runs, self.near = runs, near
 
-    def distances(self, pairs, progress=None):
+    def distances(self, pairs: Integers, progress: Progress = None) -> Integers:
         """The weights of pairs of nodes, an array (n, 2) of int64: int64 (n,), -1 where there is no walk."""
         found = numpy.empty(len(pairs), numpy.int64)
         for some in self.parts(pairs, asking.MANY, "distances", progress):
             found[some] = self.runs.distances(pairs[some])
         return found
 
-    def parts(self, pairs, size, name, progress):
+    def parts(self, pairs: Integers, size: int, name: str, progress: Progress) -> Iterator[slice]:
         """The parts of pairs that are asked for together, each of which is counted when the next one is asked for."""
         with progress_of(progress, name, len(pairs), "pairs", False) as counted:
             for start in range(0, len(pairs), size):
                 yield slice(start, start + size)
                 counted.step(min(size, len(pairs) - start))
 
-    def table(self, sources, targets, within=None, progress=None):
+    def table(self, sources: Integers, targets: Integers, within: int | None = None, progress: Progress = None) -> Integers:
         """The weights from each node of one array to each of another, int64 (k, l), -1 where there is no walk, or none of at most `within`."""
         table, parts = numpy.empty((len(sources), len(targets)), numpy.int64), list(blocks.cut(sources, targets))
         with progress_of(progress, "table", len(parts), "blocks", False) as counted:
@@ -39,7 +50,7 @@ class NodeQueries:
                 table[block.row:block.row + len(block.sources), block.column:block.column + len(block.targets)] = cells
         return table
 
-    def is_near_best(self, count):
+    def is_near_best(self, count: int) -> bool:
         """Whether near rows of all nodes are told sooner than a row of a table with so many targets. Their run reads the network, and a table
         searches from each target."""
         setting = self.runs.setting
@@ -47,18 +58,18 @@ class NodeQueries:
             return False
         return not self.runs.runs or setting.saved is not None and count > SHARE * self.runs.nodes
 
-    def routes(self, pairs, progress=None):
+    def routes(self, pairs: Integers, progress: Progress = None) -> list[files.Answer]:
         """The routes of pairs of nodes, an array (n, 2) of int64, as a list of `files.Answer`."""
-        pairs, found = pairs.tolist(), []
+        found: list[files.Answer] = []
         for some in self.parts(pairs, asking.FEW, "routes", progress):
-            found += self.runs.routes(pairs[some])
+            found += self.runs.routes(pairs[some].tolist())
         return found
 
-    def walks(self, pairs):
+    def walks(self, pairs: Integers) -> Walks:
         """The same in flat arrays, as `walks.Walks`."""
         return together([self.runs.walks(pairs[start:start + asking.FEW]) for start in range(0, max(1, len(pairs)), asking.FEW)])
 
-    def small_tables(self, parts):
+    def small_tables(self, parts: Sequence[tuple[Sequence[int], Sequence[int]]]) -> Integers:
         """The cells of several small tables in one column, int64, -1 where there is no walk. Each part is a list of sources and one of targets."""
         cells = [self.runs.tables(parts[start:start + asking.FEW]) for start in range(0, len(parts), asking.FEW)]
         return numpy.concatenate([numpy.zeros(0, numpy.int64), *cells])

@@ -1,15 +1,24 @@
 """What a network is opened by: the files, and how the program runs. Another process opens it anew by the same."""
+from __future__ import annotations
+
 import difflib
 import numbers
 import os
+from collections.abc import Mapping, Sequence
 from dataclasses import dataclass, fields
+from typing import TYPE_CHECKING, Any
 
 from chtab.engine import asking, folders, making
 from chtab.engine.child import see_to
 from chtab.engine.choosing import AUTO
 from chtab.engine.program import program_of
-from chtab.engine.stamps import stamp_of
+from chtab.engine.progress import Asked as Progress
+from chtab.engine.stamps import Stamp, stamp_of
 from chtab.files import measures
+
+if TYPE_CHECKING:
+    from chtab.files.arc_columns import Arcs
+    from chtab.typing import Path
 
 
 @dataclass(frozen=True)
@@ -22,12 +31,12 @@ class Running:
     load: bool = True
     routes: bool = False
     runs: int = 1
-    library: object = AUTO
+    library: bool | str = AUTO
     asked: measures.Asked = measures.Asked()
     # How far the building of a network of arcs is: what `progress_of` takes.
-    progress: object = None
+    progress: Progress = None
 
-    def __post_init__(self):
+    def __post_init__(self) -> None:
         if self.runs < 1:
             raise ValueError(f"runs is {self.runs!r}: there is at least one run")
         if self.timeout is not None and (isinstance(self.timeout, bool) or not isinstance(self.timeout, numbers.Real)):
@@ -38,12 +47,12 @@ class Running:
         if not isinstance(self.library, bool) and self.library != AUTO:
             object.__setattr__(self, "library", os.path.abspath(self.library))
 
-    def setting(self, graph, saved):
+    def setting(self, graph: str, saved: str | None) -> asking.Setting:
         """The same for an engine, of these files."""
         return asking.Setting(program_of(self.program), graph, saved, self.workers, self.timeout, self.runs)
 
 
-def running_of(call, given, asked, also=()):
+def running_of(call: str, given: Mapping[str, Any], asked: measures.Asked, also: Sequence[str] = ()) -> Running:
     """How the program runs, by the further arguments of a call. One that is not known is a `TypeError`, which names the nearest that is."""
     known = [field.name for field in fields(Running) if field.name not in ("asked", *["progress"] * (call == "open"))]
     for name in given:
@@ -62,32 +71,41 @@ class Opening:
     bends: str | None = None
     labelling: str | None = None
     # What tells the graph from another one: a network of another one at its place is another network.
-    stamp: tuple | None = None
+    stamp: Stamp | None = None
     # Whether the library for C answers, and what the caller says of units: `Network.open` has the meaning.
-    library: object = AUTO
+    library: bool | str = AUTO
     asked: measures.Asked = measures.Asked()
 
 
-def opening_of(graph, saved, coordinates, bends, running):
+def opening_of(graph: Path, saved: Path | None, coordinates: Path | None, bends: Path | None, running: Running) -> Opening:
     """The opening of files, each of which can be read, or of a folder."""
     if os.path.isdir(graph):
         return of_folder(os.path.abspath(graph), running, saved, coordinates, bends)
-    graph, saved, coordinates, bends = (None if path is None else os.path.abspath(path) for path in (graph, saved, coordinates, bends))
-    for path in filter(None, (graph, saved, coordinates, bends)):
-        open(path, "rb").close()
+    graph, (saved, coordinates, bends) = os.path.abspath(graph), paths_of(saved, coordinates, bends)
+    see_that_readable(graph, saved, coordinates, bends)
     return Opening(running.setting(graph, saved), coordinates, bends, stamp=stamp_of(graph), library=running.library, asked=running.asked)
 
 
-def of_folder(folder, running, saved=None, coordinates=None, bends=None):
+def of_folder(folder: str, running: Running, saved: Path | None = None, coordinates: Path | None = None, bends: Path | None = None) -> Opening:
     """The opening of a network that was made in a folder, with other files than those of the folder where they are given."""
     graph, own, labelling = (os.path.join(folder, name) for name in (making.GRAPH, making.SAVED, making.LABELS))
-    saved, coordinates, bends = (None if path is None else os.path.abspath(path) for path in (saved or own, coordinates, bends))
-    for path in filter(None, (graph, saved, labelling, coordinates, bends)):
-        open(path, "rb").close()
+    saved, coordinates, bends = paths_of(saved or own, coordinates, bends)
+    see_that_readable(graph, saved, labelling, coordinates, bends)
     return Opening(running.setting(graph, saved), coordinates, bends, labelling, stamp_of(graph), running.library, running.asked)
 
 
-def made(arcs, folder, running):
+def paths_of(*paths: Path | None) -> list[str | None]:
+    """The whole paths of files, None where there is none."""
+    return [None if path is None else os.path.abspath(path) for path in paths]
+
+
+def see_that_readable(*paths: str | None) -> None:
+    """Opens each file once, so that one that can't be opened is told now."""
+    for path in filter(None, paths):
+        open(path, "rb").close()
+
+
+def made(arcs: Arcs, folder: Path | None, running: Running) -> tuple[Opening, folders.Folder | None]:
     """The opening of arcs, whose files are written; and the temporary folder that keeps them, None where the caller names one."""
     program = program_of(running.program)
     see_to(program)

@@ -1,10 +1,17 @@
 """Where the program chtab is found."""
+from __future__ import annotations
+
 import os
 import pathlib
 import shutil
 import sys
+from collections.abc import Iterator
+from typing import TYPE_CHECKING
 
 from chtab.errors import ChtabError
+
+if TYPE_CHECKING:
+    from chtab.typing import Path
 
 # The package, and the folder that it stands in: `python` of a checkout or of what `install` put there, or a folder of Python's packages.
 PACKAGE = pathlib.Path(__file__).parent.parent
@@ -13,7 +20,7 @@ LACKING = "the program chtab is neither beside this package nor beside the scrip
     "name it: `--program FILE` for a command, `program=` from Python"
 
 
-def program_of(path=None):
+def program_of(path: Path | None = None) -> str:
     """The path of the program.
 
     It is looked for in this order: the one that was named; that of the checkout or of the installation that the package is in; the one
@@ -34,13 +41,13 @@ def program_of(path=None):
     for found in candidates():
         if found.is_file() and os.access(found, os.X_OK):
             return str(found)
-    found = shutil.which("chtab")
-    if found is None:
+    on_path = shutil.which("chtab")
+    if on_path is None:
         raise ChtabError(LACKING)
-    return os.path.abspath(found)
+    return os.path.abspath(on_path)
 
 
-def candidates():
+def candidates() -> Iterator[pathlib.Path]:
     """The files that may be the program, in the order in which they are taken."""
     root = ABOVE.parent
     if (root / "crates.txt").exists() or (root / "program").exists():

@@ -1,11 +1,13 @@
 """Signs of life on standard error: a bar where it is a terminal (by tqdm, where that is there), and else a line now and then."""
+from __future__ import annotations
+
 import sys
 import time
-from collections.abc import Callable
-from typing import Any
+from collections.abc import Callable, Iterable, Iterator
+from typing import Any, TypeAlias, TypeVar
 
 # What a caller says of progress.
-Asked = bool | Callable[[int, int], Any] | None
+Asked: TypeAlias = bool | Callable[[int, int], Any] | None
 
 # Seconds from one line to the next.
 SECONDS = 10.0
@@ -13,17 +15,22 @@ SECONDS = 10.0
 MANY = 100_000
 
 
+# What hears how far a call is: how many things are done, and of how many.
+Told: TypeAlias = Callable[[int, int], Any]
 # Seconds from one line to the next where a caller asks for them.
 ASKED_SECONDS = 1.0
 
 
-def progress_of(asked, name, total, things, is_told=True):
+def progress_of(asked: Asked, name: str, total: int | None, things: str, is_told: bool = True) -> Progress:
     """What counts for a call of a network, whose `progress` says how: None as `is_told` has it, True or False, or a call."""
     if callable(asked):
         return Progress(name, total, things, is_told=False, call=asked)
     if asked is not None and not isinstance(asked, bool):
         raise TypeError(f"progress is True, False or a call, not {asked!r}")
     return Progress(name, total, things, ASKED_SECONDS if asked else None, is_told if asked is None else asked)
+
+
+Item = TypeVar("Item")
 
 
 class Progress:
@@ -34,14 +41,16 @@ class Progress:
             progress.step()
     """
 
-    def __init__(self, name, total, things, seconds=None, is_told=True, call=None):
+    def __init__(
+        self, name: str, total: int | None, things: str, seconds: float | None = None, is_told: bool = True, call: Told | None = None,
+    ) -> None:
         self.name, self.total, self.things, self.is_told, self.call = name, total, things, is_told, call
         self.seconds = SECONDS if seconds is None else seconds
         self.done, self.begun = 0, time.monotonic()
         self.told = self.begun
         self.bar = self.bar_of_tqdm() if is_told and sys.stderr.isatty() else None
 
-    def bar_of_tqdm(self):
+    def bar_of_tqdm(self) -> Any:
         try:
             import tqdm
         except ImportError:
@@ -49,33 +58,33 @@ class Progress:
         is_scaled = self.total is None or self.total > MANY
         return tqdm.tqdm(desc=self.name, total=self.total, unit=f" {self.things}", unit_scale=is_scaled, delay=1, leave=False)
 
-    def step(self, count=1):
+    def step(self, count: int = 1) -> None:
         """So many more are done."""
         self.done += count
         if self.call is not None:
-            self.call(self.done, self.total)
+            self.call(self.done, self.total or 0)
         elif self.bar is not None:
             self.bar.update(count)
         elif self.is_told and time.monotonic() - self.told >= self.seconds:
             self.told = time.monotonic()
             print(self.line(), file=sys.stderr, flush=True)
 
-    def each(self, items):
+    def each(self, items: Iterable[Item]) -> Iterator[Item]:
         """The items, each of which is counted once the next one is asked for."""
         for item in items:
             yield item
             self.step()
 
-    def line(self):
+    def line(self) -> str:
         spent = time.monotonic() - self.begun
         if not self.total:
             return f"{self.name}: {self.done:,} {self.things} after {spent:.0f} s"
         left = spent * (self.total - self.done) / max(self.done, 1)
         return f"{self.name}: {self.done:,} of {self.total:,} {self.things} after {spent:.0f} s, some {left:.0f} s left"
 
-    def __enter__(self):
+    def __enter__(self) -> Progress:
         return self
 
-    def __exit__(self, *_):
+    def __exit__(self, *_: object) -> None:
         if self.bar is not None:
             self.bar.close()

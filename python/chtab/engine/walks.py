@@ -1,10 +1,18 @@
 """Routes of many queries in flat arrays, for callers that need sums over their arcs and not each route by itself."""
+from __future__ import annotations
+
+from collections.abc import Sequence
 from dataclasses import dataclass
+from typing import TYPE_CHECKING
 
 import numpy
 
 from chtab.engine import answers
 from chtab.errors import unasked
+
+if TYPE_CHECKING:
+    from chtab import files
+    from chtab.typing import Integers
 
 # The letters that lines of the program begin with.
 DISTANCE, ROUTE, ARC = b"dra"
@@ -15,24 +23,24 @@ class Walks:
     """Walks of a graph. Walk k weighs `weights[k]`, -1 where there is none. Its arcs are those from `firsts[k]` to before `firsts[k + 1]` of
     the columns `tails`, `heads` and `arc_weights`."""
 
-    weights: numpy.ndarray
-    firsts: numpy.ndarray
-    tails: numpy.ndarray
-    heads: numpy.ndarray
-    arc_weights: numpy.ndarray
+    weights: Integers
+    firsts: Integers
+    tails: Integers
+    heads: Integers
+    arc_weights: Integers
 
-    def __len__(self):
+    def __len__(self) -> int:
         return len(self.weights)
 
-    def counts(self):
+    def counts(self) -> Integers:
         """How many arcs each has."""
         return numpy.diff(self.firsts)
 
-    def sums(self, column):
+    def sums(self, column: Integers) -> Integers:
         """For each walk the sum of what a column has for its arcs."""
         return numpy.diff(numpy.append(0, numpy.cumsum(column))[self.firsts])
 
-    def chosen(self, which):
+    def chosen(self, which: Integers) -> Walks:
         """Some of them, by an array of their numbers."""
         counts = self.counts()[which]
         arcs = ranges(self.firsts[which], counts)
@@ -40,27 +48,27 @@ class Walks:
         return Walks(self.weights[which], firsts, self.tails[arcs], self.heads[arcs], self.arc_weights[arcs])
 
 
-def together(parts):
+def together(parts: Sequence[Walks]) -> Walks:
     """The walks of several lists, one after the other."""
     firsts = numpy.append(0, numpy.cumsum(numpy.concatenate([part.counts() for part in parts])))
     columns = ([getattr(part, name) for part in parts] for name in ("tails", "heads", "arc_weights"))
-    return Walks(numpy.concatenate([part.weights for part in parts]), firsts, *map(numpy.concatenate, columns))
+    return Walks(numpy.concatenate([part.weights for part in parts]), firsts, *(numpy.concatenate(column) for column in columns))
 
 
 class WalkQuestion(answers.Question):
     """Asks for the routes of pairs of nodes, an array (n, 2) of int64. The value is the walks."""
 
-    def __init__(self, pairs):
+    def __init__(self, pairs: Integers) -> None:
         super().__init__(answers.request_lines("r", pairs.tolist()), b"d", len(pairs))
         self.pairs = pairs
 
-    def value_of(self, text):
+    def value_of(self, text: bytes) -> Walks:
         if not answers.ROUTES.fullmatch(text):
             raise unasked()
         return matched(read(text), self.pairs)
 
 
-def read(text):
+def read(text: bytes) -> tuple[Integers, Walks]:
     """The queries (n, 2) that a text of the right lines answers, and their walks. A route has to have as many arcs as it says."""
     kinds = numpy.frombuffer(text.translate(None, b"0123456789 -\n"), numpy.uint8)
     words = answers.numbers(text, 1)[:, 0]
@@ -79,7 +87,7 @@ def read(text):
     return numpy.column_stack([sources, targets]), walks
 
 
-def matched(found, pairs):
+def matched(found: tuple[Integers, Walks], pairs: Integers) -> Walks:
     """The walks, where they are those of these pairs: each leads from its source to its target over arcs that weigh what it says."""
     queries, walks = found
     if queries.shape != pairs.shape or (queries != pairs).any():
@@ -100,7 +108,7 @@ def matched(found, pairs):
     return walks
 
 
-def ranges(firsts, counts):
+def ranges(firsts: Integers, counts: Integers) -> Integers:
     """The numbers from each of the firsts on, so many of each, in one array."""
     ends = numpy.cumsum(counts)
     return numpy.arange(ends[-1] if len(ends) else 0) + numpy.repeat(firsts - (ends - counts), counts)
@@ -115,7 +123,7 @@ class ArcIndex:
         The arcs.
     """
 
-    def __init__(self, graph):
+    def __init__(self, graph: files.Graph) -> None:
         self.count = graph.nodes
         tails, heads, weights = (numpy.array(column, numpy.int64) for column in (graph.tails, graph.heads, graph.weights))
         keys = (tails - 1) * self.count + heads - 1
@@ -127,14 +135,14 @@ class ArcIndex:
         # Behind the keys is one that no pair has, so that each key that is looked for has a place.
         self.keys = numpy.append(keys[is_first], numpy.iinfo(numpy.int64).max)
 
-    def of(self, tails, heads):
+    def of(self, tails: Integers, heads: Integers) -> Integers:
         """The arcs between nodes from 1 on, as numbers from 0 on. One that is not there is a `ProgramFault`."""
         places = self.found(tails, heads)
         if places is None:
             raise unasked()
         return self.lines[places]
 
-    def found(self, tails, heads):
+    def found(self, tails: Integers, heads: Integers) -> Integers | None:
         """The places of arcs between nodes from 1 on, among all pairs of ends; None where one of them is not there."""
         wanted = (tails.astype(numpy.int64) - 1) * self.count + heads - 1
         places = self.keys.searchsorted(wanted)

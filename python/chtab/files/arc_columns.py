@@ -1,14 +1,21 @@
 """Arcs of columns: labels at both ends and weights become the arcs of a graph. Whatever the program would refuse is refused here."""
+from __future__ import annotations
+
 import math
 import numbers
 from dataclasses import dataclass
+from typing import TYPE_CHECKING, Any, cast
 
 import numpy
 
 from chtab.errors import DataFault
 from chtab.files import columns, edge_lines, measures
 from chtab.files.columns import refused, told
-from chtab.files.node_labels import Labels, labels_of_ends, labels_of_nodes
+from chtab.files.node_labels import Labels, Numbers, labels_of_ends, labels_of_nodes
+
+if TYPE_CHECKING:
+    from numpy.typing import NDArray
+    from chtab.typing import Column, Floats, Integers, LabelArray, Marks, Point
 
 # The limits of a graph: nodes, arcs, and nodes times weight.
 MOST_NODES, MOST_ARCS, MOST_WEIGHT = 2**25, 2**27, 2**60
@@ -19,18 +26,18 @@ NAMES = "sources", "targets", "weights"
 class Columns:
     """What a network is made of, as callers give it: `Network.from_arrays` has the meaning of each. `names` are those of the first three."""
 
-    sources: object
-    targets: object
-    weights: object
-    nodes: object = None
-    x: object = None
-    y: object = None
+    sources: Column
+    targets: Column
+    weights: Column
+    nodes: Column | None = None
+    x: Column | None = None
+    y: Column | None = None
     scale: float | None = None
     unit: str | None = None
     both_ways: bool = False
     geometry: object = None
-    names: tuple = NAMES
-    keys: list | None = None
+    names: tuple[str, ...] = NAMES
+    keys: list[Any] | None = None
 
 
 @dataclass(frozen=True)
@@ -43,23 +50,23 @@ class Arcs:
     keys of rows, `base` what the weights of the graph are, and `beside` the files of places that are taken along, or None.
     """
 
-    labels: Labels
-    tails: numpy.ndarray
-    heads: numpy.ndarray
-    weights: numpy.ndarray
+    labels: Labels | Numbers
+    tails: Integers
+    heads: Integers
+    weights: Integers
     scale: float | None
     rounding: float
     unit: str | None
-    places: tuple | None
-    bends: dict
+    places: tuple[Floats, Floats] | None
+    bends: dict[int, list[Point]]
     rows: int
-    arcs: numpy.ndarray | None = None
-    keys: list | None = None
+    arcs: Integers | None = None
+    keys: list[Any] | None = None
     base: str = ""
-    beside: object = None
+    beside: Any = None
 
 
-def arcs_of(given):
+def arcs_of(given: Columns) -> Arcs:
     """The arcs of columns. Whatever the program would refuse is refused here, with its row."""
     sources, targets = (columns.column_labels_in(name, column) for name, column in zip(given.names, (given.sources, given.targets)))
     weights, factor, scale, unit = weights_in(given)
@@ -80,7 +87,7 @@ def arcs_of(given):
     return Arcs(labels, tails, heads, weights, scale, rounding, unit, places, bends, rows, None, given.keys, base)
 
 
-def weights_in(given):
+def weights_in(given: Columns) -> tuple[NDArray[Any], float | None, float | None, str | None]:
     """The weights as they are given, what they are multiplied by, how many of the graph's make one of the caller's unit, and that unit.
 
     Durations are milliseconds here, whatever the unit of answers is.
@@ -96,7 +103,7 @@ def weights_in(given):
     return durations, 1, measures.TIMES[unit], unit
 
 
-def nodes_of(given, sources, targets):
+def nodes_of(given: Columns, sources: LabelArray, targets: LabelArray) -> tuple[Labels, Any]:
     """The labels of all nodes, and the nodes of both columns of labels."""
     if given.nodes is None:
         return labels_of_ends(given.names, sources, targets)
@@ -104,14 +111,14 @@ def nodes_of(given, sources, targets):
     return labels, [labels.nodes_of(name, column) for name, column in zip(given.names, (sources, targets))]
 
 
-def see_that_in_limits(nodes, arcs):
+def see_that_in_limits(nodes: int, arcs: int) -> None:
     if not nodes:
         raise DataFault("there is no node: a network has at least one", "nodes")
     if nodes > MOST_NODES or arcs > MOST_ARCS:
         raise DataFault(f"{nodes:,} nodes and {arcs:,} arcs: a graph has at most {MOST_NODES:,} nodes and {MOST_ARCS:,} arcs", "nodes")
 
 
-def scale_in(scale):
+def scale_in(scale: float | None) -> float | None:
     """A scale: a whole number, a float, or None."""
     if scale is None:
         return None
@@ -120,15 +127,15 @@ def scale_in(scale):
     return int(scale) if int(scale) == scale else float(scale)
 
 
-def whole_weights(name, weights, scale, most):
+def whole_weights(name: str, weights: NDArray[Any], scale: float | None, most: int) -> tuple[Integers, float]:
     """The weights of a graph, int64, none above `most`; and the largest difference of one of them from what was given times the scale."""
     see_that_weights(name, weights)
     if weights.dtype == numpy.int64 and isinstance(scale, int | None):
         factor = 1 if scale is None else scale
         see_that_small(name, weights, weights <= most // factor)
-        return weights * min(factor, most), 0.0
+        return (weights * min(factor, most)).astype(numpy.int64, copy=False), 0.0
     scaled = weights.astype(numpy.longdouble) * numpy.longdouble(1 if scale is None else scale)
-    whole = numpy.rint(scaled)
+    whole: NDArray[Any] = numpy.rint(scaled)
     see_that_small(name, weights, whole <= most)
     apart = abs(whole - scaled)
     place = columns.first_of(apart > 0) if scale is None else None
@@ -137,27 +144,27 @@ def whole_weights(name, weights, scale, most):
     return whole.astype(numpy.int64), float(apart.max(initial=0))
 
 
-def see_that_weights(name, weights):
+def see_that_weights(name: str, weights: NDArray[Any]) -> None:
     """Refuses the first weight that is below 0, or no finite number."""
     place = columns.first_of(~((weights >= 0) & (weights < numpy.inf)))
     if place is not None:
         raise refused(name, place, f"{weights[place]} is {'below 0' if -numpy.inf < weights[place] < 0 else 'no weight'}")
 
 
-def see_that_small(name, weights, is_small):
+def see_that_small(name: str, weights: NDArray[Any], is_small: Marks) -> None:
     """Refuses the first weight that is not small enough."""
     place = columns.first_of(~is_small)
     if place is not None:
         raise refused(name, place, f"{weights[place]} is too large: as in the graph, times the number of nodes, it is more than 2^60")
 
 
-def places_in(given, count):
+def places_in(given: Columns, count: int) -> tuple[Floats, Floats] | None:
     """Longitudes and latitudes of so many nodes, or None where the caller gives none."""
     if given.x is None and given.y is None:
         return None
-    for name in ("nodes", "x", "y"):
-        if getattr(given, name) is None:
+    for name, column in ("nodes", given.nodes), ("x", given.x), ("y", given.y):
+        if column is None:
             raise DataFault(f"{name} is not given: `nodes`, `x` and `y` go together", name)
-    x, y = columns.degrees_in("x", given.x, 180), columns.degrees_in("y", given.y, 90)
+    x, y = columns.degrees_in("x", cast("Column", given.x), 180), columns.degrees_in("y", cast("Column", given.y), 90)
     columns.see_that_long(["nodes", "x", "y"], [range(count), x, y])
     return x, y

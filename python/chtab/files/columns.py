@@ -3,13 +3,21 @@
 Nothing is guessed. A missing or masked value is refused, and so is a column of several kinds: numpy alone would take the label 1 beside the
 label "a" for the label "1".
 """
+from __future__ import annotations
+
 import contextlib
 import datetime
 import reprlib
+from collections.abc import Iterable, Sequence, Sized
+from typing import TYPE_CHECKING, Any
 
 import numpy
 
 from chtab.errors import DataFault
+
+if TYPE_CHECKING:
+    from numpy.typing import ArrayLike, NDArray
+    from chtab.typing import Column, Floats, LabelArray, Marks
 
 # The whole numbers of 64 bits, and the most bits of a label. Python itself does not write integers of many thousand digits.
 LEAST, GREATEST = -(2**63), 2**63 - 1
@@ -19,25 +27,25 @@ EXACT = 2**53
 INTEGERS, STRINGS, TUPLES = "integers", "strings", "tuples"
 
 
-def told(value):
+def told(value: object) -> str:
     """A value as a message has it, cut short."""
-    is_long = isinstance(value, int) and value.bit_length() > MOST_BITS
-    return f"an integer of {value.bit_length():,} bits" if is_long else reprlib.repr(value)
+    bits = value.bit_length() if isinstance(value, int) else 0
+    return f"an integer of {bits:,} bits" if bits > MOST_BITS else reprlib.repr(value)
 
 
-def refused(name, row, text):
+def refused(name: str, row: int, text: str) -> DataFault:
     """The fault of the value in a row of a column."""
     return DataFault(f"{name}[{row}]: {text}", name, row)
 
 
-def first_of(marks):
+def first_of(marks: ArrayLike) -> int | None:
     """The first place where an array is true, None where it is nowhere."""
     marks = numpy.reshape(marks, -1)
     place = int(marks.argmax()) if marks.size else 0
     return place if marks.size and marks[place] else None
 
 
-def array_of(name, column):
+def array_of(name: str, column: Column) -> NDArray[Any]:
     """The array of a column. A list becomes an array of objects, so that no value of it is made another."""
     if isinstance(column, numpy.ma.MaskedArray):
         see_that_there(name, numpy.ma.getmaskarray(column), "is masked")
@@ -47,30 +55,30 @@ def array_of(name, column):
     return numpy.asarray(column, None if hasattr(column, "__array__") else object)
 
 
-def see_that_there(name, marks, what):
+def see_that_there(name: str, marks: Marks, what: str) -> None:
     """Refuses the first value of a column that is marked as missing."""
     place = first_of(marks)
     if place is not None:
         raise refused(name, row_of(marks, place), f"the value {what}")
 
 
-def width_of(array):
+def width_of(array: NDArray[Any]) -> int:
     """How many values of an array are in a row."""
     return int(numpy.prod(array.shape[1:]))
 
 
-def row_of(array, place):
+def row_of(array: NDArray[Any], place: int) -> int:
     """The row of an array that has its value of a place, in the order of its values."""
     return place // width_of(array)
 
 
-def see_that_flat(name, array):
+def see_that_flat(name: str, array: NDArray[Any]) -> None:
     """Refuses an array that is no column."""
     if array.ndim != 1:
         raise DataFault(f"{name} has the shape {array.shape}, and not that of one column", name)
 
 
-def see_that_long(names, columns):
+def see_that_long(names: Sequence[str], columns: Sequence[Sized]) -> None:
     """Refuses columns that are not of one length."""
     rows = len(columns[0])
     for name, count in zip(names, map(len, columns)):
@@ -79,7 +87,7 @@ def see_that_long(names, columns):
             raise DataFault(f"{names[0]} has {rows:,} rows and {name} has {count:,}: row {row} of {short} is missing", short, row)
 
 
-def in_rows(column, count):
+def in_rows(column: Any, count: int) -> Any:
     """A column with a value for each of so many rows, in their order: one of pandas whose index has these rows in another order is put in theirs."""
     if not hasattr(column, "iloc"):
         return column
@@ -91,21 +99,21 @@ def in_rows(column, count):
 # Labels.
 
 
-def is_integer(kind):
+def is_integer(kind: type) -> bool:
     return issubclass(kind, int | numpy.integer) and not issubclass(kind, bool)
 
 
-def kind_of(kind):
+def kind_of(kind: type) -> str | None:
     """The kind of labels that a type of values makes, None where it makes none."""
     return STRINGS if issubclass(kind, str) else TUPLES if issubclass(kind, tuple) else INTEGERS if is_integer(kind) else None
 
 
-def are_whole(column):
+def are_whole(column: NDArray[Any]) -> Marks:
     """Which numbers of a column of floats are whole numbers that no other float stands for."""
     return (column == numpy.floor(column)) & (abs(column) <= EXACT)
 
 
-def labels_in(name, column):
+def labels_in(name: str, column: Column) -> LabelArray:
     """The labels of a column, of any shape.
 
     Returns
@@ -144,7 +152,7 @@ def labels_in(name, column):
     return array if types == {str} else objects_like(array, map(str, values))
 
 
-def column_labels_in(name, column):
+def column_labels_in(name: str, column: Column) -> LabelArray:
     """The same of one column, whose labels may be tuples. A list of tuples is one column, and not several."""
     if isinstance(column, list | tuple) and isinstance(next(iter(column), None), tuple):
         return tuples_in(name, column)
@@ -153,7 +161,7 @@ def column_labels_in(name, column):
     return labels
 
 
-def tuples_in(name, column):
+def tuples_in(name: str, column: Iterable[Any]) -> LabelArray:
     """The labels of a column of tuples, objects. The parts of each are integers, strings or floats."""
     values = list(column)
     see_that_labels(name, values)
@@ -163,13 +171,13 @@ def tuples_in(name, column):
     return objects_of([tuple(part.item() if isinstance(part, numpy.generic) else part for part in value) for value in values])
 
 
-def whole_as_integer(value):
+def whole_as_integer(value: Any) -> Any:
     """A whole float as the integer that it is, and any other value as it is: ids are floats where a column lacked some of them once."""
-    is_whole = isinstance(value, float | numpy.floating) and value.is_integer() and abs(value) <= EXACT
-    return int(value) if is_whole else value
+    is_float = isinstance(value, float | numpy.floating)
+    return int(value) if is_float and float(value).is_integer() and abs(value) <= EXACT else value
 
 
-def no_label(name, array):
+def no_label(name: str, array: NDArray[Any]) -> DataFault:
     """The fault of an array of another kind: of its first NaN, or of its first value that is not whole, or else of its first value."""
     place = None
     if array.dtype.kind == "f":
@@ -179,7 +187,7 @@ def no_label(name, array):
     return refused(name, row_of(array, place or 0), f"{told(value)} is no label; a label is an integer, a string or a tuple")
 
 
-def see_that_labels(name, values, width=1):
+def see_that_labels(name: str, values: Sequence[object], width: int = 1) -> set[type]:
     """The types of a list of labels, of which so many are in a row. The first one that is no label, or of another kind, is a fault."""
     types = set(map(type, values))
     kinds = set(map(kind_of, types))
@@ -192,12 +200,12 @@ def see_that_labels(name, values, width=1):
     raise refused(name, place // width, f"the label {told(values[place])} is not one of {first}, as those before it")
 
 
-def objects_like(array, values):
+def objects_like(array: NDArray[Any], values: Iterable[object]) -> LabelArray:
     """An array of objects in the shape of another."""
     return objects_of(list(values)).reshape(array.shape)
 
 
-def objects_of(values):
+def objects_of(values: Sequence[Any]) -> LabelArray:
     """A column of objects, of a list. Tuples stay what they are."""
     made = numpy.empty(len(values), object)
     if values and isinstance(values[0], tuple):
@@ -208,7 +216,7 @@ def objects_of(values):
     return made
 
 
-def integers_like(name, array, values):
+def integers_like(name: str, array: NDArray[Any], values: Iterable[Any]) -> LabelArray:
     """Integers in the shape of an array: of int64 where all of them are. One of too many bits is a fault."""
     # Numbers of numpy are made Python's, because numpy would take one past 2^63 for another.
     values = list(map(int, values))
@@ -223,7 +231,7 @@ def integers_like(name, array, values):
 # Numbers.
 
 
-def durations_in(name, column):
+def durations_in(name: str, column: Column) -> Any:
     """The milliseconds of a column of durations, in the widest decimal numbers that the machine has; None of another column."""
     array = array_of(name, column)
     if array.dtype == object and array.ndim == 1 and array.size and isinstance(array[0], datetime.timedelta | numpy.timedelta64):
@@ -238,7 +246,7 @@ def durations_in(name, column):
     return array.astype("timedelta64[ns]").astype(numpy.int64) / numpy.longdouble(1e6)
 
 
-def numbers_in(name, column, with_booleans=False):
+def numbers_in(name: str, column: Column, with_booleans: bool = False) -> NDArray[Any]:
     """The numbers of a column: int64, or of the widest decimal numbers that the machine has. True and False may be 1 and 0.
 
     Those of most machines hold each whole number of 64 bits, and the product of most decimal numbers and a thousand.
@@ -261,7 +269,7 @@ def numbers_in(name, column, with_booleans=False):
     return array.astype(numpy.int64)
 
 
-def numbers_of_objects(name, values):
+def numbers_of_objects(name: str, values: Sequence[Any]) -> NDArray[Any]:
     """The same of a list."""
     kinds = set(map(type, values))
     if not all(map(is_number, kinds)):
@@ -272,17 +280,17 @@ def numbers_of_objects(name, values):
     if all(map(is_integer, kinds)):
         with contextlib.suppress(OverflowError):
             return numpy.array([*map(int, values)], numpy.int64)
-    place = next((place for place, value in enumerate(values) if is_integer(type(value)) and not LEAST <= int(value) <= GREATEST), None)
-    if place is not None:
-        raise refused(name, place, f"{told(values[place])} is {'too large' if values[place] > 0 else 'below 0'}")
+    large = next((place for place, value in enumerate(values) if is_integer(type(value)) and not LEAST <= int(value) <= GREATEST), None)
+    if large is not None:
+        raise refused(name, large, f"{told(values[large])} is {'too large' if values[large] > 0 else 'below 0'}")
     return numpy.array([*map(numpy.longdouble, values)], numpy.longdouble)
 
 
-def is_number(kind):
+def is_number(kind: type) -> bool:
     return is_integer(kind) or issubclass(kind, float | numpy.floating)
 
 
-def degrees_in(name, column, most):
+def degrees_in(name: str, column: Column, most: int) -> Floats:
     """Degrees from -`most` to `most`, float64."""
     degrees = numbers_in(name, column).astype(float)
     place = first_of(~(abs(degrees) <= most))

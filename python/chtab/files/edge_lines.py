@@ -1,11 +1,24 @@
 """How arcs lie: lines as callers give them, such as those of shapely, and the points between their ends."""
+from __future__ import annotations
+
+from collections.abc import Sequence
+from typing import TYPE_CHECKING, Any, TypeAlias
+
 import numpy
 
 from chtab.errors import DataFault
 from chtab.files.columns import refused, told
 
+if TYPE_CHECKING:
+    from chtab.files.node_labels import Labels
+    from chtab.typing import Floats, Integers, Point
 
-def lines_in(name, column, rows):
+
+# Longitudes and latitudes, shape (n, 2).
+Line: TypeAlias = "Floats"
+
+
+def lines_in(name: str, column: Any, rows: int) -> list[Line | None] | None:
     """The lines of a column, each as an array of longitudes and latitudes (n, 2) with n from 2 on, or None; None where there is no column.
 
     A line is one of shapely, or a list of pairs. Numbers behind the first two of a point, such as heights, are passed over.
@@ -19,7 +32,7 @@ def lines_in(name, column, rows):
     return None if all(line is None for line in lines) else lines
 
 
-def line_in(name, row, line):
+def line_in(name: str, row: int, line: Any) -> Line | None:
     """One of them."""
     if line is None or isinstance(line, float) and line != line:
         return None
@@ -35,7 +48,7 @@ def line_in(name, row, line):
     return places
 
 
-def ends_of(lines, tails, heads, labels):
+def ends_of(lines: Sequence[Line | None], tails: Integers, heads: Integers, labels: Labels) -> tuple[Floats, Floats]:
     """The longitudes and latitudes of all nodes, by the ends of the lines that lead from them and to them."""
     places = numpy.full((len(labels.values), 2), numpy.nan)
     for line, tail, head in zip(lines, tails.tolist(), heads.tolist()):
@@ -45,10 +58,10 @@ def ends_of(lines, tails, heads, labels):
     if len(lacking):
         label = labels.values[lacking[:1]].tolist()[0]
         raise DataFault(f"no line leads to the node {told(label)}, so that it has no place: give `nodes`, `x` and `y`", "geometry")
-    return tuple(places.T)
+    return places[:, 0], places[:, 1]
 
 
-def bends_of(lines, tails, heads, places):
+def bends_of(lines: Sequence[Line | None], tails: Integers, heads: Integers, places: tuple[Floats, Floats] | None) -> dict[int, list[Point]]:
     """The points between the ends of each arc whose line has some: {arc: [(longitude, latitude), ..]}. A line that leads from the head of its arc
     to the tail is turned round."""
     if places is None:
@@ -58,11 +71,11 @@ def bends_of(lines, tails, heads, places):
         if line is not None and len(line) > 2:
             tail, head = ([axis[node - 1] for axis in places] for node in (tails[arc], heads[arc]))
             points = line[::-1] if is_turned(line, tail, head) else line
-            bends[arc] = list(map(tuple, points[1:-1].tolist()))
+            bends[arc] = [(x, y) for x, y in points[1:-1].tolist()]
     return bends
 
 
-def is_turned(line, tail, head):
+def is_turned(line: Line, tail: Sequence[float], head: Sequence[float]) -> bool:
     """Whether the ends of a line are nearer to the arc's ends the other way round."""
     straight, turned = (abs(line[[0, -1]] - ends).sum() for ends in ((tail, head), (head, tail)))
     return turned < straight

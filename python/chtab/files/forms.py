@@ -1,10 +1,17 @@
 """What the files of each kind have in common: paths and open files, columns of numbers, comments, and lines written many at once."""
+from __future__ import annotations
+
 import array
 import contextlib
 import itertools
 import os
+from collections.abc import Iterable, Iterator, Sequence
+from typing import IO, TYPE_CHECKING, Any, cast
 
 from chtab.errors import FileFault
+
+if TYPE_CHECKING:
+    from chtab.typing import Path, Source, Target
 
 # Lines that are formatted at once.
 ROWS_AT_ONCE = 1_000
@@ -13,9 +20,10 @@ COLUMNS_AT_ONCE = 1 << 16
 
 
 @contextlib.contextmanager
-def reading(source, mode="r"):
+def reading(source: Source, mode: str = "r") -> Iterator[Any]:
     """The file of a path, opened, or an open file or lines as they are. Bytes that are no text are a fault of the file."""
-    with open(source, mode) if isinstance(source, (str, os.PathLike)) else contextlib.nullcontext(source) as file:
+    opened: Any = open(source, mode) if isinstance(source, (str, os.PathLike)) else contextlib.nullcontext(source)
+    with opened as file:
         try:
             yield file
         except UnicodeDecodeError:
@@ -23,21 +31,22 @@ def reading(source, mode="r"):
 
 
 @contextlib.contextmanager
-def writing(target, mode="w"):
+def writing(target: Target, mode: str = "w") -> Iterator[IO[Any]]:
     """An open file as it is, or the file of a path, made new."""
-    with contextlib.nullcontext(target) if hasattr(target, "write") else open(target, mode) as file:
+    opened: Any = contextlib.nullcontext(target) if hasattr(target, "write") else open(cast("Path", target), mode)
+    with opened as file:
         yield file
 
 
-def name_of(source):
+def name_of(source: Source) -> str:
     return str(getattr(source, "name", source))
 
 
-def columns(source, letter, count):
+def columns(source: Source, letter: bytes, count: int) -> tuple[list[array.array[int]], list[bytes]]:
     """The numbers of all lines of a letter, in as many columns; and the comments and problem lines, as words of bytes."""
-    heads = []
+    heads: list[bytes] = []
 
-    def items(file):
+    def items(file: Iterable[bytes]) -> Iterator[bytes]:
         for number, line in enumerate(file, 1):
             words = line.split()
             if words[:1] == [letter]:
@@ -57,29 +66,29 @@ def columns(source, letter, count):
     return [numbers[place::count] for place in range(count)], heads
 
 
-def comments_of(heads):
+def comments_of(heads: Iterable[bytes]) -> list[str]:
     return [line[1:].strip().decode(errors="replace") for line in heads if line[:1] == b"c"]
 
 
-def write_comments(file, comments):
+def write_comments(file: IO[str], comments: Iterable[str]) -> None:
     file.writelines(f"c {comment}\n" for comment in comments)
 
 
-def write_rows(file, form, rows):
+def write_rows(file: IO[str], form: str, rows: Iterable[Iterable[Any]]) -> None:
     """A line of this form for each row of numbers; many are formatted at once, which takes half of the time."""
     rows = iter(rows)
     while some := list(itertools.islice(rows, ROWS_AT_ONCE)):
         file.write(form * len(some) % tuple(itertools.chain.from_iterable(some)))
 
 
-def write_columns(file, form, numbers):
+def write_columns(file: IO[str], form: str, numbers: Sequence[Any]) -> None:
     """A line of this form for each row of columns, which are arrays of whole numbers. Parts of them become lists, one after the other."""
     for start in range(0, len(numbers[0]), COLUMNS_AT_ONCE):
         write_rows(file, form, zip(*(column[start:start + COLUMNS_AT_ONCE].tolist() for column in numbers)))
 
 
 @contextlib.contextmanager
-def whole(path):
+def whole(path: str) -> Iterator[str]:
     """Gives a path beside this one, which takes its name once it was written without a fault, and else is gone.
 
     Parameters

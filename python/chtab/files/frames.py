@@ -1,6 +1,10 @@
 """Columns of arcs from frames, graphs of networkx and sparse matrices. Neither pandas nor networkx is imported: what they give is asked by its own
 calls."""
+from __future__ import annotations
+
+from collections.abc import Mapping, Sequence
 from dataclasses import fields
+from typing import Any
 
 from chtab.errors import DataFault
 from chtab.files import arc_columns, columns, measures
@@ -10,7 +14,7 @@ from chtab.files.columns import told
 FURTHER = {field.name for field in fields(arc_columns.Columns)} & {"nodes", "x", "y", "scale", "unit", "both_ways"}
 
 
-def column_of(frame, name):
+def column_of(frame: Any, name: str) -> Any:
     """The column of a frame, or the level of its index, of a name."""
     if name in frame.columns:
         return frame[name]
@@ -20,25 +24,28 @@ def column_of(frame, name):
     raise DataFault(f"the frame has no column {name!r}; it has {known}; reset_index() makes columns of an index without a name", str(name))
 
 
-def columns_of_frame(frame, names, geometry, more):
+def columns_of_frame(frame: Any, names: Sequence[str], geometry: str | None, more: Mapping[str, Any]) -> tuple[arc_columns.Columns, dict[str, Any]]:
     """The columns of these names, with those of `more` that tell of arcs; and the others of `more`."""
     of_arcs = {name: value for name, value in more.items() if name in FURTHER}
     lines = None if geometry is None else column_of(frame, geometry)
-    given = arc_columns.Columns(*(column_of(frame, name) for name in names), geometry=lines, names=tuple(map(str, names)), **of_arcs)
+    sources, targets, weights = (column_of(frame, name) for name in names)
+    given = arc_columns.Columns(sources, targets, weights, geometry=lines, names=tuple(map(str, names)), **of_arcs)
     return given, {name: value for name, value in more.items() if name not in FURTHER}
 
 
-def arcs_of_networkx(graph, weight, scale, unit, places, geometry):
+def arcs_of_networkx(
+    graph: Any, weight: str, scale: float | None, unit: str | None, places: tuple[str | None, str | None], geometry: str | None,
+) -> arc_columns.Arcs:
     """The arcs of a graph by an attribute of its edges, with the places by two attributes of its nodes, and lines, where these are there."""
     nodes, edges = list(graph.nodes), list(graph.edges(data=weight))
     columns.see_that_labels("nodes", list(map(columns.whole_as_integer, nodes)))
-    sources, targets, weights = map(list, zip(*edges)) if edges else ([], [], [])
+    sources, targets, weights = (list(column) for column in zip(*edges)) if edges else ([], [], [])
     x, y = places_of(graph, nodes, places)
     lines = None if geometry is None or x is None else [line for _, _, line in graph.edges(data=geometry)]
     scale = measures.scale_of(unit, None) or scale
     names = "from", "to", str(weight)
-    keys = list(graph.edges(keys=True)) if graph.is_multigraph() else []
-    keys = [key for *_, key in keys] if all(type(key) in (int, str) for *_, key in keys) and keys else None
+    known = [key for *_, key in graph.edges(keys=True)] if graph.is_multigraph() else []
+    keys = known if known and all(type(key) in (int, str) for key in known) else None
     given = arc_columns.Columns(sources, targets, weights, nodes, x, y, scale, unit, not graph.is_directed(), lines, names, keys)
     try:
         return arc_columns.arcs_of(given)
@@ -46,7 +53,7 @@ def arcs_of_networkx(graph, weight, scale, unit, places, geometry):
         raise told_of(fault, graph, nodes, edges) from None
 
 
-def places_of(graph, nodes, names):
+def places_of(graph: Any, nodes: Sequence[Any], names: tuple[str | None, str | None]) -> Sequence[list[Any] | None]:
     """Two attributes of all nodes, None each where no node has one of them."""
     if None in names:
         return None, None
@@ -55,7 +62,7 @@ def places_of(graph, nodes, names):
     return found if is_there else (None, None)
 
 
-def told_of(fault, graph, nodes, edges):
+def told_of(fault: DataFault, graph: Any, nodes: Sequence[Any], edges: Sequence[Any]) -> DataFault:
     """The fault of a column, with the node or the edge that its row is."""
     if fault.row is None:
         return fault

@@ -1,18 +1,25 @@
 """Routes as GeoJSON (RFC 7946): a line for each, with what it joins, its weight and how many arcs it has."""
+from __future__ import annotations
+
 import itertools
 import json
+from collections.abc import Iterable, Mapping, Sequence
+from typing import IO, TYPE_CHECKING, Any
 
 from chtab import files
 
+if TYPE_CHECKING:
+    from chtab.typing import Geojson, Point, Source
 
-def feature(line, properties, kind="LineString"):
+
+def feature(line: Sequence[Any] | None, properties: Mapping[str, Any], kind: str = "LineString") -> Geojson:
     """A feature, without a geometry where `line` is None. A line of one point has it twice, as the form asks for."""
     if kind == "LineString" and line is not None and len(line) == 1:
         line = [*line, *line]
     return {"type": "Feature", "properties": properties, "geometry": line and {"type": kind, "coordinates": line}}
 
 
-def line_text(line, properties):
+def line_text(line: Sequence[Point] | None, properties: Mapping[str, Any]) -> str:
     """The text of a feature with a line of places in millionths of a degree. It is written in a third of the time that `json` takes."""
     if not line:
         return json.dumps(feature(None, properties))
@@ -23,34 +30,34 @@ def line_text(line, properties):
     return f"{head}[{places}]}}}}"
 
 
-def collection(features):
+def collection(features: Iterable[Geojson]) -> Geojson:
     return {"type": "FeatureCollection", "features": list(features)}
 
 
-def route_feature(answer, line, names):
+def route_feature(answer: files.Answer, line: Sequence[Point], names: Mapping[Any, str]) -> Geojson:
     """A route of `files.read_routes` along a line of places. Where `names` has a name for its first or last node, the feature has it."""
-    properties = {"from": answer.source, "to": answer.target, "weight": answer.weight, "arcs": len(answer.nodes) - 1}
+    properties = {"from": answer.source, "to": answer.target, "weight": answer.weight, "arcs": len(answer.nodes or ()) - 1}
     return feature(line, named(properties, answer, names))
 
 
-def query_feature(query, answer, line, names):
+def query_feature(query: int, answer: files.Answer, line: Sequence[Point] | None, names: Mapping[Any, str]) -> Geojson:
     """The answer to a query, by its place, along a line of places; None for what no path leads to."""
     properties = {"query": query, "source": answer.source, "target": answer.target}
     properties |= {"from": answer.source, "to": answer.target, "weight": answer.weight, "arcs": answer.nodes and len(answer.nodes) - 1}
     return feature(line, named(properties, answer, names))
 
 
-def named(properties, answer, names):
+def named(properties: dict[str, Any], answer: files.Answer, names: Mapping[Any, str]) -> dict[str, Any]:
     """Properties with the names of the first and last node, where these have some."""
     own = {key: names[node] for key, node in (("from_name", answer.source), ("to_name", answer.target)) if names.get(node)}
     return {**properties, **own}
 
 
-def write_routes(source, coordinates, names, out):
+def write_routes(source: Source, coordinates: files.Coordinates, names: Mapping[int, str], out: IO[str]) -> None:
     """The routes of a text, a feature a line: no more than one is held at a time."""
     between = '{"type": "FeatureCollection", "features": [\n'
     for answer in files.read_routes(source):
-        line = [coordinates.of(node) for node in answer.nodes]
+        line = [coordinates.of(node) for node in answer.nodes or ()]
         out.write(between + json.dumps(route_feature(answer, line, names), ensure_ascii=False))
         between = ",\n"
     out.write("\n]}\n" if between == ",\n" else between + "\n]}\n")

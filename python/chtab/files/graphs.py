@@ -1,12 +1,18 @@
 """Graphs, the places of their nodes, and the points of their arcs between their ends."""
+from __future__ import annotations
+
 import array
 import itertools
 import math
 import re
-from typing import NamedTuple
+from collections.abc import Iterable, Mapping, Sequence
+from typing import TYPE_CHECKING, Any, NamedTuple
 
 from chtab.errors import FileFault
 from chtab.files.forms import ROWS_AT_ONCE, columns, comments_of, name_of, write_columns, write_comments, write_rows, writing
+
+if TYPE_CHECKING:
+    from chtab.typing import Path, Point, Source, Target
 
 # The weights' units that a graph's comment may name, each with its short name and how many of the weight make one.
 UNITS = {"milliseconds": ("min", 60_000), "metres": ("km", 1_000)}
@@ -19,9 +25,9 @@ class Graph(NamedTuple):
     """A graph: arc k leads from `tails[k]` to `heads[k]` and weighs `weights[k]`; columns of 64-bit numbers."""
 
     nodes: int
-    tails: array.array
-    heads: array.array
-    weights: array.array
+    tails: array.array[int]
+    heads: array.array[int]
+    weights: array.array[int]
     # `milliseconds` or `metres` where a comment says `Weights are ..`, and else empty.
     unit: str
 
@@ -29,31 +35,31 @@ class Graph(NamedTuple):
 class Coordinates(NamedTuple):
     """Where nodes lie: node k at `longitudes[k - 1]`, `latitudes[k - 1]`, in degrees; NaN where the file has no line for it."""
 
-    longitudes: array.array
-    latitudes: array.array
-    comments: list
+    longitudes: array.array[float]
+    latitudes: array.array[float]
+    comments: list[str]
 
-    def of(self, node):
+    def of(self, node: int) -> Point:
         """Longitude and latitude of a node."""
         if 1 <= node <= len(self.longitudes) and not math.isnan(self.longitudes[node - 1]):
             return self.longitudes[node - 1], self.latitudes[node - 1]
         raise FileFault(f"the coordinate file has no node {node}")
 
-    def ends(self):
+    def ends(self) -> dict[int, int]:
         """Where trips end whose target is a node at which turns are restricted: {node: node}. All others end at their target."""
         return {int(found[1]): int(found[2]) for found in map(END.fullmatch, self.comments) if found}
 
-    def copies(self):
+    def copies(self) -> dict[int, int]:
         """The nodes that stand for another one, where turns are restricted: {node: that one}. Those where trips end are among them."""
         found = {int(found[1]): int(found[2]) for found in map(COPY.fullmatch, self.comments) if found}
         return found | {end: node for node, end in self.ends().items()}
 
-    def known(self):
+    def known(self) -> list[int]:
         """The nodes that have a place, in order."""
         return [node for node, x in enumerate(self.longitudes, 1) if not math.isnan(x)]
 
 
-def read_graph(source):
+def read_graph(source: Source) -> Graph:
     """Reads a graph (`.gr`). Its limits are not judged: that the program does.
 
     Parameters
@@ -77,7 +83,7 @@ def read_graph(source):
     [4, 5]
     """
     (tails, heads, weights), lines = columns(source, b"a", 3)
-    problem = next((line.split() for line in lines if line[:1] == b"p"), [])
+    problem: list[bytes] = next((line.split() for line in lines if line[:1] == b"p"), [])
     if problem[:2] != [b"p", b"sp"] or len(problem) != 4 or not problem[2].isdigit():
         raise FileFault(f"{name_of(source)}: not a graph, whose problem line is `p sp N M`")
     nodes = int(problem[2])
@@ -86,7 +92,7 @@ def read_graph(source):
     return Graph(nodes, tails, heads, weights, unit_of(lines))
 
 
-def read_unit(path):
+def read_unit(path: Path) -> str:
     """Reads what a graph's comments say that its weights are, without its arcs: comments behind the first arc are not looked at.
 
     Parameters
@@ -108,13 +114,13 @@ def read_unit(path):
         return unit_of(list(itertools.takewhile(lambda line: line[:1] != b"a", file)))
 
 
-def unit_of(lines):
+def unit_of(lines: Iterable[bytes]) -> str:
     """The unit that comments among some lines name, empty where none does."""
     told = [comment.split()[-1].strip(".") for comment in comments_of(lines) if comment.startswith("Weights are ")]
     return told[0] if told and told[0] in UNITS else ""
 
 
-def count_arcs(path):
+def count_arcs(path: Path) -> int:
     """Reads how many arcs a graph's problem line declares, without the rest of the file.
 
     Parameters
@@ -135,7 +141,7 @@ def count_arcs(path):
     return counts_in(path)[1]
 
 
-def count_nodes(path):
+def count_nodes(path: Path) -> int:
     """Reads how many nodes a graph's problem line declares, without the rest of the file.
 
     Parameters
@@ -156,7 +162,7 @@ def count_nodes(path):
     return counts_in(path)[0]
 
 
-def counts_in(path):
+def counts_in(path: Path) -> tuple[int, int]:
     """How many nodes and arcs a graph's problem line declares."""
     with open(path, "rb") as file:
         for line in file:
@@ -166,7 +172,7 @@ def counts_in(path):
     raise FileFault(f"{path}: not a graph, whose problem line is `p sp N M`")
 
 
-def write_graph(target, nodes, arcs, comments=(), scale=None):
+def write_graph(target: Target, nodes: int, arcs: Sequence[tuple[int, int, float]], comments: Iterable[str] = (), scale: float | None = None) -> None:
     """Writes a graph (`.gr`).
 
     Parameters
@@ -197,7 +203,7 @@ def write_graph(target, nodes, arcs, comments=(), scale=None):
         write_rows(file, "a %d %d %d\n", arcs)
 
 
-def scale_comment(scale):
+def scale_comment(scale: float) -> str:
     """Gives the comment of a graph whose weights were multiplied by a scale and rounded.
 
     Parameters
@@ -213,7 +219,7 @@ def scale_comment(scale):
     return f"Weights were multiplied by {scale} and rounded to whole numbers."
 
 
-def write_graph_columns(target, nodes, columns_of_arcs, comments=()):
+def write_graph_columns(target: Target, nodes: int, columns_of_arcs: Sequence[Any], comments: Iterable[str] = ()) -> None:
     """Writes the same graph as `write_graph`, from columns. Nothing is judged.
 
     Parameters
@@ -238,7 +244,7 @@ def write_graph_columns(target, nodes, columns_of_arcs, comments=()):
         write_columns(file, "a %d %d %d\n", columns_of_arcs)
 
 
-def read_coordinates(source):
+def read_coordinates(source: Source) -> Coordinates:
     """Reads the nodes' places (`.co`).
 
     Parameters
@@ -267,7 +273,7 @@ def read_coordinates(source):
     return Coordinates(longitudes, latitudes, comments_of(lines))
 
 
-def scaled(place, weight, scale):
+def scaled(place: int, weight: float, scale: float) -> int:
     """A weight times a scale, rounded."""
     try:
         return round(weight * scale)
@@ -275,7 +281,7 @@ def scaled(place, weight, scale):
         raise FileFault(f"arcs[{place}]: {weight} is no weight") from None
 
 
-def see_that_whole(arcs):
+def see_that_whole(arcs: Sequence[tuple[int, int, float]]) -> None:
     """Refuses the first arc that has a number which is not whole."""
     for start in range(0, len(arcs), ROWS_AT_ONCE):
         some = arcs[start:start + ROWS_AT_ONCE]
@@ -288,14 +294,17 @@ def see_that_whole(arcs):
                     raise FileFault(f"arcs[{place}]: {value} is not a whole number; `scale` multiplies weights and rounds them")
 
 
-def is_whole(value):
+def is_whole(value: Any) -> bool:
     try:
         return int(value) == value
     except (TypeError, ValueError, OverflowError):
         return False
 
 
-def write_coordinates(target, places, comments=(), ends=(), copies=()):
+def write_coordinates(
+    target: Target, places: Sequence[Point], comments: Iterable[str] = (), ends: Iterable[tuple[int, int]] = (),
+    copies: Iterable[tuple[int, int]] = (),
+) -> None:
     """Writes the nodes' places (`.co`).
 
     Parameters
@@ -324,7 +333,7 @@ def write_coordinates(target, places, comments=(), ends=(), copies=()):
         write_rows(file, "v %d %d %d\n", ((node, round(x * 1e6), round(y * 1e6)) for node, (x, y) in enumerate(places, 1)))
 
 
-def write_coordinate_columns(target, columns_of_places, comments=()):
+def write_coordinate_columns(target: Target, columns_of_places: Sequence[Any], comments: Iterable[str] = ()) -> None:
     """Writes the nodes' places (`.co`) from columns.
 
     Parameters
@@ -348,7 +357,7 @@ def write_coordinate_columns(target, columns_of_places, comments=()):
         write_columns(file, "v %d %d %d\n", [array.array("q", range(1, count + 1)), *columns_of_places])
 
 
-def read_bends(source):
+def read_bends(source: Source) -> dict[int, list[Point]]:
     """Reads the points of arcs between their ends (`.bends`).
 
     Parameters
@@ -367,13 +376,13 @@ def read_bends(source):
         The file isn't of this kind; the text names it, and the line where there is one.
     """
     (arcs, xs, ys), _ = columns(source, b"b", 3)
-    bends = {}
+    bends: dict[int, list[Point]] = {}
     for arc, x, y in zip(arcs, xs, ys):
         bends.setdefault(arc - 1, []).append((x / 1e6, y / 1e6))
     return bends
 
 
-def write_bends(target, bends, comments=()):
+def write_bends(target: Target, bends: Mapping[int, Sequence[Point]], comments: Iterable[str] = ()) -> None:
     """Writes the points of arcs between their ends (`.bends`): a line `b ARC X Y` for each, where ARC is numbered from 1.
 
     Parameters

@@ -1,11 +1,16 @@
 """What the nodes of a network are called by its owner, and how its weights were rounded: a file of JSON (RFC 8259)."""
+from __future__ import annotations
+
 import itertools
 import json
 import math
-from typing import NamedTuple
+from typing import TYPE_CHECKING, Any, NamedTuple
 
 from chtab.errors import FileFault
 from chtab.files.forms import name_of, reading, writing
+
+if TYPE_CHECKING:
+    from chtab.typing import Source, Target
 
 
 class Labelling(NamedTuple):
@@ -18,17 +23,17 @@ class Labelling(NamedTuple):
     its number modulo `rows`, and `keys` the key of each row, of a graph with several edges between two nodes.
     """
 
-    labels: list | None
+    labels: Any
     scale: float | None
     rounding: float
     graph: str
     unit: str | None = None
     rows: int | None = None
-    arcs: list | None = None
-    keys: list | None = None
+    arcs: list[int] | None = None
+    keys: list[Any] | None = None
 
 
-def write_labels(target, labelling):
+def write_labels(target: Target, labelling: Labelling) -> None:
     """Writes the labels of a network.
 
     Parameters
@@ -48,7 +53,7 @@ def write_labels(target, labelling):
         file.write(json.dumps(labelling._asdict()))
 
 
-def read_labels(source):
+def read_labels(source: Source) -> Labelling:
     """Reads the labels of a network.
 
     Parameters
@@ -81,7 +86,7 @@ def read_labels(source):
     raise FileFault(f"{name_of(source)}: not the labels of a network")
 
 
-def is_right(found):
+def is_right(found: Labelling) -> bool:
     """Whether each part is of its kind, and no two labels are equal."""
     kinds = set(map(type, found.labels))
     if kinds not in ({int}, {str}, {tuple}) or kinds == {tuple} and not set(map(type, itertools.chain(*found.labels))) <= {int, str, float}:

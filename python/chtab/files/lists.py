@@ -1,10 +1,17 @@
 """Names of nodes, queries, lists of nodes, and places."""
+from __future__ import annotations
+
+import array
 import itertools
 import re
-from typing import NamedTuple
+from collections.abc import Iterable, Iterator, Sequence
+from typing import TYPE_CHECKING, Any, NamedTuple
 
 from chtab.errors import FileFault
 from chtab.files.forms import columns, reading, write_columns, write_comments, writing
+
+if TYPE_CHECKING:
+    from chtab.typing import Source, Target
 
 # What stands before each node that the command `nearest` finds.
 NOTE = re.compile(r"c (.*): node (\d+), [\d,]+ m away")
@@ -17,12 +24,12 @@ class Place(NamedTuple):
     latitude: float
     name: str
 
-    def told(self):
+    def told(self) -> str:
         """The name of the place, or its longitude and latitude if it has none."""
         return self.name or f"{self.longitude} {self.latitude}"
 
 
-def read_names(source):
+def read_names(source: Source) -> dict[int, str]:
     """Reads what nodes are called.
 
     Of a `.nodes` file the name of node k is line k. Of what `nearest` wrote, a list or a query file, it is the place's; a node of several
@@ -47,13 +54,13 @@ def read_names(source):
         lines = [line.strip() for line in file]
     if not any(line.startswith("p aux sp ") for line in lines):
         return dict(enumerate(lines, 1))
-    names = {}
+    names: dict[int, dict[str, None]] = {}
     for note in filter(None, map(NOTE.fullmatch, lines)):
         names.setdefault(int(note[2]), {})[note[1]] = None
     return {node: " / ".join(given) for node, given in names.items()}
 
 
-def write_names(target, names):
+def write_names(target: Target, names: Iterable[object]) -> None:
     """Writes a name a line (`.nodes`).
 
     Parameters
@@ -72,7 +79,7 @@ def write_names(target, names):
         file.writelines(f"{name}\n" for name in names)
 
 
-def read_queries(source):
+def read_queries(source: Source) -> list[array.array[int]]:
     """Reads queries (`.p2p`).
 
     Parameters
@@ -93,7 +100,7 @@ def read_queries(source):
     return columns(source, b"q", 2)[0]
 
 
-def write_queries(target, pairs, notes=None):
+def write_queries(target: Target, pairs: Sequence[tuple[int, int]], notes: Iterable[Iterable[str]] | None = None) -> None:
     """Writes queries in order (`.p2p`).
 
     Parameters
@@ -117,7 +124,7 @@ def write_queries(target, pairs, notes=None):
             file.write(f"q {start} {end}\n")
 
 
-def read_list(source):
+def read_list(source: Source) -> array.array[int]:
     """Reads a list of nodes (`.ss`).
 
     Parameters
@@ -138,7 +145,7 @@ def read_list(source):
     return columns(source, b"s", 1)[0][0]
 
 
-def write_list(target, nodes, notes=None):
+def write_list(target: Target, nodes: Sequence[int], notes: Iterable[str | None] | None = None) -> None:
     """Writes a list of nodes (`.ss`).
 
     Parameters
@@ -162,7 +169,7 @@ def write_list(target, nodes, notes=None):
             file.write(f"s {node}\n")
 
 
-def write_list_column(target, nodes):
+def write_list_column(target: Target, nodes: Any) -> None:
     """Writes the same list as `write_list`, from a column. Nothing is judged.
 
     Parameters
@@ -182,7 +189,7 @@ def write_list_column(target, nodes):
         write_columns(file, "s %d\n", [nodes])
 
 
-def read_places(source):
+def read_places(source: Source) -> Iterator[Place]:
     """Reads places: longitude, latitude and a name a line. Empty lines, and those that start with #, are left out.
 
     Parameters

@@ -3,16 +3,23 @@
 An answer of w in the graph is w / factor in the caller's unit, as a float. A limit of the caller lets through each answer that is at most the
 limit, as those floats compare.
 """
+from __future__ import annotations
+
 import datetime
 import decimal
 import math
 import numbers
 from dataclasses import dataclass
 from fractions import Fraction
+from typing import TYPE_CHECKING, Any
 
 import numpy
 
 from chtab.errors import DataFault
+
+if TYPE_CHECKING:
+    import pandas
+    from chtab.typing import Integers, Weights
 
 # The greatest weight of a graph, and so the greatest limit; and up to where each whole number is a float.
 MOST, EXACT = 2**60, 2**53
@@ -53,13 +60,13 @@ class Measure:
     factor: float = 1
 
     @property
-    def is_whole(self):
+    def is_whole(self) -> bool:
         """Whether answers are the graph's own whole numbers."""
         return self.factor == 1
 
     # Limits.
 
-    def limit(self, name, given):
+    def limit(self, name: str, given: Limit) -> int | None:
         """The greatest weight of the graph whose answer is at most a limit; None where there is no limit."""
         if given is None:
             return None
@@ -76,7 +83,7 @@ class Measure:
             weight -= 1
         return min(weight, MOST)
 
-    def number(self, name, given):
+    def number(self, name: str, given: Any) -> Any:
         """A limit as a number of this unit."""
         if isinstance(given, datetime.timedelta | numpy.timedelta64):
             if self.unit not in TIMES:
@@ -88,7 +95,7 @@ class Measure:
 
     # Answers.
 
-    def told(self, weights, missing=None):
+    def told(self, weights: Integers, missing: float | None = None) -> Weights:
         """Answers of weights, an array of int64 in which -1 says that no walk leads there. In place of these is `missing`.
 
         Without it that is -1 where answers are whole, and else NaN.
@@ -100,15 +107,15 @@ class Measure:
             return numpy.where(is_missing, numpy.int64(missing), weights)
         return numpy.where(is_missing, numpy.nan if missing is None else float(missing), weights / self.factor)
 
-    def one(self, weight):
+    def one(self, weight: float | None) -> float | None:
         """The answer of one weight, None of None."""
         return weight if weight is None or self.is_whole else weight / self.factor
 
-    def listed(self, weights):
+    def listed(self, weights: list[Any] | None) -> list[Any] | None:
         """The answers of a list of weights, None of None."""
         return weights if weights is None or self.is_whole else [weight / self.factor for weight in weights]
 
-    def series(self, weights):
+    def series(self, weights: Integers) -> pandas.Series:
         """Answers as a column of pandas, NA where no walk leads: of `Int64`, or of float64."""
         import pandas
 
@@ -117,7 +124,7 @@ class Measure:
         return pandas.Series(pandas.arrays.IntegerArray(numpy.array(weights, numpy.int64), weights < 0))
 
 
-def microseconds(duration):
+def microseconds(duration: Any) -> Fraction:
     """The microseconds of a duration, which may be a part of one."""
     if isinstance(duration, numpy.timedelta64):
         if numpy.isnat(duration):
@@ -127,7 +134,7 @@ def microseconds(duration):
     return Fraction(nanoseconds, 1_000) if nanoseconds is not None else Fraction(duration // datetime.timedelta(microseconds=1))
 
 
-def whole_limit(name, limit):
+def whole_limit(name: str, limit: Any) -> int:
     """The greatest whole number up to a limit: no weight lies between. numpy compares it exactly, which it does with few other numbers."""
     if not 0 <= limit <= MOST:
         raise ValueError(f"{name} is {limit!r}: a limit is from 0 to 2^60")
@@ -138,26 +145,26 @@ def whole_limit(name, limit):
 # Which measure a network has.
 
 
-def unit_in(unit):
+def unit_in(unit: Any) -> str | None:
     """The name of a unit, or None."""
     if unit is not None and not (isinstance(unit, str) and unit):
         raise DataFault(f"unit is a name, such as 'minutes', not {unit!r}", "unit")
     return unit
 
 
-def scale_of(unit, scale):
+def scale_of(unit: str | None, scale: float | None) -> float | None:
     """What weights in a unit are multiplied by: the scale that is given, or else to whole milliseconds or millimetres. None: nothing is known."""
     if scale is not None or unit is None:
         return scale
-    return TIMES.get(unit, FINE * LENGTHS[unit] if unit in LENGTHS else None)
+    return TIMES[unit] if unit in TIMES else FINE * LENGTHS[unit] if unit in LENGTHS else None
 
 
-def base_of(unit, scale):
+def base_of(unit: str | None, scale: float | None) -> str:
     """What the weights of a graph are, where weights in a unit were multiplied by a scale: a name of `BASES`, or empty."""
-    return next((base for base, units in BASES.items() if scale is not None and units.get(unit) == scale), "")
+    return next((base for base, units in BASES.items() if scale is not None and unit in units and units[unit] == scale), "")
 
 
-def asked_for(unit, scale, base, own_unit=None, own_scale=None):
+def asked_for(unit: str | None, scale: float | None, base: str, own_unit: str | None = None, own_scale: float | None = None) -> Measure:
     """The measure for a caller's unit, on a graph that says `base` of its weights, or that was made of weights in `own_unit` times `own_scale`.
 
     Without a unit it is that of the caller who made the graph, and else the graph's own. With `scale` that many of the graph's weights make one.
@@ -175,6 +182,6 @@ def asked_for(unit, scale, base, own_unit=None, own_scale=None):
     if unit in BASES.get(base, ()):
         return Measure(unit, BASES[base][unit])
     for units in BASES.values():
-        if own_scale is not None and {unit, own_unit} <= set(units):
+        if own_scale is not None and own_unit is not None and {unit, own_unit} <= set(units):
             return Measure(unit, own_scale * units[unit] / units[own_unit])
     raise DataFault(f"nothing tells how many of the graph's weights make one of {unit!r}: give `scale`, or a graph with `c Weights are {TIME}.`", "unit")

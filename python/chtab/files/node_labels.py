@@ -1,6 +1,10 @@
 """What the nodes of a network are called. The program numbers nodes from 1 on; callers have labels of their own, integers or strings."""
+from __future__ import annotations
+
 import collections
 import itertools
+from collections.abc import Iterable, Sequence
+from typing import TYPE_CHECKING, Any, TypeAlias
 
 import numpy
 
@@ -8,8 +12,15 @@ from chtab.errors import DataFault
 from chtab.files import columns
 from chtab.files.columns import GREATEST, INTEGERS, LEAST, TUPLES, row_of, told
 
+if TYPE_CHECKING:
+    from numpy.typing import NDArray
+    import pandas
+    from chtab.typing import Column, Integers, LabelArray
 
-def fixed(values):
+Label: TypeAlias = int | str
+
+
+def fixed(values: LabelArray) -> LabelArray:
     """An array that can't be written to."""
     values.flags.writeable = False
     return values
@@ -18,17 +29,18 @@ def fixed(values):
 class Numbers:
     """Nodes that are called by their numbers, from 1 to `count`: those of a network of files."""
 
-    def __init__(self, count):
-        self.count, self.known = count, None
+    def __init__(self, count: int) -> None:
+        self.count = count
+        self.known: LabelArray | None = None
 
     @property
-    def values(self):
+    def values(self) -> LabelArray:
         """The labels, in order of the nodes."""
         if self.known is None:
             self.known = fixed(numpy.arange(1, self.count + 1))
         return self.known
 
-    def nodes_of(self, name, given):
+    def nodes_of(self, name: str, given: Any) -> Integers:
         """The nodes of an array of numbers, of any shape. Any other number is refused; whole decimal numbers are not."""
         if isinstance(given, numpy.ma.MaskedArray):
             given = columns.array_of(name, given)
@@ -40,27 +52,27 @@ class Numbers:
             raise ValueError(f"node {outside.flat[0]:.17g} is not from 1 to {self.count:,}")
         return column.astype(numpy.int64)
 
-    def few(self, labels):
+    def few(self, labels: Iterable[Any]) -> list[int] | None:
         """The nodes of a short list of labels, as a list; None where one of them has to be looked at more closely."""
         labels = [int(label) if type(label) is numpy.int64 else label for label in labels]
         return labels if all(type(label) is int and 0 < label <= self.count for label in labels) else None
 
-    def of(self, nodes):
+    def of(self, nodes: Integers) -> LabelArray:
         """The labels of an array of nodes."""
         return nodes
 
-    def index_of(self, name, given):
+    def index_of(self, name: str, given: Any) -> pandas.Index:
         """An index of pandas of labels that a caller gave."""
         import pandas
 
         return pandas.Index(given, name=name)
 
-    def listed(self, nodes):
+    def listed(self, nodes: list[int]) -> list[int]:
         """The labels of a list of nodes, as a list."""
         return nodes
 
 
-def is_whole(column):
+def is_whole(column: NDArray[Any]) -> bool:
     """Whether all numbers of a column of decimal numbers are whole."""
     return bool(numpy.isfinite(column).all() and (column == numpy.floor(column)).all())
 
@@ -72,13 +84,15 @@ class Labels:
     process that is forked meanwhile.
     """
 
-    def __init__(self, values):
-        self.values, self.in_order, self.by_label = fixed(values.copy()), None, None
+    def __init__(self, values: LabelArray) -> None:
+        self.values = fixed(values.copy())
+        self.in_order: tuple[LabelArray, Integers] | None = None
+        self.by_label: dict[Label, int] | None = None
         self.count = len(values)
         self.kind = columns.kind_of(type(values[0])) if len(values) else INTEGERS
 
     @property
-    def sorted(self):
+    def sorted(self) -> tuple[LabelArray, Integers]:
         """The labels in order, and the node of each: of integers of 64 bits."""
         if self.in_order is None:
             order = numpy.argsort(self.values, kind="stable")
@@ -86,13 +100,13 @@ class Labels:
         return self.in_order
 
     @property
-    def numbers(self):
+    def numbers(self) -> dict[Label, int]:
         """The node of each label, of other labels."""
         if self.by_label is None:
             self.by_label = dict(zip(self.values.tolist(), range(1, len(self.values) + 1)))
         return self.by_label
 
-    def nodes_of(self, name, given):
+    def nodes_of(self, name: str, given: Any) -> Integers:
         """The nodes of labels, an array of int64 in the shape of what is given. A label that no node has is a `DataFault`."""
         labels = self.tuples_of(name, given) if self.kind == TUPLES else columns.labels_in(name, given)
         nodes = self.found(labels)
@@ -102,7 +116,7 @@ class Labels:
             raise DataFault(f"{name}[{row}]: no node has the label {told(label)}; labels are {self.kind}", name, row)
         return nodes
 
-    def tuples_of(self, name, given):
+    def tuples_of(self, name: str, given: Any) -> LabelArray:
         """Tuples in the shape of what is given: a column of labels, or rows of them."""
         items = list(given)
         if all(isinstance(item, tuple) and not (item and isinstance(item[0], tuple)) for item in items):
@@ -112,7 +126,7 @@ class Labels:
             raise DataFault(f"{name} has rows of several lengths", name)
         return numpy.stack(rows)
 
-    def found(self, labels):
+    def found(self, labels: LabelArray) -> Integers:
         """The nodes of labels, 0 where there is none."""
         if self.values.dtype == object or labels.dtype == object:
             found = map(self.numbers.get, labels.reshape(-1).tolist(), [0] * labels.size)
@@ -123,13 +137,12 @@ class Labels:
         place = numpy.minimum(numpy.searchsorted(values, labels), len(values) - 1)
         return numpy.where(values[place] == labels, nodes[place], 0)
 
-    def few(self, labels):
+    def few(self, labels: Iterable[Any]) -> list[int] | None:
         """The nodes of a short list of labels, as a list; None where one of them has to be looked at more closely."""
         labels = [int(label) if type(label) is numpy.int64 else label for label in labels]
         if self.values.dtype == object:
-            known = all(type(label) in (int, str) for label in labels)
-            nodes = list(map(self.numbers.get, labels)) if known else [None]
-            return None if None in nodes else nodes
+            found = [self.numbers.get(label, 0) if type(label) in (int, str) else 0 for label in labels]
+            return None if 0 in found else found
         if not all(type(label) is int and LEAST <= label <= GREATEST for label in labels):
             return None
         values, nodes = self.sorted
@@ -137,40 +150,40 @@ class Labels:
         is_there = all(place < len(values) and values[place] == label for place, label in zip(places, labels))
         return [int(nodes[place]) for place in places] if is_there else None
 
-    def of(self, nodes):
+    def of(self, nodes: Integers) -> LabelArray:
         """The labels of an array of nodes."""
         return self.values[nodes - 1]
 
-    def index_of(self, name, given):
+    def index_of(self, name: str, given: Any) -> pandas.Index:
         """An index of pandas of labels that a caller gave: of tuples one column, and not several."""
         import pandas
 
         return pandas.Index(columns.objects_of(list(given)), name=name, tupleize_cols=False) if self.kind == TUPLES else pandas.Index(given, name=name)
 
-    def listed(self, nodes):
+    def listed(self, nodes: list[int]) -> list[Label]:
         """The labels of a list of nodes, as a list."""
         return self.values[numpy.array(nodes, numpy.int64) - 1].tolist()
 
 
-def labels_of_nodes(name, column):
+def labels_of_nodes(name: str, column: Column) -> Labels:
     """The labels of a column of nodes, which have to differ."""
     values = columns.column_labels_in(name, column)
-    count = len(set(values.tolist()) if values.dtype == object else numpy.unique(values))
+    count = len(set(values.tolist())) if values.dtype == object else len(numpy.unique(values))
     if count < len(values):
         raise doubled(name, values.tolist())
     return Labels(values)
 
 
-def doubled(name, labels):
+def doubled(name: str, labels: Sequence[Label]) -> DataFault:
     """The fault of a column that has a label twice."""
-    known = {}
+    known: dict[Label, int] = {}
     for row, label in enumerate(labels):
         if known.setdefault(label, row) != row:
             return columns.refused(name, row, f"the label {told(label)} stands in row {known[label]} already")
     raise AssertionError("no label stands again")
 
 
-def labels_of_ends(names, sources, targets):
+def labels_of_ends(names: Sequence[str], sources: LabelArray, targets: LabelArray) -> tuple[Labels, Integers]:
     """The labels that either of two columns has, in ascending order; and the nodes of both columns, int64 (2, m)."""
     kinds = [columns.kind_of(type(values[:1].tolist()[0])) for values in (sources, targets) if len(values)]
     if len(set(kinds)) > 1:
@@ -182,9 +195,9 @@ def labels_of_ends(names, sources, targets):
     return Labels(values), places.reshape(2, -1) + 1
 
 
-def ordered(labels):
+def ordered(labels: Sequence[Label]) -> tuple[LabelArray, Integers]:
     """The labels of a list in ascending order, each once, as an array of objects; and the place of each of the list among them."""
-    numbers = collections.defaultdict(itertools.count().__next__)
+    numbers: dict[Label, int] = collections.defaultdict(itertools.count().__next__)
     found = numpy.fromiter(map(numbers.__getitem__, labels), numpy.int64, len(labels))
     known = list(numbers)
     try:

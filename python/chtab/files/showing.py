@@ -2,6 +2,7 @@
 from __future__ import annotations
 
 import html
+from collections.abc import Mapping, Sequence
 from typing import TYPE_CHECKING, Any
 
 import numpy
@@ -10,6 +11,9 @@ if TYPE_CHECKING:
     import folium
     import geopandas
     import matplotlib.axes
+    import pandas
+
+    from chtab.typing import Floats, Geojson
 
 # Rows of a table in a notebook.
 SHOWN = 10
@@ -21,6 +25,10 @@ class OnMap:
     """What can be shown on a map: it gives GeoJSON by `to_geojson`, and `shown_by` names the property that colours it."""
 
     shown_by = ""
+
+    if TYPE_CHECKING:
+        def to_geojson(self) -> Geojson:
+            """As each of them gives it."""
 
     @property
     def __geo_interface__(self) -> dict:
@@ -107,12 +115,12 @@ def table_text(title: str, rows: list[dict]) -> str:
     return f"<p>{html.escape(title)}</p><table><thead><tr>{heads}</tr></thead><tbody>{cells}</tbody></table>"
 
 
-def values_of(features, name):
+def values_of(features: Sequence[Geojson], name: str) -> Floats:
     """The numbers that colour features."""
     return numpy.array([each["properties"].get(name) for each in features], float)
 
 
-def drawn(features, name, ax, style):
+def drawn(features: Sequence[Geojson], name: str, ax: Any, style: Mapping[str, Any]) -> Any:
     """The features in axes of matplotlib, points, lines and polygons each in one collection."""
     from matplotlib import pyplot
 
@@ -130,17 +138,17 @@ def drawn(features, name, ax, style):
     return ax
 
 
-def draw_points(ax, points, values, style):
+def draw_points(ax: Any, points: Sequence[Any], values: Floats, style: Mapping[str, Any]) -> None:
     ax.scatter(*numpy.array(points, float).T, c=values, **{"s": 4, **style})
 
 
-def draw_lines(ax, lines, values, style):
+def draw_lines(ax: Any, lines: Sequence[Any], values: Floats, style: Mapping[str, Any]) -> None:
     from matplotlib.collections import LineCollection
 
     ax.add_collection(LineCollection([numpy.array(line, float) for line in lines], array=values, **style))
 
 
-def draw_polygons(ax, areas, values, style):
+def draw_polygons(ax: Any, areas: Sequence[Any], values: Floats, style: Mapping[str, Any]) -> None:
     from matplotlib.collections import PathCollection
     from matplotlib.path import Path
 
@@ -150,7 +158,7 @@ def draw_polygons(ax, areas, values, style):
     ax.add_collection(PathCollection(paths, array=values, **{"alpha": 0.5, **style}))
 
 
-def explored(features, name, style):
+def explored(features: Sequence[Geojson], name: str, style: Mapping[str, Any]) -> folium.Map:
     """The features on a map of folium, each with its properties as text that is shown."""
     import folium
     from matplotlib import colormaps, colors
@@ -183,7 +191,7 @@ def geodataframe(collection: dict) -> geopandas.GeoDataFrame:
     return geopandas.GeoDataFrame(rows, columns=columns, geometry="geometry", crs=DEGREES)
 
 
-def with_geometry(frame, shapes) -> geopandas.GeoDataFrame:
+def with_geometry(frame: pandas.DataFrame, shapes: Sequence[Any]) -> geopandas.GeoDataFrame:
     """A frame with shapes in degrees as its geometry."""
     import geopandas
 

@@ -1,9 +1,15 @@
 """Streets: what the arcs of a graph are called, and on which side they are driven."""
+from __future__ import annotations
+
 import json
-from typing import NamedTuple
+from collections.abc import Iterable
+from typing import TYPE_CHECKING, Any, NamedTuple
 
 from chtab.errors import FileFault
 from chtab.files.forms import name_of, reading, write_comments, write_rows, writing
+
+if TYPE_CHECKING:
+    from chtab.typing import Source, Target
 
 SIDES = "right", "left"
 FIELDS = "highway", "junction", "name", "ref", "destinations"
@@ -25,12 +31,12 @@ class Streets(NamedTuple):
     """The streets of a graph, `of_arcs` with one for each arc: the place of its street in `streets`, from 1 on, or 0 where it has none; and the
     side of the road that is driven on, `right` or `left`."""
 
-    streets: list
-    of_arcs: list
+    streets: list[Street]
+    of_arcs: list[int]
     side: str
 
 
-def write_streets(target, found, comments=()):
+def write_streets(target: Target, found: Streets, comments: Iterable[str] = ()) -> None:
     """Writes streets (`.names`): a line `s {..}` for each, an object of JSON with what isn't empty, then a line `a STREET` for each arc, in order.
 
     Parameters
@@ -55,7 +61,7 @@ def write_streets(target, found, comments=()):
         write_rows(file, "a %d\n", ((number,) for number in found.of_arcs))
 
 
-def read_streets(source, arcs):
+def read_streets(source: Source, arcs: int) -> Streets:
     """Reads streets (`.names`).
 
     Parameters
@@ -75,7 +81,9 @@ def read_streets(source, arcs):
     FileFault
         The file isn't of this kind, or is that of another graph; the text names it, and the line where there is one.
     """
-    streets, of_arcs, side, told = [], [], SIDES[0], None
+    streets: list[Street] = []
+    of_arcs: list[int] = []
+    side, told = SIDES[0], None
     with reading(source) as file:
         for number, line in enumerate(file, 1):
             try:
@@ -96,7 +104,7 @@ def read_streets(source, arcs):
     return Streets(streets, of_arcs, side)
 
 
-def told_of(line):
+def told_of(line: str) -> tuple[int, int]:
     """The numbers of streets and of arcs that a problem line tells."""
     *words, streets, arcs = line.split()
     if words != ["p", "aux", "sp", "names"]:
@@ -104,7 +112,7 @@ def told_of(line):
     return int(streets), int(arcs)
 
 
-def street_in(value):
+def street_in(value: Any) -> Street:
     """The street of an object of JSON, whose fields are all texts."""
     if not isinstance(value, dict) or not all(key in FIELDS and isinstance(text, str) for key, text in value.items()):
         raise ValueError

@@ -1,31 +1,37 @@
 """What the program writes, distances, routes, tables and near rows, and tables as CSV and as an array of numpy."""
+from __future__ import annotations
+
 import array
 import csv
 import itertools
 import struct
 import sys
-from typing import NamedTuple
+from collections.abc import Iterable, Iterator
+from typing import TYPE_CHECKING, Any, NamedTuple
 
 from chtab.errors import FileFault
 from chtab.files.forms import reading, writing
+
+if TYPE_CHECKING:
+    from chtab.typing import Source, Target
 
 
 class Answer(NamedTuple):
     """What `dist` says of a query. `weight` is None where there is no walk; `nodes` of the route and the `weights` of its arcs are
     None where there is none or the text has distances alone."""
 
-    source: int
-    target: int
-    weight: int | None
-    nodes: list | None
-    weights: list | None
+    source: Any
+    target: Any
+    weight: Any
+    nodes: list[Any] | None
+    weights: list[Any] | None
 
 
-def number_of(cell):
+def number_of(cell: str) -> int | None:
     return None if cell == "-" else int(cell)
 
 
-def read_answers(source):
+def read_answers(source: Source) -> Iterator[Answer]:
     """Reads the answers of a text of `chtab dist`, one at a time.
 
     Parameters
@@ -58,9 +64,10 @@ def read_answers(source):
             yield answer
 
 
-def with_route(answer, line, lines):
+def with_route(answer: Answer, line: str, lines: Iterator[str]) -> Answer:
     """The answer with its route, of which `line` is the first line."""
-    nodes, weights = [answer.source], []
+    nodes: list[int] = [answer.source]
+    weights: list[int] = []
     words = line.split()
     count = int(words[1]) if len(words) == 2 and words[1].isdigit() else -1
     for arc in itertools.islice(lines, max(count, 0)):
@@ -74,7 +81,7 @@ def with_route(answer, line, lines):
     return answer._replace(nodes=nodes, weights=weights)
 
 
-def read_routes(source):
+def read_routes(source: Source) -> Iterator[Answer]:
     """Reads the answers of a text of `chtab dist --routes` that have a walk.
 
     Parameters
@@ -103,7 +110,7 @@ def read_routes(source):
         raise FileFault("the text is empty: there is no line of `chtab dist --routes`")
 
 
-def read_rows(source, width):
+def read_rows(source: Source, width: int) -> Iterator[tuple[int, list[int | None]]]:
     """Reads the rows of a text of `chtab table`, or of a table in CSV as `write_csv` writes it.
 
     Parameters
@@ -133,7 +140,7 @@ def read_rows(source, width):
             yield int(words[1]), [number_of(cell) for cell in words[2:]]
 
 
-def read_near(source):
+def read_near(source: Source) -> Iterator[tuple[int, list[tuple[int, int]]]]:
     """Reads the rows of a text of `chtab near`.
 
     Parameters
@@ -162,7 +169,7 @@ def read_near(source):
         raise FileFault("the text is empty: there is no row of `chtab near`")
 
 
-def write_csv(target, targets, rows):
+def write_csv(target: Target, targets: Iterable[object], rows: Iterable[tuple[object, Iterable[object]]]) -> None:
     """Writes a table as CSV: a row for each source, a column for each target.
 
     Parameters
@@ -185,7 +192,7 @@ def write_csv(target, targets, rows):
         lines.writerows([source, *("" if cell is None else cell for cell in cells)] for source, cells in rows)
 
 
-def read_row_texts(source, width):
+def read_row_texts(source: Source, width: int) -> Iterator[tuple[bytes, bytes]]:
     """Reads the rows of a text of `chtab table` as texts, in a part of the time that their numbers take.
 
     Parameters
@@ -213,7 +220,7 @@ def read_row_texts(source, width):
             yield words[1], words[2]
 
 
-def write_csv_of_texts(target, targets, rows):
+def write_csv_of_texts(target: Target, targets: Iterable[int], rows: Iterable[bytes]) -> None:
     """Writes what `write_csv` writes, from rows of text.
 
     Parameters
@@ -235,7 +242,7 @@ def write_csv_of_texts(target, targets, rows):
         file.writelines(row.replace(b" ", b",").replace(b"-", b"") + b"\n" for row in rows)
 
 
-def write_npy_of_texts(target, height, width, rows):
+def write_npy_of_texts(target: Target, height: int, width: int, rows: Iterable[bytes]) -> None:
     """Writes a matrix of 64-bit numbers as numpy reads it, -1 for none, from such rows of text.
 
     The form is that of numpy, version 1.0: its head is filled with blanks to a multiple of 64 bytes.

@@ -3,12 +3,21 @@
 A node is where roads meet or end, or each bend of a road; an arc is a road between two of them, in one direction. At a node that no
 way leads through (a barrier) each road that comes to it has an end of its own, and so has each road where the map ends.
 """
+from __future__ import annotations
+
 import collections
 import itertools
 import math
+from collections.abc import Sequence
 from math import asin, cos, radians, sin, sqrt
+from typing import TYPE_CHECKING, Any
 
 from chtab.roads.sphere import RADIUS
+
+if TYPE_CHECKING:
+    from chtab.engine.progress import Progress
+    from chtab.maps.ways import Road, Survey
+    from chtab.typing import Point
 
 HALF_DEGREE, DEGREE = radians(0.5), 2 * radians(0.5)
 QUARTER_TURN = math.pi / 2
@@ -25,22 +34,29 @@ class Network:
     the node where trips to it end, {end: node}, and `copies` the other nodes that stand for it: {copy: node}.
     """
 
-    def __init__(self, with_bends=False, with_names=False):
-        self.names, self.places, self.tails, self.heads, self.weights, self.pieces, self.ways = ([] for _ in range(7))
-        self.bends = [] if with_bends else None
-        self.streets = [] if with_names else None
-        self.ends, self.copies = {}, {}
+    def __init__(self, with_bends: bool = False, with_names: bool = False) -> None:
+        self.names: list[int] = []
+        self.places: list[Point] = []
+        self.tails: list[int] = []
+        self.heads: list[int] = []
+        self.weights: list[int] = []
+        self.pieces: list[int] = []
+        self.ways: list[int] = []
+        self.bends: list[list[Point] | None] | None = [] if with_bends else None
+        self.streets: list[int | None] | None = [] if with_names else None
+        self.ends: dict[int, int] = {}
+        self.copies: dict[int, int] = {}
 
-    def add_node(self, name, place):
+    def add_node(self, name: int, place: Point) -> int:
         self.names.append(name)
         self.places.append(place)
         return len(self.names) - 1
 
-    def add_copy(self, node):
+    def add_copy(self, node: int) -> int:
         """One more node for the map's node of this one."""
         return self.add_node(self.names[node], self.places[node])
 
-    def add_arc(self, tail, head, weight, piece, bends, street=None):
+    def add_arc(self, tail: int, head: int, weight: int, piece: int, bends: list[Point] | None, street: int | None = None) -> None:
         self.tails.append(tail)
         self.heads.append(head)
         self.weights.append(weight)
@@ -50,7 +66,7 @@ class Network:
         if self.streets is not None:
             self.streets.append(street)
 
-    def add_piece(self, tail, head, weights, road, bends):
+    def add_piece(self, tail: int, head: int, weights: tuple[int | None, int | None], road: Road, bends: list[Point] | None) -> None:
         """The arcs of a road between two nodes of it: along it, then against it, each where it has a weight."""
         piece, (along, against), streets = len(self.ways), weights, road.streets or (None, None)
         self.ways.append(road.number)
@@ -59,12 +75,12 @@ class Network:
         if against is not None:
             self.add_arc(head, tail, against, piece, bends and bends[::-1], streets[1])
 
-    def way_of(self, arc):
+    def way_of(self, arc: int) -> int:
         """The map's number of the way on which an arc lies."""
         return self.ways[self.pieces[arc]]
 
 
-def crossings(survey):
+def crossings(survey: Survey) -> set[int]:
     """The nodes at which roads meet or end: those that come up twice, and the two ends of each road."""
     uses = collections.Counter(survey.nodes())
     ends = itertools.chain.from_iterable((road.nodes[0], road.nodes[-1]) for road in survey.roads)
@@ -74,13 +90,13 @@ def crossings(survey):
 class Builder:
     """Makes a network of a survey's roads. `cuts` are the nodes between arcs (None: all nodes), `closed` those with a barrier."""
 
-    def __init__(self, survey, cuts, closed, in_metres=False, with_bends=False):
+    def __init__(self, survey: Survey, cuts: set[int] | None, closed: set[int], in_metres: bool = False, with_bends: bool = False) -> None:
         self.report, self.cuts, self.closed, self.in_metres = survey.report, cuts, closed, in_metres
         self.network = Network(with_bends, survey.streets is not None)
-        self.nodes = {}
-        self.missing = set()
+        self.nodes: dict[int, int] = {}
+        self.missing: set[int] = set()
 
-    def node_at(self, number, longitude, latitude):
+    def node_at(self, number: int, longitude: float, latitude: float) -> int:
         """The network's node where a piece of road starts or ends: at a barrier always a new one."""
         node = self.nodes.get(number)
         if node is None:
@@ -89,9 +105,10 @@ class Builder:
                 self.nodes[number] = node
         return node
 
-    def runs(self, road):
+    def runs(self, road: Road) -> list[Any]:
         """The longest runs of two or more nodes of a road that the map has: their numbers, longitudes and latitudes."""
-        nodes, longitudes, latitudes = columns = road.nodes.tolist(), road.longitudes.tolist(), road.latitudes.tolist()
+        nodes, longitudes = road.nodes.tolist(), road.longitudes.tolist()
+        columns: tuple[list[Any], ...] = nodes, longitudes, road.latitudes.tolist()
         if not math.isnan(sum(longitudes)):
             return [columns]
         is_missing = list(map(math.isnan, longitudes))
@@ -99,14 +116,14 @@ class Builder:
         runs = (list(run) for is_gap, run in itertools.groupby(range(len(nodes)), is_missing.__getitem__) if not is_gap)
         return [[column[run[0]:run[-1] + 1] for column in columns] for run in runs if len(run) > 1]
 
-    def add_road(self, road):
+    def add_road(self, road: Road) -> None:
         runs = self.runs(road)
         for run in runs:
             self.add_run(road, *run)
         if not runs:
             self.report.note("short", "", "way", road.number)
 
-    def add_run(self, road, nodes, longitudes, latitudes):
+    def add_run(self, road: Road, nodes: list[int], longitudes: list[float], latitudes: list[float]) -> None:
         """The arcs of a run of nodes of a road; where it is the whole road, a ferry's duration holds."""
         metres = metres_between(longitudes, latitudes)
         forward, backward, seconds = road.rule
@@ -123,12 +140,12 @@ class Builder:
             against = along if backward == forward else self.weight(length, backward)
             network.add_piece(tail, head, (along, against), road, bends)
 
-    def ends_of(self, nodes):
+    def ends_of(self, nodes: list[int]) -> Sequence[int]:
         """Where the pieces of a run of nodes start and end."""
         last = len(nodes) - 1
         return range(last + 1) if self.cuts is None else [0, *[at for at in range(1, last) if nodes[at] in self.cuts], last]
 
-    def weight(self, metres, speed):
+    def weight(self, metres: float, speed: float) -> int | None:
         """Metres, or milliseconds at so many kilometres an hour: rounded once, and at least 1 where there is a length; None where it is
         closed."""
         if not speed:
@@ -136,7 +153,9 @@ class Builder:
         return (round(metres if self.in_metres else metres * 3600 / speed) or 1) if metres else 0
 
 
-def network_of(survey, closed, with_all_nodes, in_metres, with_bends, progress):
+def network_of(
+    survey: Survey, closed: set[int], with_all_nodes: bool, in_metres: bool, with_bends: bool, progress: Progress,
+) -> tuple[Network, dict[int, int]]:
     """The network of a survey's roads, which are counted, and the network's nodes by the map's numbers, barriers aside."""
     cuts = None if with_all_nodes else crossings(survey) | closed
     builder = Builder(survey, cuts, closed, in_metres, with_bends)
@@ -147,7 +166,7 @@ def network_of(survey, closed, with_all_nodes, in_metres, with_bends, progress):
     return builder.network, builder.nodes
 
 
-def metres_between(longitudes, latitudes):
+def metres_between(longitudes: Sequence[float], latitudes: Sequence[float]) -> list[float]:
     """The metres from each of the places, in degrees, to the next, by the haversine formula."""
     found = []
     x, y = longitudes[0], latitudes[0]

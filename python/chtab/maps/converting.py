@@ -1,9 +1,13 @@
 """From a map to the files of a graph: reading, arcs, turns and parts in order, and the table of what was left out."""
+from __future__ import annotations
+
 import contextlib
+import functools
 import gc
 import itertools
 import os
-from typing import NamedTuple
+from collections.abc import Callable, Iterator, Sequence
+from typing import TYPE_CHECKING, NamedTuple
 
 from chtab import files
 from chtab.engine.progress import Progress
@@ -11,6 +15,10 @@ from chtab.errors import FileFault
 from chtab.maps import arcs, parts, profiles, reading, restrictions, turns
 from chtab.maps.report import Report
 from chtab.maps.ways import Survey
+
+if TYPE_CHECKING:
+    from chtab.maps.signs import Streets
+    from chtab.typing import Point
 
 SOURCE = (
     "Source: OpenStreetMap, https://www.openstreetmap.org/copyright",
@@ -36,17 +44,17 @@ class Numbered(NamedTuple):
     """A network as its files have it: the nodes' names and places, arcs between nodes from 1 on, their bends, the ends of trips, the
     copies of nodes, and what arcs are called, None where nobody asked for it."""
 
-    names: list
-    places: list
-    arcs: list
-    bends: dict
-    ends: list
-    copies: list
+    names: list[int]
+    places: list[Point]
+    arcs: list[tuple[int, int, int]]
+    bends: dict[int, list[Point]]
+    ends: list[tuple[int, int]]
+    copies: list[tuple[int, int]]
     streets: files.Streets | None
 
 
 @contextlib.contextmanager
-def uncollected():
+def uncollected() -> Iterator[None]:
     """Holds the search for circles of objects: there are none in a map, and looking through its many objects takes a fifth of the time."""
     was_on = gc.isenabled()
     gc.disable()
@@ -58,7 +66,7 @@ def uncollected():
 
 
 @uncollected()
-def convert(path, choices, is_told=False, is_logged=False):
+def convert(path: str, choices: Choices, is_told: bool = False, is_logged: bool = False) -> tuple[Numbered, Report]:
     """Reads a map (`-` is standard input); what comes of it, and the report of what was left out, with its objects where they are wanted.
     An empty map is a fault. Standard error gets lines on how far it is, where these are wanted."""
     profile, report = profiles.profile(choices.profile), Report(is_logged)
@@ -78,12 +86,12 @@ def convert(path, choices, is_told=False, is_logged=False):
     return numbered(made, kept_of(made, choices.part, report), survey.streets, choices.driving_side), report
 
 
-def kept_of(made, wanted, report):
+def kept_of(made: arcs.Network, wanted: str | int, report: Report) -> bytearray:
     """Whether each node is kept, by the part that is wanted: `all`, `largest` or a rank, from 1 on. What isn't kept is noted."""
     if wanted == "all":
         return bytearray([True]) * len(made.names)
     part, ranked = parts.ranked(made)
-    rank = 1 if wanted == "largest" else wanted
+    rank = 1 if wanted == "largest" else int(wanted)
     if rank > len(ranked):
         raise FileFault(f"there is no part {rank}: the roads have {len(ranked)}")
     others, kept = ranked[:rank - 1] + ranked[rank:], parts.kept_nodes(made, part, ranked[rank - 1][0])
@@ -95,7 +103,7 @@ def kept_of(made, wanted, report):
     return kept
 
 
-def numbered(made, kept, streets=None, side="right"):
+def numbered(made: arcs.Network, kept: bytearray, streets: Streets | None = None, side: str = "right") -> Numbered:
     """The kept nodes by their names, those of one name in the order in which they came, numbered from 1."""
     nodes = sorted(itertools.compress(range(len(kept)), kept), key=made.names.__getitem__)
     numbers = [0] * len(kept)
@@ -107,37 +115,38 @@ def numbered(made, kept, streets=None, side="right"):
     bends = {arc: points for arc, points in enumerate(itertools.compress(made.bends or (), is_kept)) if points}
     ends = sorted((numbers[node], numbers[end]) for end, node in made.ends.items() if kept[end])
     copies = sorted((numbers[copy], numbers[node]) for copy, node in made.copies.items() if kept[copy] and kept[node])
-    called = None if streets is None else files.Streets(*streets.chosen(itertools.compress(made.streets, is_kept)), side)
+    called = None if streets is None else files.Streets(*streets.chosen(itertools.compress(made.streets or (), is_kept)), side)
     return Numbered([made.names[node] for node in nodes], [made.places[node] for node in nodes], arcs, bends, ends, copies, called)
 
 
-def name_of(path):
+def name_of(path: str) -> str:
     return "standard input" if path == "-" else os.path.basename(path)
 
 
-def comments_of(path, choices):
+def comments_of(path: str, choices: Choices) -> list[str]:
     """The comments of a graph's files: what it was made of, and how."""
     more = ", turns as the map restricts them" * choices.turns + ", no ferries" * (not choices.ferries)
     people = profiles.profile(choices.profile).people
     return [f"Roads for {people}, from {name_of(path)}: nodes {choices.nodes}, part {choices.part}{more}.", *SOURCE]
 
 
-def write(out, made, comments, unit):
+def write(out: str, made: Numbered, comments: Sequence[str], unit: str) -> list[str]:
     """Writes the files, none of which takes its name before all are whole; their names. Bends and streets of an earlier graph of this name are
     taken away, since they would be taken for those of this one."""
-    writers = {
+    streets = made.streets
+    writers: dict[str, Callable[[str], None] | None] = {
         "gr": lambda part: files.write_graph(part, len(made.names), made.arcs, [*comments, f"Weights are {unit}."]),
         "co": lambda part: files.write_coordinates(part, made.places, comments, made.ends, made.copies),
         "nodes": lambda part: files.write_names(part, made.names),
         "bends": (lambda part: files.write_bends(part, made.bends, comments)) if made.bends else None,
-        "names": (lambda part: files.write_streets(part, made.streets, comments)) if made.streets else None,
+        "names": None if streets is None else functools.partial(files.write_streets, found=streets, comments=comments),
     }
-    names = [f"{out}.{suffix}" for suffix, writer in writers.items() if writer]
     with contextlib.ExitStack() as stack:
-        for name in names:
-            writers[name.rpartition(".")[2]](stack.enter_context(files.whole(name)))
+        for suffix, writer in writers.items():
+            if writer:
+                writer(stack.enter_context(files.whole(f"{out}.{suffix}")))
     for suffix, writer in writers.items():
         if not writer:
             with contextlib.suppress(FileNotFoundError):
                 os.unlink(f"{out}.{suffix}")
-    return names
+    return [f"{out}.{suffix}" for suffix, writer in writers.items() if writer]

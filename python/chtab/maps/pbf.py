@@ -2,16 +2,25 @@
 
 https://osmcode.org/opl-file-format/
 """
+from __future__ import annotations
+
 import math
 import re
 import subprocess
 import sys
+from collections.abc import Iterable, Iterator, Mapping
+from typing import IO, TYPE_CHECKING, cast
 
 from chtab.errors import FileFault
 from chtab.maps import unpacking
 from chtab.maps.reading import Relation
 from chtab.maps.signs import KEYS
 from chtab.maps.ways import NOWHERE, ROAD_KEYS
+
+if TYPE_CHECKING:
+    from chtab.engine.progress import Progress
+    from chtab.maps.ways import Survey, Verdict
+    from chtab.typing import Point
 
 # A member of a relation, and a character that stands by its number.
 MEMBER = re.compile(r"([nwr])(-?\d+)@([^,]*)")
@@ -26,7 +35,7 @@ NO_PLACE = "xy"
 BLOCK = 1 << 18
 
 
-def texts_of(file):
+def texts_of(file: IO[bytes]) -> Iterator[bytes]:
     """The text of a file in parts of whole lines, each with an end of a line also before its first."""
     rest = b"\n"
     while block := file.read(BLOCK):
@@ -37,7 +46,7 @@ def texts_of(file):
         rest += block[end:]
 
 
-def nodes_and_others(text):
+def nodes_and_others(text: bytes) -> tuple[bytes, bytes]:
     """The lines of nodes, which come before all others, and the others."""
     if text.startswith(b"n", text.rindex(b"\n", 0, -1) + 1):
         return text, b""
@@ -47,7 +56,7 @@ def nodes_and_others(text):
     return text[:end + 1], text[end:]
 
 
-def lines_with(text, marks):
+def lines_with(text: bytes, marks: Iterable[bytes]) -> Iterator[str]:
     """The lines of a text that have one of these marks, in order. All others are passed over without being taken apart."""
     starts = set()
     for mark in marks:
@@ -59,22 +68,22 @@ def lines_with(text, marks):
         yield text[start:text.index(b"\n", start)].decode("utf-8", "replace")
 
 
-def fields_of(line):
+def fields_of(line: str) -> dict[str, str]:
     """The fields of a line by their letters."""
     return {field[:1]: field[1:] for field in line.split(" ")}
 
 
-def plain(text):
+def plain(text: str) -> str:
     return CHARACTER.sub(lambda found: chr(int(found[1], 16)), text) if "%" in text else text
 
 
-def tags_of(items):
+def tags_of(items: Iterable[str]) -> dict[str, str]:
     """The tags of such items, `key=value`."""
     pairs = (item.partition("=") for item in items if item)
     return {plain(key): plain(value) for key, _, value in pairs}
 
 
-def nodes_of(text):
+def nodes_of(text: str) -> tuple[list[int], list[float], list[float]]:
     """The nodes of a way, `n1x9.5y47.1,n2xy,..`: their numbers, longitudes and latitudes, as `NOWHERE` has them where there are none."""
     if not text:
         return [], [], []
@@ -87,14 +96,15 @@ def nodes_of(text):
 class Lines:
     """Takes the lines of the text into a survey."""
 
-    def __init__(self, survey):
+    def __init__(self, survey: Survey) -> None:
         self.survey = survey
         self.asked = re.compile(f",((?:{'|'.join(map(re.escape, survey.keys))})=[^,]*)")
         self.called = re.compile(f",((?:{'|'.join(map(re.escape, KEYS))})=[^,]*)")
         # The verdict by the tags that are asked for, as they stand in the text, and the places of nodes with numbers below 0.
-        self.verdicts, self.places = {}, {}
+        self.verdicts: dict[tuple[str, ...], Verdict | None] = {}
+        self.places: dict[int, Point] = {}
 
-    def take(self, text):
+    def take(self, text: bytes) -> None:
         """Takes a text as `texts_of` gives it."""
         nodes, others = nodes_and_others(text)
         for line in lines_with(nodes, NODE_MARKS):
@@ -105,7 +115,7 @@ class Lines:
             else:
                 self.relation(fields_of(line))
 
-    def node(self, fields):
+    def node(self, fields: Mapping[str, str]) -> None:
         """A node with a barrier, or with a number below 0."""
         number, tags = int(fields["n"]), tags_of(fields["T"].split(","))
         if fields["d"] == "D" or not fields["x"]:
@@ -116,14 +126,14 @@ class Lines:
         if "barrier" in tags:
             self.survey.add_barrier(number, tags)
 
-    def verdict_on(self, items):
+    def verdict_on(self, items: tuple[str, ...]) -> Verdict | None:
         """The verdict on a way with these tags, None where it has none of `ROAD_KEYS`."""
         if items not in self.verdicts:
             tags = tags_of(items)
             self.verdicts[items] = self.survey.verdict_on(tags) if any(key in tags for key in ROAD_KEYS) else None
         return self.verdicts[items]
 
-    def way(self, line):
+    def way(self, line: str) -> None:
         number, _, state, tags, nodes = line.split(" ")
         verdict = self.verdict_on(tuple(self.asked.findall("," + tags[1:])))
         if not verdict:
@@ -140,29 +150,29 @@ class Lines:
         streets = None if self.survey.streets is None else self.survey.streets_of(tags_of(self.called.findall("," + tags[1:])))
         self.survey.add_way(int(number[1:]), rule, numbers, longitudes, latitudes, streets)
 
-    def place(self, numbers, longitudes, latitudes):
+    def place(self, numbers: list[int], longitudes: list[float], latitudes: list[float]) -> None:
         """The places of nodes that pyosmium didn't look up."""
         for at, number in enumerate(numbers):
             if math.isnan(longitudes[at]):
                 longitudes[at], latitudes[at] = self.places.get(number, NOWHERE)
 
-    def relation(self, fields):
+    def relation(self, fields: Mapping[str, str]) -> None:
         tags = tags_of(fields["T"].split(","))
         if tags.get("type") == "restriction" and fields["d"] != "D":
             members = [(KINDS[kind], int(ref), plain(role)) for kind, ref, role in MEMBER.findall(fields["M"])]
             self.survey.relations.append(Relation(int(fields["r"]), tags, members))
 
 
-def read(path, name, survey, progress):
+def read(path: str, name: str, survey: Survey, progress: Progress) -> None:
     """Reads a map into a survey, by a child that unpacks it. Its objects are counted."""
     lines = Lines(survey)
     command = [sys.executable, unpacking.__file__, path]
     with subprocess.Popen(command, stdout=subprocess.PIPE, stderr=subprocess.PIPE) as child:
         try:
-            for text in texts_of(child.stdout):
+            for text in texts_of(cast(IO[bytes], child.stdout)):
                 lines.take(text)
                 progress.step(text.count(b"\n") - 1)
-            told = child.stderr.read().decode("utf-8", "replace").strip().splitlines()
+            told = cast(IO[bytes], child.stderr).read().decode("utf-8", "replace").strip().splitlines()
         except BaseException:
             child.kill()
             raise

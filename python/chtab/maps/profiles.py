@@ -1,8 +1,11 @@
 """The tables of `tables/`, as they are read: one file for each way of travelling, and one for the limits of speed."""
+from __future__ import annotations
+
 import functools
 import pathlib
 import tomllib
-from typing import NamedTuple
+from collections.abc import Iterable, Mapping
+from typing import Any, NamedTuple
 
 TABLES = pathlib.Path(__file__).resolve().parent / "tables"
 NAMES = ("car", "bicycle", "foot")
@@ -13,25 +16,25 @@ LIMITS = ("is the speed", "bounds the speed", "says nothing")
 class Access(NamedTuple):
     """Tags in the order in which they are asked, and the words that open and close."""
 
-    tags: tuple
-    open: frozenset
-    closed: frozenset
+    tags: tuple[str, ...]
+    open: frozenset[str]
+    closed: frozenset[str]
 
 
 class Oneway(NamedTuple):
     """Tags in the order in which they are asked; tags that imply a direction, and tags that open the other, with their words."""
 
-    tags: tuple
-    implied: dict
-    opened_by: dict
+    tags: tuple[str, ...]
+    implied: dict[str, frozenset[str]]
+    opened_by: dict[str, frozenset[str]]
 
 
 class Barriers(NamedTuple):
     """Access at the node, which comes first; the kinds that are open and closed, and whether all others are open."""
 
     access: Access
-    open: frozenset
-    closed: frozenset
+    open: frozenset[str]
+    closed: frozenset[str]
     others_open: bool
 
 
@@ -40,19 +43,19 @@ class Profile(NamedTuple):
 
     name: str
     people: str
-    speeds: dict
-    speeds_where_opened: dict
+    speeds: dict[str, float]
+    speeds_where_opened: dict[str, float]
     access: Access
-    closed_by: dict
+    closed_by: dict[str, frozenset[str]]
     oneway: Oneway
     limit: str
     ferry_speed: float
-    ferries_for_others: tuple
+    ferries_for_others: tuple[str, ...]
     barriers: Barriers
-    turn_tags: tuple
-    turn_exceptions: frozenset
+    turn_tags: tuple[str, ...]
+    turn_exceptions: frozenset[str]
 
-    def keys(self):
+    def keys(self) -> set[str]:
         """The tags of ways that the tables ask for."""
         of_speed = {"maxspeed", "maxspeed:forward", "maxspeed:backward", "route", "duration"}
         return of_speed | {"highway"}.union(
@@ -63,26 +66,26 @@ class Profile(NamedTuple):
 class Limits(NamedTuple):
     """Kilometres an hour of units, of words and of zones; 0 for a word that has no one number. `most` is the highest limit that is taken."""
 
-    units: dict
-    words: dict
+    units: dict[str, float]
+    words: dict[str, float]
     most: int
 
 
-def read(name):
+def read(name: str) -> dict[str, Any]:
     with open(TABLES / f"{name}.toml", "rb") as file:
         return tomllib.load(file)
 
 
-def sets(table):
+def sets(table: Mapping[str, Iterable[str]]) -> dict[str, frozenset[str]]:
     return {key: frozenset(words) for key, words in table.items()}
 
 
-def access(table, more=()):
+def access(table: Mapping[str, Any], more: Iterable[str] = ()) -> Access:
     return Access(tuple(table["tags"]), frozenset(table["open"]) | frozenset(more), frozenset(table["closed"]) - frozenset(more))
 
 
 @functools.cache
-def profile(name):
+def profile(name: str) -> Profile:
     """The profile of this name, one of `NAMES`."""
     table = read(name)
     oneway, barriers, turns = table["oneway"], table["barriers"], table["turns"]
@@ -109,7 +112,7 @@ def profile(name):
 
 
 @functools.cache
-def limits():
+def limits() -> Limits:
     """The table of limits of speed."""
     table = read("limits")
     return Limits(table["units"], table["words"] | table["zones"], table["most"])

@@ -2,6 +2,8 @@
 
 A file is read twice: first its ways and relations, then the nodes that roads use. A fault of the file is one line.
 """
+from __future__ import annotations
+
 import bz2
 import contextlib
 import gzip
@@ -12,13 +14,19 @@ import sys
 import tempfile
 import xml.parsers.expat
 import zlib
-from typing import NamedTuple
+from collections.abc import Iterator, Mapping, Sequence
+from typing import TYPE_CHECKING, Any, NamedTuple
 
 from chtab.engine.progress import Progress
 from chtab.errors import FileFault
 from chtab.maps.ways import ROAD_KEYS
 
-PACKED = {b"\x1f\x8b": gzip.open, b"BZh": bz2.open, b"\xfd7zXZ\x00": lzma.open}
+if TYPE_CHECKING:
+    from chtab.maps.tags import Tags
+    from chtab.maps.ways import Survey
+    from chtab.typing import Point
+
+PACKED: dict[bytes, Any] = {b"\x1f\x8b": gzip.open, b"BZh": bz2.open, b"\xfd7zXZ\x00": lzma.open}
 # What XML's parser says of a text that ends before its last element does.
 CUT_SHORT = {
     xml.parsers.expat.errors.codes[text]
@@ -32,12 +40,12 @@ class Relation(NamedTuple):
     """A relation of the type restriction: its number, its tags and its members, each as (type, number, role)."""
 
     number: int
-    tags: dict
-    members: list
+    tags: Tags
+    members: list[tuple[str, int, str]]
 
 
 @contextlib.contextmanager
-def lasting(path):
+def lasting(path: str) -> Iterator[str]:
     """The path itself, or for `-` that of a copy of standard input, which is there as long as it is needed."""
     if path != "-":
         yield path
@@ -52,12 +60,12 @@ def lasting(path):
         yield copy
 
 
-def is_pbf(path):
+def is_pbf(path: str) -> bool:
     with open(path, "rb") as file:
         return file.read(15)[4:] == PBF
 
 
-def read_map(path, survey, is_told=False):
+def read_map(path: str, survey: Survey, is_told: bool = False) -> None:
     """Reads a map into a survey, and tells how far it is where that is wanted. `-` is standard input."""
     name = "standard input" if path == "-" else os.path.basename(path)
     with lasting(path) as file:
@@ -77,10 +85,10 @@ def read_map(path, survey, is_told=False):
 class Ways:
     """What the first reading of XML keeps: roads, and relations that restrict turns."""
 
-    def __init__(self, survey):
+    def __init__(self, survey: Survey) -> None:
         self.survey = survey
 
-    def way(self, number, tags, nodes, is_deleted):
+    def way(self, number: int, tags: Tags, nodes: Sequence[str], is_deleted: bool) -> None:
         if not any(key in tags for key in ROAD_KEYS):
             return
         if is_deleted:
@@ -90,7 +98,7 @@ class Ways:
         if rule:
             self.survey.add_way(number, rule, [int(node) for node in nodes], streets=self.survey.streets_of(tags))
 
-    def relation(self, number, tags, members, is_deleted):
+    def relation(self, number: int, tags: Tags, members: Sequence[tuple[str, str, str]], is_deleted: bool) -> None:
         if tags.get("type") == "restriction" and not is_deleted:
             self.survey.relations.append(Relation(number, tags, [(kind, int(ref), role) for kind, ref, role in members]))
 
@@ -98,13 +106,15 @@ class Ways:
 class Nodes:
     """What the second reading keeps: the places of the roads' nodes, and barriers."""
 
-    def __init__(self, survey):
-        self.survey, self.wanted, self.places = survey, set(survey.nodes()), {}
+    def __init__(self, survey: Survey) -> None:
+        self.survey, self.wanted = survey, set(survey.nodes())
+        self.places: dict[int, Point] = {}
 
-    def node(self, number, tags, place, is_deleted):
-        if number not in self.wanted or is_deleted or None in place:
+    def node(self, number: int, tags: Tags, place: tuple[str | None, str | None], is_deleted: bool) -> None:
+        x, y = place
+        if number not in self.wanted or is_deleted or x is None or y is None:
             return
-        longitude, latitude = map(float, place)
+        longitude, latitude = float(x), float(y)
         if not (-180 <= longitude <= 180 and -90 <= latitude <= 90):
             raise ValueError(f"node {number} at longitude {longitude:g}, latitude {latitude:g} is no place on the earth")
         if number in self.places:
@@ -117,11 +127,14 @@ class Nodes:
 class Elements:
     """Hears the elements of XML and hands on what `keeper` has a method for."""
 
-    def __init__(self, keeper):
+    def __init__(self, keeper: Ways | Nodes) -> None:
         self.calls = {name: getattr(keeper, name) for name in ("node", "way", "relation") if hasattr(keeper, name)}
-        self.depth, self.number, self.head, self.tags, self.parts = 0, None, {}, {}, []
+        self.depth = 0
+        self.head: Mapping[str, str] = {}
+        self.tags: dict[str, str] = {}
+        self.parts: list[Any] = []
 
-    def start(self, name, attributes):
+    def start(self, name: str, attributes: Mapping[str, str]) -> None:
         self.depth += 1
         if self.depth == 1 and name != "osm":
             raise ValueError(f"it begins with {name}")
@@ -136,7 +149,7 @@ class Elements:
         elif name == "member":
             self.parts.append((attributes["type"], attributes["ref"], attributes["role"]))
 
-    def end(self, name):
+    def end(self, name: str) -> None:
         self.depth -= 1
         if self.depth == 1 and name in self.calls:
             head = self.head
@@ -145,7 +158,7 @@ class Elements:
             self.calls[name](int(head["id"]), self.tags, parts, is_deleted)
 
 
-def blocks_of(path, progress):
+def blocks_of(path: str, progress: Progress) -> Iterator[bytes]:
     """The bytes of a file, unpacked, block by block. Counted are the bytes of the file itself."""
     with open(path, "rb") as packed:
         head = packed.read(6)
@@ -159,7 +172,7 @@ def blocks_of(path, progress):
             before = at
 
 
-def read_elements(path, name, keeper, progress):
+def read_elements(path: str, name: str, keeper: Ways | Nodes, progress: Progress) -> None:
     """Reads XML once, for what the keeper takes."""
     elements = Elements(keeper)
     parser = xml.parsers.expat.ParserCreate()

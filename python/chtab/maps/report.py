@@ -1,7 +1,11 @@
 """What a conversion left out, passed over or could not read: counted by kind and by words, told in one table, and where it is wanted in a
 file with the map's number of each object."""
+from __future__ import annotations
+
 import collections
 import csv
+from collections.abc import Iterable, Mapping
+from typing import Any
 
 # The kinds of what is counted, in the order in which they are told.
 KINDS = {
@@ -35,31 +39,31 @@ class Report:
         Whether the object of each note is kept, for `write_log`.
     """
 
-    def __init__(self, is_logged=False):
-        self.counts = {kind: collections.Counter() for kind in KINDS}
-        self.log = [] if is_logged else None
+    def __init__(self, is_logged: bool = False) -> None:
+        self.counts: dict[str, collections.Counter[str]] = {kind: collections.Counter() for kind in KINDS}
+        self.log: list[tuple[Any, ...]] | None = [] if is_logged else None
 
-    def note(self, kind, words, thing=None, number=None, count=1):
+    def note(self, kind: str, words: str, thing: str | None = None, number: int | None = None, count: int = 1) -> None:
         """Counts a note on a `thing` of the map, `way`, `node` or `relation`, by its number there."""
         self.counts[kind][words] += count
         if self.log is not None and thing is not None:
             self.log.append((thing, number, kind, words))
 
-    def note_all(self, notes, thing, number):
+    def note_all(self, notes: Iterable[tuple[str, str]], thing: str, number: int) -> None:
         for kind, words in notes:
             self.note(kind, words, thing, number)
 
-    def write_log(self, path):
+    def write_log(self, path: str) -> None:
         """Writes a line of CSV for each object that was noted: what it is, its number in the map, why, and its words."""
         with open(path, "w", newline="") as file:
             lines = csv.writer(file, lineterminator="\n")
             lines.writerow(["object", "id", "reason", "words"])
-            lines.writerows((thing, number, KINDS[kind], words) for thing, number, kind, words in self.log)
+            lines.writerows((thing, number, KINDS[kind], words) for thing, number, kind, words in self.log or ())
 
-    def total(self, kind):
+    def total(self, kind: str) -> int:
         return self.counts[kind].total()
 
-    def lines(self, title):
+    def lines(self, title: str) -> list[str]:
         """The table: a line for each kind that was met, with its commonest words."""
         rows = [(f"{self.total(kind):,}", told, words_told(self.counts[kind])) for kind, told in KINDS.items() if self.total(kind)]
         if not rows:
@@ -68,7 +72,7 @@ class Report:
         return [f"{title}:", *(f"  {count:>{widths[0]}}  {kind:<{widths[1]}}  {words}".rstrip() for count, kind, words in rows)]
 
 
-def words_told(counts):
+def words_told(counts: Mapping[str, int]) -> str:
     """The commonest words, the most frequent first, and how many others there are."""
     ordered = sorted(counts.items(), key=lambda item: (-item[1], item[0]))
     told = [f"{count:,} {words}" for words, count in ordered[:MOST_WORDS] if words]

@@ -2,10 +2,19 @@
 
 https://wiki.openstreetmap.org/wiki/Relation:restriction
 """
+from __future__ import annotations
+
 import collections
-from typing import NamedTuple
+from collections.abc import Iterable, Mapping, Sequence
+from typing import TYPE_CHECKING, NamedTuple
 
 from chtab.maps.tags import words_of
+
+if TYPE_CHECKING:
+    from chtab.maps.arcs import Network
+    from chtab.maps.profiles import Profile
+    from chtab.maps.reading import Relation
+    from chtab.maps.report import Report
 
 FORBIDDING = {"no_left_turn", "no_right_turn", "no_straight_on", "no_u_turn", "no_entry", "no_exit"}
 DEMANDING = {"only_left_turn", "only_right_turn", "only_straight_on", "only_u_turn"}
@@ -22,14 +31,14 @@ class Restriction(NamedTuple):
 
     is_demand: bool
     is_back: bool
-    froms: list
+    froms: list[int]
     via: int
-    tos: list
+    tos: list[int]
     # The map's number of the relation.
     number: int
 
 
-def words_for(relation, profile):
+def words_for(relation: Relation, profile: Profile) -> set[str]:
     """The words of the restriction for this way of travelling."""
     tags = relation.tags
     key = next((key for key in profile.turn_tags if key in tags), None)
@@ -45,7 +54,7 @@ def words_for(relation, profile):
     return words
 
 
-def restriction_of(relation, profile):
+def restriction_of(relation: Relation, profile: Profile) -> Restriction:
     """The restriction that a relation tells."""
     words = words_for(relation, profile)
     froms, tos = ([ref for kind, ref, part in relation.members if (kind, part) == ("way", role)] for role in ("from", "to"))
@@ -57,7 +66,7 @@ def restriction_of(relation, profile):
     return Restriction(words <= DEMANDING, words <= {"no_u_turn", "only_u_turn"} and froms == tos, froms, vias[0][1], tos, relation.number)
 
 
-def read_all(relations, profile, report):
+def read_all(relations: Iterable[Relation], profile: Profile, report: Report) -> list[Restriction]:
     """The restrictions of the relations; those that are left out are noted."""
     found = []
     for relation in relations:
@@ -71,11 +80,11 @@ def read_all(relations, profile, report):
 class Crossing(NamedTuple):
     """The arcs that come to a node and those that leave it, in order."""
 
-    ins: list
-    outs: list
+    ins: list[int]
+    outs: list[int]
 
 
-def arcs_at(network, nodes):
+def arcs_at(network: Network, nodes: Iterable[int]) -> dict[int, Crossing]:
     """The crossing of each of these nodes."""
     crossings = {node: Crossing([], []) for node in nodes}
     for arc, (tail, head) in enumerate(zip(network.tails, network.heads)):
@@ -86,7 +95,7 @@ def arcs_at(network, nodes):
     return crossings
 
 
-def arcs_of_ways(network, ways, arcs, is_back):
+def arcs_of_ways(network: Network, ways: Iterable[int], arcs: Iterable[int], is_back: bool) -> list[int]:
     """Those of a crossing's arcs that lie on these ways, each of which has to have one, and but for turns back no other."""
     found = []
     for way in ways:
@@ -99,7 +108,7 @@ def arcs_of_ways(network, ways, arcs, is_back):
     return found
 
 
-def turns_of(restriction, crossing, network):
+def turns_of(restriction: Restriction, crossing: Crossing, network: Network) -> list[tuple[int, int]]:
     """The turns (arc in, arc out) that a restriction names."""
     ins = arcs_of_ways(network, restriction.froms, crossing.ins, restriction.is_back)
     outs = arcs_of_ways(network, restriction.tos, crossing.outs, restriction.is_back)
@@ -111,13 +120,14 @@ def turns_of(restriction, crossing, network):
     return turns
 
 
-def forbidden_turns(restrictions, network, nodes, report):
+def forbidden_turns(restrictions: Sequence[Restriction], network: Network, nodes: Mapping[int, int], report: Report) -> dict[int, set[int]]:
     """The arcs that may not follow on an arc: {arc in: {arcs out}}. `nodes` has the network's nodes by the map's numbers.
 
     What several demands for one arc name is open; what they don't name is not.
     """
     crossings = arcs_at(network, {nodes[each.via] for each in restrictions if each.via in nodes})
-    forbidden, demanded = collections.defaultdict(set), collections.defaultdict(set)
+    forbidden: dict[int, set[int]] = collections.defaultdict(set)
+    demanded: dict[int, set[int]] = collections.defaultdict(set)
     for restriction in restrictions:
         try:
             if restriction.via not in nodes:

@@ -1,5 +1,13 @@
 """What ways of a map are called: the street of each direction of a road, by the tags that travellers read on signs."""
+from __future__ import annotations
+
+from collections.abc import Iterable
+from typing import TYPE_CHECKING
+
 from chtab.files import Street
+
+if TYPE_CHECKING:
+    from chtab.maps.tags import Tags
 
 # The tags that a street is made of. Signs with destinations may differ by direction.
 SIGNS = ("destination", "destination:ref")
@@ -9,38 +17,40 @@ KEYS = ("highway", "junction", "name", "ref", *(f"{key}{side}" for key in SIGNS 
 RINGS = ("roundabout", "circular")
 
 
-def listed(value):
+def listed(value: str) -> str:
     """The items of a list in a tag, as a sign has them."""
     return ", ".join(word for word in map(str.strip, value.split(";")) if word)
 
 
-def destinations_of(tags, side):
+def destinations_of(tags: Tags, side: str) -> str:
     """What signs say of where a way leads in one direction, `REF, REF: PLACE, PLACE`: https://wiki.openstreetmap.org/wiki/Key:destination."""
     places, numbers = (listed(tags.get(f"{key}:{side}", tags.get(key, ""))) for key in SIGNS)
     return f"{numbers}: {places}" if numbers and places else numbers or places
 
 
-def streets_of(tags):
+def streets_of(tags: Tags) -> tuple[Street, Street]:
     """The streets of both directions of a way that is a road: along it, and against it."""
     kind = tags.get("highway", "ferry")
     junction = tags.get("junction", "")
     common = kind, junction if junction in RINGS else "", tags.get("name", "").strip(), listed(tags.get("ref", ""))
-    return tuple(Street(*common, destinations_of(tags, side)) for side in ("forward", "backward"))
+    return Street(*common, destinations_of(tags, "forward")), Street(*common, destinations_of(tags, "backward"))
 
 
 class Streets:
     """The streets of a map, each once. A road has a pair of their numbers, which count from 0, for its two directions."""
 
-    def __init__(self):
-        self.numbers = {}
+    def __init__(self) -> None:
+        self.numbers: dict[Street, int] = {}
 
-    def add(self, tags):
+    def add(self, tags: Tags) -> tuple[int, int]:
         """The numbers of the streets along a way and against it."""
-        return tuple(self.numbers.setdefault(street, len(self.numbers)) for street in streets_of(tags))
+        along, against = (self.numbers.setdefault(street, len(self.numbers)) for street in streets_of(tags))
+        return along, against
 
-    def chosen(self, numbers):
+    def chosen(self, numbers: Iterable[int | None]) -> tuple[list[Street], list[int]]:
         """The streets of these numbers, `None` for none, each once in the order of its first use, and the place of each in them, from 1 on; 0
         where there is none."""
-        every, places = list(self.numbers), {None: 0}
+        every = list(self.numbers)
+        places: dict[int | None, int] = {None: 0}
         found = [places.setdefault(number, len(places)) for number in numbers]
         return [every[number] for number in places if number is not None], found

@@ -2,10 +2,16 @@
 
 https://wiki.openstreetmap.org/wiki/Key:maxspeed and https://wiki.openstreetmap.org/wiki/Key:duration
 """
+from __future__ import annotations
+
 import re
+from typing import TYPE_CHECKING
 
 from chtab.maps import profiles
 from chtab.maps.tags import words_of
+
+if TYPE_CHECKING:
+    from chtab.maps.tags import Notes, Tags
 
 NUMBER = re.compile(r"(\d+(?:\.\d+)?)\s*([a-z/]*)", re.ASCII)
 # A zone whose name is its limit, in a country that counts in kilometres: DE:zone:30, FR:zone30, CZ:30.
@@ -15,14 +21,14 @@ CLOCK = re.compile(r"(?:(\d+):)?(\d+)(?::(\d\d))?", re.ASCII)
 ISO = re.compile(r"P(?:(\d+)D)?(?:T(?:(\d+)H)?(?:(\d+)M)?(?:(\d+)S)?)?", re.ASCII)
 
 
-def one_limit(word):
+def one_limit(word: str) -> float | None:
     """Kilometres an hour of one word; 0 where it has no one number, None where it can't be read."""
     limits = profiles.limits()
     if word in limits.words:
         return limits.words[word]
     zone, number = ZONE.fullmatch(word), NUMBER.fullmatch(word)
     if zone:
-        speed = int(zone[1])
+        speed: float = int(zone[1])
     elif number and (not number[2] or number[2] in limits.units):
         speed = float(number[1]) * limits.units.get(number[2], 1)
     else:
@@ -30,7 +36,7 @@ def one_limit(word):
     return speed if 0 < speed <= limits.most else None
 
 
-def limit_of(tags, side, notes):
+def limit_of(tags: Tags, side: str, notes: Notes) -> float | None:
     """The limit of a way in one direction, `forward` or `backward`, in kilometres an hour; None where there is no number.
 
     The least of a list is taken. What can't be read is noted, and says nothing.
@@ -41,10 +47,10 @@ def limit_of(tags, side, notes):
     found = [one_limit(word) for word in words_of(tags[key])]
     if None in found or not found:
         notes.append(("speeds", f"{key}={tags[key]}"))
-    return min(filter(None, found), default=None)
+    return min((limit for limit in found if limit), default=None)
 
 
-def speed_of(tags, side, usual, limit_use, notes):
+def speed_of(tags: Tags, side: str, usual: float, limit_use: str, notes: Notes) -> float:
     """Kilometres an hour in one direction of a way whose kind has the usual speed."""
     if limit_use == "says nothing":
         return usual
@@ -54,7 +60,7 @@ def speed_of(tags, side, usual, limit_use, notes):
     return min(limit, usual) if limit_use == "bounds the speed" else limit
 
 
-def seconds_of(duration):
+def seconds_of(duration: str) -> int | None:
     """The seconds of a duration, and None where it can't be read or is 0."""
     clock = CLOCK.fullmatch(duration.strip())
     if clock:

@@ -2,23 +2,34 @@
 
 `notes` is a list that takes what could not be read, each as (kind, text); the kinds are those of `report`.
 """
+from __future__ import annotations
 
+from collections.abc import Mapping
+from typing import TYPE_CHECKING, TypeAlias
+
+if TYPE_CHECKING:
+    from chtab.maps.profiles import Access, Barriers, Oneway
 # What the words of oneway mean: along the way, against it, both, or a direction that changes with the time of day. Where the direction
 # alternates all the time (`alternating`) each is open.
 # https://wiki.openstreetmap.org/wiki/Key:oneway
 ALONG, AGAINST, BOTH, BY_TIME = 1, -1, 0, None
-DIRECTIONS = {
+DIRECTIONS: dict[str, int | None] = {
     "yes": ALONG, "true": ALONG, "1": ALONG, "-1": AGAINST, "reverse": AGAINST, "no": BOTH, "false": BOTH, "0": BOTH,
     "alternating": BOTH, "reversible": BY_TIME,
 }
 
 
-def words_of(value):
+# The tags of a thing of the map, and what is noted of it: kinds and words.
+Tags: TypeAlias = Mapping[str, str]
+Notes: TypeAlias = list[tuple[str, str]]
+
+
+def words_of(value: str) -> set[str]:
     """The words of a list in a tag: a set, since their order says nothing."""
     return {word.strip() for word in value.split(";")} - {""}
 
 
-def deciding(tags, access, notes):
+def deciding(tags: Tags, access: Access, notes: Notes) -> tuple[str, bool] | tuple[None, None]:
     """The first of the access tags that has a known word, and whether it opens: (tag, True or False), or (None, None).
 
     Of several words one that opens is enough.
@@ -35,14 +46,14 @@ def deciding(tags, access, notes):
     return None, None
 
 
-def has_one_of(tags, table):
+def has_one_of(tags: Tags, table: Mapping[str, frozenset[str]]) -> str | None:
     """The first tag of a table {key: words} that has one of its words, as key=value, and None where there is none."""
     return next((f"{key}={tags[key]}" for key, words in table.items() if key in tags and words_of(tags[key]) & words), None)
 
 
-def direction_of(tags, oneway, notes):
+def direction_of(tags: Tags, oneway: Oneway, notes: Notes) -> int | None:
     """ALONG, AGAINST, BOTH or BY_TIME."""
-    found = ALONG if has_one_of(tags, oneway.implied) else BOTH
+    found: int | None = ALONG if has_one_of(tags, oneway.implied) else BOTH
     for key in oneway.tags:
         if tags.get(key) in DIRECTIONS:
             found = DIRECTIONS[tags[key]]
@@ -52,7 +63,7 @@ def direction_of(tags, oneway, notes):
     return BOTH if found in (ALONG, AGAINST) and has_one_of(tags, oneway.opened_by) else found
 
 
-def is_closed_barrier(tags, barriers, notes):
+def is_closed_barrier(tags: Tags, barriers: Barriers, notes: Notes) -> bool:
     """Whether no way leads through a node with these tags, of which one is `barrier`."""
     key, is_open = deciding(tags, barriers.access, notes)
     if key:

@@ -5,7 +5,10 @@ are open from there. All other arcs in lead to the node itself, which has all ar
 node's end, to which these arcs in lead too, and from the node itself an arc of weight 0, and which nothing leaves. One node can't be both:
 what ends there could go on by any arc out.
 """
+from __future__ import annotations
+
 import collections
+from collections.abc import Mapping
 
 from chtab.maps import restrictions
 from chtab.maps.arcs import Network
@@ -17,30 +20,34 @@ NO_PIECE = -1
 class Copies:
     """The copies of nodes that forbidden turns ask for, added to the network."""
 
-    def __init__(self, network, forbidden):
+    def __init__(self, network: Network, forbidden: Mapping[int, set[int]]) -> None:
         nodes = {network.heads[arc] for arc in forbidden}
         crossings = restrictions.arcs_at(network, nodes)
         # The copy to which an arc leads, None where nothing is open from there, and the copies that an arc leaves beside its tail.
-        self.heads, self.tails = {}, collections.defaultdict(list)
+        self.heads: dict[int, int | None] = {}
+        self.tails: dict[int, list[int]] = collections.defaultdict(list)
         for arc in sorted(forbidden):
             node = network.heads[arc]
             outs = [out for out in crossings[node].outs if out not in forbidden[arc]]
-            self.heads[arc] = network.add_copy(node) if outs else None
+            if not outs:
+                self.heads[arc] = None
+                continue
+            copy = self.heads[arc] = network.add_copy(node)
             for out in outs:
-                self.tails[out].append(self.heads[arc])
+                self.tails[out].append(copy)
         self.ends = {node: network.add_copy(node) for node in sorted(nodes)}
 
-    def tails_of(self, arc, tail):
+    def tails_of(self, arc: int, tail: int) -> list[int]:
         return [tail, *self.tails.get(arc, ())]
 
-    def heads_of(self, arc, head):
+    def heads_of(self, arc: int, head: int) -> list[int]:
         if arc not in self.heads:
             return [head]
         copy = self.heads[arc]
         return [self.ends[head]] if copy is None else [copy, self.ends[head]]
 
 
-def split(network, forbidden):
+def split(network: Network, forbidden: Mapping[int, set[int]]) -> Network:
     """The network in which no walk has a forbidden turn; all of its arcs are arcs of this one, some of them several times."""
     copies = Copies(network, forbidden)
     made = Network(network.bends is not None, network.streets is not None)
@@ -48,7 +55,8 @@ def split(network, forbidden):
     made.ends = {end: node for node, end in copies.ends.items()}
     made.copies = {copy: network.heads[arc] for arc, copy in copies.heads.items() if copy is not None}
     for arc, (tail, head, weight, piece) in enumerate(zip(network.tails, network.heads, network.weights, network.pieces)):
-        bends, street = (None if column is None else column[arc] for column in (network.bends, network.streets))
+        bends = None if network.bends is None else network.bends[arc]
+        street = None if network.streets is None else network.streets[arc]
         for start in copies.tails_of(arc, tail):
             for end in copies.heads_of(arc, head):
                 made.add_arc(start, end, weight, piece, bends, street)

@@ -4,7 +4,10 @@ The text has a line for each object (https://osmcode.org/opl-file-format/): firs
 relations. All of that is done outside of Python, some ten times as fast as objects are shown to Python one by one, and in a process of
 its own beside the one that reads the text.
 """
+from __future__ import annotations
+
 import sys
+from typing import Any
 
 # Status of an end for want of pyosmium, and for a fault of the file.
 NO_OSMIUM, FAULT = 3, 4
@@ -12,7 +15,7 @@ FORM = "osh.opl,locations_on_ways=true,add_metadata=version"
 BUFFER = 1 << 20
 
 
-def main(path):
+def main(path: str) -> int:
     try:
         import osmium
     except ImportError:
@@ -23,7 +26,8 @@ def main(path):
     places.ignore_errors()
     try:
         text = osmium.WriteHandler("-", BUFFER, FORM)
-        others = osmium.osm.osm_entity_bits(int(osmium.osm.WAY) | int(osmium.osm.RELATION))
+        bits: Any = osmium.osm
+        others = bits.osm_entity_bits(int(bits.WAY) | int(bits.RELATION))
         for kinds in osmium.osm.NODE, others:
             osmium.apply(osmium.io.Reader(path, kinds), places, text)
         text.close()
@@ -37,12 +41,12 @@ def main(path):
     return 0
 
 
-def nodes_that_lie_nowhere(osmium, path):
+def nodes_that_lie_nowhere(osmium: Any, path: str) -> list[int]:
     """The numbers of the nodes whose longitude and latitude are none."""
     found = []
 
     class Finder(osmium.SimpleHandler):
-        def node(self, node):
+        def node(self, node: Any) -> None:
             if node.visible and not node.location.valid():
                 found.append(node.id)
 

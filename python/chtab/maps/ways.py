@@ -1,13 +1,22 @@
 """Which ways of a map are roads for one way of travelling, how fast, and in which direction."""
+from __future__ import annotations
+
 import array
 import collections
 import itertools
 import math
 import operator
-from typing import NamedTuple
+from collections.abc import Iterator, Mapping, Sequence
+from typing import TYPE_CHECKING, Any, NamedTuple
 
 from chtab.maps import speeds, tags
 from chtab.maps.signs import Streets
+
+if TYPE_CHECKING:
+    from chtab.maps.profiles import Profile
+    from chtab.maps.reading import Relation
+    from chtab.maps.report import Report
+    from chtab.typing import Point
 
 # The keys of which a way has at least one, where it may be a road or a ferry.
 ROAD_KEYS = ("highway", "route")
@@ -30,24 +39,24 @@ class Road(NamedTuple):
 
     number: int
     rule: Rule
-    nodes: array.array
-    longitudes: array.array
-    latitudes: array.array
-    streets: tuple | None = None
+    nodes: array.array[int]
+    longitudes: array.array[float]
+    latitudes: array.array[float]
+    streets: tuple[int, int] | None = None
 
 
 class Verdict(NamedTuple):
     """The rule of a way, None where it is no road, and what is to be noted."""
 
     rule: Rule | None
-    notes: tuple
+    notes: tuple[tuple[str, str], ...]
 
 
-def is_ferry(way, profile):
+def is_ferry(way: tags.Tags, profile: Profile) -> bool:
     return "ferry" in tags.words_of(way.get("route", "")) and way.get("highway") not in profile.speeds
 
 
-def reason_against(way, profile, notes):
+def reason_against(way: tags.Tags, profile: Profile, notes: tags.Notes) -> tuple[str, str] | None:
     """Why a way is no road, as (kind, words), or None where it is one."""
     kind, on_ferry = way.get("highway"), is_ferry(way, profile)
     if not on_ferry and kind not in profile.speeds and kind not in profile.speeds_where_opened:
@@ -65,14 +74,14 @@ def reason_against(way, profile, notes):
     return None
 
 
-def usual_speed(way, profile):
+def usual_speed(way: tags.Tags, profile: Profile) -> float:
     """Kilometres an hour of a road's kind."""
     if is_ferry(way, profile):
         return profile.ferry_speed
     return profile.speeds.get(way["highway"]) or profile.speeds_where_opened[way["highway"]]
 
 
-def duration_of(way, notes):
+def duration_of(way: tags.Tags, notes: tags.Notes) -> int:
     """The seconds of a ferry, 0 where they are not told."""
     seconds = speeds.seconds_of(way.get("duration", ""))
     if seconds is None:
@@ -80,9 +89,9 @@ def duration_of(way, notes):
     return seconds or 0
 
 
-def judged(way, profile, with_ferries=True):
+def judged(way: tags.Tags, profile: Profile, with_ferries: bool = True) -> Verdict:
     """The verdict on a way with these tags. Ways that are neither a road nor a ferry of any kind are passed over in silence."""
-    notes = []
+    notes: tags.Notes = []
     on_ferry = is_ferry(way, profile)
     if not on_ferry and "highway" not in way:
         return Verdict(None, ())
@@ -96,79 +105,86 @@ def judged(way, profile, with_ferries=True):
         return Verdict(None, (*notes, ("by time", "")))
     usual = usual_speed(way, profile)
     sides = ("forward", direction != tags.AGAINST), ("backward", direction != tags.ALONG)
-    told = [speeds.speed_of(way, side, usual, profile.limit, notes) if is_open else 0 for side, is_open in sides]
+    forward, backward = (speeds.speed_of(way, side, usual, profile.limit, notes) if is_open else 0 for side, is_open in sides)
     seconds = duration_of(way, notes) if on_ferry else 0
-    return Verdict(Rule(*told, seconds), tuple(dict.fromkeys(notes)))
+    return Verdict(Rule(forward, backward, seconds), tuple(dict.fromkeys(notes)))
 
 
 class Survey:
     """What is read of a map: the roads with the places of their nodes, barriers, and the relations that restrict turns."""
 
-    def __init__(self, profile, report, with_ferries=True, with_names=False):
+    def __init__(self, profile: Profile, report: Report, with_ferries: bool = True, with_names: bool = False) -> None:
         self.profile, self.report, self.with_ferries = profile, report, with_ferries
         # What roads are called, where that is wanted.
         self.streets = Streets() if with_names else None
-        self.roads, self.barriers, self.relations = [], {}, []
+        self.roads: list[Road] = []
+        self.barriers: dict[int, tags.Tags] = {}
+        self.relations: list[Relation] = []
         # Nodes on which no road need be, and whose barriers are told all the same.
-        self.lone_nodes = set()
+        self.lone_nodes: set[int] = set()
         self.keys = profile.keys()
         self.barrier_keys = {"barrier", *profile.access.tags}
-        self.verdicts = {}
+        self.verdicts: dict[Any, Verdict] = {}
 
-    def verdict_on(self, way):
+    def verdict_on(self, way: tags.Tags) -> Verdict:
         """The verdict on a way with these tags. Ways of which the same is asked have the same one."""
         asked = frozenset(item for item in way.items() if item[0] in self.keys)
         if asked not in self.verdicts:
             self.verdicts[asked] = judged(dict(asked), self.profile, self.with_ferries)
         return self.verdicts[asked]
 
-    def rule_by(self, verdict, number):
+    def rule_by(self, verdict: Verdict, number: int) -> Rule | None:
         """The rule of a verdict on a way of this number; what it gives to note is counted."""
         self.report.note_all(verdict.notes, "way", number)
         return verdict.rule
 
-    def streets_of(self, way):
+    def streets_of(self, way: tags.Tags) -> tuple[int, int] | None:
         """The numbers of the streets of a road with these tags, None where nobody asked for them."""
         return None if self.streets is None else self.streets.add(way)
 
-    def add_way(self, number, rule, nodes, longitudes=(), latitudes=(), streets=None):
+    def add_way(
+        self, number: int, rule: Rule, nodes: Sequence[int], longitudes: Sequence[float] = (), latitudes: Sequence[float] = (),
+        streets: tuple[int, int] | None = None,
+    ) -> None:
         """A road through these nodes, at these places where they are known by now; a node that follows on itself is there once."""
         if any(map(operator.eq, nodes, nodes[1:])):
             is_kept = [True, *map(operator.ne, nodes, nodes[1:])]
-            nodes, longitudes, latitudes = (list(itertools.compress(part, is_kept)) for part in (nodes, longitudes, latitudes))
+            nodes = list(itertools.compress(nodes, is_kept))
+            longitudes, latitudes = (list(itertools.compress(part, is_kept)) for part in (longitudes, latitudes))
         if len(nodes) < 2:
             self.report.note("short", "", "way", number)
             self.lone_nodes.update(nodes)
         else:
             self.roads.append(Road(number, rule, array.array("q", nodes), array.array("d", longitudes), array.array("d", latitudes), streets))
 
-    def place_roads(self, places):
+    def place_roads(self, places: Mapping[int, Point]) -> None:
         """The places of the roads' nodes, {number: (longitude, latitude)}, where they were not known when the roads were added."""
         for road in self.roads:
             longitudes, latitudes = zip(*(places.get(node, NOWHERE) for node in road.nodes))
             road.longitudes.extend(longitudes)
             road.latitudes.extend(latitudes)
 
-    def add_barrier(self, number, node):
+    def add_barrier(self, number: int, node: tags.Tags) -> None:
         """The tags of a node with a barrier."""
         self.barriers[number] = {key: value for key, value in node.items() if key in self.barrier_keys}
 
-    def nodes(self):
+    def nodes(self) -> Iterator[int]:
         """The nodes of the roads, one road after the other."""
         return itertools.chain.from_iterable(road.nodes for road in self.roads)
 
-    def closed_nodes(self):
+    def closed_nodes(self) -> set[int]:
         """The nodes of roads through which no way leads. They are noted, and so are kinds of barrier that are not known."""
-        closed = set()
+        closed: set[int] = set()
         for number in sorted(set(self.barriers).intersection(itertools.chain(self.nodes(), self.lone_nodes))):
-            notes, barrier = [], self.barriers[number]
+            notes: tags.Notes = []
+            barrier = self.barriers[number]
             if tags.is_closed_barrier(barrier, self.profile.barriers, notes):
                 closed.add(number)
                 notes.append(("barriers", f"barrier={barrier['barrier']}"))
             self.report.note_all(notes, "node", number)
         return closed
 
-    def note_ways_that_come_twice(self):
+    def note_ways_that_come_twice(self) -> None:
         """Notes each road whose number is that of a road before it. Both are roads."""
         counts = collections.Counter(road.number for road in self.roads)
         for number, count in counts.items():

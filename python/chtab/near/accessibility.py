@@ -1,8 +1,8 @@
 """What a network answers on nearness: the targets near each source, the nearest of them, and aggregates of values over them."""
 from __future__ import annotations
 
-from collections.abc import Callable
-from typing import TYPE_CHECKING, Literal
+from collections.abc import Callable, Sequence
+from typing import TYPE_CHECKING, Any, Literal, cast
 
 import numpy
 from numpy.typing import ArrayLike, NDArray
@@ -18,6 +18,12 @@ from chtab.near.runs import NearQuestion
 if TYPE_CHECKING:
     import distributed
     import pandas
+    from chtab.files.measures import Measure
+    from chtab.near import rows as near_rows
+    from chtab.near.by_library import NearInProcess
+    from chtab.near.runs import NearRuns
+    from chtab.roads.layers import Layers
+    from chtab.typing import Floats, LabelArray
 
 DIRECTIONS = "to", "from"
 Direction = Literal["to", "from"]
@@ -25,6 +31,19 @@ Direction = Literal["to", "from"]
 
 class Accessibility:
     """The calls of a `Network` on nearness. It has `nodes`, `labels`, `_nodes`, which finds the nodes of labels, and `_near`, its runs."""
+
+    if TYPE_CHECKING:
+        nodes: int
+        _layers: Layers
+        _measure: Measure
+        _near: NearInProcess | NearRuns
+
+        @property
+        def labels(self) -> LabelArray:
+            """As a `Network` has them."""
+
+        def _nodes(self, name: str, given: Any) -> NDArray[numpy.int64]:
+            """As a `Network` finds them."""
 
     @whole
     def near(
@@ -90,7 +109,9 @@ class Accessibility:
         rows, asked, found = self._near_rows(sources, targets, count, within, direction, workers, progress)
         return Near(rows, asked, found, self._measure.told(rows.weights))
 
-    def _near_rows(self, sources, targets, count, within, direction, workers, progress):
+    def _near_rows(
+        self, sources: Any, targets: Any, count: int | None, within: Limit, direction: str, workers: Any, progress: Any,
+    ) -> tuple[near_rows.Rows, LabelArray, LabelArray]:
         """The rows with weights of the graph, and the labels of sources and targets."""
         sources_asked, targets_asked = None if sources is None else self._nodes("sources", sources), self._nodes("targets", targets)
         # No row has more than all targets: numpy has no greater numbers than those of 64 bits.
@@ -98,7 +119,7 @@ class Accessibility:
         question = NearQuestion(sources_asked, targets_asked, most, self._measure.limit("within", within), is_from(direction))
         rows = row_blocks.rows(self._near, question, workers, progress)
         labels = self._layers.labels
-        return rows, self.labels if sources is None else labels.of(question.sources), labels.of(question.targets)
+        return rows, self.labels if sources_asked is None else labels.of(sources_asked), labels.of(targets_asked)
 
     @whole
     def nearest_of(
@@ -225,10 +246,10 @@ class Accessibility:
         answer = sums.aggregates(self._near, question, asked, workers, progress)
         if names is not None:
             return self._frame_of(answer, question.sources, names, listed, given.ndim == 1)
-        answer = answer if numpy.ndim(values) == 2 else answer[:, 0]
+        answer = answer if numpy.ndim(cast(ArrayLike, values)) == 2 else answer[:, 0]
         return answer if given.ndim else answer[..., 0]
 
-    def _frame_of(self, answer, sources, names, limits, are_several):
+    def _frame_of(self, answer: Floats, sources: Any, names: Sequence[Any] | None, limits: Sequence[Any], are_several: bool) -> pandas.DataFrame:
         """Aggregates (n, c, m) as a frame with the sources as index."""
         import pandas
 
@@ -262,7 +283,7 @@ class Accessibility:
     nearest_targets = nearest_of
 
 
-def is_from(direction):
+def is_from(direction: str) -> bool:
     """Whether weights are those from the targets to the sources."""
     if direction not in DIRECTIONS:
         raise ValueError(f"a direction is 'to' or 'from', not {direction!r}")

@@ -1,14 +1,23 @@
 """Near rows by the library for C, in this process."""
+from __future__ import annotations
+
 import contextlib
+from collections.abc import Iterator, Sequence
+from typing import TYPE_CHECKING
 
 import numpy
 
-from chtab.engine import deadlines, library
+from chtab.engine import asking, deadlines, library
 from chtab.engine.in_process import TOGETHER
 from chtab.engine.interruptible import LONG, interruptible
 from chtab.errors import ChtabError, ProgramFault, unasked
 from chtab.near import rows as near_rows
-from chtab.near.runs import NearRuns
+from chtab.near.runs import NearQuestion, NearRuns
+
+if TYPE_CHECKING:
+    from numpy.typing import NDArray
+    from chtab.engine.in_process import InProcess
+    from chtab.typing import Floats
 
 # What one call of the library gives at most: pairs, and with them rows that it copies.
 PAIRS = 1 << 20
@@ -34,15 +43,15 @@ class NearInProcess:
     # Whether rows come without a run that reads the network first.
     is_at_hand = True
 
-    def __init__(self, engine):
+    def __init__(self, engine: InProcess) -> None:
         self.engine, self.setting, self.nodes, self.is_closed = engine, engine.setting, engine.nodes, False
 
-    def see_that_there(self):
+    def see_that_there(self) -> None:
         """Refuses a network that is closed."""
         if self.is_closed or self.engine.is_closed:
             raise ChtabError(library.GONE)
 
-    def portions(self, question):
+    def portions(self, question: NearQuestion) -> Iterator[tuple[int, near_rows.Rows]]:
         """The rows for a question, in portions: pairs of the first row's place and the rows."""
         self.see_that_there()
         targets = library.nodes_of(question.targets, self.nodes)
@@ -63,14 +72,14 @@ class NearInProcess:
                 yield start, near_rows.Rows(numpy.append(0, ends), places, weights)
                 start += len(ends)
 
-    def sums(self, question, values, limits):
+    def sums(self, question: NearQuestion, values: NDArray[numpy.uint64], limits: Sequence[int]) -> Floats:
         """For each source, column and limit the sum of the values of the targets within it, float64 (n, c, m). The values are whole numbers from 0
         on, an array (l, c) of uint64, the sum of each column no more than is exact as a float."""
         self.see_that_there()
         targets = library.nodes_of(question.targets, self.nodes)
         sources = numpy.arange(self.nodes, dtype=numpy.uint32) if question.sources is None else library.nodes_of(question.sources, self.nodes)
         columns = [numpy.ascontiguousarray(column) for column in values.T]
-        limits, found = numpy.array(limits, numpy.uint64), numpy.zeros((len(sources), len(columns), len(limits)))
+        within, found = numpy.array(limits, numpy.uint64), numpy.zeros((len(sources), len(columns), len(limits)))
         with self.engine.near_handle() as handle:
             deadline = deadlines.current(self.setting.timeout)
             interruptible(len(targets), handle.keep_places, targets, *limits_of(question), question.is_from)
@@ -81,10 +90,10 @@ class NearInProcess:
                 for place, column in enumerate(columns):
                     self.see_that_there()
                     deadline.milliseconds()
-                    found[start:start + len(some), place] = interruptible(len(some), handle.near_sums, some, column, limits)
+                    found[start:start + len(some), place] = interruptible(len(some), handle.near_sums, some, column, within)
         return found
 
-    def has_few(self, handle, most):
+    def has_few(self, handle: library.Handle, most: int) -> bool:
         """Whether the rows of all nodes have few enough pairs for a sweep, each at most so many: by those of some nodes, where there may be more."""
         enough = max(SWEPT, FEW * self.nodes)
         if self.nodes * most <= enough:
@@ -94,7 +103,7 @@ class NearInProcess:
         return self.nodes * int(ends[-1]) <= enough * len(ends)
 
     @contextlib.contextmanager
-    def apart(self):
+    def apart(self) -> Iterator[NearInProcess]:
         """The same for one call, which may be ended alone."""
         own = NearInProcess(self.engine)
         try:
@@ -102,12 +111,12 @@ class NearInProcess:
         finally:
             own.kill()
 
-    def kill(self):
+    def kill(self) -> None:
         """Refuses what is asked from now on. A call of the library that is under way ends by itself."""
         self.is_closed = True
 
 
-def is_swept_by(handle):
+def is_swept_by(handle: library.Handle) -> bool:
     """Sweeps, unless there is no memory for all rows at once; whether that was done. The samples may have had fewer pairs than most rows."""
     try:
         interruptible(LONG, handle.sweep)
@@ -116,12 +125,12 @@ def is_swept_by(handle):
     return True
 
 
-def limits_of(question):
+def limits_of(question: NearQuestion) -> tuple[int, int]:
     """The limit and the count of a question, as the library takes them."""
     limit = library.NO_LIMIT if question.within is None else question.within
     return limit, library.ALL if question.count is None else min(question.count, library.ALL)
 
 
-def near_of(engine):
+def near_of(engine: asking.Engine | InProcess) -> NearInProcess | NearRuns:
     """What gives the near rows of an engine: the library where it answers, and else runs of the program."""
-    return NearInProcess(engine) if hasattr(engine, "near_handle") else NearRuns(engine.setting, engine.nodes)
+    return NearRuns(engine.setting, engine.nodes) if isinstance(engine, asking.Engine) else NearInProcess(engine)

@@ -2,7 +2,7 @@
 from __future__ import annotations
 
 import operator
-from typing import TYPE_CHECKING, NamedTuple
+from typing import TYPE_CHECKING, Any, NamedTuple
 
 import numpy
 from numpy.typing import NDArray
@@ -14,6 +14,9 @@ from chtab.files.showing import OnMap, table_text
 if TYPE_CHECKING:
     import pandas
     import scipy.sparse
+
+    from chtab.near.rows import Rows
+    from chtab.roads.layers import Layers
 
 
 class Near:
@@ -40,7 +43,7 @@ class Near:
     (array([2, 3]), array([4, 0]))
     """
 
-    def __init__(self, rows, sources, targets, weights=None):
+    def __init__(self, rows: Rows, sources: NDArray, targets: NDArray, weights: NDArray | None = None) -> None:
         self.offsets, self.places = rows.offsets, rows.places
         self.weights = rows.weights if weights is None else weights
         self.sources, self.targets = sources, targets
@@ -120,9 +123,13 @@ class Nearest(OnMap, Columns):
     """
 
     shown_by = "weight"
+    # What was asked, and the files of the network.
+    sources: NDArray
+    targets: NDArray
+    layers: Layers
 
     @classmethod
-    def of(cls, places, weights, sources, targets, layers) -> Nearest:
+    def of(cls, places: NDArray[numpy.int64], weights: NDArray, sources: NDArray, targets: NDArray, layers: Layers) -> Nearest:
         """The columns, which remember what was asked, by labels."""
         found = cls(places, weights, places == NO_WALK)
         found.sources, found.targets, found.layers = sources, targets, layers
@@ -143,7 +150,7 @@ class Nearest(OnMap, Columns):
         -------
         array of object, shape (n,)
         """
-        found = numpy.full(len(self.sources), None, object)
+        found: NDArray = numpy.full(len(self.sources), None, numpy.object_)
         is_there = ~self.mask[:, place]
         for row, label in zip(numpy.flatnonzero(is_there).tolist(), self.targets[self.places[is_there, place]].tolist()):
             found[row] = label
@@ -198,7 +205,7 @@ class Nearest(OnMap, Columns):
         return table_text(repr(self), [dict(zip(("source", "target", "weight"), row)) for row in rows])
 
 
-def masked(values, mask):
+def masked(values: NDArray, mask: NDArray[numpy.bool_]) -> Any:
     """A column of pandas, NA where the mask is true: of whole numbers `Int64`."""
     import pandas
 

@@ -1,9 +1,13 @@
 """Near rows of any number of sources and targets, in blocks: by runs on this machine, or on the workers of a Dask cluster."""
+from __future__ import annotations
+
 import concurrent.futures
 import contextlib
 import operator
 import weakref
+from collections.abc import Callable, Generator, Iterable, Iterator, Sequence
 from dataclasses import dataclass
+from typing import TYPE_CHECKING, Any, TypeAlias
 
 import numpy
 
@@ -12,12 +16,19 @@ from chtab.engine.progress import progress_of
 from chtab.near import rows as near_rows
 from chtab.near.runs import NearQuestion, NearRuns
 
+if TYPE_CHECKING:
+    from chtab.engine.asking import Setting
+    from chtab.typing import Integers
+
 # The most nodes of a list, and the most pairs that a block may have: about 1 GB of the program's text, and as much in arrays.
 LENGTH, PAIRS = 2**16, 2**26
 # The blocks that are under way on a cluster, for each of its threads.
 AHEAD = 2
 # The clients of Dask whose workers have this package.
-KNOWN = weakref.WeakSet()
+KNOWN: weakref.WeakSet[Any] = weakref.WeakSet()
+# What makes the value of a block of its portions of rows, and blocks with their values, as these are whole.
+Make: TypeAlias = "Callable[[Block, Iterable[tuple[int, near_rows.Rows]]], Any]"
+Made: TypeAlias = "Generator[tuple[Block, Any], None, None]"
 
 
 @dataclass(frozen=True)
@@ -29,7 +40,7 @@ class Block:
     question: NearQuestion
 
 
-def cut(question, nodes, workers=1):
+def cut(question: NearQuestion, nodes: int, workers: int = 1) -> Iterator[Block]:
     """The blocks of a question with lists of any length, on a network of so many nodes, for so many workers.
 
     A single worker answers for all nodes at once where they have few pairs. Else the sources are shared out.
@@ -42,7 +53,7 @@ def cut(question, nodes, workers=1):
             yield Block(row, column, NearQuestion(sources, targets, question.count, question.within, question.is_from))
 
 
-def parts_of(sources, nodes, most, workers):
+def parts_of(sources: Integers | None, nodes: int, most: int, workers: int) -> Sequence[tuple[int, Integers | None]]:
     """The sources in parts, each with the place at which it starts. A row has at most so many pairs."""
     if sources is None and workers == 1 and nodes * most <= PAIRS:
         return [(0, None)] if nodes else []
@@ -54,17 +65,17 @@ def parts_of(sources, nodes, most, workers):
 # By whom blocks are made: a call that gives each block with its value, as it is whole.
 
 
-def in_turn(runs, found, make):
+def in_turn(runs: Any, found: Iterable[Block], make: Make) -> Made:
     """By one run after the other. `make` gives the value of a block from its portions of rows."""
     for block in found:
         yield block, make(block, near_rows.portions(runs, block.question))
 
 
-def side_by_side(runs, found, make, workers):
+def side_by_side(runs: Any, found: Iterable[Block], make: Make, workers: int) -> Made:
     """By so many runs at a time."""
     deadline = deadlines.current(runs.setting.timeout)
     with runs.apart() as own, concurrent.futures.ThreadPoolExecutor(workers) as threads:
-        def made(block):
+        def made(block: Block) -> Any:
             with deadlines.taken(deadline):
                 return make(block, near_rows.portions(own, block.question))
 
@@ -78,7 +89,7 @@ def side_by_side(runs, found, make, workers):
             own.kill()
 
 
-def on_cluster(runs, found, make, client):
+def on_cluster(runs: Any, found: Iterable[Block], make: Make, client: Any) -> Made:
     """By the workers of a cluster, which send rows. The values are made here, one after the other."""
     import distributed
 
@@ -88,7 +99,7 @@ def on_cluster(runs, found, make, client):
     found, begun = iter(found), {}
     completed = distributed.as_completed()
 
-    def begin():
+    def begin() -> None:
         for block in found:
             future = client.submit(rows_on_worker, block.question, runs.setting, runs.nodes, pure=False)
             begun[future] = block
@@ -109,12 +120,12 @@ def on_cluster(runs, found, make, client):
         client.cancel(list(begun))
 
 
-def rows_on_worker(question, setting, nodes):
+def rows_on_worker(question: NearQuestion, setting: Setting, nodes: int) -> near_rows.Rows:
     """All rows of a question, on a worker of Dask."""
     return near_rows.joined(near_rows.portions(NearRuns(setting, nodes), question))
 
 
-def values(runs, question, make, workers=1, progress=None):
+def values(runs: Any, question: NearQuestion, make: Make, workers: Any = 1, progress: Any = None) -> Iterator[tuple[Block, Any]]:
     """The value of each block of a question, as it is whole, with its block. `workers` is a number of runs, or a client of Dask, and `progress` what
     `progress_of` takes."""
     runs.see_that_there()
@@ -131,7 +142,7 @@ def values(runs, question, make, workers=1, progress=None):
         yield from counted.each(made)
 
 
-def count_in(name, value):
+def count_in(name: str, value: Any) -> int:
     """A whole number from 1 on."""
     if not hasattr(value, "__index__"):
         raise TypeError(f"{name} is a whole number from 1 on, not {value!r}")
@@ -140,9 +151,9 @@ def count_in(name, value):
     return operator.index(value)
 
 
-def rows(runs, question, workers=1, progress=None):
+def rows(runs: Any, question: NearQuestion, workers: Any = 1, progress: Any = None) -> near_rows.Rows:
     """All rows of a question with lists of any length."""
-    parts = {}
+    parts: dict[int, list[tuple[int, near_rows.Rows]]] = {}
     for block, found in values(runs, question, lambda _, portions: near_rows.joined(portions), workers, progress):
         parts.setdefault(block.row, []).append((block.column, found))
     if not parts:
@@ -150,6 +161,6 @@ def rows(runs, question, workers=1, progress=None):
     return near_rows.below([of_row(parts.pop(row), question.count) for row in sorted(parts)])
 
 
-def of_row(parts, count):
+def of_row(parts: Sequence[tuple[int, near_rows.Rows]], count: int | None) -> near_rows.Rows:
     """The rows of some sources from those of all parts of the targets."""
     return parts[0][1] if len(parts) == 1 else near_rows.beside(parts, count)

@@ -1,5 +1,9 @@
 """Near rows in compressed form: of each source the places of the targets that are near, and the weights, in order of weight and of place."""
+from __future__ import annotations
+
+from collections.abc import Iterable, Iterator, Sequence
 from dataclasses import dataclass
+from typing import TYPE_CHECKING, Any
 
 import numpy
 
@@ -7,52 +11,57 @@ from chtab.errors import unasked
 from chtab.files.measures import MOST
 from chtab.near.text import lines_of
 
+if TYPE_CHECKING:
+    from chtab.near.runs import NearQuestion
+    from chtab.near.text import Lines
+    from chtab.typing import Integers
+
 
 @dataclass(frozen=True)
 class Rows:
     """Rows one after the other: row i has the places and weights from `offsets[i]` to before `offsets[i + 1]`, all int64."""
 
-    offsets: numpy.ndarray
-    places: numpy.ndarray
-    weights: numpy.ndarray
+    offsets: Integers
+    places: Integers
+    weights: Integers
 
-    def __len__(self):
+    def __len__(self) -> int:
         return len(self.offsets) - 1
 
-    def counts(self):
+    def counts(self) -> Integers:
         """How many pairs each row has."""
         return numpy.diff(self.offsets)
 
-    def owners(self):
+    def owners(self) -> Integers:
         """The row of each pair."""
         return numpy.repeat(numpy.arange(len(self)), self.counts())
 
-    def ranks(self):
+    def ranks(self) -> Integers:
         """The place of each pair in its row, from 0 on."""
         return numpy.arange(len(self.places)) - numpy.repeat(self.offsets[:-1], self.counts())
 
 
-def rows_of(counts, places, weights):
+def rows_of(counts: Integers, places: Integers, weights: Integers) -> Rows:
     """Rows of so many pairs each."""
     return Rows(numpy.append(0, numpy.cumsum(counts)), places, weights)
 
 
-def below(parts):
+def below(parts: Sequence[Rows]) -> Rows:
     """Rows one below the other."""
     if not parts:
-        return Rows(*map(numpy.zeros, (1, 0, 0), [numpy.int64] * 3))
+        return Rows(*(numpy.zeros(length, numpy.int64) for length in (1, 0, 0)))
     columns = ([getattr(part, name) for part in parts] for name in ("places", "weights"))
-    return rows_of(numpy.concatenate([part.counts() for part in parts]), *map(numpy.concatenate, columns))
+    return rows_of(numpy.concatenate([part.counts() for part in parts]), *(numpy.concatenate(column) for column in columns))
 
 
-def beside(parts, count=None):
+def beside(parts: Sequence[tuple[int, Rows]], count: int | None = None) -> Rows:
     """Rows of the same sources and of several parts of the targets, put together: of each the first pairs, or all. `parts` are pairs of the
     place at which a part begins and the rows."""
     owners = numpy.concatenate([rows.owners() for _, rows in parts])
     places = numpy.concatenate([rows.places + first for first, rows in parts])
     weights = numpy.concatenate([rows.weights for _, rows in parts])
     order = numpy.lexsort([places, weights, owners])
-    whole = rows_of(sum(rows.counts() for _, rows in parts), places[order], weights[order])
+    whole = rows_of(numpy.sum([rows.counts() for _, rows in parts], axis=0), places[order], weights[order])
     if count is None:
         return whole
     is_first = whole.ranks() < count
@@ -65,7 +74,7 @@ def beside(parts, count=None):
 class Places:
     """The places of nodes in a list of targets, on a network of so many nodes."""
 
-    def __init__(self, targets, nodes):
+    def __init__(self, targets: Integers, nodes: int) -> None:
         self.order = numpy.argsort(targets, kind="stable")
         self.in_order = targets[self.order]
         is_new = numpy.append(True, self.in_order[1:] != self.in_order[:-1])[:len(targets)]
@@ -73,7 +82,7 @@ class Places:
         self.firsts[self.in_order[is_new]] = numpy.flatnonzero(is_new)
         self.are_apart = bool(is_new.all())
 
-    def of(self, nodes, owners):
+    def of(self, nodes: Integers, owners: Integers) -> Integers:
         """The places of the nodes of rows, in the order of `owners`. A node that is in the list again has its places in their order. One
         that does not stand there so often is a fault."""
         if (nodes < 1).any() or (nodes >= len(self.firsts)).any():
@@ -86,7 +95,7 @@ class Places:
         return self.order[found]
 
 
-def times_before(owners, nodes):
+def times_before(owners: Integers, nodes: Integers) -> Integers:
     """How often the node of each pair comes before it in its row."""
     order = numpy.lexsort([nodes, owners])
     is_new = numpy.ones(len(order), bool)
@@ -97,7 +106,7 @@ def times_before(owners, nodes):
     return found
 
 
-def matched(lines, sources, question, places):
+def matched(lines: Lines, sources: Integers, question: NearQuestion, places: Places) -> Rows:
     """The rows of lines, where they answer a question for these sources. Else that is a `ProgramFault`."""
     if lines.sources.shape != sources.shape or (lines.sources != sources).any():
         raise unasked()
@@ -112,7 +121,7 @@ def matched(lines, sources, question, places):
     return rows
 
 
-def portions(runs, question):
+def portions(runs: Any, question: NearQuestion) -> Iterator[tuple[int, Rows]]:
     """The rows for a question, in portions as they come: pairs of the first row's place and the rows. `runs` tells texts, or gives the portions."""
     if hasattr(runs, "portions"):
         yield from runs.portions(question)
@@ -128,6 +137,6 @@ def portions(runs, question):
         raise unasked()
 
 
-def joined(portions):
+def joined(portions: Iterable[tuple[int, Rows]]) -> Rows:
     """The rows of all portions."""
     return below([rows for _, rows in portions])

@@ -1,4 +1,6 @@
 """Runs of `chtab near`. Each run reads the network, writes its rows and ends."""
+from __future__ import annotations
+
 import contextlib
 import fcntl
 import functools
@@ -8,7 +10,9 @@ import subprocess
 import tempfile
 import threading
 import weakref
+from collections.abc import Iterator, Sequence
 from dataclasses import dataclass
+from typing import TYPE_CHECKING
 
 import numpy
 
@@ -16,16 +20,20 @@ from chtab import files
 from chtab.engine import child, deadlines, forks
 from chtab.errors import ChtabError, ProgramFault, unasked
 
+if TYPE_CHECKING:
+    from chtab.engine.asking import Setting
+    from chtab.typing import Integers
+
 CLOSED = "the network is closed"
 LACKING = "{} has no command `near`: take a later program"
 
 
 @functools.cache
-def has_near(program):
+def has_near(program: str) -> bool:
     """Whether a program has the command: whether it tells how the command is called."""
     child.see_to(program)
-    silent = {"stdin": subprocess.DEVNULL, "stdout": subprocess.DEVNULL, "stderr": subprocess.DEVNULL}
-    return subprocess.run([program, "near", "--help"], **silent).returncode == 0
+    silent = subprocess.DEVNULL
+    return subprocess.run([program, "near", "--help"], stdin=silent, stdout=silent, stderr=silent).returncode == 0
 
 
 @dataclass(frozen=True)
@@ -46,19 +54,19 @@ class NearQuestion:
         Whether weights are those from the targets to the sources.
     """
 
-    sources: numpy.ndarray | None
-    targets: numpy.ndarray
+    sources: Integers | None
+    targets: Integers
     count: int | None = None
     within: int | None = None
     is_from: bool = False
 
-    def options(self):
+    def options(self) -> list[str]:
         """The options of the run."""
         count = () if self.count is None or self.count >= len(self.targets) else ("--count", str(self.count))
         within = () if self.within is None else ("--within", str(self.within))
         return [*count, *within, *["--from"] * self.is_from, *["--all"] * (self.sources is None)]
 
-    def height(self, nodes):
+    def height(self, nodes: int) -> int:
         """How many rows the answer has, on a network of so many nodes."""
         return nodes if self.sources is None else len(self.sources)
 
@@ -66,7 +74,7 @@ class NearQuestion:
 class NearRun:
     """A run of the program that writes one answer. It is ended, with its process group, as a `child.Child` is."""
 
-    def __init__(self, command):
+    def __init__(self, command: Sequence[str]) -> None:
         self.is_open = True
         with forks.STEADY:
             self.told = tempfile.TemporaryFile()
@@ -80,11 +88,11 @@ class NearRun:
         with contextlib.suppress(OSError):
             fcntl.fcntl(self.answered, fcntl.F_SETPIPE_SZ, child.CHUNK)
 
-    def leave_parent(self):
+    def leave_parent(self) -> None:
         """Closes, in a process that was forked, what leads to the parent's run. The run goes on."""
         self.close()
 
-    def texts(self, deadline):
+    def texts(self, deadline: deadlines.Deadline) -> Iterator[bytes]:
         """What the run writes, in texts of whole lines, as they come. All of it comes in time."""
         rest = b""
         while chunk := self.read(deadline):
@@ -97,7 +105,7 @@ class NearRun:
         if fault is not None or rest:
             raise fault or unasked()
 
-    def read(self, deadline):
+    def read(self, deadline: child.Deadline) -> bytes:
         """What the run writes next, nothing where it has closed its output."""
         ready = select.poll()
         ready.register(self.answered, select.POLLIN)
@@ -106,7 +114,7 @@ class NearRun:
             return os.read(self.answered.fileno(), child.CHUNK)
         return self.read(deadline)
 
-    def fault(self):
+    def fault(self) -> ProgramFault | None:
         """Why a run that closed its output did so; None where it ended well."""
         try:
             status = self.process.wait(child.PATIENCE)
@@ -115,19 +123,19 @@ class NearRun:
         self.told.seek(0)
         return child.fault_of(self.told.read(), status) if status else None
 
-    def kill(self):
+    def kill(self) -> None:
         """Ends the run, so that a thread that reads its answer sees the end. Any thread may do so."""
         if os.getpid() == self.owner:
             child.kill(self.process)
 
-    def close(self):
+    def close(self) -> None:
         """Ends the run, and closes what leads to it."""
         self.is_open = False
         child.end_unused()
 
 
 @contextlib.contextmanager
-def listed(nodes):
+def listed(nodes: Integers) -> Iterator[str]:
     """A path by which a run reads a list of nodes. It leads to memory of this process, so that nothing stays behind, however the process ends."""
     with os.fdopen(os.memfd_create("chtab"), "w") as file:
         files.write_list_column(file, nodes)
@@ -149,27 +157,28 @@ class NearRuns:
     # Whether rows come without a run that reads the network first.
     is_at_hand = False
 
-    def __init__(self, setting, nodes):
+    def __init__(self, setting: Setting, nodes: int) -> None:
         self.setting, self.nodes, self.stamps, self.is_closed = setting, nodes, setting.stamps(), False
         self.leave_parent()
         forks.follow(self)
 
-    def leave_parent(self):
+    def leave_parent(self) -> None:
         """Starts with no run, and with a lock that nobody holds: in a process that was forked too."""
-        self.lock, self.under_way = threading.RLock(), set()
+        self.lock = threading.RLock()
+        self.under_way: set[NearRun | NearRuns] = set()
 
-    def see_that_there(self):
+    def see_that_there(self) -> None:
         """Refuses a network that is closed, and a program that lacks the command."""
         if self.is_closed:
             raise ChtabError(CLOSED)
         if not self.has_command():
             raise ChtabError(LACKING.format(self.setting.program))
 
-    def has_command(self):
+    def has_command(self) -> bool:
         """Whether the program has the command."""
         return has_near(self.setting.program)
 
-    def texts(self, question):
+    def texts(self, question: NearQuestion) -> Iterator[bytes]:
         """What the program writes for a question, in texts of whole lines."""
         with self.begun(question) as run:
             try:
@@ -180,7 +189,7 @@ class NearRuns:
                 raise
 
     @contextlib.contextmanager
-    def begun(self, question):
+    def begun(self, question: NearQuestion) -> Iterator[NearRun]:
         """A run for a question. It has ended after the `with`."""
         with contextlib.ExitStack() as lists:
             paths = [lists.enter_context(listed(nodes)) for nodes in (question.sources, question.targets) if nodes is not None]
@@ -198,7 +207,7 @@ class NearRuns:
                     self.under_way.discard(run)
 
     @contextlib.contextmanager
-    def apart(self):
+    def apart(self) -> Iterator[NearRuns]:
         """The same for one call, which ends its runs alone. They have ended after the `with`."""
         runs = NearRuns(self.setting, self.nodes)
         runs.stamps = self.stamps
@@ -213,7 +222,7 @@ class NearRuns:
             with self.lock:
                 self.under_way.discard(runs)
 
-    def kill(self):
+    def kill(self) -> None:
         """Ends the runs that are under way, whose calls fail, and starts no more."""
         with self.lock:
             self.is_closed = True

@@ -1,7 +1,8 @@
 """Aggregates of values over the targets that are near, by near rows: sums, means and others, for several limits and columns of values at once."""
 from __future__ import annotations
 
-from typing import NamedTuple
+from collections.abc import Callable, Iterable, Sequence
+from typing import TYPE_CHECKING, Any, NamedTuple, TypeAlias
 
 import numpy
 
@@ -11,7 +12,19 @@ from chtab.files.measures import EXACT
 from chtab.near import row_blocks
 from chtab.near import rows as near_rows
 
+if TYPE_CHECKING:
+    from numpy.typing import NDArray
+
+    from chtab.files.measures import Measure
+    from chtab.near.runs import NearQuestion
+    from chtab.typing import Floats, Integers, Weights
+
 LINEAR, EXPONENTIAL = "linear", "exponential"
+# Which share of a value counts, as callers say it; the shares at weights within a limit; and what an aggregate has so far.
+Decay: TypeAlias = str | Callable[[Any], Any] | None
+Share: TypeAlias = Callable[[Any, Any], Any]
+State: TypeAlias = "Sequence[NDArray[Any]]"
+Portions: TypeAlias = "Iterable[tuple[int, near_rows.Rows]]"
 KINDS = "sum", "mean", "median", "count", "std", "min", "max"
 # Those for which a value may count less the farther it is away.
 DECAYING = "sum", "mean", "count", "std"
@@ -37,22 +50,22 @@ class Asked(NamedTuple):
     """
 
     kind: str
-    values: numpy.ndarray
-    limits: list
-    told: list
-    share: object
-    measure: object
+    values: Floats
+    limits: list[int]
+    told: list[Any]
+    share: Share | None
+    measure: Measure
 
-    def of(self, some):
+    def of(self, some: slice) -> Asked:
         """The same for some of the targets."""
         return self._replace(values=self.values[some])
 
-    def shape(self, height):
+    def shape(self, height: int) -> tuple[int, int, int]:
         """That of aggregates for so many sources."""
         return height, self.values.shape[1], len(self.limits)
 
 
-def share_by(decay, kind, limits):
+def share_by(decay: Decay, kind: str, limits: Sequence[Any]) -> Share | None:
     """A call that gives which share of a value counts at each of some weights, within a limit."""
     if decay is not None and kind not in DECAYING:
         raise ValueError(f"the {kind} has no decay; {', '.join(DECAYING)} have one")
@@ -66,10 +79,11 @@ def share_by(decay, kind, limits):
         return lambda weights, limit: numpy.exp(-weights / float(limit))
     if not callable(decay):
         raise ValueError(f"decay is None, 'linear', 'exponential' or a call, not {decay!r}")
-    return lambda weights, limit: shares_of(decay, weights)
+    own = decay
+    return lambda weights, limit: shares_of(own, weights)
 
 
-def shares_of(decay, weights):
+def shares_of(decay: Callable[[Any], Any], weights: Weights) -> Floats:
     """What a caller's own decay gives, a number for each weight."""
     shares = numpy.asarray(decay(weights), float)
     if shares.shape not in ((), weights.shape):
@@ -80,7 +94,9 @@ def shares_of(decay, weights):
 # Values as callers give them.
 
 
-def values_in(values, targets, nodes_of, count, with_zeros=False):
+def values_in(
+    values: Any, targets: Any, nodes_of: Callable[[str, Any], Integers], count: int, with_zeros: bool = False,
+) -> tuple[Integers, Floats, list[Any] | None]:
     """The targets and the values of each: nodes (l,) and float64 (l, c), and the names of the columns, None where they have none.
 
     `nodes_of` gives the nodes of labels, and `count` says how many nodes there are. Without targets a Series, a frame or a dict has the labels, and
@@ -100,7 +116,7 @@ def values_in(values, targets, nodes_of, count, with_zeros=False):
     return nodes[is_some], found[is_some], names
 
 
-def columns_of(values, names):
+def columns_of(values: Any, names: list[Any] | None) -> list[tuple[str, Any]]:
     """The columns of values, each with its name for errors."""
     if names is not None:
         return [(f"values[{name!r}]", values.iloc[:, place]) for place, name in enumerate(names)]
@@ -109,7 +125,7 @@ def columns_of(values, names):
     return [("values", values)]
 
 
-def column_in(name, column, nodes, are_all):
+def column_in(name: str, column: Any, nodes: Integers, are_all: bool) -> Floats:
     """The finite numbers of one column, float64."""
     found = columns.numbers_in(name, column, True).astype(float)
     place = columns.first_of(~numpy.isfinite(found))
@@ -123,7 +139,7 @@ def column_in(name, column, nodes, are_all):
 # Aggregates of rows.
 
 
-def aggregates(runs, question, asked, workers=1, progress=None):
+def aggregates(runs: Any, question: NearQuestion, asked: Asked, workers: Any = 1, progress: Any = None) -> Floats:
     """The aggregates of the values of targets for each source, column and limit, float64 (n, c, m). The question's own limit is the largest of
     these. Where no target is near a sum and a count are 0, and others NaN."""
     height = question.height(runs.nodes)
@@ -132,7 +148,7 @@ def aggregates(runs, question, asked, workers=1, progress=None):
     if hasattr(runs, "sums") and workers == 1 and progress is None and are_counted(question, asked):
         return runs.sums(question, asked.values.astype(numpy.uint64), asked.limits)
 
-    def make(block, portions):
+    def make(block: row_blocks.Block, portions: Portions) -> State:
         own, of_block = asked.of(slice(block.column, block.column + len(block.question.targets))), block.question.height(runs.nodes)
         state = begun(asked.kind, asked.shape(of_block))
         for start, rows in portions:
@@ -148,21 +164,21 @@ def aggregates(runs, question, asked, workers=1, progress=None):
     return ENDED[asked.kind](*whole)
 
 
-def are_counted(question, asked):
+def are_counted(question: NearQuestion, asked: Asked) -> bool:
     """Whether values are summed as whole numbers: all of them from 0 on, and all together no more than a float has exactly."""
     values = asked.values
     is_plain = asked.kind == "sum" and asked.share is None and 0 < len(question.targets) <= row_blocks.LENGTH
     return is_plain and bool((values >= 0).all() and (values == numpy.floor(values)).all() and values.sum() <= EXACT)
 
 
-def begun(kind, shape):
+def begun(kind: str, shape: tuple[int, ...]) -> State:
     """The state of an aggregate over no target."""
     if kind in ("min", "max"):
         return [numpy.full(shape, numpy.inf if kind == "min" else -numpy.inf)]
     return [numpy.zeros(shape) for _ in range({"sum": 1, "count": 1, "mean": 2, "std": 3}[kind])]
 
 
-def state_of(rows, asked):
+def state_of(rows: near_rows.Rows, asked: Asked) -> State:
     """The state of an aggregate over some rows: arrays (rows, c, m)."""
     owners, state = rows.owners(), begun(asked.kind, asked.shape(len(rows)))
     weights = asked.measure.told(rows.weights)
@@ -180,21 +196,21 @@ def state_of(rows, asked):
     return state
 
 
-def extremes(out, owners, values, least):
+def extremes(out: Floats, owners: Integers, values: Floats, least: Any) -> None:
     """Writes the least or greatest value of each owner, of owners in order."""
     firsts = numpy.flatnonzero(numpy.diff(owners, prepend=-1))
     if len(firsts):
         out[owners[firsts]] = least.reduceat(values, firsts, axis=0)
 
 
-def moments(owners, values, shares, count):
+def moments(owners: Integers, values: Floats, shares: Floats, count: int) -> State:
     """The shares, the mean, and the sum of squares about it, of each owner."""
     total = numpy.bincount(owners, shares, count)
     mean = quotient(numpy.bincount(owners, values * shares, count), total, 0.0)
     return total, mean, numpy.bincount(owners, shares * (values - mean[owners]) ** 2, count)
 
 
-def joined_moments(first, second):
+def joined_moments(first: State, second: State) -> State:
     """The same of two lists of targets (Chan, Golub and LeVeque 1979)."""
     (total, mean, squares), (other, other_mean, other_squares) = first, second
     whole = total + other
@@ -202,41 +218,41 @@ def joined_moments(first, second):
     return whole, mean + quotient(apart * other, whole, 0.0), squares + other_squares + quotient(apart**2 * total * other, whole, 0.0)
 
 
-def quotient(above, below, otherwise=numpy.nan):
+def quotient(above: NDArray[Any], below: NDArray[Any], otherwise: float = numpy.nan) -> Floats:
     """A quotient where the divisor is not 0."""
     return numpy.divide(above, below, out=numpy.full(numpy.shape(above), otherwise), where=below != 0)
 
 
-def added(first, second):
+def added(first: State, second: State) -> State:
     return [one + other for one, other in zip(first, second)]
 
 
 # How each aggregate is made of values with their shares, joined of two states, and ended.
-PARTS = {
+PARTS: dict[str, Callable[..., State]] = {
     "sum": lambda owners, values, shares, count: [numpy.bincount(owners, values * shares, count)],
     "count": lambda owners, values, shares, count: [numpy.bincount(owners, shares, count)],
     "mean": lambda owners, values, shares, count: [numpy.bincount(owners, values * shares, count), numpy.bincount(owners, shares, count)],
     "std": moments,
 }
-JOINED = {
+JOINED: dict[str, Callable[[State, State], State]] = {
     "sum": added, "count": added, "mean": added, "std": joined_moments,
     "min": lambda first, second: [numpy.minimum(first[0], second[0])], "max": lambda first, second: [numpy.maximum(first[0], second[0])],
 }
-ENDED = {
+ENDED: dict[str, Callable[..., Any]] = {
     "sum": lambda sums: sums, "count": lambda counts: counts, "mean": quotient,
     "std": lambda total, mean, squares: numpy.sqrt(quotient(squares, total)),
     "min": lambda least: numpy.where(numpy.isinf(least), numpy.nan, least), "max": lambda most: numpy.where(numpy.isinf(most), numpy.nan, most),
 }
 
 
-def medians(runs, question, asked, workers, progress):
+def medians(runs: Any, question: NearQuestion, asked: Asked, workers: Any, progress: Any) -> Floats:
     """The medians, which need all targets of a source at once."""
     found = numpy.full(asked.shape(question.height(runs.nodes)), numpy.nan)
     if len(question.targets) > row_blocks.LENGTH:
         medians_of(found, row_blocks.rows(runs, question, workers, progress), asked)
         return found
 
-    def make(block, portions):
+    def make(block: row_blocks.Block, portions: Portions) -> Floats:
         own = numpy.full(asked.shape(block.question.height(runs.nodes)), numpy.nan)
         for start, rows in portions:
             medians_of(own[start:start + len(rows)], rows, asked)
@@ -247,7 +263,7 @@ def medians(runs, question, asked, workers, progress):
     return found
 
 
-def medians_of(out, rows: near_rows.Rows, asked):
+def medians_of(out: Floats, rows: near_rows.Rows, asked: Asked) -> None:
     """Writes the medians of some rows (rows, c, m)."""
     owners = rows.owners()
     for place, limit in enumerate(asked.limits):

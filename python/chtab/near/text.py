@@ -1,9 +1,16 @@
 """The text of `chtab near` in arrays: for each source a line `n S K T X ..`, with K pairs of T and X."""
-from typing import NamedTuple
+from __future__ import annotations
+
+from collections.abc import Iterator
+from typing import TYPE_CHECKING, NamedTuple
 
 import numpy
 
 from chtab.errors import unasked
+
+if TYPE_CHECKING:
+    from numpy.typing import NDArray
+    from chtab.typing import Integers
 
 # Bytes that are read at a time, so that their arrays stay in the processor's cache; and the most digits of a number. One of 2^63 or more
 # is read as 2^63 - 1, which is no node, number of pairs or weight.
@@ -13,19 +20,19 @@ PIECE, DIGITS = 1 << 18, 19
 class Lines(NamedTuple):
     """The lines of a text: the source of each and how many pairs it has, int64 (n,), and the nodes and weights of all pairs, int64 (p,)."""
 
-    sources: numpy.ndarray
-    counts: numpy.ndarray
-    nodes: numpy.ndarray
-    weights: numpy.ndarray
+    sources: Integers
+    counts: Integers
+    nodes: Integers
+    weights: Integers
 
 
-def lines_of(text):
+def lines_of(text: bytes) -> Lines:
     """The lines of a text. One of another form, or one that is cut off, is a `ProgramFault`."""
     parts = [lines_of_piece(piece) for piece in pieces_of(text)]
-    return Lines(*map(numpy.concatenate, zip(*parts))) if parts else Lines(*numpy.zeros((4, 0), numpy.int64))
+    return Lines(*(numpy.concatenate(column) for column in zip(*parts))) if parts else Lines(*numpy.zeros((4, 0), numpy.int64))
 
 
-def pieces_of(text):
+def pieces_of(text: bytes) -> Iterator[bytes]:
     """The text in pieces of whole lines."""
     start = 0
     while start < len(text):
@@ -36,7 +43,7 @@ def pieces_of(text):
         start = end
 
 
-def lines_of_piece(text):
+def lines_of_piece(text: bytes) -> Lines:
     """The same of a text that is read at once, and ends with a line."""
     letters = numpy.frombuffer(text, numpy.uint8)
     ends = numpy.flatnonzero(letters < ord("0"))
@@ -54,7 +61,7 @@ def lines_of_piece(text):
     return Lines(numbers[firsts], counts, pairs[:, 0], pairs[:, 1])
 
 
-def see_that_words(letters, ends, lasts):
+def see_that_words(letters: NDArray[numpy.uint8], ends: Integers, lasts: Integers) -> None:
     """Refuses a text unless each line is `n` and two or more numbers, with a blank before each. The words end at `ends`, of which those at
     `lasts` are the last of a line."""
     lengths = numpy.diff(ends, prepend=-1) - 1

@@ -15,8 +15,11 @@
 | `reach` | polygons of what is reached |
 | `picture` | drawings of all of these |
 """
+import typing
+
 from chtab import _moved
 
-
-def __getattr__(name):
-    return _moved.attribute(__name__, name)
+# Checkers of types don't see it, so that they find a name that is misspelt.
+if not typing.TYPE_CHECKING:
+    def __getattr__(name):
+        return _moved.attribute(__name__, name)

@@ -2,7 +2,7 @@
 from __future__ import annotations
 
 from collections.abc import Collection, Iterable
-from typing import TYPE_CHECKING
+from typing import TYPE_CHECKING, Any
 
 import numpy
 from numpy.typing import ArrayLike, NDArray
@@ -16,6 +16,11 @@ from chtab.roads.routes import Routes
 
 if TYPE_CHECKING:
     import pandas
+    from chtab.engine.asking import Engine
+    from chtab.engine.in_process import InProcess
+    from chtab.engine.node_queries import NodeQueries
+    from chtab.files.measures import Measure
+    from chtab.roads.layers import Layers
 
 Nodes = ArrayLike | Iterable
 # Pairs that are asked for without arrays.
@@ -24,6 +29,11 @@ FEW = 16
 
 class BetweenNodes:
     """The calls of a `Network` that take nodes. It has `_layers`, its files, `_measure`, its unit, and `_queries`, which answers."""
+
+    _layers: Layers
+    _measure: Measure
+    _queries: NodeQueries
+    _engine: Engine | InProcess
 
     def distances(self, pairs: Nodes, targets: Nodes | None = None, *, missing: float | None = None, progress: Progress = None) -> NDArray:
         """Answers the distances of pairs of nodes.
@@ -60,11 +70,11 @@ class BetweenNodes:
         return self._measure.told(self._all_distances(pairs, targets, progress) if found is None else found, missing)
 
     @whole
-    def _all_distances(self, pairs, targets, progress):
+    def _all_distances(self, pairs: Nodes, targets: Nodes | None, progress: Progress) -> NDArray[numpy.int64]:
         """The distances of any number of pairs."""
         return self._queries.distances(self._pairs(pairs, targets), progress)
 
-    def _few_distances(self, pairs):
+    def _few_distances(self, pairs: Any) -> NDArray[numpy.int64] | None:
         """The distances of few pairs, without arrays: a library in this process answers them in microseconds. None where they are no pairs of known
         labels, or where another engine answers."""
         if not hasattr(self._engine, "few_distances") or not all(type(pair) is tuple and len(pair) == 2 for pair in pairs):
@@ -202,11 +212,11 @@ class BetweenNodes:
             raise DataFault(f"values has {len(several):,} rows, and there are {count:,} rows of arcs", "values")
         weights, counts, lines = self._lines(self._pairs(pairs, targets))
         owners, along = numpy.repeat(numpy.arange(len(weights)), counts), several[self._layers.rows_of(lines)].astype(float)
-        sums = numpy.column_stack([numpy.bincount(owners, column, len(weights)) for column in along.T]).astype(float)
+        sums: NDArray[Any] = numpy.column_stack([numpy.bincount(owners, column, len(weights)) for column in along.T]).astype(float)
         sums[weights < 0] = numpy.nan
         return sums if found.ndim == 2 else sums[:, 0]
 
-    def _lines(self, pairs):
+    def _lines(self, pairs: NDArray[numpy.int64]) -> tuple[NDArray[Any], NDArray[Any], NDArray[Any]]:
         """The weights of the routes of pairs, how many arcs each has, and the lines of all arcs in the graph."""
         if hasattr(self._engine, "lines"):
             return self._engine.lines(pairs)
@@ -226,12 +236,12 @@ class BetweenNodes:
             if len(columns[0]) != len(columns[1]):
                 raise ValueError(f"there are {len(columns[0]):,} sources and {len(columns[1]):,} targets")
             return numpy.column_stack(columns)
-        pairs = self._layers.labels.nodes_of("pairs", listed(pairs))
-        if pairs.size == 0:
-            return pairs.reshape(0, 2)
-        if pairs.ndim != 2 or pairs.shape[1] != 2:
-            raise ValueError(f"pairs have the shape (n, 2), not {pairs.shape}: one pair is [(1, 3)]")
-        return pairs
+        nodes = self._layers.labels.nodes_of("pairs", listed(pairs))
+        if nodes.size == 0:
+            return nodes.reshape(0, 2)
+        if nodes.ndim != 2 or nodes.shape[1] != 2:
+            raise ValueError(f"pairs have the shape (n, 2), not {nodes.shape}: one pair is [(1, 3)]")
+        return nodes
 
 
 def listed(given: Nodes) -> Nodes:

@@ -2,7 +2,7 @@
 from __future__ import annotations
 
 import math
-from typing import TYPE_CHECKING
+from typing import TYPE_CHECKING, Any
 
 import numpy
 from numpy.typing import ArrayLike, NDArray
@@ -16,11 +16,18 @@ from chtab.roads.snapping import Roads, Spots, far_text, places_in
 from chtab.roads.trips import see_that_one
 
 if TYPE_CHECKING:
+    from chtab.files.measures import Measure
+    from chtab.roads.layers import Layers
     from chtab.roads.reach import Isochrones
+    from chtab.roads.trips import Trips
 
 
 class BetweenPlaces:
     """The calls of a `Network` that take places in degrees, or spots beside roads. It has `_layers`, its files, and `_trips`, its trips."""
+
+    _layers: Layers
+    _measure: Measure
+    _trips: Trips
 
     @property
     def roads(self) -> Roads:
@@ -216,7 +223,7 @@ class BetweenPlaces:
 
         see_that_one(spot)
         given = numpy.atleast_1d(numpy.asarray(limits, object)).tolist()
-        asked = [(self._measure.limit("limits", limit), self._measure.number("limits", limit)) for limit in given if limit is not None]
+        asked = [(self._measure.limit("limits", limit) or 0, self._measure.number("limits", limit)) for limit in given if limit is not None]
         if not asked or len(asked) < len(given) or min(asked)[0] <= 0:
             raise ValueError("limits are one or several numbers above 0")
         asked.sort(reverse=True)
@@ -225,6 +232,6 @@ class BetweenPlaces:
         return Isochrones(geojson.collection(features))
 
 
-def told_limit(limit):
+def told_limit(limit: Any) -> Any:
     """A limit as JSON has it."""
     return int(limit) if limit == math.floor(limit) else float(limit)

@@ -19,6 +19,7 @@ if TYPE_CHECKING:
     import networkx
     import pandas
     import scipy.sparse
+    from chtab.engine.folders import Folder
 
 OF_ARCS = "nodes", "x", "y", "scale", "unit", "both_ways", "geometry", "folder"
 ENDS = "source", "target", "weight"
@@ -26,6 +27,13 @@ ENDS = "source", "target", "weight"
 
 class FromArcs:
     """The calls of a `Network` that make one of arcs."""
+
+    if TYPE_CHECKING:
+        def __init__(self, opened: opening.Opening, folder: Folder | None = None, known: dict[str, Any] | None = None) -> None:
+            """As a `Network` is made."""
+
+        def _load(self, running: opening.Running) -> None:
+            """As a `Network` loads."""
 
     @classmethod
     def from_arrays(
@@ -85,9 +93,9 @@ class FromArcs:
         >>> network.distances([("farm", "mill")])                                                                        # doctest: +SKIP
         array([6.5])
         """
-        running = opening.running_of("from_arrays", running, Asked(raw=raw), OF_ARCS)
+        settings = opening.running_of("from_arrays", running, Asked(raw=raw), OF_ARCS)
         given = arc_columns.Columns(sources, targets, weights, nodes, x, y, scale, unit, both_ways, geometry)
-        return cls._made(arc_columns.arcs_of(given), folder, running)
+        return cls._made(arc_columns.arcs_of(given), folder, settings)
 
     @classmethod
     def from_frame(
@@ -126,8 +134,8 @@ class FromArcs:
         >>> network = Network.from_frame(roads, "from", "to", "minutes", unit="minutes")        # doctest: +SKIP
         """
         given, running = frames.columns_of_frame(frame, (source, target, weight), geometry, more)
-        running = opening.running_of("from_frame", running, Asked(raw=raw), (*OF_ARCS, *ENDS))
-        return cls._made(arc_columns.arcs_of(given), folder, running)
+        settings = opening.running_of("from_frame", running, Asked(raw=raw), (*OF_ARCS, *ENDS))
+        return cls._made(arc_columns.arcs_of(given), folder, settings)
 
     @classmethod
     def from_networkx(
@@ -174,8 +182,8 @@ class FromArcs:
         >>> streets = osmnx.add_edge_travel_times(osmnx.add_edge_speeds(streets))          # doctest: +SKIP
         >>> network = Network.from_networkx(streets, unit="seconds")                       # doctest: +SKIP
         """
-        running = opening.running_of("from_networkx", running, Asked(raw=raw), (*OF_ARCS, "weight"))
-        return cls._made(frames.arcs_of_networkx(graph, weight, scale, unit, (x, y), geometry), folder, running)
+        settings = opening.running_of("from_networkx", running, Asked(raw=raw), (*OF_ARCS, "weight"))
+        return cls._made(frames.arcs_of_networkx(graph, weight, scale, unit, (x, y), geometry), folder, settings)
 
     @classmethod
     def from_geodataframe(
@@ -217,8 +225,8 @@ class FromArcs:
         >>> network = Network.from_geodataframe(roads, both_ways=True)                                  # doctest: +SKIP
         """
         given, running = geoframes.columns_of_geodataframe(edges, nodes, (source, target, weight), more)
-        running = opening.running_of("from_geodataframe", running, Asked(raw=raw), (*OF_ARCS, *ENDS))
-        return cls._made(arc_columns.arcs_of(given), folder, running)
+        settings = opening.running_of("from_geodataframe", running, Asked(raw=raw), (*OF_ARCS, *ENDS))
+        return cls._made(arc_columns.arcs_of(given), folder, settings)
 
     @classmethod
     def from_sparse(
@@ -254,7 +262,7 @@ class FromArcs:
         --------
         >>> network = Network.from_sparse(scipy.sparse.csr_matrix([[0, 4], [5, 0]]))       # doctest: +SKIP
         """
-        running = opening.running_of("from_sparse", running, Asked(raw=raw), OF_ARCS)
+        settings = opening.running_of("from_sparse", running, Asked(raw=raw), OF_ARCS)
         if not hasattr(matrix, "tocsr") or matrix.ndim != 2 or matrix.shape[0] != matrix.shape[1]:
             raise DataFault("matrix is a sparse matrix of scipy with as many rows as columns", "matrix")
         rows = matrix.tocsr(copy=True)
@@ -265,10 +273,10 @@ class FromArcs:
         if len(known) != rows.shape[0]:
             raise DataFault(f"nodes has {len(known):,} rows, and the matrix {rows.shape[0]:,}", "nodes")
         given = arc_columns.Columns(known[stored.row], known[stored.col], stored.data, labels, x, y, scale, unit, both_ways)
-        return cls._made(arc_columns.arcs_of(given), folder, running)
+        return cls._made(arc_columns.arcs_of(given), folder, settings)
 
     @classmethod
-    def _made(cls, arcs: arc_columns.Arcs, folder, running: opening.Running) -> Self:
+    def _made(cls, arcs: arc_columns.Arcs, folder: str | os.PathLike | None, running: opening.Running) -> Self:
         """The network of these arcs, whose files are written."""
         if arcs.scale is not None and arcs.unit is None and running.asked == Asked():
             warn_of_scale(arcs.scale, 4)
@@ -283,7 +291,7 @@ class FromArcs:
         return network
 
 
-def warn_of_scale(scale, level):
+def warn_of_scale(scale: float, level: int) -> None:
     """Warns that limits and answers are whole numbers, as they were in version 1.1, and not in the unit of the weights that were given."""
     text = f"weights were multiplied by {scale:g}, and limits and answers are these whole numbers; name the unit of your weights, as unit='minutes', " \
         "for limits and answers in it, as later versions will have them, or give raw=True"

@@ -1,4 +1,9 @@
 """Columns of arcs from GeoDataFrames of geopandas, which have a line for each."""
+from __future__ import annotations
+
+from collections.abc import Mapping
+from typing import TYPE_CHECKING, Any
+
 import numpy
 
 from chtab.errors import DataFault
@@ -7,13 +12,19 @@ from chtab.files.frames import FURTHER, column_of
 from chtab.files.showing import DEGREES
 from chtab.roads.lines import metres_between
 
+if TYPE_CHECKING:
+    import geopandas
+    from numpy.typing import NDArray
 
-def in_degrees(frame):
+    from chtab.typing import Integers
+
+
+def in_degrees(frame: geopandas.GeoDataFrame) -> geopandas.GeoDataFrame:
     """A GeoDataFrame in longitudes and latitudes. One that doesn't say what its coordinates are is taken as it is."""
     return frame if frame.crs is None or frame.crs == DEGREES else frame.to_crs(DEGREES)
 
 
-def columns_of_geodataframe(edges, nodes, names, more):
+def columns_of_geodataframe(edges: Any, nodes: Any, names: tuple[str, str, str | None], more: Mapping[str, Any]) -> tuple[arc_columns.Columns, dict[str, Any]]:
     """The columns of a frame with a line for each arc, with those of `more` that tell of arcs; and the others of `more`.
 
     Without columns or levels of the index by the names of both ends, nodes are the ends of lines, and called 1, 2, .. by longitude and latitude.
@@ -27,23 +38,23 @@ def columns_of_geodataframe(edges, nodes, names, more):
     has_ends = [name in edges.columns or name in edges.index.names for name in (source, target)]
     of_arcs = {name: value for name, value in more.items() if name in FURTHER}
     if all(has_ends):
-        ends = [column_of(edges, name) for name in (source, target)]
+        sources, targets = (column_of(edges, name) for name in (source, target))
         of_arcs |= of_nodes(nodes)
     elif any(has_ends) or nodes is not None:
         raise DataFault(f"the frame has no columns {source!r} and {target!r} for the ends of lines", source if has_ends[1] else target)
     else:
-        ends, own = by_ends(lines)
+        (sources, targets), own = by_ends(lines)
         of_arcs |= own
     weights = lengths_of(lines) if weight is None else column_of(edges, weight)
     if weight is None:
         of_arcs = {"unit": "metres"} | {name: value for name, value in of_arcs.items() if value is not None}
     named = (str(source), str(target), "length" if weight is None else str(weight))
     keys = column_of(edges, "key").tolist() if "key" in edges.index.names else None
-    given = arc_columns.Columns(*ends, weights, geometry=lines, names=named, keys=keys, **of_arcs)
+    given = arc_columns.Columns(sources, targets, weights, geometry=lines, names=named, keys=keys, **of_arcs)
     return given, {name: value for name, value in more.items() if name not in FURTHER}
 
 
-def of_nodes(nodes):
+def of_nodes(nodes: Any) -> dict[str, Any]:
     """The labels and places of a frame of points, whose index has the labels; nothing where there is no frame."""
     if nodes is None:
         return {}
@@ -51,7 +62,7 @@ def of_nodes(nodes):
     return {"nodes": nodes.index, "x": points.x, "y": points.y}
 
 
-def by_ends(lines):
+def by_ends(lines: Any) -> tuple[tuple[Integers, Integers], dict[str, Any]]:
     """The nodes at the ends of lines, as labels from 1 on, in millionths of a degree; and these nodes with their places."""
     ends = numpy.round([(line[0], line[-1]) for line in lines], 6).reshape(-1, 2)
     places, found = numpy.unique(ends, axis=0, return_inverse=True)
@@ -59,7 +70,7 @@ def by_ends(lines):
     return (sources, targets), {"nodes": numpy.arange(1, len(places) + 1), "x": places[:, 0], "y": places[:, 1]}
 
 
-def lengths_of(lines):
+def lengths_of(lines: Any) -> NDArray[Any]:
     """The metres along each line."""
     counts = numpy.array([len(line) for line in lines])
     places = numpy.concatenate(lines)

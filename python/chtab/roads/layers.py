@@ -1,6 +1,11 @@
 """What is read of a network's files, each when it is first asked for, and kept: the arcs, the places and labels of nodes, roads."""
+from __future__ import annotations
+
+import functools
 import os
 import threading
+from collections.abc import Callable, Mapping, Sequence
+from typing import TYPE_CHECKING, Any
 
 import numpy
 
@@ -11,6 +16,13 @@ from chtab.engine.walks import ArcIndex
 from chtab.errors import ChtabError
 from chtab.files import measures
 from chtab.roads import nearest
+
+if TYPE_CHECKING:
+    from chtab.engine.opening import Opening
+    from chtab.files import node_labels
+    from chtab.roads.snapping import Roads
+    from chtab.typing import Integers
+    from chtab.typing import Point
 
 
 class Layers:
@@ -28,30 +40,34 @@ class Layers:
         What the caller says of the unit of limits and answers.
     """
 
-    def __init__(self, path, coordinates=None, bends=None, labelling=None, asked=measures.Asked()):
+    def __init__(
+        self, path: str, coordinates: str | None = None, bends: str | None = None, labelling: str | None = None,
+        asked: measures.Asked = measures.Asked(),
+    ) -> None:
         base = os.path.splitext(path)[0]
         self.path, self.asked = path, asked
         self.paths = {"coordinates": coordinates or beside(base + ".co"), "bends": bends or beside(base + ".bends"), "labelling": labelling}
-        self.kept, self.stamps = {}, Stamps(path, *self.paths.values())
+        self.kept: dict[str, Any] = {}
+        self.stamps = Stamps(path, *self.paths.values())
         self.leave_parent()
         forks.follow(self)
 
-    def leave_parent(self):
+    def leave_parent(self) -> None:
         """A lock that nobody holds: in a process that was forked too."""
         self.lock = threading.RLock()
 
-    def __reduce__(self):
+    def __reduce__(self) -> tuple[Any, ...]:
         return Layers, (self.path, self.paths["coordinates"], self.paths["bends"], self.paths["labelling"], self.asked)
 
-    def read(self, name, make):
+    def read(self, name: str, make: Callable[[], Any]) -> Any:
         with self.lock:
             if name not in self.kept:
                 self.kept[name] = make()
             return self.kept[name]
 
-    def read_file(self, name, make):
+    def read_file(self, name: str, make: Callable[[], Any]) -> Any:
         """The same of what a file is read for, as long as the files are those of the beginning."""
-        def read():
+        def read() -> Any:
             found = make()
             self.stamps.see_that_same()
             return found
@@ -59,37 +75,37 @@ class Layers:
         return self.read(name, read)
 
     @property
-    def graph(self):
+    def graph(self) -> files.Graph:
         """The arcs, as `files.read_graph` gives them."""
         return self.read_file("graph", lambda: files.read_graph(self.path))
 
     @property
-    def arcs(self):
+    def arcs(self) -> ArcIndex:
         """The arcs by their ends, as `walks.ArcIndex` finds them."""
         return self.read("arcs", lambda: ArcIndex(self.graph))
 
     @property
-    def rows(self):
+    def rows(self) -> Integers:
         """For each arc the row of the caller's columns that it is of, from 0 on; of a graph of files its line."""
         return self.read("rows", lambda: self.rows_of(numpy.arange(len(self.graph.tails))))
 
-    def rows_of(self, arcs):
+    def rows_of(self, arcs: Integers) -> Integers:
         """The same of some arcs, by their numbers from 0 on."""
         labelling = self.labelling
         if labelling is not None and labelling.arcs is not None:
-            return self.read("rows of arcs", lambda: numpy.array(labelling.arcs, numpy.int64))[arcs]
+            return self.read("rows of arcs", functools.partial(numpy.array, labelling.arcs, numpy.int64))[arcs]
         return arcs if labelling is None or not labelling.rows else arcs % labelling.rows
 
     @property
-    def row_count(self):
+    def row_count(self) -> int:
         """How many rows of arcs there are, also those whose arcs are closed."""
         labelling = self.labelling
         return files.count_arcs(self.path) if labelling is None or labelling.rows is None else labelling.rows
 
     @property
-    def arcs_by_ends(self):
+    def arcs_by_ends(self) -> tuple[Integers, Integers]:
         """The arcs in the order of their ends, and these ends in order, as tail * (nodes + 1) + head."""
-        def make():
+        def make() -> tuple[Integers, Integers]:
             tails, heads = (numpy.array(column, numpy.int64) for column in (self.graph.tails, self.graph.heads))
             ends = tails * (self.graph.nodes + 1) + heads
             order = numpy.argsort(ends, kind="stable")
@@ -98,27 +114,27 @@ class Layers:
         return self.read("arcs by ends", make)
 
     @property
-    def coordinates(self):
+    def coordinates(self) -> files.Coordinates:
         """The nodes' places, as `files.read_coordinates` gives them."""
         path = self.paths["coordinates"]
         if path is None:
             raise ChtabError(f"{self.path} has no file of coordinates beside it; name one by `coordinates`")
-        return self.read_file("coordinates", lambda: files.read_coordinates(path))
+        return self.read_file("coordinates", functools.partial(files.read_coordinates, path))
 
     @property
-    def labelling(self):
+    def labelling(self) -> files.Labelling | None:
         """What `files.read_labels` gives, None of a network whose nodes are called by their numbers."""
-        def make():
-            from chtab.engine.making import read_labelling
+        path = self.paths["labelling"]
+        if path is None:
+            return None
+        from chtab.engine.making import read_labelling
 
-            return read_labelling(self.paths["labelling"], self.path)
-
-        return None if self.paths["labelling"] is None else self.read_file("labelling", make)
+        return self.read_file("labelling", functools.partial(read_labelling, path, self.path))
 
     @property
-    def measure(self):
+    def measure(self) -> measures.Measure:
         """What limits and answers are in."""
-        def make():
+        def make() -> measures.Measure:
             base, labelling, asked = files.read_unit(self.path), self.labelling, self.asked
             own = (None, None) if labelling is None else (labelling.unit, labelling.scale)
             return measures.Measure(base) if asked.raw else measures.asked_for(asked.unit, asked.scale, base, *own)
@@ -126,9 +142,9 @@ class Layers:
         return self.read_file("measure", make)
 
     @property
-    def labels(self):
+    def labels(self) -> node_labels.Labels | node_labels.Numbers:
         """What the nodes are called, as `node_labels.Labels` or `node_labels.Numbers`."""
-        def make():
+        def make() -> node_labels.Labels | node_labels.Numbers:
             from chtab.files import node_labels
 
             found = self.labelling
@@ -139,14 +155,14 @@ class Layers:
         return self.read("labels", make)
 
     @property
-    def index(self):
+    def index(self) -> nearest.Tree | nearest.Grid:
         """The nodes, to be looked for by their places."""
         return self.read("index", lambda: nearest.index_of(self.coordinates))
 
     @property
-    def roads(self):
+    def roads(self) -> Roads:
         """The roads between nodes, as `snapping.Roads`."""
-        def make():
+        def make() -> Roads:
             from chtab.roads.snapping import Roads
 
             path = self.paths["bends"]
@@ -154,16 +170,16 @@ class Layers:
 
         return self.read_file("roads", make)
 
-    def lines_of(self, routes):
+    def lines_of(self, routes: Sequence[files.Answer]) -> list[list[Point]]:
         """For each route of `files.Answer` the places that it passes, in degrees: with the bends of its roads, where they are known."""
         if self.paths["bends"] is None:
-            return [[self.coordinates.of(node) for node in each.nodes] for each in routes]
+            return [[self.coordinates.of(node) for node in each.nodes or ()] for each in routes]
         from chtab.roads.lines import tidied
 
         return [line for line, _ in tidied(self.roads.lines_of(routes))]
 
 
-def layers_of(opened, known=None):
+def layers_of(opened: Opening, known: Mapping[str, Any] | None = None) -> Layers:
     """The layers of an opening, with those that are known already. Labels and the unit are read at once, because the graph may be another one
     later."""
     layers = Layers(opened.setting.graph, opened.coordinates, opened.bends, opened.labelling, opened.asked)
@@ -172,5 +188,5 @@ def layers_of(opened, known=None):
     return layers
 
 
-def beside(path):
+def beside(path: str) -> str | None:
     return path if os.path.exists(path) else None

@@ -3,9 +3,12 @@
 A spot leaves its road by the nodes at both ends, and arrives by such nodes. So there are several ways from spot to spot, each over one node
 of both, and one more along a road on which both lie. The leg is the best of them.
 """
+from __future__ import annotations
+
 import itertools
+from collections.abc import Sequence
 from dataclasses import dataclass
-from typing import NamedTuple
+from typing import TYPE_CHECKING, Any, NamedTuple
 
 import numpy
 
@@ -15,10 +18,14 @@ from chtab.errors import unasked
 from chtab.roads.lines import metres_between
 from chtab.roads.snapping import NONE, Roads, Spots
 
+if TYPE_CHECKING:
+    from chtab.roads.trips import Trips
+    from chtab.typing import Floats, Integers, Marks
+
 FAR = numpy.iinfo(numpy.int64).max
 
 
-def ways_between(starts, ends):
+def ways_between(starts: Spots, ends: Spots) -> tuple[Integers, Integers]:
     """The ways from spot k of `starts` to spot k of `ends`: the pairs of nodes (n, m, 2), `NONE` in one where there is none, and what is
     added to the distance of each (n, m)."""
     outs, ins = numpy.broadcast_arrays(starts.out_nodes[:, :, None], ends.in_nodes[:, None, :])
@@ -27,7 +34,7 @@ def ways_between(starts, ends):
     return numpy.stack([outs, ins], axis=-1).reshape(len(outs), count, 2), added.reshape(len(outs), count)
 
 
-def totals(added, is_there, between, along):
+def totals(added: Integers, is_there: Marks, between: Integers, along: Integers) -> Integers:
     """The weights of all ways (n, m + 1), of which the last leads along one road; `FAR` where there is no way."""
     weights = numpy.full((len(added), added.shape[1] + 1), FAR)
     weights[:, :-1][is_there] = numpy.where(between >= 0, between + added[is_there], FAR)
@@ -40,10 +47,10 @@ class Trace(NamedTuple):
     and the metres up to there. The leg leads along the first road, its arcs and the last road, or along one road: each of these pieces stops
     at one of `stops`, numbers of places."""
 
-    places: numpy.ndarray
-    weights: numpy.ndarray
-    metres: numpy.ndarray
-    stops: numpy.ndarray
+    places: Floats
+    weights: Integers
+    metres: Floats
+    stops: Integers
 
 
 @dataclass(frozen=True)
@@ -57,31 +64,31 @@ class Legs:
     roads: Roads
     starts: Spots
     ends: Spots
-    weights: numpy.ndarray
-    is_walk: numpy.ndarray
-    first_nodes: numpy.ndarray
+    weights: Integers
+    is_walk: Marks
+    first_nodes: Integers
     walks: Walks
-    arcs: numpy.ndarray
-    leaves: numpy.ndarray
-    arrives: numpy.ndarray
-    out_weights: numpy.ndarray
-    in_weights: numpy.ndarray
-    metres: numpy.ndarray
+    arcs: Integers
+    leaves: Integers
+    arrives: Integers
+    out_weights: Integers
+    in_weights: Integers
+    metres: Floats
 
-    def __len__(self):
+    def __len__(self) -> int:
         return len(self.weights)
 
-    def nodes(self, leg):
+    def nodes(self, leg: int) -> list[int]:
         """The nodes that a leg passes: none where it leads along one road, or there is no way."""
         if not self.is_walk[leg]:
             return []
         return [int(self.first_nodes[leg]), *self.walks.heads[self.walks.firsts[leg]:self.walks.firsts[leg + 1]].tolist()]
 
-    def traces(self, which):
+    def traces(self, which: Sequence[int]) -> list[Trace]:
         """How some legs lie, each of which is a way."""
         if not len(which):
             return []
-        arcs_before, places, arc_places = self.walks.firsts, [], []
+        arcs_before, places = self.walks.firsts, []
         arcs = numpy.concatenate([numpy.arange(arcs_before[leg], arcs_before[leg + 1]) for leg in which])
         roads = self.roads.road_of[self.arcs[arcs]]
         has_road = roads != NONE
@@ -90,7 +97,9 @@ class Legs:
         arc_places = numpy.zeros(len(arcs), numpy.int64)
         arc_places[has_road] = lines.firsts[roads[has_road] + 1] - lines.firsts[roads[has_road]]
         arc_weights = self.walks.arc_weights[arcs]
-        counts, weights, owners, arc, place = [], [], [], 0, 0
+        counts: list[Any] = []
+        weights: list[Any] = []
+        pieces_of, arc, place = [], 0, 0
         for leg in which:
             pieces = self.stretches(leg)
             count = int(arcs_before[leg + 1] - arcs_before[leg])
@@ -99,12 +108,12 @@ class Legs:
             places += [first, joined[place:until], *(each for each, _ in last)]
             counts += [[len(first)], arc_places[arc:arc + count], *([len(each)] for each, _ in last)]
             weights += [[first_weight], arc_weights[arc:arc + count], *([weight] for _, weight in last)]
-            owners.append(count + len(pieces))
+            pieces_of.append(count + len(pieces))
             arc, place = arc + count, until
-        owners = numpy.repeat(numpy.arange(len(which)), owners)
+        owners = numpy.repeat(numpy.arange(len(which)), pieces_of)
         return traced(numpy.concatenate(places), owners, numpy.concatenate(counts), numpy.concatenate(weights), self.weights[which])
 
-    def stretches(self, leg):
+    def stretches(self, leg: int) -> list[tuple[Floats, int]]:
         """The places of the first and the last road as far as a leg leads along them, with the weights; or of the one road that it stays on."""
         start, end = self.starts.parts[leg], self.ends.parts[leg]
         first, last = self.starts.roads[leg], self.ends.roads[leg]
@@ -116,7 +125,7 @@ class Legs:
         ]
 
 
-def traced(places, owners, counts, weights, totals):
+def traced(places: Floats, owners: Integers, counts: Integers, weights: Integers, totals: Integers) -> list[Trace]:
     """The traces of legs. All their places stand one after the other, in pieces of so many places and weights, each of a leg."""
     piece = numpy.repeat(numpy.arange(len(counts)), counts)
     leg = owners[piece]
@@ -128,7 +137,8 @@ def traced(places, owners, counts, weights, totals):
     lengths = along[stops] - along[begins]
     parts = numpy.where(lengths > 0, (along - along[begins]) / numpy.where(lengths > 0, lengths, 1), numpy.arange(len(places)) == stops)
     before = numpy.cumsum(weights) - weights
-    leg_firsts, leg_lasts = (numpy.searchsorted(leg, numpy.arange(len(totals)), side) for side in ("left", "right"))
+    of_legs = numpy.arange(len(totals))
+    leg_firsts, leg_lasts = numpy.searchsorted(leg, of_legs, "left"), numpy.searchsorted(leg, of_legs, "right")
     passed = before[piece] + numpy.round(parts * weights[piece]).astype(numpy.int64)
     passed -= before[numpy.searchsorted(owners, numpy.arange(len(totals)))][leg]
     passed[leg_firsts], passed[leg_lasts - 1] = 0, totals
@@ -141,13 +151,13 @@ def traced(places, owners, counts, weights, totals):
     piece_stops = cuts[numpy.cumsum(counts) - 1] - numpy.repeat(cuts[leg_firsts], numpy.bincount(owners, minlength=len(totals)))
     piece_cuts = numpy.searchsorted(owners, numpy.arange(len(totals) + 1))
     found = []
-    for leg, (first, last) in enumerate(zip(cuts[leg_firsts].tolist(), cuts[leg_lasts].tolist())):
-        stops = piece_stops[piece_cuts[leg]:piece_cuts[leg + 1]]
-        found.append(Trace(rounded[first:last], passed[first:last], metres[first:last], stops))
+    for place, (first, last) in enumerate(zip(cuts[leg_firsts].tolist(), cuts[leg_lasts].tolist())):
+        own_stops = piece_stops[piece_cuts[place]:piece_cuts[place + 1]]
+        found.append(Trace(rounded[first:last], passed[first:last], metres[first:last], own_stops))
     return found
 
 
-def best_ways(trips, starts, ends):
+def best_ways(trips: Trips, starts: Spots, ends: Spots) -> tuple[Integers, Integers, Integers, Integers]:
     """The least weights of the ways from spot k to spot k, `FAR` where there is none, and which way has it; with all pairs of nodes and what is
     added to each."""
     pairs, added = ways_between(starts, ends)
@@ -159,7 +169,7 @@ def best_ways(trips, starts, ends):
     return weights.min(axis=1, initial=FAR), weights.argmin(axis=1), pairs, added
 
 
-def table_ways(trips, starts, ends, within=None):
+def table_ways(trips: Trips, starts: Spots, ends: Spots, within: int | None = None) -> tuple[Integers, Integers]:
     """The least weights of the ways from each spot to each (k, l), `FAR` where there is none (of at most `within`), and which way has it."""
     outs, out_place = numpy.unique(starts.out_nodes, return_inverse=True)
     ins, in_place = numpy.unique(ends.in_nodes, return_inverse=True)
@@ -180,13 +190,13 @@ def table_ways(trips, starts, ends, within=None):
     return numpy.where(best <= (FAR - 1 if within is None else within), best, FAR), ways
 
 
-def legs_between(trips, starts, ends):
+def legs_between(trips: Trips, starts: Spots, ends: Spots) -> Legs:
     """The legs from spot k of `starts` to spot k of `ends`. Distances say which way is the best, and then its route alone is asked for."""
     best, ways, pairs, _ = best_ways(trips, starts, ends)
     return legs_by(trips, starts, ends, best, ways, pairs)
 
 
-def legs_by(trips, starts, ends, best, ways, pairs):
+def legs_by(trips: Trips, starts: Spots, ends: Spots, best: Integers, ways: Integers, pairs: Integers) -> Legs:
     """The legs by these ways, of these weights. A route that weighs something else is no answer to what was asked."""
     roads, legs = trips.roads, numpy.arange(len(best))
     is_there = best < FAR
@@ -207,7 +217,7 @@ def legs_by(trips, starts, ends, best, ways, pairs):
     return Legs(roads, starts, ends, weights, is_walk, asked[:, 0], walks, arcs, leaves, arrives, out_weights, in_weights, metres)
 
 
-def metres_of(roads, starts, ends, walks, arcs, is_walk, leaves, arrives):
+def metres_of(roads: Roads, starts: Spots, ends: Spots, walks: Walks, arcs: Integers, is_walk: Marks, leaves: Integers, arrives: Integers) -> Floats:
     """How long legs are; what has no way is as long as the stretch between the parts of its roads, which says nothing."""
     of_road = roads.lines.metres
     along = roads.road_of[arcs]

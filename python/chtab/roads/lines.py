@@ -2,33 +2,42 @@
 
 Points are compared in Mercator's projection, which keeps angles, so that what is nearest there is nearest on the ground.
 """
+from __future__ import annotations
+
+from collections.abc import Callable, Sequence
+from typing import TYPE_CHECKING, Any
+
 import numpy
 
 from chtab.engine.walks import ranges
 from chtab.roads import sphere
 from chtab.roads.sphere import points
 
+if TYPE_CHECKING:
+    from numpy.typing import ArrayLike
+    from chtab.typing import Floats, Integers, Marks, Point
+
 # Degrees beyond which the projection has no end.
 STEEPEST = 89.9
 
 
-def mercator(longitudes, latitudes):
+def mercator(longitudes: ArrayLike, latitudes: ArrayLike) -> Floats:
     """Degrees to the plane."""
     latitudes = numpy.clip(latitudes, -STEEPEST, STEEPEST)
     return numpy.column_stack([numpy.radians(longitudes), numpy.arcsinh(numpy.tan(numpy.radians(latitudes)))])
 
 
-def degrees(x, y):
+def degrees(x: Floats, y: Floats) -> tuple[Floats, Floats]:
     """The plane to degrees."""
     return numpy.degrees(x), numpy.degrees(numpy.arctan(numpy.sinh(y)))
 
 
-def metres_between(longitudes, latitudes, others, other_latitudes):
+def metres_between(longitudes: ArrayLike, latitudes: ArrayLike, others: ArrayLike, other_latitudes: ArrayLike) -> Floats:
     """Along the sphere, of each pair of places."""
     return sphere.metres_of(numpy.linalg.norm(points(longitudes, latitudes) - points(others, other_latitudes), axis=1))
 
 
-def tidied(lines):
+def tidied(lines: Sequence[Floats]) -> list[tuple[list[Point], float]]:
     """For each line of places (n, 2) the places as a list of (longitude, latitude), rounded to millionths of a degree and without those that
     follow on themselves, and the metres along it."""
     if not lines:
@@ -50,7 +59,7 @@ class Lines:
     `parts` says of each place how far along its line it stands, from 0 to 1, and `metres` how long each line is.
     """
 
-    def __init__(self, counts, places):
+    def __init__(self, counts: Integers, places: Floats) -> None:
         self.places = places
         self.firsts = numpy.concatenate([[0], numpy.cumsum(counts)])
         steps = numpy.zeros(len(places))
@@ -61,33 +70,33 @@ class Lines:
         along = sums - numpy.repeat(sums[self.firsts[:-1]], counts)
         self.metres = along[self.firsts[1:] - 1]
         self.parts = along / numpy.repeat(numpy.where(self.metres > 0, self.metres, 1), counts)
-        self.pieces = None
+        self.pieces: Pieces | None = None
 
-    def __len__(self):
+    def __len__(self) -> int:
         return len(self.metres)
 
-    def of(self, line):
+    def of(self, line: int) -> Floats:
         """The places of a line (n, 2)."""
         return self.places[self.firsts[line]:self.firsts[line + 1]]
 
-    def stretch(self, line, start, end):
+    def stretch(self, line: int, start: float, end: float) -> Floats:
         """The places of a line from one part of it to another (n, 2)."""
         places, parts = self.of(line), self.parts[self.firsts[line]:self.firsts[line + 1]]
         low, high = min(start, end), max(start, end)
-        first, last = numpy.searchsorted(parts, low, "right"), numpy.searchsorted(parts, high, "left")
+        first, last = int(numpy.searchsorted(parts, low, "right")), int(numpy.searchsorted(parts, high, "left"))
         found = numpy.empty((max(last - first, 0) + 2, 2))
         found[1:-1] = places[first:last]
         for axis in (0, 1):
             found[[0, -1], axis] = numpy.interp([low, high], parts, places[:, axis])
         return found if start <= end else found[::-1]
 
-    def joined(self, lines, is_back):
+    def joined(self, lines: Integers, is_back: Marks) -> Floats:
         """The places of some lines one after the other (n, 2), of some of them back."""
         counts = self.firsts[lines + 1] - self.firsts[lines]
         which = ranges(self.firsts[lines], counts)
         return self.places[numpy.where(numpy.repeat(is_back, counts), numpy.repeat(2 * self.firsts[lines] + counts - 1, counts) - which, which)]
 
-    def nearest(self, longitudes, latitudes):
+    def nearest(self, longitudes: Floats, latitudes: Floats) -> tuple[Integers, Floats, Floats, Floats]:
         """The nearest point of all lines to each place: the lines, how far along each the point stands, from 0 to 1, and its longitude and
         latitude."""
         if self.pieces is None:
@@ -96,7 +105,7 @@ class Lines:
         lines = numpy.searchsorted(self.firsts, steps, "right") - 1
         return lines, self.parts[steps] + shares * (self.parts[steps + 1] - self.parts[steps]), *degrees(*at.T)
 
-    def nearest_some(self, longitude, latitude, most):
+    def nearest_some(self, longitude: float, latitude: float, most: int) -> tuple[Integers, Floats, Floats, Floats]:
         """The same of one place and its nearest lines, at most so many, the nearest first."""
         if self.pieces is None:
             self.pieces = Pieces(self)
@@ -104,7 +113,7 @@ class Lines:
         lines = numpy.searchsorted(self.firsts, steps, "right") - 1
         return lines, self.parts[steps] + shares * (self.parts[steps + 1] - self.parts[steps]), *degrees(*at.T)
 
-    def nearest_facing(self, longitude, latitude, fits):
+    def nearest_facing(self, longitude: float, latitude: float, fits: Callable[[Integers], Marks]) -> tuple[Integers, Floats, tuple[Floats, Floats]]:
         """The nearest step of all for which `fits` holds, how far along it the point nearest to a place stands, from 0 to 1, and that point;
         arrays of one, or of none where there is no such step."""
         if self.pieces is None:
@@ -112,7 +121,7 @@ class Lines:
         steps, shares, at = self.pieces.nearest_fitting(mercator([longitude], [latitude]), fits)
         return steps, shares, degrees(*at.T)
 
-    def bearings(self, steps):
+    def bearings(self, steps: Integers) -> Floats:
         """The directions in which steps lead, in degrees clockwise from north."""
         if self.pieces is None:
             self.pieces = Pieces(self)
@@ -122,7 +131,7 @@ class Lines:
 class Pieces:
     """The steps of lines, to be looked for: cut into pieces of at most a length, whose middles stand in a k-d tree."""
 
-    def __init__(self, lines):
+    def __init__(self, lines: Lines) -> None:
         from scipy.spatial import cKDTree
 
         plane = mercator(*lines.places.T)
@@ -141,7 +150,7 @@ class Pieces:
         # No point of a piece is farther from its middle.
         self.reach = (lengths / counts).max() / 2
 
-    def nearest(self, places):
+    def nearest(self, places: Floats) -> tuple[Integers, Floats, Floats]:
         """The nearest step to each point of the plane, how far along it its nearest point stands, from 0 to 1, and that point."""
         if not len(places):
             return numpy.zeros(0, int), numpy.zeros(0), numpy.zeros((0, 2))
@@ -153,20 +162,20 @@ class Pieces:
         best = order[numpy.searchsorted(owner, numpy.arange(len(places)))]
         return steps[best], shares[best], at[best]
 
-    def within(self, places, distances):
+    def within(self, places: Floats, distances: Floats) -> Any:
         """The pieces of which a point is so near to each place, and some more: no point of a piece is farther from its middle than `reach`."""
         return self.tree.query_ball_point(places, distances * (1 + 1e-9) + self.reach + 1e-12)
 
-    def feet(self, steps, places):
+    def feet(self, steps: Integers, places: Floats) -> tuple[Floats, Floats, Floats]:
         """The nearest points of steps to places, one each: how far along the step, from 0 to 1, the square of the distance, and the point."""
         ways, off = self.ways[steps], places - self.starts[steps]
         squares = (ways * ways).sum(axis=1)
         shares = numpy.clip((ways * off).sum(axis=1) / numpy.where(squares > 0, squares, 1), 0, 1)
         return shares, ((off - ways * shares[:, None]) ** 2).sum(axis=1), self.starts[steps] + ways * shares[:, None]
 
-    def nearest_some(self, place, most, firsts):
+    def nearest_some(self, place: Floats, most: int, firsts: Integers) -> tuple[Integers, Floats, Floats]:
         """The same of one place and at most so many lines, which begin at `firsts`: of each line its nearest step, the nearest first."""
-        def best_of(steps):
+        def best_of(steps: Integers) -> tuple[Integers, Floats, Floats, Floats]:
             """The nearest step of each line, in order; of equally near ones the first."""
             shares, apart, at = self.feet(steps, place)
             lines = numpy.searchsorted(firsts, steps, "right")
@@ -174,7 +183,7 @@ class Pieces:
             order = order[numpy.sort(numpy.unique(lines[order], return_index=True)[1])][:most]
             return steps[order], shares[order], at[order], apart[order]
 
-        count, found = 4 * most, ()
+        count, found = 4 * most, numpy.zeros(0, numpy.int64)
         while len(found) < most:
             distances, near = self.tree.query(place[0], min(count, len(self.steps)))
             found, *_, apart = best_of(self.steps[numpy.atleast_1d(near)])
@@ -185,7 +194,7 @@ class Pieces:
         [near] = self.within(place, numpy.sqrt(apart[-1:]))
         return best_of(self.steps[numpy.asarray(near, int)])[:3]
 
-    def nearest_fitting(self, place, fits):
+    def nearest_fitting(self, place: Floats, fits: Callable[[Integers], Marks]) -> tuple[Integers, Floats, Floats]:
         """The same of one place and the nearest step for which `fits`, which judges an array of steps, holds."""
         count, found = 16, numpy.zeros(0, int)
         while not len(found):

@@ -1,8 +1,16 @@
 """The nodes nearest to places: by scipy's k-d tree where scipy and numpy are there, and else by a grid."""
+from __future__ import annotations
+
 import collections
 import math
+from collections.abc import Iterable, Iterator, Sequence
+from typing import TYPE_CHECKING, Any
 
 from chtab.roads import sphere
+
+if TYPE_CHECKING:
+    from numpy.typing import ArrayLike
+    from chtab import files
 
 # Nodes in a cell of the grid, on average.
 CROWD = 16
@@ -11,7 +19,7 @@ CROWD = 16
 class Tree:
     """The nodes in a k-d tree. Of nodes at one point the least numbered is taken."""
 
-    def __init__(self, coordinates):
+    def __init__(self, coordinates: files.Coordinates) -> None:
         import numpy
         from scipy.spatial import cKDTree
 
@@ -21,7 +29,7 @@ class Tree:
         self.nodes = nodes[numpy.unique(keys, return_index=True)[1]] + 1
         self.tree = cKDTree(sphere.points(*places[self.nodes - 1].T))
 
-    def nearest(self, longitudes, latitudes):
+    def nearest(self, longitudes: ArrayLike, latitudes: ArrayLike) -> tuple[Any, Any]:
         """The nearest node to each place, and the metres between them, as arrays."""
         chords, found = self.tree.query(sphere.points(longitudes, latitudes))
         return self.nodes[found], sphere.metres_of(chords)
@@ -30,24 +38,24 @@ class Tree:
 class Grid:
     """The nodes' points in cubes of equal size. The nearest node lies in the first shells of cubes around a place."""
 
-    def __init__(self, coordinates):
+    def __init__(self, coordinates: files.Coordinates) -> None:
         self.points = {node: sphere.point(*coordinates.of(node)) for node in coordinates.known()}
         spread = max(max(axis) - min(axis) for axis in zip(*self.points.values()))
         self.side = max(spread / math.sqrt(max(1, len(self.points) / CROWD)), 1e-9)
-        self.cubes = collections.defaultdict(list)
+        self.cubes: dict[tuple[int, ...], list[int]] = collections.defaultdict(list)
         for node, at in self.points.items():
             self.cubes[self.cube(at)].append(node)
 
-    def nearest(self, longitudes, latitudes):
+    def nearest(self, longitudes: Iterable[float], latitudes: Iterable[float]) -> tuple[Any, Any]:
         """The nearest node to each place, and the metres between them, as lists."""
         wanted = [sphere.point(*place) for place in zip(longitudes, latitudes)]
         found = [self.nearest_to(at) for at in wanted]
         return found, [sphere.metres(math.dist(at, self.points[node])) for at, node in zip(wanted, found)]
 
-    def cube(self, at):
+    def cube(self, at: Sequence[float]) -> tuple[int, ...]:
         return tuple(math.floor(part / self.side) for part in at)
 
-    def shell(self, middle, reach):
+    def shell(self, middle: Sequence[int], reach: int) -> Iterator[int]:
         """The nodes in cubes that are `reach` cubes away from this one."""
         x, y, z = middle
         steps = range(-reach, reach + 1)
@@ -62,7 +70,7 @@ class Grid:
                 for c in steps if is_side else {-reach, reach}:
                     yield from self.cubes.get((x + a, y + b, z + c), ())
 
-    def nearest_to(self, at):
+    def nearest_to(self, at: Sequence[float]) -> int:
         """The node of least distance and number; all nodes within `reach` cubes are nearer than what is beyond."""
         middle, reach, best = self.cube(at), 0, (math.inf, 0)
         while best[0] > (reach - 1) * self.side:
@@ -71,11 +79,11 @@ class Grid:
             reach = reach + 1 if found or reach < 16 else max(reach + 1, self.nearest_cube(middle))
         return best[1]
 
-    def nearest_cube(self, middle):
+    def nearest_cube(self, middle: Sequence[int]) -> int:
         return min(max(abs(a - b) for a, b in zip(middle, cube)) for cube in self.cubes)
 
 
-def index_of(coordinates, plain=False):
+def index_of(coordinates: files.Coordinates, plain: bool = False) -> Tree | Grid:
     """The nodes, to be looked for: in a tree, or in a grid where `plain` asks for it or scipy isn't there."""
     try:
         return Grid(coordinates) if plain else Tree(coordinates)

@@ -1,8 +1,12 @@
 """Draws a road network, routes, what is reached in a time, and how far the nearest place is, as SVG."""
+from __future__ import annotations
+
 import collections
 import html
 import math
 import textwrap
+from collections.abc import Iterable, Iterator, Mapping, Sequence
+from typing import IO, TypeAlias
 
 from chtab import files
 
@@ -14,16 +18,23 @@ FINE, MARGIN, LETTER = 4, 16, 0.6
 WIDE, WIDER, WIDTHS = 3, 3, 5
 
 
+# A point of the drawing; colours and texts of the legend; and shapes with their legend.
+At: TypeAlias = tuple[int, int]
+Segment: TypeAlias = frozenset[At]
+Legend: TypeAlias = list[tuple[str, str]]
+Drawing: TypeAlias = tuple[list[str], Legend]
+
+
 class Network:
     """The graph's arcs and unit, and the places of its nodes in a drawing whose longer side has `size` pixels."""
 
-    def __init__(self, graph, coordinates, size):
+    def __init__(self, graph: files.Graph, coordinates: files.Coordinates, size: float) -> None:
         self.graph = graph
         self.notes = "© OpenStreetMap contributors, ODbL" if any("OpenStreetMap" in line for line in coordinates.comments) else ""
         self.unit, self.share = files.UNITS.get(graph.unit, ("", 1))
         self.project(coordinates, size)
 
-    def project(self, coordinates, size):
+    def project(self, coordinates: files.Coordinates, size: float) -> None:
         """Longitude and latitude at one scale, true in the middle of the map."""
         places = {node: coordinates.of(node) for node in coordinates.known()}
         west, east, south, north = (end(axis) for axis in zip(*places.values()) for end in (min, max))
@@ -37,19 +48,19 @@ class Network:
             for node, (x, y) in places.items()
         }
 
-    def at(self, node):
+    def at(self, node: int) -> At:
         """The place of a node."""
         if node not in self.places:
             raise files.FileFault(f"the coordinate file has no node {node}")
         return self.places[node]
 
-    def told(self, weight):
+    def told(self, weight: float) -> str:
         return f"{weight / self.share:.1f} {self.unit}" if self.unit else str(weight)
 
 
-def path(segments):
+def path(segments: Iterable[tuple[At, ...]]) -> str:
     """The segments as the text of an SVG path: each once, joined to lines as long as they come."""
-    left = {}
+    left: dict[At, set[At]] = {}
     for a, b in segments:
         if a != b:
             left.setdefault(a, set()).add(b)
@@ -69,34 +80,39 @@ def path(segments):
     return "".join(parts)
 
 
-def stroke(segments, colour, pixels):
+def stroke(segments: Iterable[tuple[At, ...]], colour: str, pixels: float) -> str:
     return f'<path d="{path(segments)}" stroke="{colour}" stroke-width="{pixels * FINE:g}"/>'
 
 
-def circle(at, colour, fill):
+def circle(at: At, colour: str, fill: str) -> str:
     return f'<circle cx="{at[0]}" cy="{at[1]}" r="{5 * FINE}" fill="{fill}" stroke="{colour}" stroke-width="{2 * FINE}"/>'
 
 
-def roads(network):
+def roads(network: Network) -> list[str]:
     graph = network.graph
     return [stroke(((network.at(a), network.at(b)) for a, b in zip(graph.tails, graph.heads)), "#a3a39b", 0.9)]
 
 
-def by_width(line, left):
+def segments_of(line: Sequence[At]) -> set[Segment]:
+    """The segments of a line, each as a set of its ends."""
+    return {frozenset(ends) for ends in zip(line, line[1:])}
+
+
+def by_width(line: Sequence[At], left: collections.Counter[Segment]) -> list[tuple[int, list[tuple[At, ...]]]]:
     """The segments of a route's line, by how many routes that are drawn later take the same. `left` counts routes that are not drawn."""
-    parts = collections.defaultdict(list)
-    for segment in set(map(frozenset, zip(line, line[1:]))):
+    parts: dict[int, list[tuple[At, ...]]] = collections.defaultdict(list)
+    for segment in segments_of(line):
         left[segment] -= 1
         if len(segment) == 2:
             parts[left[segment]].append(tuple(sorted(segment)))
     return sorted(parts.items(), reverse=True)
 
 
-def draw_routes(network, routes, names):
+def draw_routes(network: Network, routes: Sequence[files.Answer], names: Mapping[int, str]) -> Drawing:
     """The shapes, and the lines of the legend: (colour, text). Where routes share a road, the later are drawn thin over the wide ones."""
     shapes, marks, legend = roads(network), [], []
-    lines = [[network.at(node) for node in route.nodes] for route in routes]
-    left = collections.Counter(segment for line in lines for segment in set(map(frozenset, zip(line, line[1:]))))
+    lines = [[network.at(node) for node in route.nodes or ()] for route in routes]
+    left = collections.Counter(segment for line in lines for segment in segments_of(line))
     shared = dict(left)
     for place, (route, line) in enumerate(zip(routes, lines)):
         colour = ROUTES[place % len(ROUTES)]
@@ -107,13 +123,13 @@ def draw_routes(network, routes, names):
             shapes.append(stroke(segments, colour, width))
         marks += [circle(line[0], colour, "#ffffff"), circle(line[-1], colour, colour)]
         start, end = (names.get(node, str(node)) for node in (route.source, route.target))
-        legend.append((colour, f"{start} to {end}: {network.told(route.weight)}"))
+        legend.append((colour, f"{start} to {end}: {network.told(route.weight or 0)}"))
     return shapes + marks, legend
 
 
-def banded(network, graph, times, borders):
+def banded(network: Network, graph: files.Graph, times: Mapping[int, float], borders: Sequence[float]) -> list[list[tuple[At, ...]]]:
     """For each band the pieces of a graph's arcs on which a traveller is within it. borders[k] and borders[k + 1] bound band k."""
-    bands = [[] for _ in borders[1:]]
+    bands: list[list[tuple[At, ...]]] = [[] for _ in borders[1:]]
     for start, end, weight in zip(graph.tails, graph.heads, graph.weights):
         if start not in times:
             continue
@@ -127,26 +143,27 @@ def banded(network, graph, times, borders):
     return bands
 
 
-def colour_of(place, count):
+def colour_of(place: int, count: int) -> str:
     """The colour of a band, of so many."""
     part = place / max(1, count - 1) * (len(NEAR_TO_FAR) - 1)
     low, high = NEAR_TO_FAR[math.floor(part)], NEAR_TO_FAR[math.ceil(part)]
     return "#" + "".join(f"{round(a + (b - a) * (part % 1)):02x}" for a, b in zip(low, high))
 
 
-def draw_bands(network, graph, times, limit, count):
+def draw_bands(network: Network, graph: files.Graph, times: Mapping[int, float], limit: float | None, count: int) -> Drawing:
     """Roads in bands by the `times` of nodes, {node: weight}, up to the limit (None: the greatest). Along an arc of the graph the time grows."""
     limit = max(times.values(), default=0) if limit is None else limit
     borders = [limit * place / count for place in range(count + 1)]
     times = {node: time for node, time in times.items() if time <= limit}
-    shapes, legend = roads(network), []
+    shapes = roads(network)
+    legend: Legend = []
     for place, band in reversed(list(enumerate(banded(network, graph, times, borders)))):
         shapes.append(stroke(band, colour_of(place, count), 1.6))
         legend.insert(0, (colour_of(place, count), f"up to {network.told(borders[place + 1])}"))
     return shapes, [*legend, ("#a3a39b", "not reached")]
 
 
-def draw_reach(network, source, times, limit, count, names):
+def draw_reach(network: Network, source: int, times: Mapping[int, float], limit: float | None, count: int, names: Mapping[int, str]) -> Drawing:
     """What is reached from the source, whose `times` are {node: weight}, in bands up to the limit (None: the farthest)."""
     shapes, legend = draw_bands(network, network.graph, times, limit, count)
     if source in names:
@@ -154,7 +171,7 @@ def draw_reach(network, source, times, limit, count, names):
     return [*shapes, circle(network.at(source), "#000000", "#ffffff")], legend
 
 
-def draw_near(network, nearest, limit, count, is_from):
+def draw_near(network: Network, nearest: Mapping[int, tuple[int, int]], limit: float | None, count: int, is_from: bool) -> Drawing:
     """How far the nearest target is, in bands up to the limit (None: the farthest). `nearest` is {node: (target, weight)}, the weights those to
     the target or from it."""
     graph = network.graph if is_from else network.graph._replace(tails=network.graph.heads, heads=network.graph.tails)
@@ -163,16 +180,16 @@ def draw_near(network, nearest, limit, count, is_from):
     return [*shapes, *(circle(network.at(target), "#000000", "#ffffff") for target in sorted({target for target, _ in nearest.values()}))], legend
 
 
-def text(x, y, words, size=13):
+def text(x: float, y: float, words: str, size: int = 13) -> str:
     return f'<text x="{x * FINE:.0f}" y="{y * FINE:.0f}" font-size="{size * FINE}">{html.escape(words)}</text>'
 
 
-def title_lines(title, pixels, size):
+def title_lines(title: str, pixels: float, size: int) -> list[str]:
     """The title in lines that fit into so many pixels."""
     return textwrap.wrap(title, max(1, int(pixels / (size * LETTER))))
 
 
-def scale_bar(network, left, bottom):
+def scale_bar(network: Network, left: float, bottom: float) -> list[str]:
     """A bar of round length, with its length above."""
     longest = 120 * network.metres
     bar = max(step * 10**power for power in range(8) for step in (1, 2, 5) if step * 10**power <= max(longest, 1))
@@ -183,7 +200,7 @@ def scale_bar(network, left, bottom):
     ]
 
 
-def legend_lines(legend, left, top):
+def legend_lines(legend: Legend, left: float, top: float) -> Iterator[str]:
     for place, (colour, words) in enumerate(legend):
         y = top + 20 * place
         line = f'x1="{left * FINE:.0f}" x2="{(left + 22) * FINE:.0f}" y1="{(y - 4) * FINE}" y2="{(y - 4) * FINE}"'
@@ -191,7 +208,7 @@ def legend_lines(legend, left, top):
         yield text(left + 30, y, words)
 
 
-def write(network, title, shapes, legend, out):
+def write(network: Network, title: str, shapes: Sequence[str], legend: Legend, out: IO[str]) -> None:
     """The whole picture: the title above, the map on the left, and the legend, as wide as its words, on the right."""
     longest = max((len(words) for _, words in legend), default=0)
     legend_width = max(215, round(30 + 13 * LETTER * longest + MARGIN))

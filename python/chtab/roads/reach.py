@@ -4,6 +4,11 @@ Roads are sampled onto a grid of squares, each with the least weight of what lie
 those around them, smoothed. So its border is as exact as a square is wide, and it takes as long as there are roads, not as they are
 bent.
 """
+from __future__ import annotations
+
+from collections.abc import Sequence
+from typing import TYPE_CHECKING, Any
+
 import numpy
 from shapely.geometry import MultiPolygon, Polygon, box
 from shapely.ops import unary_union
@@ -13,6 +18,10 @@ from chtab.roads import sphere
 from chtab.roads.lines import degrees, mercator
 from chtab.roads.snapping import NONE
 
+if TYPE_CHECKING:
+    from chtab.roads.snapping import Roads, Spots
+    from chtab.typing import Floats, Geojson, Integers, Marks, Point
+
 # Squares along the longer side of what is reached, and the least width of one in metres.
 SQUARES, NARROWEST = 320, 40.0
 # A polygon ends so many metres from the roads, or one square where these are wider.
@@ -21,7 +30,7 @@ AROUND = 90.0
 FEW = 8
 
 
-def samples(network_roads, times, spacing):
+def samples(network_roads: Roads, times: Integers, spacing: float) -> tuple[Floats, Floats]:
     """Points of roads in the plane, at most `spacing` apart, and the weight at which each is reached. `times` has the weights of nodes from
     1 on, -1 where one is not reached."""
     arcs, ends, parts = network_roads.segments()
@@ -37,7 +46,7 @@ def samples(network_roads, times, spacing):
     return at, firsts[segment] + part * network_roads.weights[arcs[segment]]
 
 
-def start_samples(network_roads, spot, spacing):
+def start_samples(network_roads: Roads, spot: Spots, spacing: float) -> tuple[Floats, ...]:
     """The same of the road that the spot itself lies on."""
     road, part = spot.roads[0], spot.parts[0]
     found = []
@@ -49,10 +58,10 @@ def start_samples(network_roads, spot, spacing):
         wanted = numpy.linspace(0, steps[-1], int(steps[-1] / spacing) + 2)
         at = numpy.column_stack([numpy.interp(wanted, steps, line[:, axis]) for axis in (0, 1)])
         found.append((at, abs(end - part) * max(weight, 0) * wanted / (steps[-1] or 1.0)))
-    return tuple(map(numpy.concatenate, zip(*found)))
+    return tuple(numpy.concatenate(column) for column in zip(*found))
 
 
-def grid_of(at, weights, width):
+def grid_of(at: Floats, weights: Floats, width: float) -> tuple[Floats, Floats]:
     """The least weight in each square, and the corner of the first. Four empty squares are left at each side."""
     corner = at.min(axis=0) - 4 * width
     square = ((at - corner) / width).astype(int)
@@ -62,7 +71,7 @@ def grid_of(at, weights, width):
     return grid, corner
 
 
-def spread(grid, reach):
+def spread(grid: Floats, reach: int) -> Floats:
     """Each square takes the least weight of the squares within `reach` of it."""
     for _ in range(reach):
         for axis in (0, 1):
@@ -71,7 +80,7 @@ def spread(grid, reach):
     return grid
 
 
-def outline(inside, corner, width):
+def outline(inside: Marks, corner: Floats, width: float) -> list[Any]:
     """The squares that are inside, as polygons in the plane."""
     edges = numpy.diff(numpy.pad(inside, ((0, 0), (1, 1))).astype(numpy.int8), axis=1)
     runs = zip(numpy.argwhere(edges == 1), numpy.argwhere(edges == -1)[:, 1])
@@ -83,13 +92,13 @@ def outline(inside, corner, width):
     return list(whole.geoms) if isinstance(whole, MultiPolygon) else [whole]
 
 
-def smooth(ring, width):
+def smooth(ring: Any, width: float) -> list[Point]:
     """The ring of a polygon with its stairs cut and its corners rounded (Chaikin 1974)."""
     line = numpy.array(Polygon(ring).simplify(0.75 * width).exterior.coords)[:-1]
     for _ in range(2):
         after = numpy.roll(line, -1, axis=0)
         line = numpy.stack([0.75 * line + 0.25 * after, 0.25 * line + 0.75 * after], axis=1).reshape(-1, 2)
-    return [tuple(round(float(part), 6) for part in place) for place in zip(*degrees(*numpy.vstack([line, line[:1]]).T))]
+    return [(round(float(x), 6), round(float(y), 6)) for x, y in zip(*degrees(*numpy.vstack([line, line[:1]]).T))]
 
 
 class Isochrones(OnMap, dict):
@@ -112,7 +121,7 @@ class Isochrones(OnMap, dict):
         return f"<isochrones of {limits}>"
 
 
-def polygons_of(inside, corner, width):
+def polygons_of(inside: Marks, corner: Floats, width: float) -> list[list[list[Point]]]:
     """The coordinates of a GeoJSON MultiPolygon."""
     least = FEW * width * width
     return [
@@ -122,7 +131,7 @@ def polygons_of(inside, corner, width):
     ]
 
 
-def polygons(network_roads, spot, times, limits):
+def polygons(network_roads: Roads, spot: Spots, times: Integers, limits: Sequence[float]) -> list[Any]:
     """The coordinates of a MultiPolygon for each limit, of which the largest is first. `times` are the weights at which nodes are reached from
     the spot, -1 where one is not, or not within the largest limit."""
     metre = 1 / (sphere.RADIUS * numpy.cos(numpy.radians(spot.latitudes[0])))
@@ -130,7 +139,7 @@ def polygons(network_roads, spot, times, limits):
     places = mercator(*numpy.vstack([network_roads.places[near], [[spot.longitudes[0], spot.latitudes[0]]]]).T)
     width = max(NARROWEST * metre, numpy.nanmax(numpy.nanmax(places, axis=0) - numpy.nanmin(places, axis=0)) / SQUARES)
     columns = zip(samples(network_roads, numpy.where(times <= limits[0], times, -1), width / 2), start_samples(network_roads, spot, width / 2))
-    at, weights = map(numpy.concatenate, columns)
+    at, weights = (numpy.concatenate(column) for column in columns)
     at, weights = at[weights <= limits[0]], weights[weights <= limits[0]]
     grid, corner = grid_of(at, weights, width)
     grid = spread(numpy.pad(grid, 4, constant_values=numpy.inf), max(1, round(AROUND * metre / width)))

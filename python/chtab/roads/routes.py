@@ -13,6 +13,8 @@ if TYPE_CHECKING:
     import pandas
     from numpy.typing import NDArray
 
+    from chtab.roads.layers import Layers
+
 
 class Routes(showing.OnMap, collections.abc.Sequence):
     """Routes in the order of the pairs.
@@ -30,11 +32,11 @@ class Routes(showing.OnMap, collections.abc.Sequence):
     # What colours a map.
     shown_by = "weight"
 
-    def __init__(self, answers, layers):
+    def __init__(self, answers: list[Answer], layers: Layers) -> None:
         # The answers by the numbers of nodes and the weights of the graph, as the files of the network have them.
         self.numbered, self.layers = answers, layers
 
-    def __getitem__(self, place):
+    def __getitem__(self, place: Any) -> Any:
         some = self.numbered[place]
         return [self.labelled(each) for each in some] if isinstance(place, slice) else self.labelled(some)
 
@@ -63,9 +65,9 @@ class Routes(showing.OnMap, collections.abc.Sequence):
         import numpy
 
         answers = [each for each in self.numbered if each.nodes]
-        tails, heads = ([node for each in answers for node in each.nodes[part]] for part in (slice(-1), slice(1, None)))
+        tails, heads = ([node for each in answers for node in (each.nodes or [])[part]] for part in (slice(-1), slice(1, None)))
         lines = self.layers.arcs.of(numpy.array(tails, numpy.int64), numpy.array(heads, numpy.int64))
-        cuts = numpy.cumsum([len(each.weights) for each in answers])[:-1]
+        cuts = numpy.cumsum([len(each.weights or ()) for each in answers])[:-1]
         found = iter(numpy.split(self.layers.rows[lines], cuts) if answers else [])
         return [next(found) if each.nodes else None for each in self.numbered]
 
@@ -82,7 +84,7 @@ class Routes(showing.OnMap, collections.abc.Sequence):
         keys = None if labelling is None else labelling.keys
         found: list[list[tuple] | None] = []
         for answer, rows in zip(self, self.rows()):
-            if answer.nodes is None:
+            if answer.nodes is None or rows is None:
                 found.append(None)
                 continue
             ends = zip(answer.nodes, answer.nodes[1:])

@@ -1,6 +1,7 @@
 """The same network under other conditions: other weights, closed roads, new ones."""
 from __future__ import annotations
 
+import functools
 import os
 from collections.abc import Iterable, Mapping
 from typing import TYPE_CHECKING, Any, NamedTuple, Self
@@ -14,13 +15,23 @@ from chtab.errors import DataFault
 from chtab.files import arc_columns, columns, edge_lines, measures
 from chtab.files.columns import told
 from chtab.files.frames import column_of
+from chtab.roads.from_arcs import FromArcs
 
 if TYPE_CHECKING:
+    from numpy.typing import NDArray
     import pandas
+    from chtab.roads.layers import Layers
+    from chtab.typing import Integers, Marks, Point
 
 
-class Scenarios:
+class Scenarios(FromArcs):
     """The call of a `Network` that makes another one of it. It has `_layers`, its files, `_measure`, its unit, and `_opened`, its opening."""
+
+    if TYPE_CHECKING:
+        nodes: int
+        _layers: Layers
+        _measure: measures.Measure
+        _opened: opening.Opening
 
     def changed(
         self, weights: ArrayLike | Mapping | pandas.Series | None = None, closed: Iterable | ArrayLike | None = None,
@@ -75,45 +86,45 @@ class Scenarios:
 class New(NamedTuple):
     """Arcs that are added: their ends and weights, lines or None, and the most that a weight was rounded by."""
 
-    tails: numpy.ndarray
-    heads: numpy.ndarray
-    weights: numpy.ndarray
-    lines: list | None
+    tails: Integers
+    heads: Integers
+    weights: Integers
+    lines: list[Any] | None
     rounding: float
 
 
 class Given(NamedTuple):
     """The arcs of a network as they are given to others: in columns, each with its row."""
 
-    layers: Any
-    tails: numpy.ndarray
-    heads: numpy.ndarray
-    weights: numpy.ndarray
-    rows: numpy.ndarray
-    keys: list | None
+    layers: Layers
+    tails: Integers
+    heads: Integers
+    weights: Integers
+    rows: Integers
+    keys: list[Any] | None
 
     @classmethod
-    def of(cls, layers) -> Given:
+    def of(cls, layers: Layers) -> Given:
         """Those of the files of a network."""
         graph, labelling = layers.graph, layers.labelling
-        columns_of = (numpy.array(column, numpy.int64) for column in (graph.tails, graph.heads, graph.weights))
-        return cls(layers, *columns_of, layers.rows, None if labelling is None else labelling.keys)
+        tails, heads, weights = (numpy.array(column, numpy.int64) for column in (graph.tails, graph.heads, graph.weights))
+        return cls(layers, tails, heads, weights, layers.rows, None if labelling is None else labelling.keys)
 
     @property
-    def count(self):
+    def row_count(self) -> int:
         """How many rows there are, also those whose arcs are closed."""
         return self.layers.row_count
 
     # Which arcs are meant.
 
-    def marked(self, name, arcs):
+    def marked(self, name: str, arcs: Any) -> Marks:
         """Which arcs some names of arcs are, as an array of bool."""
         is_marked = numpy.zeros(len(self.rows), bool)
         if arcs is None:
             return is_marked
         if isinstance(arcs, tuple) and len(arcs) in (2, 3) and not any(isinstance(part, tuple | list) for part in arcs):
             raise DataFault(f"{name} is a list: [{arcs!r}] is one arc, and {[*arcs]!r} are rows", name)
-        column = numpy.asarray(columns.in_rows(arcs, self.count)) if hasattr(arcs, "__array__") else None
+        column = numpy.asarray(columns.in_rows(arcs, self.row_count)) if hasattr(arcs, "__array__") else None
         if column is not None and column.dtype == bool:
             self.see_that_rows(name, column)
             return column[self.rows]
@@ -121,16 +132,16 @@ class Given(NamedTuple):
             is_marked[self.places(name, place, arc)] = True
         return is_marked
 
-    def see_that_rows(self, name, column):
-        if column.ndim != 1 or len(column) != self.count:
-            raise DataFault(f"{name} has the shape {column.shape}, and there are {self.count:,} rows of arcs", name)
+    def see_that_rows(self, name: str, column: NDArray[Any]) -> None:
+        if column.ndim != 1 or len(column) != self.row_count:
+            raise DataFault(f"{name} has the shape {column.shape}, and there are {self.row_count:,} rows of arcs", name)
 
-    def places(self, name, place, arc):
+    def places(self, name: str, place: int, arc: Any) -> Integers:
         """The arcs of a name."""
         if isinstance(arc, int | numpy.integer) and not isinstance(arc, bool):
             found = numpy.flatnonzero(self.rows == arc)
-            if not 0 <= arc < self.count:
-                raise columns.refused(name, place, f"there is no row {arc} of arcs; they are from 0 to {self.count - 1:,}")
+            if not 0 <= arc < self.row_count:
+                raise columns.refused(name, place, f"there is no row {arc} of arcs; they are from 0 to {self.row_count - 1:,}")
             return found
         if not isinstance(arc, tuple | list) or len(arc) not in (2, 3):
             raise columns.refused(name, place, f"{told(arc)} is neither a row, nor (source, target), nor (source, target, key)")
@@ -144,21 +155,21 @@ class Given(NamedTuple):
             raise columns.refused(name, place, f"there is no arc {told(tuple(arc))}")
         return found
 
-    def between(self, tail, head):
+    def between(self, tail: int, head: int) -> Integers:
         """All arcs from one node to another."""
         order, ends = self.layers.arcs_by_ends
         key = tail * (self.layers.graph.nodes + 1) + head
-        return order[ends.searchsorted(key):ends.searchsorted(key, "right")]
+        return order[int(ends.searchsorted(key)):int(ends.searchsorted(key, "right"))]
 
     # What is changed.
 
-    def reweighted(self, weights, measure, scale, most):
+    def reweighted(self, weights: Any, measure: measures.Measure, scale: float | None, most: int) -> tuple[Given, float]:
         """These arcs with other weights, and the most that one was rounded by."""
         if weights is None:
             return self, 0.0
         names = list(weights.keys()) if hasattr(weights, "keys") and self.are_names(weights) else None
         given = list(weights.values()) if isinstance(weights, Mapping) else weights
-        numbers = numbers_of("weights", columns.in_rows(given, self.count) if names is None else given, measure)
+        numbers = numbers_of("weights", columns.in_rows(given, self.row_count) if names is None else given, measure)
         whole, rounding = arc_columns.whole_weights("weights", numbers, scale, most)
         if names is None:
             self.see_that_rows("weights", whole)
@@ -168,17 +179,18 @@ class Given(NamedTuple):
             changed[self.places("weights", place, arc)] = weight
         return self._replace(weights=changed), rounding
 
-    def are_names(self, weights):
+    def are_names(self, weights: Any) -> bool:
         """Whether a Series has names of arcs, and is not just one weight for each row in their order; a dict always has."""
         if isinstance(weights, Mapping):
             return True
         index = weights.index
-        return getattr(index, "nlevels", 1) > 1 or len(weights) != self.count or any(isinstance(name, tuple) for name in index[:1])
+        return getattr(index, "nlevels", 1) > 1 or len(weights) != self.row_count or any(isinstance(name, tuple) for name in index[:1])
 
-    def added(self, given, measure, scale, most):
+    def added(self, given: Any, measure: measures.Measure, scale: float | None, most: int) -> New:
         """The arcs that come to these."""
         if given is None:
-            return New(*numpy.zeros((3, 0), numpy.int64), None, 0.0)
+            nothing = numpy.zeros(0, numpy.int64)
+            return New(nothing, nothing, nothing, None, 0.0)
         lines = None
         if hasattr(given, "columns"):
             sources, targets, weights = (column_of(given, name) for name in ("source", "target", "weight"))
@@ -193,32 +205,36 @@ class Given(NamedTuple):
         whole, rounding = arc_columns.whole_weights("added weight", numbers_of("added weight", weights, measure), scale, most)
         return New(tails, heads, whole, edge_lines.lines_in("added geometry", lines, len(whole)), rounding)
 
-    def arcs(self, kept, new: New, rounding) -> arc_columns.Arcs:
+    def arcs(self, kept: Marks, new: New, rounding: float) -> arc_columns.Arcs:
         """The arcs that are kept, and the new ones behind them."""
         layers, labelling = self.layers, self.layers.labelling
         count = len(new.tails)
-        rows = numpy.append(self.rows[kept], self.count + numpy.arange(count))
-        own = (None, 0.0, None) if labelling is None else (labelling.scale, max(labelling.rounding, rounding, new.rounding), labelling.unit)
+        rows = numpy.append(self.rows[kept], self.row_count + numpy.arange(count))
+        scale, unit = (None, None) if labelling is None else (labelling.scale, labelling.unit)
+        most = 0.0 if labelling is None else max(labelling.rounding, rounding, new.rounding)
         keys = None if self.keys is None else [*self.keys, *[0] * count]
-        joined = (numpy.append(column[kept], more) for column, more in ((self.tails, new.tails), (self.heads, new.heads), (self.weights, new.weights)))
-        bends = self.bends(kept, new)
-        base = layers.graph.unit
-        return arc_columns.Arcs(layers.labels, *joined, *own, None, bends, self.count + count, rows, keys, base, making.Beside(layers))
+        tails, heads, weights = (
+            numpy.append(column[kept], more) for column, more in ((self.tails, new.tails), (self.heads, new.heads), (self.weights, new.weights))
+        )
+        return arc_columns.Arcs(
+            layers.labels, tails, heads, weights, scale, most, unit, None, self.bends(kept, new), self.row_count + count, rows, keys, layers.graph.unit,
+            making.Beside(layers),
+        )
 
-    def bends(self, kept, new):
+    def bends(self, kept: Marks, new: New) -> dict[int, list[Point]]:
         """The bends of the arcs that are kept, by their new numbers, and those of the new ones."""
         path, numbers = self.layers.paths["bends"], numpy.cumsum(kept) - 1
-        found = {} if path is None else self.layers.read_file("bends", lambda: files.read_bends(path))
+        found = {} if path is None else self.layers.read_file("bends", functools.partial(files.read_bends, path))
         bends = {int(numbers[arc]): points for arc, points in found.items() if arc < len(kept) and kept[arc]}
         if new.lines is None:
             return bends
         coordinates = self.layers.coordinates
-        places = [numpy.array(column) for column in (coordinates.longitudes, coordinates.latitudes)]
+        places = numpy.array(coordinates.longitudes), numpy.array(coordinates.latitudes)
         own = edge_lines.bends_of(new.lines, new.tails, new.heads, places)
         return bends | {arc + int(kept.sum()): points for arc, points in own.items()}
 
 
-def numbers_of(name, given, measure):
+def numbers_of(name: str, given: Any, measure: measures.Measure) -> NDArray[Any]:
     """Weights as numbers in the network's unit. Durations are made such."""
     durations = columns.durations_in(name, given)
     if durations is None:

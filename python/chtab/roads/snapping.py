@@ -4,15 +4,22 @@ A road is a line that one arc leads along, or two of opposite directions: from `
 `backward`. Where turns are restricted a crossing has several nodes, and several arcs lead along a road between them: which of these nodes one
 comes to says which turns are open.
 """
+from __future__ import annotations
+
 import itertools
-from dataclasses import dataclass
-from typing import NamedTuple
+from collections.abc import Mapping, Sequence
+from dataclasses import dataclass, replace
+from typing import TYPE_CHECKING, Any, NamedTuple
 
 import numpy
 
 from chtab.engine.walks import ranges
 from chtab.errors import ChtabError, TooFar
 from chtab.roads.lines import Lines, metres_between
+
+if TYPE_CHECKING:
+    from chtab import files
+    from chtab.typing import Column, Floats, Integers, Point
 
 # No arc leads along a road in this direction; a place doesn't leave or arrive by this end.
 NONE = -1
@@ -24,7 +31,7 @@ AT_END = 1.0
 INSIDE = 1e-9
 
 
-def places_in(longitudes, latitudes):
+def places_in(longitudes: Column, latitudes: Column) -> list[Floats]:
     """Two columns of degrees. A number that is no degree, such as NaN, is a ValueError."""
     columns = [numpy.asarray(part, float).reshape(-1) for part in (longitudes, latitudes)]
     if len(columns[0]) != len(columns[1]):
@@ -35,16 +42,16 @@ def places_in(longitudes, latitudes):
     return columns
 
 
-def length_text(metres):
+def length_text(metres: float) -> str:
     """A length as a person tells it: 640 m, 18.6 km, 5,467 km."""
     if metres < 999.5:
         return f"{metres:.0f} m"
     return f"{metres / 1000:.1f}".removesuffix(".0") + " km" if metres < 99_950 else f"{metres / 1000:,.0f} km"
 
 
-def far_text(longitude, latitude, metres, what, most):
+def far_text(longitude: float, latitude: float, metres: float, what: str, most: float | None) -> str:
     """What is told of a place that is too far from each road, or node."""
-    return f"{longitude:.6f} {latitude:.6f} is {length_text(metres)} from the nearest {what}, more than {length_text(most)}; " \
+    return f"{longitude:.6f} {latitude:.6f} is {length_text(metres)} from the nearest {what}, more than {length_text(most or 0)}; " \
         "longitude comes first, then latitude"
 
 
@@ -59,45 +66,45 @@ class Spots:
     which the road may be driven along at the spot, `FORWARD`, `BACKWARD` or both; the road itself may be closed in one of them.
     """
 
-    longitudes: numpy.ndarray
-    latitudes: numpy.ndarray
-    metres: numpy.ndarray
-    roads: numpy.ndarray
-    parts: numpy.ndarray
-    out_nodes: numpy.ndarray
-    out_weights: numpy.ndarray
-    in_nodes: numpy.ndarray
-    in_weights: numpy.ndarray
-    sides: numpy.ndarray
+    longitudes: Floats
+    latitudes: Floats
+    metres: Floats
+    roads: Integers
+    parts: Floats
+    out_nodes: Integers
+    out_weights: Integers
+    in_nodes: Integers
+    in_weights: Integers
+    sides: Integers
 
-    def __len__(self):
+    def __len__(self) -> int:
         return len(self.roads)
 
-    def __getitem__(self, which):
+    def __getitem__(self, which: Any) -> Spots:
         """Some of them: a slice or an array of places."""
         return Spots(*(column[which] for column in vars(self).values()))
 
 
-def one_sided(spots, sides):
+def one_sided(spots: Spots, sides: Integers) -> Spots:
     """Spots that are left and come to in some directions of their roads alone."""
     half = spots.out_nodes.shape[1] // 2
     # Who drives forward comes from `first` and goes to `last`.
     backward, forward = ((sides & side == 0)[:, None] for side in (BACKWARD, FORWARD))
     closed = numpy.repeat(numpy.hstack([backward, forward]), half, axis=1)
     shut = numpy.repeat(numpy.hstack([forward, backward]), half, axis=1)
-    outs = (numpy.where(closed, NONE, column) for column in (spots.out_nodes, spots.out_weights))
-    ins = (numpy.where(shut, NONE, column) for column in (spots.in_nodes, spots.in_weights))
-    return Spots(spots.longitudes, spots.latitudes, spots.metres, spots.roads, spots.parts, *outs, *ins, sides)
+    out_nodes, out_weights = (numpy.where(closed, NONE, column) for column in (spots.out_nodes, spots.out_weights))
+    in_nodes, in_weights = (numpy.where(shut, NONE, column) for column in (spots.in_nodes, spots.in_weights))
+    return replace(spots, out_nodes=out_nodes, out_weights=out_weights, in_nodes=in_nodes, in_weights=in_weights, sides=sides)
 
 
 class Ways(NamedTuple):
     """By which nodes roads are left, or come to, and the weights of the whole road: a row for each, in the order that `Spots` have."""
 
-    nodes: numpy.ndarray
-    weights: numpy.ndarray
+    nodes: Integers
+    weights: Integers
 
 
-def ways_of(roads, sides, nodes, weights, count):
+def ways_of(roads: Integers, sides: Integers, nodes: Integers, weights: Integers, count: int) -> Ways:
     """The ways of so many roads. Given are, for each arc, its road, at which end of it (0 or 1) its node is, the node and the weight; of
     arcs of one node the least weight counts."""
     order = numpy.lexsort([weights, nodes, sides, roads])
@@ -126,13 +133,15 @@ class Roads:
         The points of arcs between their ends, as `files.read_bends` gives them.
     """
 
-    def __init__(self, graph, coordinates, bends=None):
+    def __init__(self, graph: files.Graph, coordinates: files.Coordinates, bends: Mapping[int, Sequence[Point]] | None = None) -> None:
         self.tails, self.heads, self.weights = (numpy.array(column, numpy.int64) for column in (graph.tails, graph.heads, graph.weights))
         self.ends = coordinates.ends()
         known = numpy.column_stack([coordinates.longitudes, coordinates.latitudes])
         self.places = numpy.full((graph.nodes, 2), numpy.nan)
         self.places[:len(known)] = known[:graph.nodes]
-        self.ordered = self.least_pace = self.pieces = None
+        self.ordered: tuple[Integers, Integers] | None = None
+        self.pieces: tuple[Integers, Floats, Floats] | None = None
+        self.least_pace: float | None = None
         crossing = numpy.arange(graph.nodes + 1)
         for copy, node in coordinates.copies().items():
             crossing[copy] = node
@@ -141,7 +150,7 @@ class Roads:
         self.find_roads(crossing[self.tails], crossing[self.heads], {} if bends is None else bends)
         self.find_ways()
 
-    def find_roads(self, tails, heads, bends):
+    def find_roads(self, tails: Integers, heads: Integers, bends: Mapping[int, Sequence[Point]]) -> None:
         """The roads by the crossings at both ends of arcs: first those without bends, then those with them."""
         bent = {arc: points for arc, points in bends.items() if arc < len(tails)}
         firsts, lasts = self.straight(tails, heads, list(bent))
@@ -154,7 +163,7 @@ class Roads:
         places[ranges(at + 1, counts - 2)] = more[3]
         self.lines = Lines(counts, places)
 
-    def straight(self, tails, heads, bent):
+    def straight(self, tails: Integers, heads: Integers, bent: list[int]) -> tuple[Integers, Integers]:
         """The ends of roads of arcs without bends, each pair of crossings once."""
         kept = tails != heads
         kept[bent] = False
@@ -162,19 +171,21 @@ class Roads:
         keys, self.road_of[kept] = numpy.unique(low << 32 | high, return_inverse=True)
         return keys >> 32, keys & 0xFFFFFFFF
 
-    def bent(self, tails, heads, bends, before):
+    def bent(
+        self, tails: Integers, heads: Integers, bends: Mapping[int, Sequence[Point]], before: int,
+    ) -> tuple[Integers, Integers, Integers, Floats]:
         """The roads of arcs with bends: their ends, the numbers of their places, and all bends. Both directions of the same bends are one."""
-        roads = {}
+        roads: dict[tuple[Any, ...], int] = {}
         for arc, points in bends.items():
-            tail, head, back = int(tails[arc]), int(heads[arc]), points[::-1]
+            tail, head, points, back = int(tails[arc]), int(heads[arc]), list(points), list(points)[::-1]
             is_back = tail > head or tail == head and points > back
             key = (head, tail, *back) if is_back else (tail, head, *points)
             self.road_of[arc], self.is_back[arc] = roads.setdefault(key, before + len(roads)), is_back
         ends = numpy.array([key[:2] for key in roads], numpy.int64).reshape(-1, 2)
         counts = numpy.array([len(key) for key in roads], numpy.int64)
-        return *ends.T, counts, numpy.array([point for key in roads for point in key[2:]], float).reshape(-1, 2)
+        return ends[:, 0], ends[:, 1], counts, numpy.array([point for key in roads for point in key[2:]], numpy.float64).reshape(-1, 2)
 
-    def find_ways(self):
+    def find_ways(self) -> None:
         """By which nodes each road is left and come to, and the least weights of both directions."""
         kept = self.road_of != NONE
         roads, is_back, weights = self.road_of[kept], self.is_back[kept], self.weights[kept]
@@ -185,12 +196,12 @@ class Roads:
         least[least == numpy.iinfo(numpy.int64).max] = NONE
         self.forward, self.backward = least
 
-    def __len__(self):
+    def __len__(self) -> int:
         return len(self.firsts)
 
     # From places to roads.
 
-    def find(self, longitudes, latitudes, max_metres=1_000.0):
+    def find(self, longitudes: Column, latitudes: Column, max_metres: float = 1_000.0) -> Spots:
         """The places, taken to roads. Those that are farther from each road than `max_metres` are told by a `TooFar`."""
         longitudes, latitudes = places_in(longitudes, latitudes)
         spots = self.find_any(longitudes, latitudes)
@@ -200,33 +211,34 @@ class Roads:
             raise TooFar(text, {place: float(spots.metres[place]) for place in far})
         return spots
 
-    def find_any(self, longitudes, latitudes):
+    def find_any(self, longitudes: Column, latitudes: Column) -> Spots:
         """The same of places at any distance from roads, as two arrays."""
         if not len(self):
             raise ChtabError("the graph has no road between two places")
-        return self.spots_at(longitudes, latitudes, *self.lines.nearest(longitudes, latitudes))
+        x, y = numpy.asarray(longitudes, float), numpy.asarray(latitudes, float)
+        return self.spots_at(x, y, *self.lines.nearest(x, y))
 
-    def find_some(self, longitude, latitude, most):
+    def find_some(self, longitude: float, latitude: float, most: int) -> Spots:
         """One place, taken to each of its nearest roads, at most so many, the nearest first."""
         if not len(self):
             raise ChtabError("the graph has no road between two places")
         found = self.lines.nearest_some(longitude, latitude, most)
         return self.spots_at(numpy.full(len(found[0]), longitude), numpy.full(len(found[0]), latitude), *found)
 
-    def spots_at(self, longitudes, latitudes, roads, parts, xs, ys):
+    def spots_at(self, longitudes: Column, latitudes: Column, roads: Integers, parts: Floats, xs: Floats, ys: Floats) -> Spots:
         """The spots of places at these parts of roads."""
         metres = metres_between(longitudes, latitudes, xs, ys)
         lengths = self.lines.metres[roads]
         parts = numpy.where(parts * lengths < AT_END, 0.0, parts)
         return self.spots(xs, ys, metres, roads, numpy.where((1 - parts) * lengths < AT_END, 1.0, parts))
 
-    def spots(self, longitudes, latitudes, metres, roads, parts):
+    def spots(self, longitudes: Floats, latitudes: Floats, metres: Floats, roads: Integers, parts: Floats) -> Spots:
         """The ways out of spots and into them, with their weights rounded."""
         at_node = numpy.flatnonzero((parts == 0) | (parts == 1))
         begins = numpy.where(parts == 0, self.firsts[roads], self.lasts[roads])[at_node]
         stops = numpy.array([self.ends.get(node, node) for node in begins.tolist()], numpy.int64)
 
-        def ways(of_roads, nodes_there):
+        def ways(of_roads: Ways, nodes_there: Integers) -> tuple[Integers, Integers]:
             """A spot at a node uses the node alone where trips begin or end there, at no weight."""
             nodes, weights = of_roads.nodes[roads], of_roads.weights[roads]
             half = nodes.shape[1] // 2
@@ -240,7 +252,7 @@ class Roads:
         sides = numpy.full(len(roads), FORWARD | BACKWARD)
         return Spots(longitudes, latitudes, metres, roads, parts, *ways(self.out_ways, begins), *ways(self.in_ways, stops), sides)
 
-    def find_facing(self, longitude, latitude, bearing, within):
+    def find_facing(self, longitude: float, latitude: float, bearing: float, within: float) -> Spots:
         """One place, taken to the nearest point at which one may drive in a direction, in degrees clockwise from north, or at most `within` degrees
         off it; and it is left and come to in that direction alone. There are no spots where no road leads so."""
         steps, share, at = self.lines.nearest_facing(longitude, latitude, lambda steps: self.facing(steps, bearing, within) > 0)
@@ -251,7 +263,7 @@ class Roads:
         metres = metres_between(numpy.full(len(steps), longitude), numpy.full(len(steps), latitude), *at)
         return one_sided(self.spots(*at, metres, roads, parts), self.facing(steps, bearing, within))
 
-    def facing(self, steps, bearing, within):
+    def facing(self, steps: Integers, bearing: float, within: float) -> Integers:
         """The directions along its road in which each step of a line may be driven along and leads in a direction."""
         leads = self.lines.bearings(steps)
         roads = numpy.searchsorted(self.lines.firsts, steps, "right") - 1
@@ -261,7 +273,7 @@ class Roads:
             found |= numpy.where(is_near & (weights[roads] != NONE), side, 0)
         return found
 
-    def along(self, starts, ends):
+    def along(self, starts: Spots, ends: Spots) -> Integers:
         """The weights from spots to others along the roads on which both lie, `NONE` where they don't, or no arc leads that way. The
         arrays of both are taken together by numpy's rules."""
         parts = ends.parts - starts.parts
@@ -272,18 +284,18 @@ class Roads:
 
     # How roads lie.
 
-    def stretch(self, road, start, end):
+    def stretch(self, road: int, start: float, end: float) -> Floats:
         """The places of a road from one part of it to another, in degrees (n, 2)."""
         return self.lines.stretch(road, start, end)
 
-    def lines_of(self, routes):
+    def lines_of(self, routes: Sequence[files.Answer]) -> list[Floats]:
         """The places of each of some routes with their nodes and the weights of their arcs, in degrees: a list of (n, 2). A place may follow
         on itself."""
         if not routes:
             return []
-        nodes = numpy.fromiter(itertools.chain.from_iterable(each.nodes for each in routes), numpy.int64)
-        weights = numpy.fromiter(itertools.chain.from_iterable(each.weights for each in routes), numpy.int64)
-        lasts = numpy.cumsum([len(each.nodes) for each in routes]) - 1
+        nodes = numpy.fromiter(itertools.chain.from_iterable(each.nodes or () for each in routes), numpy.int64)
+        weights = numpy.fromiter(itertools.chain.from_iterable(each.weights or () for each in routes), numpy.int64)
+        lasts = numpy.cumsum([len(each.nodes or ()) for each in routes]) - 1
         is_tail, is_head = numpy.ones((2, len(nodes)), bool)
         is_tail[lasts] = is_head[0] = is_head[lasts[:-1] + 1] = False
         arcs = self.arcs_of(nodes[is_tail], nodes[is_head], weights)
@@ -295,12 +307,12 @@ class Roads:
         counts[1:][is_along] = self.lines.firsts[roads + 1] - self.lines.firsts[roads]
         cuts = numpy.cumsum(counts)[arcs_before]
         ends = self.places[nodes[lasts] - 1]
-        starts = self.places[[each.nodes[0] - 1 for each in routes]]
+        starts = self.places[nodes[numpy.append(0, lasts[:-1] + 1)] - 1]
         return [
             numpy.concatenate([starts[each:each + 1], places[cuts[each]:cuts[each + 1]], ends[each:each + 1]]) for each in range(len(routes))
         ]
 
-    def arcs_of(self, tails, heads, weights):
+    def arcs_of(self, tails: Integers, heads: Integers, weights: Integers) -> Integers:
         """The arcs between nodes with these weights, of several the first; a route has the least of its ends."""
         if self.ordered is None:
             keys = self.tails << 32 | self.heads
@@ -313,7 +325,7 @@ class Roads:
             raise ChtabError("a route has an arc that the graph doesn't have: the file of the graph was changed")
         return arcs
 
-    def segments(self):
+    def segments(self) -> tuple[Integers, Floats, Floats]:
         """The straight pieces of all arcs along roads: their arcs, both ends in degrees (n, 4), and the parts of the arc at both ends (n, 2)."""
         if self.pieces is None:
             arcs = numpy.flatnonzero(self.road_of != NONE)
@@ -330,7 +342,7 @@ class Roads:
 
     # What can be reached.
 
-    def pace(self):
+    def pace(self) -> float:
         """The least weight of a metre that lies straight between the ends of an arc; 0 where a node of an arc has no place."""
         if self.least_pace is None:
             tails, heads = self.places[self.tails - 1], self.places[self.heads - 1]
@@ -340,7 +352,7 @@ class Roads:
             self.least_pace = 0.0 if numpy.isnan(metres).any() else float(paces.min(initial=numpy.inf))
         return self.least_pace
 
-    def nodes_near(self, starts, limits):
+    def nodes_near(self, starts: Integers, limits: Integers) -> Integers:
         """All nodes that are reached from a node of `starts` within its limit, and others: no arc is quicker than the least pace."""
         pace = self.pace()
         is_near = numpy.zeros(len(self.places), bool)

@@ -1,16 +1,23 @@
 """Lengths on the earth, a sphere of 6,371,008.8 metres as the converter of maps takes it."""
+from __future__ import annotations
+
 import math
+from typing import TYPE_CHECKING
+
+if TYPE_CHECKING:
+    from numpy.typing import ArrayLike
+    from chtab.typing import Floats
 
 RADIUS = 6_371_008.8
 
 
-def point(longitude, latitude):
+def point(longitude: float, latitude: float) -> tuple[float, float, float]:
     """The point of the sphere of radius 1."""
     x, y = math.radians(longitude), math.radians(latitude)
     return math.cos(y) * math.cos(x), math.cos(y) * math.sin(x), math.sin(y)
 
 
-def points(longitudes, latitudes):
+def points(longitudes: ArrayLike, latitudes: ArrayLike) -> Floats:
     """The points of the sphere of radius 1, a row for each place."""
     import numpy
 
@@ -18,12 +25,12 @@ def points(longitudes, latitudes):
     return numpy.column_stack([numpy.cos(y) * numpy.cos(x), numpy.cos(y) * numpy.sin(x), numpy.sin(y)])
 
 
-def metres(chord):
+def metres(chord: float) -> float:
     """Along the sphere between two points of the sphere of radius 1 whose straight distance is `chord`."""
     return 2 * RADIUS * math.asin(min(1.0, chord / 2))
 
 
-def metres_of(chords):
+def metres_of(chords: Floats) -> Floats:
     """The same of an array of straight distances."""
     import numpy
 

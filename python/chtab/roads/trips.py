@@ -2,6 +2,11 @@
 
 `legs.py` says which ways lead from spot to spot.
 """
+from __future__ import annotations
+
+from collections.abc import Sequence
+from typing import TYPE_CHECKING, Any
+
 import numpy
 
 from chtab.engine.answers import NO_WALK
@@ -10,6 +15,12 @@ from chtab.near.runs import NearQuestion
 from chtab.roads.legs import FAR, legs_between, table_ways, totals, ways_between
 from chtab.roads.routes import Trip
 from chtab.roads.snapping import Spots
+
+if TYPE_CHECKING:
+    from chtab.engine.node_queries import NodeQueries
+    from chtab.roads.layers import Layers
+    from chtab.roads.snapping import Roads, Spots
+    from chtab.typing import Integers
 
 # Trips whose routes are asked for together.
 BATCH = 256
@@ -26,14 +37,14 @@ class Trips:
         The files of the network: its roads, and what its nodes are called.
     """
 
-    def __init__(self, queries, layers):
+    def __init__(self, queries: NodeQueries, layers: Layers) -> None:
         self.queries, self.layers = queries, layers
 
     @property
-    def roads(self):
+    def roads(self) -> Roads:
         return self.layers.roads
 
-    def weights(self, starts, ends):
+    def weights(self, starts: Spots, ends: Spots) -> Integers:
         """What `Network.trips` answers."""
         pairs, added = ways_between(starts, ends)
         is_there = (pairs > 0).all(axis=2)
@@ -41,31 +52,31 @@ class Trips:
         best = totals(added, is_there, between, self.roads.along(starts, ends)).min(axis=1, initial=FAR)
         return numpy.where(best < FAR, best, NO_WALK)
 
-    def table(self, starts, ends, within=None):
+    def table(self, starts: Spots, ends: Spots, within: int | None = None) -> Integers:
         """What `Network.trip_table` answers, with a limit of the graph."""
         best, _ = table_ways(self, starts, ends, within)
         return numpy.where(best < FAR, best, NO_WALK)
 
-    def routes(self, starts, ends):
+    def routes(self, starts: Spots, ends: Spots) -> list[Trip]:
         """What `Network.trip_routes` answers, with weights of the graph."""
-        found = []
+        found: list[Trip] = []
         for first in range(0, len(starts), BATCH):
             some = slice(first, first + BATCH)
             found += self.some_routes(starts[some], ends[some])
         return found
 
-    def some_routes(self, starts, ends):
+    def some_routes(self, starts: Spots, ends: Spots) -> list[Trip]:
         """The same of so many trips that they are asked for together."""
         found = legs_between(self, starts, ends)
         there = numpy.flatnonzero(found.weights >= 0).tolist()
         traces, listed = dict(zip(there, found.traces(there))), self.layers.labels.listed
         return [
-            Trip(int(found.weights[leg]), float(found.metres[leg]), list(map(tuple, traces[leg].places.tolist())), listed(found.nodes(leg)))
+            Trip(int(found.weights[leg]), float(found.metres[leg]), [(x, y) for x, y in traces[leg].places.tolist()], listed(found.nodes(leg)))
             if leg in traces else Trip(None, None, None, [])
             for leg in range(len(found))
         ]
 
-    def reach(self, spot, within=None):
+    def reach(self, spot: Spots, within: int | None = None) -> Integers:
         """What `Network.reach` answers, with a limit of the graph."""
         see_that_one(spot)
         outs = spot.out_nodes[0] > 0
@@ -74,12 +85,12 @@ class Trips:
         found = self.by_near(nodes, added, within) if self.queries.near.is_at_hand else self.by_either(nodes, added, within)
         return numpy.where(found <= limit, found, NO_WALK)
 
-    def by_either(self, nodes, added, within):
+    def by_either(self, nodes: Integers, added: Integers, within: int | None) -> Integers:
         """What `by_table` gives: by near rows of all nodes, or by a table with the nodes that may be near."""
         near = numpy.arange(1, len(self.roads.places) + 1) if within is None else self.roads.nodes_near(nodes, within - added)
         return self.by_near(nodes, added, within) if self.queries.is_near_best(len(near)) else self.by_table(nodes, added, near, within)
 
-    def by_table(self, nodes, added, near, within):
+    def by_table(self, nodes: Integers, added: Integers, near: Integers, within: int | None) -> Integers:
         """The least weights at which all nodes are reached by way of some nodes, with what is added to each of these; `FAR` where one is not.
         Asked for are those that may be near."""
         found = numpy.full(len(self.roads.places), FAR)
@@ -87,7 +98,7 @@ class Trips:
         found[near - 1] = numpy.where(table >= 0, table + added[:, None], FAR).min(axis=0, initial=FAR)
         return found
 
-    def by_near(self, nodes, added, within):
+    def by_near(self, nodes: Integers, added: Integers, within: int | None) -> Integers:
         """The same by near rows of all nodes."""
         found = numpy.full(len(self.roads.places), FAR)
         own = None if within is None else within - int(added.min(initial=0))
@@ -100,14 +111,14 @@ class Trips:
                 found[owners[is_its]] = numpy.minimum(found[owners[is_its]], rows.weights[is_its] + more)
         return found
 
-    def isochrones(self, spot, limits):
+    def isochrones(self, spot: Spots, limits: Sequence[int]) -> list[Any]:
         """What `Network.isochrones` answers, a list of polygons for limits of the graph in descending order."""
         from chtab.roads import reach
 
         return reach.polygons(self.roads, spot, self.reach(spot, limits[0]), limits)
 
 
-def see_that_one(spot):
+def see_that_one(spot: Spots) -> None:
     """Refuses what is not one spot."""
     if not isinstance(spot, Spots):
         raise TypeError(f"reach begins at a spot, as `snap` gives one, not at {type(spot).__name__}")
