@@ -14,8 +14,6 @@ from collections.abc import Iterator, Sequence
 from dataclasses import dataclass
 from typing import TYPE_CHECKING
 
-import numpy
-
 from chtab import files
 from chtab.engine import child, deadlines, forks
 from chtab.errors import ChtabError, ProgramFault, unasked

@@ -20,7 +20,7 @@ from chtab.roads.snapping import NONE
 
 if TYPE_CHECKING:
     from chtab.roads.snapping import Roads, Spots
-    from chtab.typing import Floats, Geojson, Integers, Marks, Point
+    from chtab.typing import Floats, Integers, Marks, Point
 
 # Squares along the longer side of what is reached, and the least width of one in metres.
 SQUARES, NARROWEST = 320, 40.0
