@@ -3,8 +3,9 @@
 
   edits.py [LOG]
 
-LOG is what `rt ci` or `rt must-fail` printed. Without it, `rt must-fail` is run. An edit that is refused because it takes away a name
-that a proof uses shows little of a contract, and `rt` says so in brackets. The bugs below `planted/` are tried by `planted.py`.
+LOG is what `rt ci` or `rt must-fail` printed. Without it, `rt must-fail` is run. Three kinds of refusal show little of a contract: for a name that a
+proof uses, by a limit of the prover, and where a proof by hand no longer fits, since the goal may still hold. The last is reported, and the others
+fail. The bugs below `planted/` are tried by `planted.py`.
 The last line is 'N passed, N failed'.
 """
 import subprocess

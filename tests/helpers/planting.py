@@ -1,10 +1,37 @@
-"""What `rt` says of planted bugs: whether the proofs refuse each of them, and the goal that refuses it."""
+"""What `rt` says of planted bugs: whether the proofs refuse each of them, and how."""
 import re
+from collections import Counter
+from enum import Enum
 
 EDIT = re.compile(r"rt: must-fail (\S+)\.edit: (.*)")
 REFUSED = "refused, as it must be"
-# A goal follows, where `rt` names one. In brackets stands that a bug is refused for a name alone, or by a limit of the prover.
+# In brackets `rt` says that a bug is refused for a name alone, or by a limit of the prover.
 LITTLE = f"{REFUSED} ("
+# The first message that `rt` gives: a goal that the prover found no proof of.
+GOAL = re.compile(rf"{REFUSED}: (?:note: )?src/\S+: it is not proved that ")
+# It is another one if a file of proofs/ no longer fits what the prover makes of the code. The goal may still hold then.
+HAND = re.compile(rf"{REFUSED}: (?:note: )?(?:\./)?proofs/")
+
+
+class Outcome(Enum):
+    """What became of a planted bug."""
+
+    GOAL = "refused at a goal"
+    HAND = "the hand proof no longer fits"
+    LITTLE = "refused for a name or by a limit alone"
+    OTHER = "refused without a goal"
+    MISSED = "not refused"
+
+
+def outcome_of(answer):
+    """What `rt` says of a bug, as an outcome."""
+    if not answer.startswith(REFUSED):
+        return Outcome.MISSED
+    if answer.startswith(LITTLE):
+        return Outcome.LITTLE
+    if GOAL.match(answer):
+        return Outcome.GOAL
+    return Outcome.HAND if HAND.match(answer) else Outcome.OTHER
 
 
 def name_of(edit):
@@ -13,10 +40,14 @@ def name_of(edit):
 
 
 def judge(tally, edits, log):
-    """Reads what `rt` printed, and prints the goal that refused each edit. An edit that no goal refused counts as failed."""
-    said = dict(EDIT.findall(log))
+    """Reads what `rt` printed, and prints the outcome of each edit with the goal or the error. An edit counts as failed if it is not refused, or
+    for a name or by a limit alone."""
+    said, outcomes = dict(EDIT.findall(log)), Counter()
     for edit in edits:
         name = name_of(edit)
         answer = said.get(name, "was not tried")
-        print(f"{name}: {answer.removeprefix(REFUSED).removeprefix(': ') or 'no goal is named'}")
-        tally.expect(answer.startswith(REFUSED) and not answer.startswith(LITTLE), f"{name}: {answer}")
+        outcome = outcome_of(answer)
+        outcomes[outcome] += 1
+        print(f"{name}: {outcome.value}: {answer.removeprefix(REFUSED).removeprefix(': ') or 'no goal is named'}")
+        tally.expect(outcome not in (Outcome.LITTLE, Outcome.MISSED), f"{name}: {outcome.value}: {answer}")
+    print(", ".join(f"{count} {outcome.value}" for outcome, count in outcomes.most_common()))

@@ -5,7 +5,7 @@ ghost use Rattle.ch_query.specs.Distance.{IsKeptForSome};
 
 use crate::again::again;
 use crate::crew::crew;
-use crate::examples::{RING, hierarchy};
+use crate::examples::{Files, LINE, RING, hierarchy};
 use ch_hierarchy::Hierarchy;
 use ch_table::{Buckets, Table, table};
 use ch_work::{CountingGate, Gate, Open, Plan};
@@ -14,48 +14,80 @@ use std::process::Abort;
 use std::test::Fail;
 use std::thread::Threads;
 
-/// Makes the ring's table of three sources and two targets. Two of the sources are the same node.
+/// Makes the table of three sources and two targets: the first node twice and the last, to the last two.
 fn make<R: Threads + Sync, G: Gate>(
     rt: &R,
     alloc: Global,
-    ring: &Hierarchy,
+    network: &Hierarchy,
     plan: &Plan,
     gate: &G,
 ) -> Result<Table, AllocError>
-    requires kept { IsKeptForSome ring.now }
-    requires nodes { nodes_of ring.now ≡ 5 }
+    requires kept { IsKeptForSome network.now }
+    requires nodes { 1 < nodes_of network.now }
 {
     let crew = crew(rt, alloc, plan, gate);
-    table(&crew, ring, &[0, 0, 4], &[3, 4], None)
+    let last = network.nodes() - 1;
+    table(&crew, network, &[0, 0, last], &[last, last - 1], None)
 }
 
-/// Makes the table with `workers` workers, and expects how often each piece passes the gate. Each node is a
-/// piece of its own.
+/// Makes the table with `workers` workers, and expects how often each piece passes the gate. Each target,
+/// each source and each node is a piece of its own.
 fn expect_passes<R: Threads + Abort + Sync>(
     rt: &R,
     alloc: Global,
+    files: Files,
     workers: u32,
     passes: [u64; 4],
 ) -> Result<(), Fail>
     requires { (0 < workers) × (workers < 65) }
 {
-    let ring = hierarchy(rt, alloc, RING)?;
-    assert!(rt; ring.nodes() == 5);
+    let network = hierarchy(rt, alloc, files)?;
+    assert!(rt; network.nodes() > 1);
     let gate = CountingGate::new(alloc, 4)?;
-    make(rt, alloc, &ring, &Plan::new(workers, 1, 64), &gate)?;
+    make(rt, alloc, &network, &Plan::new(workers, 1, 64), &gate)?;
     for (piece, expected) in passes.iter().enumerate() {
         assert_eq!(rt; gate.passes(piece as u32), Some(*expected), "piece {piece}");
     }
     Ok(())
 }
 
-/// Each of the two targets and each of the three sources is a piece. If there are more workers than
-/// sources, each node is a piece too.
+/// Makes the table of `rows` sources and 64 targets by two workers, and expects how often piece 2 passes the
+/// gate.
+fn expect_passes_of_many<R: Threads + Abort + Sync>(
+    rt: &R,
+    alloc: Global,
+    rows: usize,
+    passes: u64,
+) -> Result<(), Fail>
+    requires { rows < 66 }
+{
+    let network = hierarchy(rt, alloc, LINE)?;
+    assert!(rt; network.nodes() > 1);
+    let gate = CountingGate::new(alloc, 3)?;
+    let plan = Plan::new(2, 1, 64);
+    let nodes = [0; 65];
+    table(
+        &crew(rt, alloc, &plan, &gate),
+        &network,
+        &nodes[..rows],
+        &nodes[..64],
+        None,
+    )?;
+    assert_eq!(rt; gate.passes(2), Some(passes), "{rows} sources");
+    Ok(())
+}
+
+/// Workers share the targets, the sources, and then the nodes. The nodes are left out if there is one worker,
+/// or if the table has more than 4,096 cells and no fewer sources than workers.
 #[test]
 fn gates_passed(rt: HostRuntime) -> Result<(), Fail> {
-    expect_passes(&rt, rt.alloc(), 1, [2, 2, 1, 0])?;
-    expect_passes(&rt, rt.alloc(), 3, [2, 2, 1, 0])?;
-    expect_passes(&rt, rt.alloc(), 4, [3, 3, 2, 1])
+    let alloc = rt.alloc();
+    expect_passes(&rt, alloc, LINE, 2, [3, 3, 2, 0])?;
+    expect_passes(&rt, alloc, RING, 1, [2, 2, 1, 0])?;
+    expect_passes(&rt, alloc, RING, 3, [3, 3, 2, 1])?;
+    expect_passes(&rt, alloc, RING, 4, [3, 3, 2, 1])?;
+    expect_passes_of_many(&rt, alloc, 64, 3)?;
+    expect_passes_of_many(&rt, alloc, 65, 2)
 }
 
 /// Fills buckets up and buckets down the ring. Returns the number of entries of one of each.
@@ -81,7 +113,7 @@ fn expect<R: Threads + Abort + Sync>(
 {
     let table = make(rt, alloc, ring, &Plan::new(workers, 1, 1), &Open)?;
     assert!(rt; table.row_count() == 3);
-    assert_eq!(rt; table.row(2), [Some(4), Some(0)].as_slice());
+    assert_eq!(rt; table.row(2), [Some(0), Some(4)].as_slice());
     Ok(())
 }
 

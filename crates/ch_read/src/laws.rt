@@ -1,6 +1,7 @@
 //! Laws on lists of bytes, for every reader.
-ghost use Rattle.std.specs.Prelude.{ℕ, List};
+ghost use Rattle.std.specs.Prelude.{◌≡◌, ℕ, List};
 ghost use Rattle.ch_read.specs.declared.form.Form.TheVariants as Form;
+ghost use Rattle.ch_read.specs.declared.request.TheConstants.{MOST_LINE};
 ghost use Rattle.ch_read.specs.Answers.{HasOneAnswer};
 ghost use Rattle.ch_read.specs.RequestLaws.{AreGivenInTurn, AreGivenToTheEnd, AreGivenToTheFault, AreNotHeldBack, AreToldByParts};
 ghost use Rattle.ch_read.specs.Names.{NamesGraph, NamesQueries, NamesNodes, NamesSaved};
@@ -26,4 +27,9 @@ pub fn requests_whole_in_turn()
     ensures whole { AreNotHeldBack }
     ensures ended { AreGivenToTheEnd }
     ensures fault { AreGivenToTheFault }
+{}
+
+/// Proves the value of the constant that the definitions of requests take from the code.
+pub fn constants()
+    ensures { MOST_LINE ≡ 65536 }
 {}

@@ -82,7 +82,7 @@ mod sections;
 pub use fault::{FaultKind, ReadError, ReadFault};
 pub use form::Form;
 pub use graph::{read_graph, read_graph_by, read_graph_in_sections};
-pub use laws::{one_answer, requests_by_parts, requests_whole_in_turn};
+pub use laws::{constants, one_answer, requests_by_parts, requests_whole_in_turn};
 pub use nodes::read_nodes;
 pub use queries::read_queries;
 pub use request::{MOST_LINE, NearPlaces, Request, TableLists};

@@ -1,4 +1,5 @@
-//! Laws of texts and of what is read, each the contract of a function that does nothing.
+//! Laws of texts, of what is read and of a constant, each the contract of a function that does nothing.
+ghost use Rattle.ch_run.specs.declared.options.TheConstants.{ROUND_NODES};
 ghost use Rattle.ch_run.specs.NearTextLaws.{AllNearRowsHaveOneText, NearRowsHaveOneText, SavedAllNearRowsAreThoseOfTheGraph, SavedNearRowsAreThoseOfTheGraph};
 ghost use Rattle.ch_run.specs.SavedTextLaws.{HierarchiesHaveOneText, HierarchyTextsReadBack, SavedAnswersHaveOneText, SavedTablesHaveOneText, SavedTextsReadBack};
 ghost use Rattle.ch_run.specs.TextLaws.{AnswersHaveOneText, TablesHaveOneText};
@@ -50,4 +51,9 @@ pub fn saved_text_reads_back()
 /// bytes that its reads gave holds of the bytes of an input in memory.
 pub fn known_bytes<I: Input>()
     ensures { (old new : I) → (bytes : List ℕ) → I.left old ≡ Some bytes → GivesOnly (reading I.read_gives old new) bytes }
+{}
+
+/// Proves the value of the constant that the order of a building takes from the code.
+pub fn constants()
+    ensures { ROUND_NODES ≡ 65536 }
 {}

@@ -16,6 +16,9 @@ use ch_work::{Crew, Gate, joined};
 use std::alloc::AllocError;
 use std::thread::Threads;
 
+/// The most cells of a table that several workers share cell by cell whatever the number of sources is.
+const FEW_CELLS: usize = 4096;
+
 /// Returns the distances from each source to each target. With a limit `within`, a distance of more than
 /// that is none. It is made as [`gather_rows`] says.
 ///
@@ -48,9 +51,9 @@ pub fn table<R: Threads + Sync, G: Gate>(
 /// each node that it reaches (Knopp, Sanders, Schultes, Schulz and Wagner 2007). Then each source is
 /// searched from, up. Its row is made of the sums with the buckets of the nodes that it reaches.
 ///
-/// The workers share the targets, and then the sources. If there are fewer sources than workers, and at
-/// least one, the workers share cells in place of rows. With a limit, a search takes no leg that makes a
-/// path heavier.
+/// The workers share the targets, and then the sources. Two workers or more share cells in place of rows if
+/// there are fewer sources than workers, or at most `FEW_CELLS` cells. With a limit, a search takes no leg
+/// that makes a path heavier.
 ///
 /// # Errors
 /// `AllocError` if there is no memory.
@@ -70,7 +73,9 @@ pub fn gather_rows<R: Threads + Sync, G: Gate, J: RowJob>(
     ensures { IfOk result (λ values. AreGathered (J.meaning job.now) hierarchy.now within targets.now sources.now values.items) }
 {
     let rows = sources.len();
-    if 0 < rows && rows < crew.plan.workers() as usize {
+    let workers = crew.plan.workers() as usize;
+    let are_few = rows < workers || (1 < workers && rows * targets.len() <= FEW_CELLS);
+    if 0 < rows && are_few {
         let table = table_by_cells(crew, hierarchy, sources, targets, within)?;
         let whole = table.gathered(crew.alloc, sources, job)?;
         let mut values = Vec::with_capacity(crew.alloc, 1)?;
