@@ -8,15 +8,32 @@ mod workers;
 use crate::again::{again, again_after};
 use crate::crew::crew;
 use crate::examples::{Files, RING, RING_ARCS, STAR};
-use ch_contract::{OrderBy, build_by};
+use ch_contract::{Hierarchy, OrderBy};
 use ch_graph::Graph;
+use ch_order::build_in_turn;
 use ch_read::{ReadError, read_graph};
+use ch_rounds::build_by_rounds;
 use ch_text::save_text;
-use ch_work::{Open, Plan};
+use ch_work::{Crew, Gate, Open, Plan};
 use std::alloc::{AllocError, Global};
 use std::process::Abort;
 use std::test::Fail;
 use std::thread::Threads;
+
+/// Builds the hierarchy of a graph in this order.
+fn build_by<R: Threads + Sync, G: Gate>(
+    crew: &Crew<'_, R, G>,
+    graph: &Graph,
+    hops: u32,
+    by: OrderBy,
+) -> Result<Hierarchy, AllocError>
+    requires { IsHopBound hops }
+{
+    match by {
+        OrderBy::Rounds => build_by_rounds(crew, graph, hops),
+        _ => build_in_turn(crew, graph, hops, by),
+    }
+}
 
 /// Builds the hierarchy of a graph, and returns its text. Each call that is refused memory is made a second
 /// time.

@@ -17,12 +17,8 @@ pub mod Levelled
 pub mod Enough
 pub mod ReferenceSearch
 pub mod OrderSteps
-pub mod Depths
-pub mod PrioritySteps
 pub mod RowSteps
-pub mod StepsMade
 pub mod RoundLegs
-pub mod RoundPuts
 pub mod Rounds
 pub mod Turns
 pub mod RoundNodes
@@ -32,7 +28,6 @@ pub mod OneOrder
 pub mod BuiltKept
 pub mod RoundSteps
 pub mod RoundFirst
-pub mod RoundsMade
 pub mod Listing
 pub mod ShortcutsListed
 pub mod RoundsExist

@@ -18,21 +18,12 @@ pub mod Reference
 pub mod Examples
 pub mod Laws
 pub mod OneOrder
-pub mod Priorities
 pub mod Measures
-pub mod Progress
-pub mod Construction
 pub mod Keeping
 pub mod Rounds
 pub mod RoundOrder
 pub mod RoundLaws
 pub mod RoundReference
-pub mod RoundProgress
-pub mod FirstAround
-pub mod SetEach
-pub mod RoundChoice
-pub mod RoundCounts
-pub mod RoundConstruction
 pub mod TakenOut
 pub mod HeldCosts
 pub mod KnownCosts
@@ -40,3 +31,4 @@ pub mod LegLists
 pub mod RoundSides
 pub mod Meeting
 pub mod Rooms
+pub mod Neighbours

@@ -21,15 +21,15 @@ pub enum OrderBy {
 
 /// The number of a node's shortcuts, and the number of legs that touch it.
 #[derive(Clone, Copy)]
-pub(crate) struct Measure {
-    pub(crate) shortcuts: u64,
-    pub(crate) legs: u64,
+pub struct Measure {
+    pub shortcuts: u64,
+    pub legs: u64,
     ghost small: { (shortcuts ≤ 2 ^ 50) × (legs ≤ 2 ^ 26) },
 }
 
 impl OrderBy {
     /// Returns the key of a node in this order, from its measure and its depth.
-    pub(crate) fn key(self, measure: Measure, depth: u32) -> i64
+    pub fn key(self, measure: Measure, depth: u32) -> i64
         ensures { result ≡ key_by self measure.shortcuts measure.legs depth }
     {
         let shortcuts = measure.shortcuts as i64;

@@ -1,13 +1,21 @@
-//! The neighbours of a contracted node, and their depths.
+//! Lists of nodes: all of them, and the neighbours of a contracted node with their depths.
 ghost use Rattle.std.specs.Prelude.{◌≡◌, ◌+◌, ◌++◌, ◌∷◌, [], ◌<◌, ◌^◌, if◌then◌else◌, All, IfOk, OnOk, length, slice_index};
-ghost use Rattle.ch_contract.specs.Priorities.{has_node, neighbours_in, other_nodes};
+ghost use Rattle.std.specs.List.{range_with_len};
+ghost use Rattle.ch_contract.specs.Neighbours.{has_node, neighbours_in, other_nodes};
 ghost use Rattle.ch_contract.specs.Measures.{AreDeepened};
 
 use ch_hierarchy::Leg;
 use std::alloc::{AllocError, Global};
 
+/// Returns the nodes in order of number.
+pub fn all_nodes(alloc: Global, nodes: u32) -> Result<Vec<u32>, AllocError>
+    ensures { IfOk result (λ list. list.items ≡ range_with_len 0 nodes) }
+{
+    (0..nodes).collect(alloc)
+}
+
 /// Returns the nodes of the legs from a node and of the legs to it, each once.
-pub(crate) fn neighbours(alloc: Global, up: &[Leg], down: &[Leg]) -> Result<Vec<u32>, AllocError>
+pub fn neighbours(alloc: Global, up: &[Leg], down: &[Leg]) -> Result<Vec<u32>, AllocError>
     ensures { IfOk result (λ list. list.items ≡ neighbours_in up.now down.now) }
 {
     let mut list = Vec::new(alloc);
@@ -16,11 +24,7 @@ pub(crate) fn neighbours(alloc: Global, up: &[Leg], down: &[Leg]) -> Result<Vec<
 }
 
 /// Appends the nodes of the legs from a node and of the legs to it, each node once.
-pub(crate) fn push_neighbours(
-    list: &mut Vec<u32>,
-    up: &[Leg],
-    down: &[Leg],
-) -> Result<(), AllocError>
+pub fn push_neighbours(list: &mut Vec<u32>, up: &[Leg], down: &[Leg]) -> Result<(), AllocError>
     ensures { OnOk result (list.new.items ≡ list.old.items ++ neighbours_in up.now down.now) }
 {
     push_nodes(list, up, &up[0..0])?;
@@ -59,7 +63,7 @@ fn has_node(legs: &[Leg], node: u32) -> bool
 }
 
 /// Raises the depth of each of these nodes to at least one more than that of the contracted node.
-pub(crate) fn deepen(depths: &mut [u32], nodes: &[u32], contracted: u32)
+pub fn deepen(depths: &mut [u32], nodes: &[u32], contracted: u32)
     requires nodes { All (λ x. x < length depths.old) nodes.now }
     requires contracted { contracted < length depths.old }
     requires room { slice_index depths.old contracted + 1 < 2 ^ 32 }

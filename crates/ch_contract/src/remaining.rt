@@ -92,7 +92,7 @@ impl Remaining {
     }
 
     /// Returns the legs from `v` when it was contracted.
-    pub(crate) fn up_legs(&self, v: u32) -> &[Leg]
+    pub fn up_legs(&self, v: u32) -> &[Leg]
         requires { v < self.now.nodes }
         ensures { result.now ≡ row self.now.ups v }
     {
@@ -100,7 +100,7 @@ impl Remaining {
     }
 
     /// Returns the legs to `v` when it was contracted.
-    pub(crate) fn down_legs(&self, v: u32) -> &[Leg]
+    pub fn down_legs(&self, v: u32) -> &[Leg]
         requires { v < self.now.nodes }
         ensures { result.now ≡ row self.now.downs v }
     {
@@ -108,7 +108,7 @@ impl Remaining {
     }
 
     /// Returns the legs from each node when it was contracted, and the legs to it. They stay in their arrays.
-    pub(crate) fn into_rows(self) -> Result<BothRows, AllocError>
+    pub fn into_rows(self) -> Result<BothRows, AllocError>
         ensures up { IfOk result (λ r. r.ups ≡ self.ups) }
         ensures down { IfOk result (λ r. r.downs ≡ self.downs) }
     {
@@ -118,7 +118,7 @@ impl Remaining {
     }
 
     /// Like `into_rows`. A second worker moves the legs from each node together, and the caller those to each node.
-    pub(crate) fn into_rows_by_both<R: Threads + Sync, G: Gate>(
+    pub fn into_rows_by_both<R: Threads + Sync, G: Gate>(
         self,
         crew: &Crew<'_, R, G>,
     ) -> Result<BothRows, AllocError>
@@ -144,7 +144,7 @@ impl Remaining {
 
 /// The rows of a hierarchy: the legs from each node to higher nodes, and the legs from higher nodes to it.
 #[derive(Drop)]
-pub(crate) struct BothRows {
-    pub(crate) ups: Lists<Leg>,
-    pub(crate) downs: Lists<Leg>,
+pub struct BothRows {
+    pub ups: Lists<Leg>,
+    pub downs: Lists<Leg>,
 }

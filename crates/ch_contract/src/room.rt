@@ -16,21 +16,21 @@ use std::alloc::{AllocError, Global};
 /// The room in which one worker judges nodes. It keeps the shortcuts of the nodes that it judged with the legs
 /// that remain now.
 #[derive(Drop)]
-pub(crate) struct Room {
-    pub(crate) searches: WitnessSearches,
+pub struct Room {
+    pub searches: WitnessSearches,
     /// The nodes that were judged.
-    pub(crate) judged: Vec<u32>,
+    pub judged: Vec<u32>,
     /// The shortcuts of these nodes, at the same places. The lists after them are spare.
-    pub(crate) lists: Vec<Vec<Shortcut>>,
+    pub lists: Vec<Vec<Shortcut>>,
     /// Room for the shortcuts of one node of a round, which are copied from here.
-    pub(crate) passing: Vec<Shortcut>,
+    pub passing: Vec<Shortcut>,
 }
 
 impl Room {
     ghost use Rattle.ch_contract.specs.Rooms.{IsReady, list_at};
 
     /// Makes a room in which no node was judged yet. It takes no memory.
-    pub(crate) fn new(alloc: Global) -> Room
+    pub fn new(alloc: Global) -> Room
         ensures { (n h : ℕ) (L : Legs) → IsReady n h L result }
     {
         Room {
@@ -42,7 +42,7 @@ impl Room {
     }
 
     /// Forgets the shortcuts. This is needed when the legs have changed.
-    pub(crate) fn forget(&mut self)
+    pub fn forget(&mut self)
         ensures { (n h : ℕ) (L : Legs) → AreIdle self.old.searches → IsReady n h L self.new }
     {
         self.judged.clear();
@@ -50,7 +50,7 @@ impl Room {
 
     /// Judges a node, and keeps its shortcuts. Returns their number, and the number of legs that touch the
     /// node.
-    pub(crate) fn judge(
+    pub fn judge(
         &mut self,
         alloc: Global,
         remaining: &Remaining,
@@ -76,7 +76,7 @@ impl Room {
 
     /// Contracts a node with its shortcuts. Then it forgets the shortcuts of all nodes, because the legs have
     /// changed.
-    pub(crate) fn contract(
+    pub fn contract(
         &mut self,
         alloc: Global,
         remaining: Remaining,

@@ -21,7 +21,7 @@ use std::marker::PhantomData;
 
 /// The searches of one worker. Each gets its room when it is first used.
 #[derive(Drop)]
-pub(crate) struct WitnessSearches {
+pub struct WitnessSearches {
     /// The search over words, for legs that are light enough.
     pub(crate) words: WitnessSearch<Word>,
     /// The search over pairs of weight and arcs, for all other legs.
@@ -68,7 +68,7 @@ impl WitnessSearches {
 
     /// Fills `list` with the shortcuts of a node of a round. The node was taken out before, and witnesses are
     /// made of the remaining legs.
-    pub(crate) fn shortcuts(
+    pub fn shortcuts(
         &mut self,
         alloc: Global,
         remaining: &Remaining,

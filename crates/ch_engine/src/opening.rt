@@ -5,8 +5,8 @@ ghost use Rattle.ch_engine.specs.Refusals.{IsOpenError};
 
 use crate::fault::OpenError;
 use crate::network::Network;
-use ch_contract::build_alone;
 use ch_hierarchy::CheckError;
+use ch_order::build_alone;
 use ch_query::check_alone;
 use ch_read::{ReadError, read_graph, read_saved};
 use std::alloc::Global;

@@ -1,8 +1,8 @@
 //! Runs: from the bytes of a graph and of queries, lists of nodes or requests, to the text of the
 //! answers.
 //!
-//! It stands on ch_contract, ch_graph, ch_hierarchy, ch_near, ch_query, ch_read, ch_table, ch_text and
-//! ch_work. It knows no command line. Proved of it, for every plan and gate:
+//! It stands on ch_contract, ch_graph, ch_hierarchy, ch_near, ch_order, ch_query, ch_read, ch_rounds,
+//! ch_table, ch_text and ch_work. It knows no command line. Proved of it, for every plan and gate:
 //!
 //! - After [`run_dist`] and [`run_table`] the output has taken exactly the text that the definitions
 //!   name for the bytes of the inputs. They name only one text ([`laws::one_text`]).
@@ -19,6 +19,7 @@
 //! It passes on the devices of ch_text, which give the inputs and take the text.
 #![tactic(auto)]
 
+mod building;
 mod fault;
 pub mod laws;
 mod options;

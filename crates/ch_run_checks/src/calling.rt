@@ -7,7 +7,7 @@ ghost use Rattle.ch_read.specs.declared.form.Form.TheVariants as Form;
 ghost use Rattle.ch_read.specs.Checks.{IsFault};
 ghost use Rattle.ch_read.specs.Names.{NamesGraph};
 
-use ch_contract::build;
+use ch_order::build;
 use ch_query::{Scratch, distance};
 use ch_read::{ReadError, ReadFault, read_graph};
 use ch_work::{Crew, Open, Plan};

@@ -2,7 +2,7 @@
 //! refused, devices fail in mid-stream, and workers share a run.
 //!
 //! They are in a crate of their own, because a crate with tests is proved twice. It stands on ch_contract,
-//! ch_graph, ch_query, ch_read, ch_run and ch_work.
+//! ch_graph, ch_order, ch_query, ch_read, ch_run and ch_work.
 #![tactic(auto)]
 
 #[cfg(test)]

@@ -1,7 +1,8 @@
 //! How workers share the work of building: the pieces that pass the gate, and two pieces at once.
+use super::build_by;
 use crate::crew::crew;
 use crate::examples::STAR;
-use ch_contract::{OrderBy, build_by};
+use ch_contract::OrderBy;
 use ch_read::read_graph;
 use ch_work::{CountingGate, MeetingGate, Plan};
 use std::alloc::Global;

@@ -6,9 +6,9 @@ use Rattle.std.proofs.lemmas.List.{take_more}
 use Rattle.std.proofs.lemmas.List.Elements.{filter-append, Contains-append_left, Contains-append_right, Contains-append_cases, Contains-push, Contains-push_cases}
 use Rattle.ch_hierarchy.specs.declared.leg.Leg.{Leg}
 use Rattle.ch_contract.specs.Legs.{Label, Legs, AreLegsWithin}
-use Rattle.ch_contract.specs.Order.{are_neighbours}
+use Rattle.ch_contract.specs.Order.{are_neighbours, next_depth}
 use Rattle.ch_contract.specs.LegRows.{AreLegsFrom, AreLegsTo, label_of, row_leg}
-use Rattle.ch_contract.specs.Priorities.{has_node, neighbours_in, other_nodes}
+use Rattle.ch_contract.specs.Neighbours.{has_node, neighbours_in, other_nodes}
 use Rattle.ch_hierarchy.proofs.theory.NoLeg.{no_leg}
 use Rattle.std.proofs.lemmas.List.{map-append}
 use Rattle.ch_contract.specs.Measures.{AreDeepened}
@@ -128,3 +128,12 @@ deepened_more nodes i deep before middle lt within known =
           let ne : x ≢ v = λ e. away (subst (λ l. Contains l x) (sym more) (subst (Contains (take i nodes ++ v ∷ [])) (sym e) (Contains-push (take i nodes) v))) in
           get_or-set_other middle v x value 0 ne ∙ known.kept x (λ c. away (subst (λ l. Contains l x) (sym more) (Contains-append_left (take i nodes) (v ∷ []) x c)));
     }
+
+-- only the depths of the neighbours grow
+pub deeper_by : (L : Legs) (v : ℕ) (up down : List Leg) (before after : List ℕ) → AreLegsFrom L v up → AreLegsTo L v down → AreDeepened (neighbours_in up down) (slice_index before v + 1) before after →
+    (x : ℕ) → slice_index after x ≡ next_depth L v (λ y. slice_index before y) x
+deeper_by L v up down before after from to d x = at (are_neighbours L v x) refl
+  where
+    at : (b : Bool) → are_neighbours L v x ≡ b → slice_index after x ≡ (if are_neighbours L v x then max (slice_index before x) (slice_index before v + 1) else slice_index before x)
+    at true e = rw e (d.anew x (neighbour_listed L v up down from to x e))
+    at false e = rw e (d.kept x (not_listed L v up down from to x e))

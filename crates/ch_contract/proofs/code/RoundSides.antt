@@ -15,7 +15,7 @@ use Rattle.ch_contract.specs.Rounds.{is_one_of}
 use Rattle.ch_contract.specs.RoundSides.{AreTiesOf, AreAllAside, AreUntied, AreAway}
 use Rattle.ch_contract.proofs.theory.OneInTurn.{not_before}
 use Rattle.ch_contract.proofs.theory.RoundLegs.{one_of, none_of}
-use Rattle.ch_contract.proofs.code.SetEach.{away_both}
+use Rattle.ch_contract.proofs.code.NodeLists.{away_both}
 use Rattle.ch_contract.proofs.code.ListEdits.{set_here, set_off}
 
 -- at first no legs are set aside

@@ -11,7 +11,7 @@ use Rattle.ch_contract.specs.Legs.{Label, Legs, SameLegs, turned_legs}
 use Rattle.ch_contract.specs.LegRows.{AreLegsFrom, AreLegsTo, row_leg}
 use Rattle.ch_contract.specs.LegLists.{NodeLegs, IsWithinLimits, legs_from}
 use Rattle.ch_contract.specs.Order.{are_neighbours}
-use Rattle.ch_contract.specs.Priorities.{neighbours_in}
+use Rattle.ch_contract.specs.Neighbours.{neighbours_in}
 use Rattle.ch_contract.specs.KnownCosts.{AreLegsUpTo}
 use Rattle.ch_contract.specs.Rounds.{AreApart, is_one_of, legs_away}
 use Rattle.ch_contract.specs.RoundSides.{AreTiesOf, AreAway}

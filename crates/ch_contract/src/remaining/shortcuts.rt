@@ -93,7 +93,7 @@ impl Remaining {
     }
 
     /// Returns the number of legs that touch a node now.
-    pub(crate) fn count_touching(&self, node: u32) -> u64
+    pub fn count_touching(&self, node: u32) -> u64
         requires { node < self.now.nodes }
         ensures count { result ≡ count_touching self.now.nodes (legs_of self.now) node }
         ensures small { result ≤ 2 ^ 26 }

@@ -24,7 +24,7 @@ impl Remaining {
     /// `owners` has for each the node whose neighbour it is.
     ///
     /// A second worker changes the lists of the legs from each node, and the caller those of the legs to each node.
-    pub(crate) fn take_all_out<R: Threads + Sync, G: Gate>(
+    pub fn take_all_out<R: Threads + Sync, G: Gate>(
         self,
         crew: &Crew<'_, R, G>,
         nodes: &[u32],
@@ -68,7 +68,7 @@ impl Remaining {
     /// place.
     ///
     /// A second worker changes the lists of the legs from each node, and the caller those of the legs to each node.
-    pub(crate) fn put_all<R: Threads + Sync, G: Gate>(
+    pub fn put_all<R: Threads + Sync, G: Gate>(
         self,
         crew: &Crew<'_, R, G>,
         nodes: &[u32],

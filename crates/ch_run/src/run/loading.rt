@@ -10,10 +10,11 @@ ghost use Rattle.ch_run.specs.Run.{AcceptsGraph, GoesPast, IsGraphRefused, IsOf,
 ghost use Rattle.ch_run.specs.Source.{AreChecked, AreLoaded, HasCheckRefused, HasSavedRefused, IsOfChecked, IsOfLoading, IsSavedRefused, IsServing, ReadsSaved, ReadsSource, source_failures, source_origin, source_reading};
 
 use super::inputs::{bytes_from, graph_from};
+use crate::building::build_by;
 use crate::fault::{RunFault, Which};
 use crate::plan::{Crew, Gate, Stage};
 use crate::source::Source;
-use ch_contract::{CheckError, Hierarchy, OrderBy, build_by};
+use ch_contract::{CheckError, Hierarchy, OrderBy};
 use ch_graph::{Graph, Saved};
 use ch_query::check_watched;
 use ch_read::read_saved_by;

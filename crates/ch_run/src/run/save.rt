@@ -7,10 +7,10 @@ ghost use Rattle.ch_run.specs.SaveRun.{IsOfSave, IsSavedBy};
 
 use super::inputs::graph_from;
 use super::output::write_text;
+use crate::building::build_by;
 use crate::fault::{RunFault, Which};
 use crate::options::Options;
 use crate::plan::{Crew, Gate, Stage};
-use ch_contract::build_by;
 use ch_text::{Input, Output, save_text};
 use std::thread::Threads;
 

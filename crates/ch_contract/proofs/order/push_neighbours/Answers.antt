@@ -1,6 +1,6 @@
 use Rattle.std.proofs.Common.{◌++◌, ◌∙◌, append_assoc, ap, map}
 use Rattle.ch_hierarchy.specs.declared.leg.Leg.{Leg}
-use Rattle.ch_contract.specs.Priorities.{other_nodes}
+use Rattle.ch_contract.specs.Neighbours.{other_nodes}
 use Rattle.ch_contract.proofs.code.Neighbours.{all_others}
 use Rattle.ch_contract.proofs.order.push_neighbours.Goals as goal
 

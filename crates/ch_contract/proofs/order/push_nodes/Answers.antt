@@ -2,7 +2,7 @@ use Rattle.std.proofs.Common.{◌≤◌, ◌++◌, ◌∷◌, [], ◌∙◌, app
 use Rattle.std.specs.Prelude.{if◌then◌else◌}
 use Rattle.ch_hierarchy.proofs.theory.NoLeg.{no_leg}
 use Rattle.std.proofs.lemmas.List.{take_all}
-use Rattle.ch_contract.specs.Priorities.{other_nodes}
+use Rattle.ch_contract.specs.Neighbours.{other_nodes}
 use Rattle.ch_contract.proofs.code.Neighbours.{others_more}
 use Rattle.ch_contract.proofs.order.push_nodes.Goals as goal
 

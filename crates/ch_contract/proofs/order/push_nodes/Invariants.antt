@@ -1,5 +1,5 @@
 use Rattle.std.proofs.Common.{◌≡◌, ◌++◌, take}
-use Rattle.ch_contract.specs.Priorities.{other_nodes}
+use Rattle.ch_contract.specs.Neighbours.{other_nodes}
 use Rattle.ch_contract.proofs.order.push_nodes.Given as goal
 
 abbrev pub invariant-loop-leg : goal.invariant-loop-leg

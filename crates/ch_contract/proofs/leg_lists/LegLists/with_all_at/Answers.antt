@@ -11,7 +11,7 @@ use Rattle.ch_contract.specs.Contraction.{IsPairBefore, shortcut_label}
 use Rattle.ch_contract.specs.LegLists.{AreOverridden, end_of, legs_at}
 use Rattle.ch_contract.specs.RoundSides.{ArePutInTurn}
 use Rattle.ch_contract.specs.TakenOut.{ArePutIn}
-use Rattle.ch_contract.proofs.code.KeptPriorities.{zipped_at}
+use Rattle.ch_contract.proofs.code.NodeLists.{zipped_at}
 use Rattle.ch_contract.proofs.code.ListEdits.{no_shortcut}
 use Rattle.ch_contract.proofs.code.RoundPutLists.{put_next}
 use Rattle.ch_contract.proofs.leg_lists.LegLists.with_all_at.Goals as goal

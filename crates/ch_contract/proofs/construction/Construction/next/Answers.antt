@@ -1,5 +1,0 @@
-use Rattle.ch_contract.proofs.code.ConstructionCalls.{is_next}
-use Rattle.ch_contract.proofs.construction.Construction.next.Goals as goal
-
-pub returns : goal.returns
-returns c = is_next _ (c.in_ok-node.field-0-0, c.in_ok-node.node) c.in_ok-node.ensures

@@ -1,5 +1,0 @@
-use Rattle.ch_contract.specs.Remaining.{legs_of}
-use Rattle.ch_contract.proofs.round_jobs.CountJobListJob.room.Goals as goal
-
-pub returns : goal.returns
-returns c = (c.new.ensures c.args.self.now.remaining.now.nodes c.args.self.now.hops (legs_of c.args.self.now.remaining.now)).idle

@@ -1,6 +1,0 @@
-use Rattle.std.proofs.Common.{take}
-use Rattle.ch_contract.specs.SetEach.{AreGiven}
-use Rattle.ch_contract.proofs.set_each.set_each.Given as goal
-
-abbrev pub invariant-loop-place : goal.invariant-loop-place
-invariant-loop-place g l = AreGiven (take l.place l.nodes) l.values l.fn.list l.list

@@ -1,0 +1,5 @@
+pub mod Depths
+pub mod PrioritySteps
+pub mod StepsMade
+pub mod ConstructionCalls
+pub mod KeptPriorities

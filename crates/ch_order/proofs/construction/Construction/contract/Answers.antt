@@ -1,0 +1,40 @@
+use Rattle.std.proofs.Common.{◌+◌, ◌<◌, ◌∙◌, refl, sym, subst, arith}
+use Rattle.std.specs.Prelude.{All}
+use Rattle.std.specs.Vec.{with_item}
+use Rattle.ch_order.specs.declared.construction.Construction.{Construction}
+use Rattle.ch_contract.specs.Measures.{IsPriorityIn}
+use Rattle.ch_contract.proofs.code.NodeBounds.{neighbours_within}
+use Rattle.ch_order.proofs.ConstructionCalls.{lent_refreshed, stepped_taken, stepped, neighbours_count}
+use Rattle.ch_order.proofs.construction.Construction.contract.Goals as goal
+
+pub refresh-requires-clause-nodes : goal.refresh-requires-clause-nodes
+refresh-requires-clause-nodes g c lifetimes bounds =
+    let t = c.in_ok-taken.ensures.taken in
+    let list = c.as_slice-2.ensures.value ∙ t.listed in
+    subst (λ n. All (λ x. x < n) c.as_slice-2.result.now) (sym t.nodes) (neighbours_within _ _ _ _ _ _ t.up.legs t.down.legs c.requires.next.limits list)
+
+pub refresh-requires-clause-count : goal.refresh-requires-clause-count
+refresh-requires-clause-count g c lifetimes bounds =
+    let t = c.in_ok-taken.ensures.taken in
+    let few = neighbours_count _ _ _ _ _ _ c.requires.next.limits t.up.legs t.down.legs (c.as_slice-2.ensures.value ∙ t.listed) in
+    let most = c.requires.next.sizes.nodes in
+    omega arith
+
+pub refresh-requires-clause-ready : goal.refresh-requires-clause-ready
+refresh-requires-clause-ready g c lifetimes bounds = c.in_ok-taken.ensures.taken.ready.0
+
+pub returns-clause-step : goal.returns-clause-step
+returns-clause-step g c =
+    let taken = c.in_ok-taken.taken in
+    let last : Construction = record {
+      remaining = taken.remaining;
+      room = c.refresh.new.room;
+      rooms = c.refresh.new.rooms;
+      waiting = c.refresh.new.waiting;
+      depths = taken.depths;
+      levels = with_item taken.levels c.args.node (taken.contracted + 1);
+      contracted = taken.contracted + 1;
+    } in
+    let anew = lent_refreshed (λ d. IsPriorityIn c.args.by taken.remaining c.args.hops d) _ _ _ _ _ _ c.as_slice.ensures.value c.as_slice-2.ensures.value c.in_ok-refresh.ensures.anew in
+    stepped c.args.by c.args.hops c.args.self c.args.node last c.requires.next.node c.requires.next.limits c.requires.next.sizes
+    (stepped_taken c.args.by c.args.hops c.args.self c.args.node _ taken last c.in_ok-taken.ensures.taken refl refl refl refl anew)

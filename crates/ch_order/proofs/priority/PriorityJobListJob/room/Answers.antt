@@ -1,0 +1,5 @@
+use Rattle.ch_contract.specs.Remaining.{legs_of}
+use Rattle.ch_order.proofs.priority.PriorityJobListJob.room.Goals as goal
+
+pub returns : goal.returns
+returns c = (c.new.ensures c.args.self.now.remaining.now.nodes c.args.self.now.hops (legs_of c.args.self.now.remaining.now)).idle

@@ -1,0 +1,3 @@
+pub mod Construction
+pub mod Priorities
+pub mod Progress

@@ -1,0 +1,230 @@
+//! Builds the hierarchy of a graph: its nodes are contracted one after the other.
+mod alone;
+
+ghost use Rattle.std.specs.Prelude.{◌≡◌, ◌<◌, ◌≤◌, ◌++◌, IfOk, OnOk, map};
+ghost use Rattle.ch_graph.specs.Graph.{IsWithinLimits};
+ghost use Rattle.ch_contract.specs.Legs.{IsHopBound};
+ghost use Rattle.ch_contract.specs.Built.{IsHierarchy, IsHierarchyInTurn};
+ghost use Rattle.ch_hierarchy.specs.Kept.{IsKept};
+
+use crate::priority::{PriorityJob, opening_queue};
+pub use alone::build_alone;
+use ch_contract::memory::ask_ahead;
+use ch_contract::order::{deepen, neighbours};
+use ch_contract::{BothRows, OrderBy, Remaining, Room};
+use ch_graph::Graph;
+use ch_hierarchy::Hierarchy;
+use ch_queue::KeyQueue;
+use ch_work::{Crew, Gate, Stage};
+use std::alloc::{AllocError, Global};
+use std::thread::Threads;
+
+/// Builds the contraction hierarchy of a graph by the difference, where a witness has at most `hops` legs. For
+/// workers and errors see [`build_in_turn`].
+pub fn build<R: Threads + Sync, G: Gate>(
+    crew: &Crew<'_, R, G>,
+    graph: &Graph,
+    hops: u32,
+) -> Result<Hierarchy, AllocError>
+    requires hops { IsHopBound hops }
+    ensures hierarchy { IfOk result (IsHierarchy graph.now hops) }
+    ensures kept { IfOk result (IsKept graph.now) }
+    ensures limits { IsWithinLimits graph.now }
+{
+    build_in_turn(crew, graph, hops, OrderBy::Difference)
+}
+
+/// Builds the contraction hierarchy of a graph, one node after the other, where a witness has at most `hops`
+/// legs. The next node to be contracted is always the one of the least key in this order; at equal keys it has
+/// the least number. Only the neighbours of a contracted node get new keys.
+///
+/// Workers share the first keys of all nodes. They also share the new keys of the neighbours of a contracted
+/// node if these are at least `crew.plan.wide()` nodes. Each of these batches is a job of its own
+/// (see [`run_pieces`](ch_work::run_pieces)), and workers pass the gate with the numbers of its pieces. Before
+/// each contraction the gate's `watch` receives the number of contracted nodes. The hierarchy does not depend
+/// on the crew.
+///
+/// # Errors
+/// `AllocError` if the call or a piece is refused memory. All workers are joined before the call returns.
+/// Everything that it made is dropped, and the graph is as before.
+pub fn build_in_turn<R: Threads + Sync, G: Gate>(
+    crew: &Crew<'_, R, G>,
+    graph: &Graph,
+    hops: u32,
+    by: OrderBy,
+) -> Result<Hierarchy, AllocError>
+    requires hops { IsHopBound hops }
+    ensures hierarchy { IfOk result (IsHierarchyInTurn by graph.now hops) }
+    ensures kept { IfOk result (IsKept graph.now) }
+    ensures limits { IsWithinLimits graph.now }
+{
+    ask_ahead(crew.alloc, graph)?;
+    let mut construction = Construction::open(crew, graph, hops, by)?;
+    while let Some(node) = construction.next() {
+        crew.gate
+            .watch(Stage::Building, construction.contracted, graph.nodes());
+        construction = construction.contract(crew, node, hops, by)?;
+    }
+    construction.finish()
+}
+
+/// A hierarchy that is being built: some of its nodes are contracted.
+#[derive(Drop)]
+struct Construction {
+    remaining: Remaining,
+    /// The caller's room, which each step uses. It keeps the shortcuts of the nodes that the last step judged.
+    /// The next node is often one of these.
+    room: Room,
+    /// The workers' rooms. They are used if several workers judge the neighbours of a node.
+    rooms: Vec<Room>,
+    /// The remaining nodes, by their priorities.
+    waiting: KeyQueue<i64>,
+    /// The depth of each node.
+    depths: Vec<u32>,
+    /// The level of each contracted node, and 0 for each remaining node.
+    levels: Vec<u32>,
+    /// The number of contracted nodes.
+    contracted: u32,
+}
+
+impl Construction {
+    ghost use Rattle.std.specs.Prelude.{MatchOption, slice_index};
+    ghost use Rattle.ch_queue.specs.Queue.{HasNone};
+    ghost use Rattle.ch_contract.specs.Legs.{AreLegsWithin};
+    ghost use Rattle.ch_contract.specs.Remaining.{legs_of};
+    ghost use Rattle.ch_hierarchy.specs.Hierarchy.{LevelsAndLegs, IsLevelled};
+    ghost use Rattle.ch_order.specs.Progress.{AreAll, IsNext, IsOpen, IsStep};
+    ghost use Rattle.ch_order.specs.Construction.{IsSized, IsJudging, IsMadeOf, IsReadyFor, IsTaken, progress_of};
+
+    /// Starts the construction of the hierarchy of a graph. No node is contracted yet.
+    fn open<R: Threads + Sync, G: Gate>(
+        crew: &Crew<'_, R, G>,
+        graph: &Graph,
+        hops: u32,
+        by: OrderBy,
+    ) -> Result<Construction, AllocError>
+        requires { IsHopBound hops }
+        ensures sizes { IfOk result IsSized }
+        ensures nodes { IfOk result (λ c. c.remaining.nodes ≡ graph.now.nodes) }
+        ensures begun { IfOk result (λ c. IsOpen by graph.now hops (progress_of c)) }
+        ensures ready { IfOk result (IsJudging hops) }
+    {
+        let remaining = Remaining::open(crew.alloc, graph)?;
+        let nodes = remaining.nodes();
+        let depths = vec![in crew.alloc; 0; nodes as usize]?;
+        let mut rooms = Vec::new(crew.alloc);
+        let waiting = opening_queue(crew, &remaining, depths.as_slice(), hops, by, &mut rooms)?;
+        Construction::of(crew.alloc, remaining, rooms, waiting, depths)
+    }
+
+    /// Returns the construction with these parts, in which no node is contracted yet.
+    fn of(
+        alloc: Global,
+        remaining: Remaining,
+        rooms: Vec<Room>,
+        waiting: KeyQueue<i64>,
+        depths: Vec<u32>,
+    ) -> Result<Construction, AllocError>
+        ensures { IfOk result (IsMadeOf remaining rooms.items waiting depths.items) }
+    {
+        let levels = vec![in alloc; 0; remaining.nodes() as usize]?;
+        Ok(Construction {
+            remaining,
+            room: Room::new(alloc),
+            rooms,
+            waiting,
+            depths,
+            levels,
+            contracted: 0,
+        })
+    }
+
+    /// Returns the node that is contracted next, or `None` if no node remains.
+    fn next(&self) -> Option<u32>
+        ensures { MatchOption result (HasNone self.now.waiting) (IsNext self.now.waiting) }
+    {
+        let (_, node) = self.waiting.least()?;
+        Some(node)
+    }
+
+    /// Contracts a node, and keeps its level and its legs.
+    fn contract<R: Threads + Sync, G: Gate>(
+        self,
+        crew: &Crew<'_, R, G>,
+        node: u32,
+        hops: u32,
+        by: OrderBy,
+    ) -> Result<Construction, AllocError>
+        requires next { IsReadyFor hops self node }
+        ensures sizes { IfOk result IsSized }
+        ensures nodes { IfOk result (λ c. c.remaining.nodes ≡ self.remaining.nodes) }
+        ensures step { IfOk result (λ c. IsStep by self.remaining.nodes hops (progress_of self) node (progress_of c)) }
+        ensures ready { IfOk result (IsJudging hops) }
+    {
+        let (mut taken, neighbours) = self.take(crew.alloc, node, hops)?;
+        let job = PriorityJob {
+            remaining: &taken.remaining,
+            depths: taken.depths.as_slice(),
+            hops,
+            by,
+        };
+        job.refresh(
+            crew,
+            neighbours.as_slice(),
+            &mut taken.room,
+            &mut taken.rooms,
+            &mut taken.waiting,
+        )?;
+        taken.contracted += 1;
+        taken.levels[node as usize] = taken.contracted;
+        Ok(taken)
+    }
+
+    /// Contracts a node, takes it out of the queue, and raises the depths of its neighbours. Returns the neighbours
+    /// too. Their priorities are unchanged.
+    fn take(
+        mut self,
+        alloc: Global,
+        node: u32,
+        hops: u32,
+    ) -> Result<(Construction, Vec<u32>), AllocError>
+        requires next { IsReadyFor hops self node }
+        ensures sizes { IfOk result (λ r. IsSized r.0) }
+        ensures taken { IfOk result (λ r. IsTaken hops self node r.1.items r.0) }
+    {
+        let remaining = self.remaining;
+        self.remaining = self.room.contract(alloc, remaining, node, hops)?;
+        let _ = self.waiting.remove(node);
+        let neighbours = neighbours(
+            alloc,
+            self.remaining.up_legs(node),
+            self.remaining.down_legs(node),
+        )?;
+        deepen(&mut self.depths, neighbours.as_slice(), node);
+        Ok((self, neighbours))
+    }
+
+    /// Returns the hierarchy when every node is contracted. It first frees the memory that the hierarchy does
+    /// not need.
+    fn finish(self) -> Result<Hierarchy, AllocError>
+        requires sizes { IsSized self }
+        requires levelled { (H : LevelsAndLegs) → AreAll self.remaining.nodes (progress_of self) H → IsLevelled H }
+        ensures { IfOk result (AreAll self.remaining.nodes (progress_of self)) }
+    {
+        let Construction {
+            remaining,
+            room,
+            rooms,
+            waiting,
+            depths,
+            levels,
+            contracted: _,
+        } = self;
+        drop(room);
+        drop(rooms);
+        drop(waiting);
+        drop(depths);
+        let BothRows { ups, downs } = remaining.into_rows()?;
+        Hierarchy::from_rows(*levels.allocator(), levels, ups, downs)
+    }
+}

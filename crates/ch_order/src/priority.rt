@@ -1,0 +1,224 @@
+//! Priorities of nodes, and the queue of the remaining nodes.
+ghost use Rattle.std.specs.Prelude.{◌≡◌, ◌^◌, ◌<◌, length, All, IfOk, OnOk};
+ghost use Rattle.std.specs.List.{AllZip};
+ghost use Rattle.ch_contract.specs.Legs.{IsHopBound};
+ghost use Rattle.ch_contract.specs.Measures.{IsPriorityIn};
+ghost use Rattle.ch_contract.specs.Rooms.{IsIdleRoom, IsReady};
+ghost use Rattle.ch_contract.specs.Remaining.{legs_of};
+ghost use Rattle.ch_order.specs.Priorities.{ArePriorities, AreRefreshed};
+
+use ch_contract::order::all_nodes;
+use ch_contract::{OrderBy, Remaining, Room};
+use ch_queue::KeyQueue;
+use ch_work::{Crew, Gate, ListJob, Stage, run_list_in};
+use std::alloc::{AllocError, Global};
+use std::thread::Threads;
+
+/// Makes the queue of all nodes, each with its priority. Workers compute the priorities, and `rooms` keeps
+/// their rooms.
+pub(crate) fn opening_queue<R: Threads + Sync, G: Gate>(
+    crew: &Crew<'_, R, G>,
+    remaining: &Remaining,
+    depths: &[u32],
+    hops: u32,
+    by: OrderBy,
+    rooms: &mut Vec<Room>,
+) -> Result<KeyQueue<i64>, AllocError>
+    requires hops { IsHopBound hops }
+    requires depths { length depths.now ≡ remaining.now.nodes }
+    requires rooms { All IsIdleRoom rooms.old.items }
+    ensures queue { IfOk result (ArePriorities (IsPriorityIn by remaining.now hops depths.now) remaining.now.nodes) }
+    ensures rooms { All IsIdleRoom rooms.new.items }
+{
+    let nodes = all_nodes(crew.alloc, remaining.nodes())?;
+    let job = PriorityJob {
+        remaining,
+        depths,
+        hops,
+        by,
+    };
+    let pieces = crew.plan.pieces(remaining.nodes());
+    crew.gate.watch(Stage::Ranking, 0, pieces);
+    let priorities = run_list_in(crew, nodes.as_slice(), rooms, &job)?;
+    let mut waiting = KeyQueue::new(crew.alloc, remaining.nodes())?;
+    job.set_all(nodes.as_slice(), priorities.as_slice(), &mut waiting);
+    Ok(waiting)
+}
+
+/// Returns the queue of all nodes, each with its priority, as [`opening_queue`] does. The caller computes the
+/// priorities alone.
+pub(crate) fn opening_queue_alone(
+    alloc: Global,
+    remaining: &Remaining,
+    depths: &[u32],
+    hops: u32,
+    by: OrderBy,
+) -> Result<KeyQueue<i64>, AllocError>
+    requires hops { IsHopBound hops }
+    requires depths { length depths.now ≡ remaining.now.nodes }
+    ensures { IfOk result (ArePriorities (IsPriorityIn by remaining.now hops depths.now) remaining.now.nodes) }
+{
+    let nodes = all_nodes(alloc, remaining.nodes())?;
+    let job = PriorityJob {
+        remaining,
+        depths,
+        hops,
+        by,
+    };
+    let mut waiting = KeyQueue::new(alloc, remaining.nodes())?;
+    job.set_in_turn(alloc, nodes.as_slice(), &mut waiting)?;
+    Ok(waiting)
+}
+
+/// The job that computes the priorities of nodes with the remaining legs and these depths.
+#[derive(Drop)]
+pub(crate) struct PriorityJob<'a> {
+    pub(crate) remaining: &'a Remaining,
+    pub(crate) depths: &'a [u32],
+    pub(crate) hops: u32,
+    pub(crate) by: OrderBy,
+    ghost bound: { IsHopBound hops },
+    ghost size: { length depths.now ≡ remaining.now.nodes },
+}
+
+impl ListJob for PriorityJob<'_> {
+    type Item = u32;
+
+    type Room = Room;
+
+    type Out = i64;
+
+    ghost takes = { λ job x. x < job.remaining.now.nodes };
+
+    ghost meaning = { λ job x p. IsPriorityIn job.by job.remaining.now job.hops job.depths.now x p };
+
+    ghost clean = { λ job room. IsIdleRoom room };
+
+    fn room(&self, alloc: Global) -> Result<Room, AllocError> {
+        Ok(Room::new(alloc))
+    }
+
+    fn value(&self, alloc: Global, room: &mut Room, item: &u32) -> Result<i64, AllocError> {
+        room.forget();
+        self.priority(alloc, room, *item)
+    }
+}
+
+impl PriorityJob<'_> {
+    /// Returns the priority of a node. The node is judged in this room.
+    fn priority(&self, alloc: Global, room: &mut Room, node: u32) -> Result<i64, AllocError>
+        requires node { node < self.now.remaining.now.nodes }
+        requires ready { IsReady self.now.remaining.now.nodes self.now.hops (legs_of self.now.remaining.now) room.old }
+        ensures priority { IfOk result
+            (IsPriorityIn self.now.by self.now.remaining.now self.now.hops self.now.depths.now node) }
+        ensures ready { OnOk result (IsReady self.now.remaining.now.nodes self.now.hops
+            (legs_of self.now.remaining.now) room.new) }
+    {
+        let measure = room.judge(alloc, self.remaining, node, self.hops)?;
+        Ok(self.by.key(measure, self.depths[node as usize]))
+    }
+
+    /// Gives these nodes the priorities that they have now. If they are at least `crew.plan.wide()` nodes, they
+    /// are cut into pieces. Workers share the pieces and pass the gate with each piece. A single worker, or the
+    /// worker of an only piece, uses the caller's room; otherwise the workers use `rooms`.
+    pub(crate) fn refresh<R: Threads + Sync, G: Gate>(
+        &self,
+        crew: &Crew<'_, R, G>,
+        nodes: &[u32],
+        room: &mut Room,
+        rooms: &mut Vec<Room>,
+        waiting: &mut KeyQueue<i64>,
+    ) -> Result<(), AllocError>
+        requires nodes { All (λ x. x < self.now.remaining.now.nodes) nodes.now }
+        requires count { length nodes.now < 2 ^ 32 }
+        requires size { length waiting.old ≡ self.now.remaining.now.nodes }
+        requires ready { IsReady self.now.remaining.now.nodes self.now.hops (legs_of self.now.remaining.now) room.old }
+        requires rooms { All IsIdleRoom rooms.old.items }
+        ensures anew { OnOk result (AreRefreshed
+            (IsPriorityIn self.now.by self.now.remaining.now self.now.hops self.now.depths.now)
+            nodes.now waiting.old waiting.new) }
+        ensures ready { OnOk result (IsReady self.now.remaining.now.nodes self.now.hops
+            (legs_of self.now.remaining.now) room.new) }
+        ensures rooms { All IsIdleRoom rooms.new.items }
+    {
+        if nodes.len() < crew.plan.wide() as usize {
+            return self.refresh_here(crew.alloc, nodes, room, waiting);
+        }
+        let piece = crew.plan.piece() as usize;
+        if crew.plan.workers() > 1 && nodes.len() > piece {
+            let priorities = run_list_in(crew, nodes, rooms, self)?;
+            self.set_all(nodes, priorities.as_slice(), waiting);
+            return Ok(());
+        }
+        let mut number = 0;
+        let mut from = 0;
+        while from < nodes.len() {
+            let to = nodes.len().min(from + piece);
+            crew.gate.pass(number);
+            self.refresh_here(crew.alloc, &nodes[from..to], room, waiting)?;
+            number += 1;
+            from = to;
+        }
+        Ok(())
+    }
+
+    /// Gives these nodes the priorities that they have now, one after the other, in a new room. The room forgets the
+    /// shortcuts of a node before it judges the next one, because few of these nodes are contracted soon.
+    pub(crate) fn set_in_turn(
+        &self,
+        alloc: Global,
+        nodes: &[u32],
+        waiting: &mut KeyQueue<i64>,
+    ) -> Result<(), AllocError>
+        requires nodes { All (λ x. x < self.now.remaining.now.nodes) nodes.now }
+        requires size { length waiting.old ≡ self.now.remaining.now.nodes }
+        ensures { OnOk result (AreRefreshed
+            (IsPriorityIn self.now.by self.now.remaining.now self.now.hops self.now.depths.now)
+            nodes.now waiting.old waiting.new) }
+    {
+        let mut room = Room::new(alloc);
+        for node in nodes {
+            let priority = self.value(alloc, &mut room, node)?;
+            waiting.set(*node, priority);
+        }
+        Ok(())
+    }
+
+    /// Gives these nodes the priorities that they have now. The nodes are judged in this room.
+    pub(crate) fn refresh_here(
+        &self,
+        alloc: Global,
+        nodes: &[u32],
+        room: &mut Room,
+        waiting: &mut KeyQueue<i64>,
+    ) -> Result<(), AllocError>
+        requires nodes { All (λ x. x < self.now.remaining.now.nodes) nodes.now }
+        requires size { length waiting.old ≡ self.now.remaining.now.nodes }
+        requires ready { IsReady self.now.remaining.now.nodes self.now.hops (legs_of self.now.remaining.now) room.old }
+        ensures anew { OnOk result (AreRefreshed
+            (IsPriorityIn self.now.by self.now.remaining.now self.now.hops self.now.depths.now)
+            nodes.now waiting.old waiting.new) }
+        ensures ready { OnOk result (IsReady self.now.remaining.now.nodes self.now.hops
+            (legs_of self.now.remaining.now) room.new) }
+    {
+        for node in nodes {
+            let priority = self.priority(alloc, room, *node)?;
+            waiting.set(*node, priority);
+        }
+        Ok(())
+    }
+
+    /// Gives each of these nodes the priority at the same place.
+    fn set_all(&self, nodes: &[u32], priorities: &[i64], waiting: &mut KeyQueue<i64>)
+        requires nodes { All (λ x. x < self.now.remaining.now.nodes) nodes.now }
+        requires priorities { AllZip (IsPriorityIn self.now.by self.now.remaining.now self.now.hops self.now.depths.now)
+            nodes.now priorities.now }
+        requires size { length waiting.old ≡ self.now.remaining.now.nodes }
+        ensures { AreRefreshed (IsPriorityIn self.now.by self.now.remaining.now self.now.hops self.now.depths.now)
+            nodes.now waiting.old waiting.new }
+    {
+        for (node, priority) in nodes.iter().zip(priorities) {
+            waiting.set(*node, *priority);
+        }
+    }
+}

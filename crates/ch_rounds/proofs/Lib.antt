@@ -1,0 +1,9 @@
+pub mod RoundPuts
+pub mod RoundsMade
+pub mod FirstAround
+pub mod KeptKeys
+pub mod NearRound
+pub mod RoundCalls
+pub mod RoundChoice
+pub mod RoundLists
+pub mod SetEach

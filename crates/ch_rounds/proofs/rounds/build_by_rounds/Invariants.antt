@@ -1,0 +1,18 @@
+use Rattle.std.proofs.Common.{◌≡◌, ℕ, List, length}
+use Rattle.std.specs.Prelude.{All}
+use Rattle.ch_contract.specs.Legs.{Legs}
+use Rattle.ch_contract.specs.Rooms.{IsIdleRoom}
+use Rattle.ch_rounds.specs.RoundConstruction.{AreKeysNow, IsSizedByRounds, round_progress_of}
+use Rattle.ch_rounds.proofs.RoundsMade.{IsAfterRounds}
+use Rattle.ch_rounds.proofs.rounds.build_by_rounds.Given as goal
+
+abbrev pub invariant-loop-next : goal.invariant-loop-next
+invariant-loop-next g l =
+    IsSizedByRounds l.construction
+    × (l.construction.remaining.nodes ≡ l.graph.nodes)
+    × ((rounds : List (List ℕ)) × (L : ℕ → Legs) × IsAfterRounds l.graph l.hops rounds L (round_progress_of l.construction))
+    × All IsIdleRoom l.construction.rooms.items
+    × AreKeysNow l.construction
+
+abbrev pub decreases-loop-next : goal.decreases-loop-next
+decreases-loop-next g l = length l.construction.left.items
