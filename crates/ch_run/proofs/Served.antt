@@ -304,19 +304,19 @@ module _ (IsTextOf : TextOf) (n : ℕ) {J : Type 0} (reads : J → List ℕ → 
     fed_refused ended (RunFault.Read Which.Requests fault) h gives_them answers =
         let took = answers_more IsTextOf gives {T = Unit} no_places old mid new 0 before after h.given given (Err (RunFault.Read Which.Requests fault)) h.answered (held_next {T = Unit} ended h (Err (RunFault.Read Which.Requests fault)) answers) in
         fed_some ended start now old mid before s held h (λ read left. TellsThen n (Some (Line fault)) (TookAnswers IsTextOf gives no_places old new) (read ++ left))
-            (λ left may. let step = gives_them left may in told_fault ended h left step.0 (Line fault) step.1 step.2 took)
+        (λ left may. let step = gives_them left may in told_fault ended h left step.0 (Line fault) step.1 step.2 took)
     fed_refused ended (RunFault.CellsAt line) h gives_them answers =
         let took = answers_more IsTextOf gives {T = Unit} no_places old mid new 0 before after h.given given (Err (RunFault.CellsAt line)) h.answered (held_next {T = Unit} ended h (Err (RunFault.CellsAt line)) answers) in
         fed_some ended start now old mid before s held h (λ read left. TellsThen n (Some (Cells line)) (TookAnswers IsTextOf gives no_places old new) (read ++ left))
-            (λ left may. let step = gives_them left may in told_fault ended h left step.0 (Cells line) step.1 step.2 took)
+        (λ left may. let step = gives_them left may in told_fault ended h left step.0 (Cells line) step.1 step.2 took)
     fed_refused ended RunFault.Memory h gives_them answers =
         let took = answers_more IsTextOf gives {T = Unit} no_places old mid new 0 before after h.given given (Err RunFault.Memory) h.answered (held_next {T = Unit} ended h (Err RunFault.Memory) answers) in
         fed_some ended start now old mid before s held h (λ read left. TookFirstAnswers IsTextOf gives no_places old new (told_by n (read ++ left)).given)
-            (λ left may. let step = gives_them left may in (took.0, took.1 ++ step.0.given, first_told ended h left step.0 took.0 took.1 step.1 took.2, took.3))
+        (λ left may. let step = gives_them left may in (took.0, took.1 ++ step.0.given, first_told ended h left step.0 took.0 took.1 step.1 took.2, took.3))
     fed_refused ended (RunFault.Write count) h gives_them answers =
         let took = answers_more IsTextOf gives {T = Unit} no_places old mid new 0 before after h.given given (Err (RunFault.Write count)) h.answered (held_next {T = Unit} ended h (Err (RunFault.Write count)) answers) in
         fed_some ended start now old mid before s held h (λ read left. TookBeginning IsTextOf gives no_places old new 0 count (told_by n (read ++ left)).given)
-            (λ left may. let step = gives_them left may in (took.0, took.1 ++ step.0.given, took.2, took.3, first_told ended h left step.0 took.0 took.1 step.1 took.4, took.5, took.6, took.7))
+        (λ left may. let step = gives_them left may in (took.0, took.1 ++ step.0.given, took.2, took.3, first_told ended h left step.0 took.0 took.1 step.1 took.4, took.5, took.6, took.7))
     fed_refused ended RunFault.Cells h gives_them answers = absurd (gives_them [] (λ e. refl)).2
     fed_refused ended (RunFault.Device which) h gives_them answers = absurd (gives_them [] (λ e. refl)).2
     fed_refused ended (RunFault.Read Which.Graph f) h gives_them answers = absurd (gives_them [] (λ e. refl)).2
@@ -341,7 +341,7 @@ module _ (IsTextOf : TextOf) (n : ℕ) {J : Type 0} (reads : J → List ℕ → 
       let bytes_fed = served_fed (count == 0) start mid now old new written s held buffer count refl h call fits room in
       let took = bytes_fed.answered in
       fed_some (count == 0) start now old new written (fed s (take count buffer)) held bytes_fed (λ read left. TookFirstAnswers IsTextOf gives no_places old new (told_by n (read ++ left)).given)
-          (λ left may. (bytes_fed.given, (ahead (fed s (take count buffer)) left).given, ap (λ t. t.given) (bytes_fed.ahead_is left), (took.0, took.1, took.2)))
+      (λ left may. (bytes_fed.given, (ahead (fed s (take count buffer)) left).given, ap (λ t. t.given) (bytes_fed.ahead_is left), (took.0, took.1, took.2)))
 
   -- there were more reads than a count can hold
   pub served_long : (start now : J) (old new : S) (written : ℕ) (s : Standing) (held : PlaceList) → HasServed start now old new written s held → Serves {T = Unit} IsTextOf gives n (reading reads start now) old new (Err RunFault.Memory)
