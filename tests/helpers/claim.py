@@ -2,6 +2,7 @@
 import re
 import shutil
 import subprocess
+import textwrap
 from pathlib import Path
 
 from helpers.running import ROOT
@@ -108,13 +109,21 @@ def wrapped(text):
     return "\n".join(lines)
 
 
+def filled(note):
+    """The paragraphs of a note, which are comments, in lines of that width."""
+    blocks = note.split("\n--\n")
+    bare = [" ".join(line.removeprefix("-- ") for line in block.splitlines()) for block in blocks]
+    options = {"initial_indent": "-- ", "subsequent_indent": "-- ", "break_long_words": False, "break_on_hyphens": False}
+    return "\n--\n".join(textwrap.fill(block, COLUMNS, **options) for block in bare)
+
+
 def title(text):
     return f"-- {'=' * 20}\n-- {text}"
 
 
 def part_text(number, note, heading, closure, before):
     """A part: its definitions by files, without those of the parts before it."""
-    blocks = [title(f"Part {number}. {heading}"), note]
+    blocks = [title(f"Part {number}. {heading}"), filled(note)]
     for source in closure.in_order():
         names = [name for name in source.definitions if name in closure.definitions[source] and name not in before.get(source.path, ())]
         if names:
