@@ -82,17 +82,26 @@ class Contraction:
             self.put(start, end, cost, node)
 
 
-def singly(left, key):
-    """Contracts one node after the other, at each step one of least key, and of these the least numbered. The order, and all legs."""
-    waiting = {node: key(node) for node in left.depth}
-    order, legs = [], []
+def contract_one(left, node):
+    """Contracts a node alone. Its legs, and the nodes that it shared one with."""
+    shortcuts = left.shortcuts(node, {node})
+    taken, neighbours = left.take_out(node)
+    left.put_all(node, shortcuts)
+    return taken, neighbours
+
+
+def singly(left, key, given=()):
+    """Contracts one node after the other: first those given, as they come, and then at each step one of least key, and of these the least
+    numbered. Keys are computed when the given nodes are contracted. The order, and all legs."""
+    order, legs = list(given), []
+    for node in given:
+        legs += contract_one(left, node)[0]
+    waiting = {node: key(node) for node in left.depth.keys() - set(given)}
     while waiting:
         node = min(waiting, key=lambda other: (waiting[other], other))
         del waiting[node]
         order.append(node)
-        shortcuts = left.shortcuts(node, {node})
-        taken, neighbours = left.take_out(node)
-        left.put_all(node, shortcuts)
+        taken, neighbours = contract_one(left, node)
         legs += taken
         waiting.update({other: key(other) for other in neighbours})
     return order, legs
@@ -102,8 +111,8 @@ def by_difference(left):
     return singly(left, lambda node: left.count(node) - left.touching(node))
 
 
-def by_depth(left):
-    return singly(left, lambda node: left.by_depth(node, left.count(node)))
+def by_depth(left, given=()):
+    return singly(left, lambda node: left.by_depth(node, left.count(node)), given)
 
 
 def mixed(node):
@@ -160,6 +169,13 @@ ORDERS = {"difference": by_difference, "depth": by_depth, "rounds": by_rounds}
 def hierarchy_text(nodes, arcs, hops, order):
     """What `chtab save` owes for a graph: the order and the legs of its hierarchy, in the order of this name."""
     ranked, legs = ORDERS[order](Contraction(nodes, arcs, hops))
+    return text_of(nodes, ranked, in_order(ranked, legs))
+
+
+def text_like(nodes, arcs, hops, given, fresh):
+    """The saved hierarchy of a graph in an order like the given one: the last nodes, so many per cent of all, rounded down, are ordered afresh
+    by depth."""
+    ranked, legs = by_depth(Contraction(nodes, arcs, hops), given[: nodes - nodes * fresh // 100])
     return text_of(nodes, ranked, in_order(ranked, legs))
 
 

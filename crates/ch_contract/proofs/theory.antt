@@ -17,6 +17,7 @@ pub mod Levelled
 pub mod Enough
 pub mod ReferenceSearch
 pub mod OrderSteps
+pub mod GivenNodes
 pub mod RowSteps
 pub mod RoundLegs
 pub mod Rounds
@@ -24,6 +25,7 @@ pub mod Turns
 pub mod RoundNodes
 pub mod RoundOrders
 pub mod OneRounds
+pub mod GivenOrders
 pub mod OneOrder
 pub mod BuiltKept
 pub mod RoundSteps
@@ -31,3 +33,4 @@ pub mod RoundFirst
 pub mod Listing
 pub mod ShortcutsListed
 pub mod RoundsExist
+pub mod OrdersExist

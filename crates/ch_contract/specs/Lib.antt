@@ -9,8 +9,10 @@ pub mod Legs
 pub mod Contraction
 pub mod Enough
 pub mod Order
+pub mod Begun
 pub mod LegRows
 pub mod Built
+pub mod Like
 pub mod Remaining
 pub mod ShortcutLists
 pub mod Candidates
@@ -20,10 +22,12 @@ pub mod Laws
 pub mod OneOrder
 pub mod Measures
 pub mod Keeping
+pub mod LikeLaws
 pub mod Rounds
 pub mod RoundOrder
 pub mod RoundLaws
 pub mod RoundReference
+pub mod LikeReference
 pub mod TakenOut
 pub mod HeldCosts
 pub mod KnownCosts

@@ -50,7 +50,7 @@ pub fn assemble(alloc: Global, graph: &Graph, saved: &Saved) -> Result<Hierarchy
 }
 
 /// Returns the level of each node, or `None` if the order does not have each node below `n` exactly once.
-fn levels_of(alloc: Global, n: u32, order: &[u32]) -> Result<Option<Vec<u32>>, AllocError>
+pub fn levels_of(alloc: Global, n: u32, order: &[u32]) -> Result<Option<Vec<u32>>, AllocError>
     ensures { IfOk result (λ found. MatchOption found (IsOrderOf n order.now → ⊥) (λ levels. IsOrderOf n order.now × AreLevelsOf order.now levels.items)) }
 {
     if order.len() != n as usize {

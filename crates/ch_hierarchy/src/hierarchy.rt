@@ -1,8 +1,9 @@
 //! Levels, and the legs of each node to and from higher nodes.
-ghost use Rattle.std.specs.Prelude.{◌≡◌, ◌+◌, ◌*◌, ◌<◌, ℕ, IfOk, map, slice_index};
+ghost use Rattle.std.specs.Prelude.{◌≡◌, ◌+◌, ◌*◌, ◌<◌, ℕ, IfOk, map, reverse, slice_index};
 ghost use Rattle.ch_hierarchy.specs.Rows.{row};
 ghost use Rattle.ch_hierarchy.specs.Hierarchy.{nodes_of, IsLevelled};
 ghost use Rattle.ch_hierarchy.specs.Ranked.{rank_of, ranked_leg};
+ghost use Rattle.ch_hierarchy.specs.Saved.{IsOrderOf, AreLevelsOf};
 
 use crate::leg::Leg;
 use crate::ranked::{RankedLeg, nodes_by_rank, ranked_rows};
@@ -120,6 +121,18 @@ impl Hierarchy {
         self.nodes[rank as usize]
     }
 
+    /// Returns the nodes in order of level, as they were contracted.
+    ///
+    /// # Errors
+    /// `AllocError` if there is no memory for the list.
+    pub fn order(&self, alloc: Global) -> Result<Vec<u32>, AllocError>
+        ensures order { IfOk result (λ list. IsOrderOf (nodes_of self.now) list.items) }
+        ensures levels { IfOk result (λ list. AreLevelsOf list.items self.now.level) }
+        ensures levelled { IsLevelled self.now }
+    {
+        reversed(alloc, self.nodes.as_slice())
+    }
+
     /// The legs by rank of one node in one direction, chosen by a number.
     ///
     /// `2 r` gives the legs from the node of rank r to higher nodes, in the order of `up`. `2 r + 1` gives
@@ -133,4 +146,11 @@ impl Hierarchy {
     {
         self.ranked.row(state)
     }
+}
+
+/// Returns the nodes from the last to the first.
+fn reversed(alloc: Global, nodes: &[u32]) -> Result<Vec<u32>, AllocError>
+    ensures { IfOk result (λ list. list.items ≡ reverse nodes.now) }
+{
+    nodes.iter().rev().copied().collect(alloc)
 }

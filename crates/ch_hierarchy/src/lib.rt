@@ -20,7 +20,7 @@ mod placing;
 mod ranked;
 mod sorting;
 
-pub use assembling::assemble;
+pub use assembling::{assemble, levels_of};
 pub use fault::{CheckError, CheckFault};
 pub use hierarchy::Hierarchy;
 pub use leg::Leg;

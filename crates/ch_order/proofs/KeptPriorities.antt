@@ -9,9 +9,8 @@ use Rattle.std.proofs.Math.Seq.{take-add}
 use Rattle.ch_hierarchy.proofs.theory.Ordered.{contains_or_not}
 use Rattle.std.proofs.lemmas.List.FromFn.{length-range_with_len, get_or-range_with_len}
 use Rattle.ch_queue.specs.Queue.{key_of}
-use Rattle.ch_contract.proofs.code.NodeLists.{number_among}
 use Rattle.ch_order.specs.Progress.{HasPriority}
-use Rattle.ch_order.specs.Priorities.{ArePriorities, AreRefreshed}
+use Rattle.ch_order.specs.Priorities.{AreRefreshed}
 
 module _ (IsOf : ℕ → ℤ → Type 0) where
   -- the queue after one more node gets its new priority
@@ -54,7 +53,3 @@ module _ (IsOf : ℕ → ℤ → Type 0) where
       let size : from + (to - from) ≡ to = omega arith in
       let all : take from nodes ++ slice_range nodes from to ≡ take to nodes = sym (take-add from (to - from) nodes) ∙ ap (λ z. take z nodes) size in
       subst (λ l. AreRefreshed IsOf l before after) all (refreshed_then (take from nodes) (slice_range nodes from to) before middle after r s)
-
-  -- if all nodes get their new priorities, all have their priorities
-  pub all_refreshed : (n : ℕ) (before after : List (Option ℤ)) → length before ≡ n → AreRefreshed IsOf (range_with_len 0 n) before after → ArePriorities IsOf n after
-  all_refreshed n before after size r = record { size = r.size ∙ size; each = λ x lt. r.anew x (number_among n x lt) }

@@ -1,5 +1,5 @@
 -- The priorities of the remaining nodes, as an order of contraction grows.
-use Rattle.std.proofs.Common.{◌≡◌, ℕ, ◌+◌, ◌<◌, Bool, true, false, List, [], ◌∷◌, ◌++◌, length, Option, Some, None, refl, sym, ◌∙◌, subst, arith, inl, inr, Contains}
+use Rattle.std.proofs.Common.{◌≡◌, ℕ, ◌+◌, ◌<◌, ◌≤◌, max, Bool, true, false, List, [], ◌∷◌, ◌++◌, length, Option, Some, None, refl, sym, ◌∙◌, subst, arith, inl, inr, Contains}
 use Rattle.std.specs.Prelude.{◌≢◌, slice_index, ℤ}
 use Rattle.std.proofs.lemmas.Bool.{cases_lt}
 use Rattle.std.proofs.lemmas.List.{get_or_past, length_push}
@@ -9,16 +9,18 @@ use Rattle.ch_queue.specs.Queue.{key_of, HasNone}
 use Rattle.ch_contract.specs.declared.measure.OrderBy.{OrderBy}
 use Rattle.ch_contract.specs.Legs.{Legs}
 use Rattle.ch_contract.specs.Contraction.{IsPriorityBy}
-use Rattle.ch_contract.specs.Order.{are_neighbours, depth_after, IsPriorityAfter}
+use Rattle.ch_contract.specs.Order.{are_neighbours, depth_after}
+use Rattle.ch_contract.specs.Like.{IsPriorityFrom}
 use Rattle.ch_order.specs.Progress.{HasPriority, IsNext}
+use Rattle.ch_order.specs.Priorities.{AreRefreshed}
 use Rattle.ch_hierarchy.proofs.theory.Ordered.{contains_or_not}
-use Rattle.ch_contract.proofs.theory.OneInTurn.{priority_along}
-use Rattle.ch_contract.proofs.theory.OrderSteps.{ComesBefore, then_legs, untouched_more, touched_more, more, legs_more, here, agree, now, next}
+use Rattle.ch_contract.proofs.theory.OneInTurn.{from_along}
+use Rattle.ch_contract.proofs.theory.OrderSteps.{ComesBefore, then_legs, last_touch, untouched_more, touched_more, more, legs_more, here, agree, now, next}
 
 -- the key of each remaining node is its priority after these steps, and no contracted node has a key
-pub record AreKept (by : OrderBy) (n h : ℕ) (order : List ℕ) (L : ℕ → Legs) (keys : List (Option ℤ)) : Type 0 where
+pub record AreKept (k : ℕ) (by : OrderBy) (n h : ℕ) (order : List ℕ) (L : ℕ → Legs) (keys : List (Option ℤ)) : Type 0 where
   pub size : length keys ≡ n
-  pub left : (x : ℕ) → x < n → (Contains order x → ⊥) → (p : ℤ) × (key_of keys x ≡ Some p) × IsPriorityAfter by n h order L (length order) x p
+  pub left : (x : ℕ) → x < n → (Contains order x → ⊥) → (p : ℤ) × (key_of keys x ≡ Some p) × IsPriorityFrom k by n h order L (length order) x p
   pub taken : (x : ℕ) → Contains order x → key_of keys x ≡ None
 
 -- a node with a key is below the number of keys
@@ -28,60 +30,78 @@ key_within keys x p e = elim (cases_lt x (length keys)) [
   | inr past ↦ absurd (none-some p (sym (get_or_past keys x None past) ∙ e))
 ]
 
-module _ (by : OrderBy) (n h : ℕ) (order : List ℕ) (L : ℕ → Legs) (keys : List (Option ℤ)) (k : AreKept by n h order L keys) where
+-- when the nodes that remain are judged after the given ones, the key of each is its priority
+pub kept_ranked : (by : OrderBy) (n h : ℕ) (given : List ℕ) (L : ℕ → Legs) (depth : ℕ → ℕ) (others : List ℕ) (before after : List (Option ℤ)) → length before ≡ n → HasNone before → ((x : ℕ) → depth x ≡ depth_after given L (length given) x) →
+    ((x : ℕ) → x < n → (Contains given x → ⊥) → Contains others x) → ((x : ℕ) → Contains given x → Contains others x → ⊥) → AreRefreshed (IsPriorityBy by n h (L (length given)) depth) others before after → AreKept (length given) by n h given L after
+kept_ranked by n h given L depth others before after size none deep whole apart r = record {
+  size = r.size ∙ size;
+  left = λ x lt away.
+      let k : ℕ = length given in
+      let p = r.anew x (whole x lt away) in
+      let touch = last_touch given L k x in
+      let within = touch.1.within in
+      let here : k ≡ max k touch.0 = omega arith in
+      let is = subst (λ (f : ℕ → ℕ). IsPriorityBy by n h (L k) f x p.0) (λ t y. deep y t) p.2 in
+      (p.0, p.1, (touch.0, touch.1, subst (λ z. IsPriorityBy by n h (L z) (depth_after given L z) x p.0) here is));
+  taken = λ x has. r.kept x (apart x has) ∙ none x;
+}
+
+module _ (k : ℕ) (by : OrderBy) (n h : ℕ) (order : List ℕ) (L : ℕ → Legs) (keys : List (Option ℤ)) (a : AreKept k by n h order L keys) where
   -- if no node has a key, all are contracted
   pub all_taken : HasNone keys → (x : ℕ) → x < n → Contains order x
   all_taken none x lt = elim (contains_or_not order x) [
     | inl has ↦ has
-    | inr away ↦ let r = k.left x lt away in absurd (none-some r.0 (sym (none x) ∙ r.1))
+    | inr away ↦ let r = a.left x lt away in absurd (none-some r.0 (sym (none x) ∙ r.1))
   ]
 
-module _ (by : OrderBy) (n h : ℕ) (order : List ℕ) (L : ℕ → Legs) (keys : List (Option ℤ)) (k : AreKept by n h order L keys) (v : ℕ) (f : IsNext keys v) where
+module _ (k : ℕ) (by : OrderBy) (n h : ℕ) (order : List ℕ) (L : ℕ → Legs) (keys : List (Option ℤ)) (a : AreKept k by n h order L keys) (v : ℕ) (f : IsNext keys v) where
   -- the next node is below the number of nodes
   pub next_within : v < n
-  next_within = let lt = key_within keys v f.priority f.has in let size = k.size in omega arith
+  next_within = let lt = key_within keys v f.priority f.has in let size = a.size in omega arith
 
   -- the next node is not contracted yet
   pub next_left : Contains order v → ⊥
-  next_left has = none-some f.priority (sym (k.taken v has) ∙ f.has)
+  next_left has = none-some f.priority (sym (a.taken v has) ∙ f.has)
 
   -- the next node comes before all remaining nodes
-  pub next_first : (x : ℕ) → x < n → (Contains order x → ⊥) → ComesBefore by n h order L (length order) v x
+  pub next_first : (x : ℕ) → x < n → (Contains order x → ⊥) → ComesBefore k by n h order L (length order) v x
   next_first x lt away =
-      let mine = k.left v next_within next_left in
+      let mine = a.left v next_within next_left in
       let same : mine.0 ≡ f.priority = same_Some _ _ (sym mine.1 ∙ f.has) in
-      let other = k.left x lt away in
-      (f.priority, other.0, subst (λ p. IsPriorityAfter by n h order L (length order) v p) same mine.2, other.2, f.first x other.0 other.1)
+      let other = a.left x lt away in
+      (f.priority, other.0, subst (λ p. IsPriorityFrom k by n h order L (length order) v p) same mine.2, other.2, f.first x other.0 other.1)
 
-module _ (by : OrderBy) (n h : ℕ) (order : List ℕ) (L : ℕ → Legs) (keys : List (Option ℤ)) (k : AreKept by n h order L keys) (v : ℕ) (M : Legs) (after : List (Option ℤ)) (size : length after ≡ length keys) (taken : key_of after v ≡ None) (v_left : Contains order v → ⊥) (depth : ℕ → ℕ) (deep : (x : ℕ) → depth x ≡ depth_after (more order L v M) (legs_more order L v M) (length order + 1) x) (anew : (x : ℕ) → are_neighbours (L (length order)) v x ≡ true → HasPriority (IsPriorityBy by n h M depth) after x) (kept : (x : ℕ) → x ≢ v → are_neighbours (L (length order)) v x ≡ false → key_of after x ≡ key_of keys x) (gone : (x : ℕ) → Contains order x → are_neighbours (L (length order)) v x ≡ false) where
+module _ (k : ℕ) (by : OrderBy) (n h : ℕ) (order : List ℕ) (L : ℕ → Legs) (keys : List (Option ℤ)) (a : AreKept k by n h order L keys) (from : k ≤ length order) (v : ℕ) (M : Legs) (after : List (Option ℤ)) (size : length after ≡ length keys) (taken : key_of after v ≡ None) (v_left : Contains order v → ⊥) (depth : ℕ → ℕ) (deep : (x : ℕ) → depth x ≡ depth_after (more order L v M) (legs_more order L v M) (length order + 1) x) (anew : (x : ℕ) → are_neighbours (L (length order)) v x ≡ true → HasPriority (IsPriorityBy by n h M depth) after x) (kept : (x : ℕ) → x ≢ v → are_neighbours (L (length order)) v x ≡ false → key_of after x ≡ key_of keys x) (gone : (x : ℕ) → Contains order x → are_neighbours (L (length order)) v x ≡ false) where
   -- a neighbour gets its priority with the legs after the step, and the others keep theirs
-  priority_of : (b : Bool) (x : ℕ) → are_neighbours (L (length order)) v x ≡ b → x < n → x ≢ v → (Contains order x → ⊥) → (p : ℤ) × (key_of after x ≡ Some p) × IsPriorityAfter by n h (more order L v M) (legs_more order L v M) (length order + 1) x p
+  priority_of : (b : Bool) (x : ℕ) → are_neighbours (L (length order)) v x ≡ b → x < n → x ≢ v → (Contains order x → ⊥) → (p : ℤ) × (key_of after x ≡ Some p) × IsPriorityFrom k by n h (more order L v M) (legs_more order L v M) (length order + 1) x p
   priority_of b x e lt ne away = at b e
     where
       same : are_neighbours (legs_more order L v M (length order)) (slice_index (more order L v M) (length order)) x ≡ are_neighbours (L (length order)) v x
       same = λ i. are_neighbours (now order L v M i) (here order L v M i) x
 
-      at : (b : Bool) → are_neighbours (L (length order)) v x ≡ b → (p : ℤ) × (key_of after x ≡ Some p) × IsPriorityAfter by n h (more order L v M) (legs_more order L v M) (length order + 1) x p
+      at : (b : Bool) → are_neighbours (L (length order)) v x ≡ b → (p : ℤ) × (key_of after x ≡ Some p) × IsPriorityFrom k by n h (more order L v M) (legs_more order L v M) (length order + 1) x p
       at true e =
           let r = anew x e in
           let deeper = subst (λ (f : ℕ → ℕ). IsPriorityBy by n h M f x r.0) (λ t y. deep y t) r.2 in
           let depths = depth_after (more order L v M) (legs_more order L v M) (length order + 1) in
-          (r.0, r.1, (length order + 1, touched_more (more order L v M) (legs_more order L v M) (length order) x (same ∙ e), subst (λ (N : Legs). IsPriorityBy by n h N depths x r.0) (sym (next order L v M)) deeper))
+          let last : length order + 1 ≡ max k (length order + 1) = omega arith in
+          let is = subst (λ (N : Legs). IsPriorityBy by n h N depths x r.0) (sym (next order L v M)) deeper in
+          (r.0, r.1, (length order + 1, touched_more (more order L v M) (legs_more order L v M) (length order) x (same ∙ e), subst (λ z. IsPriorityBy by n h (legs_more order L v M z) (depth_after (more order L v M) (legs_more order L v M) z) x r.0) last is))
       at false e =
-          let r = k.left x lt away in
-          let along = priority_along by n h (length order) order L (more order L v M) (legs_more order L v M) x r.0 (agree order L v M) r.2 in
+          let r = a.left x lt away in
+          let along = from_along k by n h (length order) order L (more order L v M) (legs_more order L v M) x r.0 from (agree order L v M) r.2 in
           (r.0, kept x ne e ∙ r.1, (along.0, untouched_more (more order L v M) (legs_more order L v M) (length order) x along.0 (same ∙ e) along.1, along.2))
 
   -- the new keys are the priorities for the longer order
-  pub kept_more : AreKept by n h (order ++ v ∷ []) (then_legs (length order) L M) after
+  pub kept_more : AreKept k by n h (order ++ v ∷ []) (then_legs (length order) L M) after
   kept_more = record {
-    size = size ∙ k.size;
+    size = size ∙ a.size;
     left = λ x lt away.
         let ne : x ≢ v = λ e. away (subst (Contains (order ++ v ∷ [])) (sym e) (Contains-push order v)) in
         let r = priority_of (are_neighbours (L (length order)) v x) x refl lt ne (λ has. away (Contains-append_left order (v ∷ []) x has)) in
-        (r.0, r.1, subst (λ z. IsPriorityAfter by n h (more order L v M) (legs_more order L v M) z x r.0) (sym (length_push order v)) r.2);
+        (r.0, r.1, subst (λ z. IsPriorityFrom k by n h (more order L v M) (legs_more order L v M) z x r.0) (sym (length_push order v)) r.2);
     taken = λ x has. elim (Contains-push_cases order v x has) [
-      | inl earlier ↦ kept x (λ e. v_left (subst (Contains order) e earlier)) (gone x earlier) ∙ k.taken x earlier
+      | inl earlier ↦ kept x (λ e. v_left (subst (Contains order) e earlier)) (gone x earlier) ∙ a.taken x earlier
       | inr e ↦ subst (λ z. key_of after z ≡ None) e taken
     ];
   }

@@ -1,161 +1,230 @@
 -- The state that the contraction of one node after the other keeps, from the first node to the last.
-use Rattle.std.proofs.Common.{◌≡◌, ℕ, ◌+◌, ◌<◌, ◌≤◌, true, false, List, [], ◌∷◌, ◌++◌, length, sym, ◌∙◌, ap, subst, arith, Contains, length-set}
-use Rattle.std.specs.Prelude.{◌≢◌, slice_index, slice_set, ◌||◌, is_some}
-use Rattle.std.proofs.lemmas.List.{length_push, get_or_default}
+use Rattle.std.proofs.Common.{◌≡◌, ℕ, ◌+◌, ◌<◌, ◌≤◌, true, false, List, [], ◌∷◌, ◌++◌, length, sym, ◌∙◌, ap, subst, arith, inl, inr, Contains, Option, None, take, length-set, get_or-set_same, get_or-set_other}
+use Rattle.std.specs.Prelude.{◌≢◌, slice_index, slice_set, ◌||◌, is_some, ℤ}
+use Rattle.std.proofs.lemmas.Bool.{cases_eq, cases_lt}
+use Rattle.std.proofs.lemmas.List.{length_push, get_or_default, get_or_past, take_all, take-append-le}
 use Rattle.ch_graph.specs.declared.limits.TheConstants.{MOST_NODES}
 use Rattle.ch_queue.specs.Queue.{key_of, HasNone}
 use Rattle.ch_graph.specs.Graph.{Network}
 use Rattle.ch_contract.specs.declared.measure.OrderBy.{OrderBy}
 use Rattle.ch_contract.specs.Legs.{Legs, SameLegs, AreLegsWithin, opening}
 use Rattle.ch_contract.specs.Contraction.{Contracts, IsPriorityBy}
-use Rattle.ch_contract.specs.Order.{are_neighbours, next_depth, depth_after, IsOrderBy}
+use Rattle.ch_contract.specs.Order.{are_neighbours, next_depth, depth_after, AreContracted}
+use Rattle.ch_contract.specs.Like.{IsHierarchyFrom}
+use Rattle.ch_order.specs.Steps.{IsAfterGiven, IsAfterSteps}
 use Rattle.ch_contract.specs.LegRows.{AreLegsFrom, AreLegsTo}
 use Rattle.ch_hierarchy.specs.Hierarchy.{LevelsAndLegs, IsLevelled}
-use Rattle.ch_contract.specs.Built.{IsHierarchyOf, IsHierarchyInTurn}
-use Rattle.ch_order.specs.Progress.{Progress, HasPriority, IsNext, IsOpen, IsStep, AreAll}
+use Rattle.ch_hierarchy.specs.Saved.{IsOrderOf}
+use Rattle.ch_contract.specs.Built.{IsHierarchyOf}
+use Rattle.ch_order.specs.Progress.{Progress, HasPriority, IsNext, IsOpen, IsContraction, IsStep, AreAll}
+use Rattle.ch_order.specs.Priorities.{AreRefreshed, IsRanked}
 use Rattle.ch_contract.proofs.theory.Contracting.{pairs_by_needed}
 use Rattle.ch_contract.proofs.theory.Levelled.{within_steps, gone_steps, levelled}
 use Rattle.ch_contract.proofs.theory.Enough.{hierarchy_with_pairs}
 use Rattle.ch_contract.proofs.theory.OneInTurn.{one_map}
-use Rattle.ch_contract.proofs.theory.OrderSteps.{IsBegun, then_legs, next, begun_fewer, begun_more, begun_none, begun_all}
+use Rattle.ch_contract.proofs.theory.OrderSteps.{AreLeast, then_legs, next, begun_fewer, begun_more, begun_none, begun_all, least_more}
 use Rattle.ch_order.proofs.Depths.{depth_most, depth_more}
-use Rattle.ch_order.proofs.PrioritySteps.{AreKept, all_taken, next_within, next_left, next_first, kept_more}
-use Rattle.ch_contract.proofs.theory.RowSteps.{AreLevels, AreRowsBy, levels_more, rows_more}
+use Rattle.ch_contract.proofs.theory.GivenNodes.{all_others, no_other}
+use Rattle.ch_order.proofs.PrioritySteps.{AreKept, all_taken, next_within, next_left, next_first, kept_more, kept_ranked}
+use Rattle.ch_contract.proofs.theory.RowSteps.{levels_more, rows_more}
 
--- the state after these steps
-pub record IsAfter (by : OrderBy) (g : Network) (h : ℕ) (order : List ℕ) (L : ℕ → Legs) (p : Progress) : Type 0 where
-  pub begun : IsBegun by g h order L
-  pub limits : AreLegsWithin g.nodes (opening g)
-  pub contracted : p.contracted ≡ length order
-  pub legs : SameLegs (L (length order)) p.legs
-  pub size : length p.levels ≡ g.nodes
-  pub levels : AreLevels order p.levels
-  pub depths : (x : ℕ) → p.depth x ≡ depth_after order L (length order) x
-  pub priorities : AreKept by g.nodes h order L p.keys
-  pub up : AreRowsBy AreLegsFrom order L p.up
-  pub down : AreRowsBy AreLegsTo order L p.down
+-- the state after these steps, of which the first k are given: each later node came first, and the keys are the priorities
+pub record IsAfter (k : ℕ) (by : OrderBy) (g : Network) (h : ℕ) (order : List ℕ) (L : ℕ → Legs) (p : Progress) : Type 0 where
+  pub steps : IsAfterSteps g h order L p
+  pub from : k ≤ length order
+  pub least : AreLeast k by g h order L
+  pub priorities : AreKept k by g.nodes h order L p.keys
 
--- the state after some steps
-pub record IsAfterSomeSteps (by : OrderBy) (g : Network) (h : ℕ) (p : Progress) : Type 0 where
+-- the state after some steps, of which the first are given
+pub record IsAfterSomeSteps (by : OrderBy) (g : Network) (h : ℕ) (given : List ℕ) (p : Progress) : Type 0 where
   pub order : List ℕ
   pub L : ℕ → Legs
-  pub after : IsAfter by g h order L p
+  pub after : IsAfter (length given) by g h order L p
+  pub first : take (length given) order ≡ given
 
 -- the state at the start, when no step was made
-pub steps_at_start : (by : OrderBy) (g : Network) (h : ℕ) (p : Progress) → length p.levels ≡ g.nodes → IsOpen by g h p → IsAfterSomeSteps by g h p
-steps_at_start by g h p size o = record {
-  order = [];
+pub given_none : (g : Network) (h : ℕ) (p : Progress) → IsOpen g p → IsAfterGiven g h [] p
+given_none g h p o = record {
   L = λ i. opening g;
   after = record {
-    begun = begun_none by g h;
+    begun = begun_none g h;
     limits = o.limits;
     contracted = o.contracted;
     legs = λ a b. sym (o.legs a b);
-    size = size;
+    size = o.size;
     levels = λ i lt. absurd (omega arith);
     depths = o.depths;
-    priorities = record {
-      size = o.size;
-      left = λ x lt away. let r = o.priorities x lt in (r.0, r.1, (0, record { within = omega arith; touched = λ first. absurd (omega arith); later = λ k le below. absurd (omega arith) }, subst (λ (f : ℕ → ℕ). IsPriorityBy by g.nodes h (opening g) f x r.0) (λ t y. o.depths y t) r.2));
-      taken = λ x has. absurd (let lt = has.1 in omega arith);
-    };
     up = λ i lt. absurd (omega arith);
     down = λ i lt. absurd (omega arith);
   };
+  keys = o.keys;
 }
 
-module _ (by : OrderBy) (g : Network) (h : ℕ) (order : List ℕ) (L : ℕ → Legs) (p : Progress) (u : IsAfter by g h order L p) (v : ℕ) (f : IsNext p.keys v) where
-  -- the next node is below the number of nodes
-  within : v < g.nodes
-  within = next_within by g.nodes h order L p.keys u.priorities v f
-
-  left : Contains order v → ⊥
-  left = next_left by g.nodes h order L p.keys u.priorities v f
-
-  -- the number of contracted nodes is less than the number of nodes
-  fewer : p.contracted < g.nodes
-  fewer = omega (arith, begun_fewer by g h order L u.begun v within left, u.contracted)
-
-  -- no contracted node is a neighbour of the next node
-  none_earlier : (x : ℕ) → Contains order x → are_neighbours (L (length order)) v x ≡ false
-  none_earlier x has =
+module _ (g : Network) (h : ℕ) (order : List ℕ) (L : ℕ → Legs) (p : Progress) (u : IsAfterSteps g h order L p) where
+  -- no contracted node is a neighbour of any node
+  none_earlier : (v x : ℕ) → Contains order x → are_neighbours (L (length order)) v x ≡ false
+  none_earlier v x has =
       let n : ℕ = length order in
       let at : slice_index order has.0 ≡ x = get_or_default order has.0 0 x has.1 ∙ has.2 in
       let gone = gone_steps g.nodes n order L (λ i lt. pairs_by_needed g.nodes h _ _ _ (u.begun.step i lt)) has.0 n has.1 (omega arith) v in
       subst (λ z. are_neighbours (L n) v z ≡ false) at (λ i. is_some (gone.1 i) || is_some (gone.0 i))
 
-  -- the state after one more step
-  after_step : (q : Progress) → IsStep by g.nodes h p v q → IsAfter by g h (order ++ v ∷ []) (then_legs (length order) L q.legs) q
-  after_step q s =
+  -- the remaining legs are within the limits
+  pub legs_within : AreLegsWithin g.nodes p.legs
+  legs_within =
       let n : ℕ = length order in
-      let same : p.legs ≡ L n = sym (one_map (L n) p.legs u.legs) in
-      let step = subst (λ (M : Legs). Contracts g.nodes h M v q.legs) same s.legs in
-      let deep = depth_more order L v q.legs p.depth q.depth u.depths (subst (λ (M : Legs). (x : ℕ) → q.depth x ≡ next_depth M v p.depth x) same s.depths) in
-      let count : q.contracted ≡ n + 1 = s.contracted ∙ ap (λ z. z + 1) u.contracted in
-      record {
-        begun = begun_more by g h order L v q.legs u.begun within left step (next_first by g.nodes h order L p.keys u.priorities v f);
-        limits = u.limits;
-        contracted = count ∙ sym (length_push order v);
-        legs = λ a b. ap (λ z. then_legs n L q.legs z a b) (length_push order v) ∙ ap (λ (M : Legs). M a b) (next order L v q.legs);
-        size = ap length s.levels ∙ length-set p.levels v q.contracted ∙ u.size;
-        levels = levels_more order v left L q.legs p.levels q.levels (let size = u.size in omega (arith, within)) (s.levels ∙ ap (slice_set p.levels v) count) u.levels;
-        depths = λ x. deep x ∙ ap (λ z. depth_after (order ++ v ∷ []) (then_legs n L q.legs) z x) (sym (length_push order v));
-        priorities = kept_more by g.nodes h order L p.keys u.priorities v q.legs q.keys s.size s.taken left q.depth deep
-            (subst (λ (M : Legs). (x : ℕ) → are_neighbours M v x ≡ true → HasPriority (IsPriorityBy by g.nodes h q.legs q.depth) q.keys x) same s.anew)
-            (subst (λ (M : Legs). (x : ℕ) → x ≢ v → are_neighbours M v x ≡ false → key_of q.keys x ≡ key_of p.keys x) same s.kept)
-            none_earlier;
-        up = rows_more order v left AreLegsFrom L q.legs p.up q.up (subst (λ (M : Legs). AreLegsFrom M v (q.up v)) same s.up) (λ x ne. (s.rows x ne).0) u.up;
-        down = rows_more order v left AreLegsTo L q.legs p.down q.down (subst (λ (M : Legs). AreLegsTo M v (q.down v)) same s.down) (λ x ne. (s.rows x ne).1) u.down;
-      }
+      let start = subst (AreLegsWithin g.nodes) (sym (one_map (L 0) (opening g) u.begun.start)) u.limits in
+      subst (AreLegsWithin g.nodes) (one_map (L n) p.legs u.legs) (within_steps g.nodes n order L start (λ i lt. pairs_by_needed g.nodes h _ _ _ (u.begun.step i lt)) n (omega arith))
 
--- when no node has a key, the steps are the order of contraction
-order_of : (by : OrderBy) (g : Network) (h : ℕ) (order : List ℕ) (L : ℕ → Legs) (p : Progress) → IsAfter by g h order L p → HasNone p.keys → IsOrderBy by g h order L
-order_of by g h order L p u none = begun_all by g h order L u.begun (all_taken by g.nodes h order L p.keys u.priorities none)
+  -- a depth is at most the number of contracted nodes
+  pub depth_within : (x : ℕ) → p.depth x ≤ p.contracted
+  depth_within x =
+      let deep = u.depths x in
+      let most = depth_most order L (length order) x in
+      let count = u.contracted in
+      omega arith
 
-after_all : (by : OrderBy) (g : Network) (h : ℕ) (order : List ℕ) (L : ℕ → Legs) (p : Progress) → IsAfter by g h order L p → HasNone p.keys → (H : LevelsAndLegs) → AreAll g.nodes p H → IsHierarchyOf g h H order L
-after_all by g h order L p u none H all =
-    let contracted = (order_of by g h order L p u none).contracted in
-    let size = contracted.nodes.0 in
-    let node : (i : ℕ) → i < g.nodes → slice_index order i < g.nodes = λ i lt. contracted.nodes.1 i 0 (omega arith) in
-    record {
-      contracted = contracted;
-      sizes = (ap length all.level ∙ all.sizes.0, all.sizes.1, all.sizes.2);
-      level = λ i lt. ap (λ l. slice_index l (slice_index order i)) all.level ∙ u.levels i (omega arith);
-      up = λ i lt. subst (AreLegsFrom (L i) (slice_index order i)) (sym (all.rows (slice_index order i) (node i lt)).0) (u.up i (omega arith));
-      down = λ i lt. subst (AreLegsTo (L i) (slice_index order i)) (sym (all.rows (slice_index order i) (node i lt)).1) (u.down i (omega arith));
-    }
+module _ (g : Network) (h : ℕ) (order : List ℕ) (L : ℕ → Legs) (p : Progress) (u : IsAfterSteps g h order L p) (v : ℕ) (within : v < g.nodes) (left : Contains order v → ⊥) where
+  -- the number of contracted nodes is less than the number of nodes
+  pub count_fewer : p.contracted < g.nodes
+  count_fewer = omega (arith, begun_fewer g h order L u.begun v within left, u.contracted)
 
--- one more step keeps the state after some steps
-pub steps_next : (by : OrderBy) (g : Network) (h : ℕ) (p : Progress) (v : ℕ) (q : Progress) → IsAfterSomeSteps by g h p → IsNext p.keys v → IsStep by g.nodes h p v q → IsAfterSomeSteps by g h q
-steps_next by g h p v q u f s = record { order = u.order ++ v ∷ []; L = then_legs (length u.order) u.L q.legs; after = after_step by g h u.order u.L p u.after v f q s }
+  module _ (q : Progress) (s : IsContraction g.nodes h p v q) where
+    -- the legs before the step
+    before : p.legs ≡ L (length order)
+    before = sym (one_map (L (length order)) p.legs u.legs)
 
--- while a node remains, the number of contracted nodes is less than the number of nodes
-pub steps_count : (by : OrderBy) (g : Network) (h : ℕ) (p : Progress) (v : ℕ) → IsAfterSomeSteps by g h p → IsNext p.keys v → p.contracted < g.nodes
-steps_count by g h p v u f = fewer by g h u.order u.L p u.after v f
+    -- the step is a contraction
+    pub contracts : Contracts g.nodes h (L (length order)) v q.legs
+    contracts = subst (λ (M : Legs). Contracts g.nodes h M v q.legs) before s.legs
 
--- the next node is a node of the graph
-pub steps_node : (by : OrderBy) (g : Network) (h : ℕ) (p : Progress) (v : ℕ) → IsAfterSomeSteps by g h p → IsNext p.keys v → v < g.nodes
-steps_node by g h p v u f = within by g h u.order u.L p u.after v f
+    -- the depths after the step
+    pub deep : (x : ℕ) → q.depth x ≡ depth_after (order ++ v ∷ []) (then_legs (length order) L q.legs) (length order + 1) x
+    deep = depth_more order L v q.legs p.depth q.depth u.depths (subst (λ (M : Legs). (x : ℕ) → q.depth x ≡ next_depth M v p.depth x) before s.depths)
 
--- a depth is at most the number of contracted nodes
-pub steps_depth : (by : OrderBy) (g : Network) (h : ℕ) (p : Progress) (x : ℕ) → IsAfterSomeSteps by g h p → p.depth x ≤ p.contracted
-steps_depth by g h p x u =
-    let deep = u.after.depths x in
-    let most = depth_most u.order u.L (length u.order) x in
-    let count = u.after.contracted in
-    omega arith
+    -- the state after one more step
+    pub steps_more : IsAfterSteps g h (order ++ v ∷ []) (then_legs (length order) L q.legs) q
+    steps_more =
+        let n : ℕ = length order in
+        let count : q.contracted ≡ n + 1 = s.contracted ∙ ap (λ z. z + 1) u.contracted in
+        record {
+          begun = begun_more g h order L v q.legs u.begun within left contracts;
+          limits = u.limits;
+          contracted = count ∙ sym (length_push order v);
+          legs = λ a b. ap (λ z. then_legs n L q.legs z a b) (length_push order v) ∙ ap (λ (M : Legs). M a b) (next order L v q.legs);
+          size = ap length s.levels ∙ length-set p.levels v q.contracted ∙ u.size;
+          levels = levels_more order v left L q.legs p.levels q.levels (let size = u.size in omega (arith, within)) (s.levels ∙ ap (slice_set p.levels v) count) u.levels;
+          depths = λ x. deep x ∙ ap (λ z. depth_after (order ++ v ∷ []) (then_legs n L q.legs) z x) (sym (length_push order v));
+          up = rows_more order v left AreLegsFrom L q.legs p.up q.up (subst (λ (M : Legs). AreLegsFrom M v (q.up v)) before s.up) (λ x ne. (s.rows x ne).0) u.up;
+          down = rows_more order v left AreLegsTo L q.legs p.down q.down (subst (λ (M : Legs). AreLegsTo M v (q.down v)) before s.down) (λ x ne. (s.rows x ne).1) u.down;
+        }
 
--- the remaining legs are within the limits
-pub steps_within : (by : OrderBy) (g : Network) (h : ℕ) (p : Progress) → IsAfterSomeSteps by g h p → AreLegsWithin g.nodes p.legs
-steps_within by g h p u =
-    let a = u.after in
-    let n : ℕ = length u.order in
-    let start = subst (AreLegsWithin g.nodes) (sym (one_map (u.L 0) (opening g) a.begun.start)) a.limits in
-    subst (AreLegsWithin g.nodes) (one_map (u.L n) p.legs a.legs) (within_steps g.nodes n u.order u.L start (λ i lt. pairs_by_needed g.nodes h _ _ _ (a.begun.step i lt)) n (omega arith))
+-- a queue in which no node has a key stays so if a key is removed
+none_removed : (keys : List (Option ℤ)) (v : ℕ) → HasNone keys → HasNone (slice_set keys v None)
+none_removed keys v none x = elim (cases_eq x v) [
+  | inl e ↦ elim (cases_lt v (length keys)) [
+    | inl lt ↦ subst (λ z. key_of (slice_set keys v None) z ≡ None) (sym e) (get_or-set_same keys v None None lt)
+    | inr past ↦ get_or_past (slice_set keys v None) x None (omega (arith, length-set keys v None))
+  ]
+  | inr ne ↦ get_or-set_other keys v x None None ne ∙ none x
+]
 
--- when no node remains, the levels and the rows are the hierarchy
-pub steps_at_end : (by : OrderBy) (g : Network) (h : ℕ) (p : Progress) → IsAfterSomeSteps by g h p → HasNone p.keys → (H : LevelsAndLegs) → AreAll g.nodes p H → IsHierarchyInTurn by g h H
-steps_at_end by g h p u none H all = (u.order, u.L, after_all by g h u.order u.L p u.after none H all, (order_of by g h u.order u.L p u.after none).least)
+-- one more given node is contracted
+pub given_more : (g : Network) (h : ℕ) (given : List ℕ) (p : Progress) (v : ℕ) (q : Progress) → IsAfterGiven g h given p → v < g.nodes → (Contains given v → ⊥) → IsContraction g.nodes h p v q → q.keys ≡ slice_set p.keys v None → IsAfterGiven g h (given ++ v ∷ []) q
+given_more g h given p v q u within left s keys = record {
+  L = then_legs (length given) u.L q.legs;
+  after = steps_more g h given u.L p u.after v within left q s;
+  keys = (ap length keys ∙ length-set p.keys v None ∙ u.keys.0, subst HasNone (sym keys) (none_removed p.keys v u.keys.1));
+}
 
-pub steps_levelled : (by : OrderBy) (g : Network) (h : ℕ) (p : Progress) → IsAfterSomeSteps by g h p → HasNone p.keys → g.nodes ≤ MOST_NODES → (H : LevelsAndLegs) → AreAll g.nodes p H → IsLevelled H
-steps_levelled by g h p u none count H all = levelled g H u.order u.L (hierarchy_with_pairs g h H u.order u.L (after_all by g h u.order u.L p u.after none H all)) count u.after.limits
+-- the nodes that remain are judged after the given ones
+pub steps_at_start : (by : OrderBy) (g : Network) (h : ℕ) (given others : List ℕ) (p q : Progress) → IsOrderOf g.nodes (given ++ others) → IsAfterGiven g h given p → IsRanked by g.nodes h others p q → IsAfterSomeSteps by g h given q
+steps_at_start by g h given others p q is u r = record {
+  order = given;
+  L = u.L;
+  after = record {
+    steps = subst (IsAfterSteps g h given u.L) (sym r.rest) (rekeyed q.keys);
+    from = omega arith;
+    least = λ i x ge lt inside away. absurd (omega arith);
+    priorities = kept_ranked by g.nodes h given u.L p.depth others p.keys q.keys u.keys.0 u.keys.1 u.after.depths (all_others given others g.nodes is) (no_other given others g.nodes is)
+        (subst (λ (M : Legs). AreRefreshed (IsPriorityBy by g.nodes h M p.depth) others p.keys q.keys) (sym (one_map (u.L (length given)) p.legs u.after.legs)) r.keys);
+  };
+  first = take_all (length given) given (omega arith);
+}
+  where
+    rekeyed : (keys : List (Option ℤ)) → IsAfterSteps g h given u.L (record p { keys = keys })
+    rekeyed keys =
+        let a = u.after in
+        record { begun = a.begun; limits = a.limits; contracted = a.contracted; legs = a.legs; size = a.size; levels = a.levels; depths = a.depths; up = a.up; down = a.down }
+
+module _ (by : OrderBy) (g : Network) (h : ℕ) (given : List ℕ) (p : Progress) (u : IsAfterSomeSteps by g h given p) where
+  -- the remaining legs are within the limits
+  pub steps_within : AreLegsWithin g.nodes p.legs
+  steps_within = legs_within g h u.order u.L p u.after.steps
+
+  -- a depth is at most the number of contracted nodes
+  pub steps_depth : (x : ℕ) → p.depth x ≤ p.contracted
+  steps_depth = depth_within g h u.order u.L p u.after.steps
+
+  module _ (v : ℕ) (f : IsNext p.keys v) where
+    -- the next node is a node of the graph
+    pub steps_node : v < g.nodes
+    steps_node = next_within (length given) by g.nodes h u.order u.L p.keys u.after.priorities v f
+
+    -- the next node is not contracted yet
+    left : Contains u.order v → ⊥
+    left = next_left (length given) by g.nodes h u.order u.L p.keys u.after.priorities v f
+
+    -- while a node remains, the number of contracted nodes is less than the number of nodes
+    pub steps_count : p.contracted < g.nodes
+    steps_count = count_fewer g h u.order u.L p u.after.steps v steps_node left
+
+    -- one more step keeps the state after some steps
+    pub steps_next : (q : Progress) → IsStep by g.nodes h p v q → IsAfterSomeSteps by g h given q
+    steps_next q s =
+        let n : ℕ = length u.order in
+        let k : ℕ = length given in
+        let a = u.after in
+        let c = s.contraction in
+        let same : p.legs ≡ u.L n = sym (one_map (u.L n) p.legs a.steps.legs) in
+        record {
+          order = u.order ++ v ∷ [];
+          L = then_legs n u.L q.legs;
+          after = record {
+            steps = steps_more g h u.order u.L p a.steps v steps_node left q c;
+            from = let size = length_push u.order v in let le = a.from in omega arith;
+            least = least_more k by g h u.order u.L v q.legs a.least a.from (next_first k by g.nodes h u.order u.L p.keys a.priorities v f);
+            priorities = kept_more k by g.nodes h u.order u.L p.keys a.priorities a.from v q.legs q.keys s.size s.taken left q.depth (deep g h u.order u.L p a.steps v steps_node left q c)
+                (subst (λ (M : Legs). (x : ℕ) → are_neighbours M v x ≡ true → HasPriority (IsPriorityBy by g.nodes h q.legs q.depth) q.keys x) same s.anew)
+                (subst (λ (M : Legs). (x : ℕ) → x ≢ v → are_neighbours M v x ≡ false → key_of q.keys x ≡ key_of p.keys x) same s.kept)
+                (none_earlier g h u.order u.L p a.steps v);
+          };
+          first = take-append-le k u.order (v ∷ []) a.from ∙ u.first;
+        }
+
+  module _ (none : HasNone p.keys) where
+    -- when no node has a key, all nodes are contracted
+    contracted : AreContracted g h u.order u.L
+    contracted = begun_all g h u.order u.L u.after.steps.begun (all_taken (length given) by g.nodes h u.order u.L p.keys u.after.priorities none)
+
+    -- when no node remains, the levels and the rows are the hierarchy
+    after_all : (H : LevelsAndLegs) → AreAll g.nodes p H → IsHierarchyOf g h H u.order u.L
+    after_all H all =
+        let a = u.after.steps in
+        let size = contracted.nodes.0 in
+        let node : (i : ℕ) → i < g.nodes → slice_index u.order i < g.nodes = λ i lt. contracted.nodes.1 i 0 (omega arith) in
+        record {
+          contracted = contracted;
+          sizes = (ap length all.level ∙ all.sizes.0, all.sizes.1, all.sizes.2);
+          level = λ i lt. ap (λ l. slice_index l (slice_index u.order i)) all.level ∙ a.levels i (omega arith);
+          up = λ i lt. subst (AreLegsFrom (u.L i) (slice_index u.order i)) (sym (all.rows (slice_index u.order i) (node i lt)).0) (a.up i (omega arith));
+          down = λ i lt. subst (AreLegsTo (u.L i) (slice_index u.order i)) (sym (all.rows (slice_index u.order i) (node i lt)).1) (a.down i (omega arith));
+        }
+
+    -- it is the hierarchy with the given nodes
+    pub steps_at_end : (H : LevelsAndLegs) → AreAll g.nodes p H → IsHierarchyFrom by g h given H
+    steps_at_end H all = let size = contracted.nodes.0 in (u.order, u.L, after_all H all, u.first, λ i x ge lt inside away. u.after.least i x ge (omega arith) inside away)
+
+    -- the hierarchy is levelled
+    pub steps_levelled : g.nodes ≤ MOST_NODES → (H : LevelsAndLegs) → AreAll g.nodes p H → IsLevelled H
+    steps_levelled count H all = levelled g H u.order u.L (hierarchy_with_pairs g h H u.order u.L (after_all H all)) count u.after.steps.limits

@@ -29,16 +29,6 @@ pub record IsSized (c : Construction) : Type 0 where
 abbrev pub IsJudging : ℕ → Construction → Type 0
 IsJudging h c = IsReady c.remaining.nodes h (legs_of c.remaining) c.room × All IsIdleRoom c.rooms.items
 
--- the construction has these parts, a room that keeps no shortcuts and a level for each node, and no node is contracted
-pub record IsMadeOf (remaining : RemainingLegs) (rooms : List Room) (waiting : List (Option ℤ)) (depths : List ℕ) (c : Construction) : Type 0 where
-  pub legs : c.remaining ≡ remaining
-  pub idle : c.rooms.items ≡ rooms
-  pub keys : c.waiting ≡ waiting
-  pub deep : c.depths.items ≡ depths
-  pub room : (n h : ℕ) (L : Legs) → IsReady n h L c.room
-  pub size : length c.levels.items ≡ c.remaining.nodes
-  pub none : c.contracted ≡ 0
-
 -- v can be contracted next, where a witness has at most h legs
 pub record IsReadyFor (h : ℕ) (c : Construction) (v : ℕ) : Type 0 where
   pub hops : IsHopBound h
@@ -49,8 +39,8 @@ pub record IsReadyFor (h : ℕ) (c : Construction) (v : ℕ) : Type 0 where
   pub depth : slice_index c.depths.items v ≤ c.contracted
   pub ready : IsJudging h c
 
--- v is contracted and out of the queue, and its neighbours lie deeper. All else is unchanged, and so are the priorities of
--- the neighbours
+-- v is contracted and out of the queue, with its level, and its neighbours lie deeper. The priorities of the neighbours are
+-- unchanged
 pub record IsTaken (h : ℕ) (before : Construction) (v : ℕ) (neighbours : List ℕ) (after : Construction) : Type 0 where
   pub nodes : after.remaining.nodes ≡ before.remaining.nodes
   pub legs : Contracts before.remaining.nodes h (legs_of before.remaining) v (legs_of after.remaining)
@@ -59,6 +49,6 @@ pub record IsTaken (h : ℕ) (before : Construction) (v : ℕ) (neighbours : Lis
   pub listed : neighbours ≡ neighbours_in (row after.remaining.ups v) (row after.remaining.downs v)
   pub deeper : AreDeepened neighbours (slice_index before.depths.items v + 1) before.depths.items after.depths.items
   pub waiting : after.waiting ≡ slice_set before.waiting v None
-  pub levels : after.levels.items ≡ before.levels.items
-  pub contracted : after.contracted ≡ before.contracted
+  pub contracted : after.contracted ≡ before.contracted + 1
+  pub levels : after.levels.items ≡ slice_set before.levels.items v after.contracted
   pub ready : IsJudging h after

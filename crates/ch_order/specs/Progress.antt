@@ -1,6 +1,6 @@
 -- The progress of contraction, one node after the other.
 use Rattle.std.specs.Prelude.{◌≡◌, ◌≢◌, ℕ, ◌+◌, ◌<◌, true, false, List, length, slice_set, Option, Some, None, ℤ}
-use Rattle.ch_queue.specs.Queue.{key_of}
+use Rattle.ch_queue.specs.Queue.{key_of, HasNone}
 use Rattle.ch_graph.specs.Graph.{Network}
 use Rattle.ch_hierarchy.specs.declared.leg.Leg.{Leg}
 use Rattle.ch_contract.specs.declared.measure.OrderBy.{OrderBy}
@@ -32,27 +32,31 @@ pub record IsNext (keys : List (Option ℤ)) (v : ℕ) : Type 0 where
   pub has : key_of keys v ≡ Some priority
   pub first : (x : ℕ) (q : ℤ) → key_of keys x ≡ Some q → IsContractedBefore priority v q x
 
--- no node is contracted yet
-pub record IsOpen (by : OrderBy) (g : Network) (h : ℕ) (p : Progress) : Type 0 where
+-- no node is contracted yet, and none has a key
+pub record IsOpen (g : Network) (p : Progress) : Type 0 where
   pub legs : SameLegs p.legs (opening g)
   pub limits : AreLegsWithin g.nodes (opening g)
-  pub size : length p.keys ≡ g.nodes
-  pub priorities : (x : ℕ) → x < g.nodes → HasPriority (IsPriorityBy by g.nodes h (opening g) p.depth) p.keys x
+  pub size : length p.levels ≡ g.nodes
+  pub keys : (length p.keys ≡ g.nodes) × HasNone p.keys
   pub depths : (x : ℕ) → p.depth x ≡ 0
   pub contracted : p.contracted ≡ 0
 
--- v is contracted: its rows are put in, its level is the number of contracted nodes, and it leaves the queue; only its
--- neighbours get new depths and priorities
-pub record IsStep (by : OrderBy) (n h : ℕ) (before : Progress) (v : ℕ) (after : Progress) : Type 0 where
+-- v is contracted: its rows are put in, and its level is the number of contracted nodes; only its neighbours get new
+-- depths
+pub record IsContraction (n h : ℕ) (before : Progress) (v : ℕ) (after : Progress) : Type 0 where
   pub legs : Contracts n h before.legs v after.legs
   pub contracted : after.contracted ≡ before.contracted + 1
   pub levels : after.levels ≡ slice_set before.levels v after.contracted
   pub up : AreLegsFrom before.legs v (after.up v)
   pub down : AreLegsTo before.legs v (after.down v)
   pub rows : (x : ℕ) → x ≢ v → (after.up x ≡ before.up x) × (after.down x ≡ before.down x)
+  pub depths : (x : ℕ) → after.depth x ≡ next_depth before.legs v before.depth x
+
+-- v is contracted and leaves the queue; only its neighbours get new priorities
+pub record IsStep (by : OrderBy) (n h : ℕ) (before : Progress) (v : ℕ) (after : Progress) : Type 0 where
+  pub contraction : IsContraction n h before v after
   pub size : length after.keys ≡ length before.keys
   pub taken : key_of after.keys v ≡ None
-  pub depths : (x : ℕ) → after.depth x ≡ next_depth before.legs v before.depth x
   pub anew : (x : ℕ) → are_neighbours before.legs v x ≡ true → HasPriority (IsPriorityBy by n h after.legs after.depth) after.keys x
   pub kept : (x : ℕ) → x ≢ v → are_neighbours before.legs v x ≡ false → key_of after.keys x ≡ key_of before.keys x
 

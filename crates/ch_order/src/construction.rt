@@ -1,21 +1,26 @@
 //! Builds the hierarchy of a graph: its nodes are contracted one after the other.
 mod alone;
+mod like;
 
-ghost use Rattle.std.specs.Prelude.{◌≡◌, ◌<◌, ◌≤◌, ◌++◌, IfOk, OnOk, map};
+ghost use Rattle.std.specs.Prelude.{◌≡◌, ℕ, ◌<◌, ◌≤◌, ◌^◌, ◌++◌, All, IfOk, OnOk, length, map, take};
 ghost use Rattle.ch_graph.specs.Graph.{IsWithinLimits};
 ghost use Rattle.ch_contract.specs.Legs.{IsHopBound};
 ghost use Rattle.ch_contract.specs.Built.{IsHierarchy, IsHierarchyInTurn};
+ghost use Rattle.ch_contract.specs.Like.{IsHierarchyFrom};
+ghost use Rattle.ch_contract.specs.Begun.{AreDifferentNodes};
 ghost use Rattle.ch_hierarchy.specs.Kept.{IsKept};
+ghost use Rattle.ch_hierarchy.specs.Saved.{IsOrderOf};
 
-use crate::priority::{PriorityJob, opening_queue};
-pub use alone::build_alone;
+use crate::priority::PriorityJob;
+pub use alone::{build_alone, build_like_alone};
 use ch_contract::memory::ask_ahead;
-use ch_contract::order::{deepen, neighbours};
+use ch_contract::order::{all_nodes, deepen, neighbours};
 use ch_contract::{BothRows, OrderBy, Remaining, Room};
 use ch_graph::Graph;
 use ch_hierarchy::Hierarchy;
 use ch_queue::KeyQueue;
 use ch_work::{Crew, Gate, Stage};
+pub use like::{OrderError, build_like};
 use std::alloc::{AllocError, Global};
 use std::thread::Threads;
 
@@ -59,7 +64,28 @@ pub fn build_in_turn<R: Threads + Sync, G: Gate>(
     ensures limits { IsWithinLimits graph.now }
 {
     ask_ahead(crew.alloc, graph)?;
-    let mut construction = Construction::open(crew, graph, hops, by)?;
+    let nodes = all_nodes(crew.alloc, graph.nodes())?;
+    contract_in_turn(crew, graph, nodes.as_slice(), 0, hops, by)
+}
+
+/// Builds the contraction hierarchy of a graph, one node after the other. The first `given` nodes of the list are
+/// contracted as they come in it, and the others in this order. The list has each node once.
+fn contract_in_turn<R: Threads + Sync, G: Gate>(
+    crew: &Crew<'_, R, G>,
+    graph: &Graph,
+    nodes: &[u32],
+    given: usize,
+    hops: u32,
+    by: OrderBy,
+) -> Result<Hierarchy, AllocError>
+    requires hops { IsHopBound hops }
+    requires nodes { IsOrderOf graph.now.nodes nodes.now }
+    requires given { given ≤ length nodes.now }
+    ensures { IfOk result (IsHierarchyFrom by graph.now hops (take given nodes.now)) }
+{
+    let (first, others) = nodes.split_at(given);
+    let begun = Construction::after(crew.alloc, crew.gate, graph, first, hops)?;
+    let mut construction = begun.rank(crew, others, hops, by)?;
     while let Some(node) = construction.next() {
         crew.gate
             .watch(Stage::Building, construction.contracted, graph.nodes());
@@ -94,49 +120,88 @@ impl Construction {
     ghost use Rattle.ch_contract.specs.Remaining.{legs_of};
     ghost use Rattle.ch_hierarchy.specs.Hierarchy.{LevelsAndLegs, IsLevelled};
     ghost use Rattle.ch_order.specs.Progress.{AreAll, IsNext, IsOpen, IsStep};
-    ghost use Rattle.ch_order.specs.Construction.{IsSized, IsJudging, IsMadeOf, IsReadyFor, IsTaken, progress_of};
+    ghost use Rattle.ch_order.specs.Steps.{IsAfterGiven};
+    ghost use Rattle.ch_order.specs.Priorities.{IsRanked};
+    ghost use Rattle.ch_order.specs.Construction.{IsSized, IsJudging, IsReadyFor, IsTaken, progress_of};
 
-    /// Starts the construction of the hierarchy of a graph. No node is contracted yet.
-    fn open<R: Threads + Sync, G: Gate>(
-        crew: &Crew<'_, R, G>,
-        graph: &Graph,
-        hops: u32,
-        by: OrderBy,
-    ) -> Result<Construction, AllocError>
-        requires { IsHopBound hops }
+    /// Starts the construction of the hierarchy of a graph. No node is contracted yet, and none has a priority.
+    fn open(alloc: Global, graph: &Graph) -> Result<Construction, AllocError>
         ensures sizes { IfOk result IsSized }
         ensures nodes { IfOk result (λ c. c.remaining.nodes ≡ graph.now.nodes) }
-        ensures begun { IfOk result (λ c. IsOpen by graph.now hops (progress_of c)) }
-        ensures ready { IfOk result (IsJudging hops) }
+        ensures begun { IfOk result (λ c. IsOpen graph.now (progress_of c)) }
+        ensures ready { IfOk result (λ c. (h : ℕ) → IsJudging h c) }
     {
-        let remaining = Remaining::open(crew.alloc, graph)?;
+        let remaining = Remaining::open(alloc, graph)?;
         let nodes = remaining.nodes();
-        let depths = vec![in crew.alloc; 0; nodes as usize]?;
-        let mut rooms = Vec::new(crew.alloc);
-        let waiting = opening_queue(crew, &remaining, depths.as_slice(), hops, by, &mut rooms)?;
-        Construction::of(crew.alloc, remaining, rooms, waiting, depths)
-    }
-
-    /// Returns the construction with these parts, in which no node is contracted yet.
-    fn of(
-        alloc: Global,
-        remaining: Remaining,
-        rooms: Vec<Room>,
-        waiting: KeyQueue<i64>,
-        depths: Vec<u32>,
-    ) -> Result<Construction, AllocError>
-        ensures { IfOk result (IsMadeOf remaining rooms.items waiting depths.items) }
-    {
-        let levels = vec![in alloc; 0; remaining.nodes() as usize]?;
+        let waiting = KeyQueue::new(alloc, nodes)?;
+        let depths = vec![in alloc; 0; nodes as usize]?;
+        let levels = vec![in alloc; 0; nodes as usize]?;
+        let room = Room::new(alloc);
+        let rooms = Vec::new(alloc);
         Ok(Construction {
             remaining,
-            room: Room::new(alloc),
+            room,
             rooms,
             waiting,
             depths,
             levels,
             contracted: 0,
         })
+    }
+
+    /// Starts the construction of the hierarchy of a graph, in which these nodes are contracted as they come, whatever
+    /// their priorities. The others have no priorities yet.
+    fn after<G: Gate>(
+        alloc: Global,
+        gate: &G,
+        graph: &Graph,
+        nodes: &[u32],
+        hops: u32,
+    ) -> Result<Construction, AllocError>
+        requires hops { IsHopBound hops }
+        requires nodes { AreDifferentNodes graph.now nodes.now }
+        ensures sizes { IfOk result IsSized }
+        ensures nodes { IfOk result (λ c. c.remaining.nodes ≡ graph.now.nodes) }
+        ensures after { IfOk result (λ c. IsAfterGiven graph.now hops nodes.now (progress_of c)) }
+        ensures ready { IfOk result (IsJudging hops) }
+    {
+        let mut construction = Construction::open(alloc, graph)?;
+        for node in nodes {
+            gate.watch(Stage::Building, construction.contracted, graph.nodes());
+            let (taken, _) = construction.take(alloc, *node, hops)?;
+            construction = taken;
+        }
+        Ok(construction)
+    }
+
+    /// Gives these nodes the priorities that they have now. Workers share them.
+    fn rank<R: Threads + Sync, G: Gate>(
+        mut self,
+        crew: &Crew<'_, R, G>,
+        nodes: &[u32],
+        hops: u32,
+        by: OrderBy,
+    ) -> Result<Construction, AllocError>
+        requires hops { IsHopBound hops }
+        requires sizes { IsSized self }
+        requires nodes { All (λ x. x < self.remaining.nodes) nodes.now }
+        requires count { length nodes.now < 2 ^ 32 }
+        requires ready { IsJudging hops self }
+        ensures sizes { IfOk result IsSized }
+        ensures nodes { IfOk result (λ c. c.remaining.nodes ≡ self.remaining.nodes) }
+        ensures ranked { IfOk result (λ c. IsRanked by self.remaining.nodes hops nodes.now (progress_of self) (progress_of c)) }
+        ensures ready { IfOk result (IsJudging hops) }
+    {
+        let job = PriorityJob {
+            remaining: &self.remaining,
+            depths: self.depths.as_slice(),
+            hops,
+            by,
+        };
+        let pieces = crew.plan.pieces(nodes.len() as u32);
+        crew.gate.watch(Stage::Ranking, 0, pieces);
+        job.set_by_all(crew, nodes, &mut self.rooms, &mut self.waiting)?;
+        Ok(self)
     }
 
     /// Returns the node that is contracted next, or `None` if no node remains.
@@ -175,13 +240,11 @@ impl Construction {
             &mut taken.rooms,
             &mut taken.waiting,
         )?;
-        taken.contracted += 1;
-        taken.levels[node as usize] = taken.contracted;
         Ok(taken)
     }
 
-    /// Contracts a node, takes it out of the queue, and raises the depths of its neighbours. Returns the neighbours
-    /// too. Their priorities are unchanged.
+    /// Contracts a node, keeps its level and its legs, takes it out of the queue, and raises the depths of its
+    /// neighbours. Returns the neighbours too. Their priorities are unchanged.
     fn take(
         mut self,
         alloc: Global,
@@ -201,6 +264,8 @@ impl Construction {
             self.remaining.down_legs(node),
         )?;
         deepen(&mut self.depths, neighbours.as_slice(), node);
+        self.contracted += 1;
+        self.levels[node as usize] = self.contracted;
         Ok((self, neighbours))
     }
 

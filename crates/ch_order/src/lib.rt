@@ -5,9 +5,13 @@
 //! - [`build_in_turn`] makes the hierarchy that the rules name, by the difference ([`build`]) or by depth. It
 //!   does not depend on how workers share the work. The rules name only one, and it is kept for its graph.
 //! - [`build_alone`] makes the one by depth without any thread.
+//! - [`build_like`] and [`build_like_alone`] make the hierarchy in an order like a given one: its first nodes come
+//!   as given, and the last per cent are ordered afresh by depth.
 #![tactic(auto)]
 
 mod construction;
 mod priority;
 
-pub use construction::{build, build_alone, build_in_turn};
+pub use construction::{
+    OrderError, build, build_alone, build_in_turn, build_like, build_like_alone,
+};

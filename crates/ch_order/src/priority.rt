@@ -1,74 +1,17 @@
-//! Priorities of nodes, and the queue of the remaining nodes.
+//! Priorities of nodes, in the queue of the remaining nodes.
 ghost use Rattle.std.specs.Prelude.{◌≡◌, ◌^◌, ◌<◌, length, All, IfOk, OnOk};
 ghost use Rattle.std.specs.List.{AllZip};
 ghost use Rattle.ch_contract.specs.Legs.{IsHopBound};
 ghost use Rattle.ch_contract.specs.Measures.{IsPriorityIn};
 ghost use Rattle.ch_contract.specs.Rooms.{IsIdleRoom, IsReady};
 ghost use Rattle.ch_contract.specs.Remaining.{legs_of};
-ghost use Rattle.ch_order.specs.Priorities.{ArePriorities, AreRefreshed};
+ghost use Rattle.ch_order.specs.Priorities.{AreRefreshed};
 
-use ch_contract::order::all_nodes;
 use ch_contract::{OrderBy, Remaining, Room};
 use ch_queue::KeyQueue;
-use ch_work::{Crew, Gate, ListJob, Stage, run_list_in};
+use ch_work::{Crew, Gate, ListJob, run_list_in};
 use std::alloc::{AllocError, Global};
 use std::thread::Threads;
-
-/// Makes the queue of all nodes, each with its priority. Workers compute the priorities, and `rooms` keeps
-/// their rooms.
-pub(crate) fn opening_queue<R: Threads + Sync, G: Gate>(
-    crew: &Crew<'_, R, G>,
-    remaining: &Remaining,
-    depths: &[u32],
-    hops: u32,
-    by: OrderBy,
-    rooms: &mut Vec<Room>,
-) -> Result<KeyQueue<i64>, AllocError>
-    requires hops { IsHopBound hops }
-    requires depths { length depths.now ≡ remaining.now.nodes }
-    requires rooms { All IsIdleRoom rooms.old.items }
-    ensures queue { IfOk result (ArePriorities (IsPriorityIn by remaining.now hops depths.now) remaining.now.nodes) }
-    ensures rooms { All IsIdleRoom rooms.new.items }
-{
-    let nodes = all_nodes(crew.alloc, remaining.nodes())?;
-    let job = PriorityJob {
-        remaining,
-        depths,
-        hops,
-        by,
-    };
-    let pieces = crew.plan.pieces(remaining.nodes());
-    crew.gate.watch(Stage::Ranking, 0, pieces);
-    let priorities = run_list_in(crew, nodes.as_slice(), rooms, &job)?;
-    let mut waiting = KeyQueue::new(crew.alloc, remaining.nodes())?;
-    job.set_all(nodes.as_slice(), priorities.as_slice(), &mut waiting);
-    Ok(waiting)
-}
-
-/// Returns the queue of all nodes, each with its priority, as [`opening_queue`] does. The caller computes the
-/// priorities alone.
-pub(crate) fn opening_queue_alone(
-    alloc: Global,
-    remaining: &Remaining,
-    depths: &[u32],
-    hops: u32,
-    by: OrderBy,
-) -> Result<KeyQueue<i64>, AllocError>
-    requires hops { IsHopBound hops }
-    requires depths { length depths.now ≡ remaining.now.nodes }
-    ensures { IfOk result (ArePriorities (IsPriorityIn by remaining.now hops depths.now) remaining.now.nodes) }
-{
-    let nodes = all_nodes(alloc, remaining.nodes())?;
-    let job = PriorityJob {
-        remaining,
-        depths,
-        hops,
-        by,
-    };
-    let mut waiting = KeyQueue::new(alloc, remaining.nodes())?;
-    job.set_in_turn(alloc, nodes.as_slice(), &mut waiting)?;
-    Ok(waiting)
-}
 
 /// The job that computes the priorities of nodes with the remaining legs and these depths.
 #[derive(Drop)]
@@ -146,9 +89,7 @@ impl PriorityJob<'_> {
         }
         let piece = crew.plan.piece() as usize;
         if crew.plan.workers() > 1 && nodes.len() > piece {
-            let priorities = run_list_in(crew, nodes, rooms, self)?;
-            self.set_all(nodes, priorities.as_slice(), waiting);
-            return Ok(());
+            return self.set_by_all(crew, nodes, rooms, waiting);
         }
         let mut number = 0;
         let mut from = 0;
@@ -159,6 +100,29 @@ impl PriorityJob<'_> {
             number += 1;
             from = to;
         }
+        Ok(())
+    }
+
+    /// Gives these nodes the priorities that they have now. Workers share them in pieces, and `rooms` keeps their
+    /// rooms.
+    pub(crate) fn set_by_all<R: Threads + Sync, G: Gate>(
+        &self,
+        crew: &Crew<'_, R, G>,
+        nodes: &[u32],
+        rooms: &mut Vec<Room>,
+        waiting: &mut KeyQueue<i64>,
+    ) -> Result<(), AllocError>
+        requires nodes { All (λ x. x < self.now.remaining.now.nodes) nodes.now }
+        requires count { length nodes.now < 2 ^ 32 }
+        requires size { length waiting.old ≡ self.now.remaining.now.nodes }
+        requires rooms { All IsIdleRoom rooms.old.items }
+        ensures anew { OnOk result (AreRefreshed
+            (IsPriorityIn self.now.by self.now.remaining.now self.now.hops self.now.depths.now)
+            nodes.now waiting.old waiting.new) }
+        ensures rooms { All IsIdleRoom rooms.new.items }
+    {
+        let priorities = run_list_in(crew, nodes, rooms, self)?;
+        self.set_all(nodes, priorities.as_slice(), waiting);
         Ok(())
     }
 

@@ -26,7 +26,7 @@ use Rattle.ch_contract.proofs.theory.Contracting.{ContractsWithPairs, pairs_by_e
 use Rattle.ch_contract.proofs.theory.Levelled.{levelled}
 use Rattle.ch_contract.proofs.theory.Enough.{hierarchy_by}
 use Rattle.ch_contract.proofs.theory.OneInTurn.{one_map}
-use Rattle.ch_contract.proofs.theory.RowSteps.{AreLevels}
+use Rattle.ch_contract.specs.Begun.{AreLevels}
 use Rattle.ch_contract.proofs.theory.OrderSteps.{then_legs}
 use Rattle.ch_contract.proofs.theory.RoundNodes.{AreBegun, begun_all, begun_of, before_all, concat_push, round_before, left, nodes_once}
 use Rattle.ch_contract.proofs.theory.RoundOrders.{one_key, within_rounds, gone_rounds, by_steps}

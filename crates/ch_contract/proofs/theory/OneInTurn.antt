@@ -1,5 +1,5 @@
 -- Two hierarchies of nodes that are contracted one after the other, for the same graph, order and bound, are equal.
-use Rattle.std.proofs.Common.{◌≡◌, ℕ, suc, zero, ◌+◌, ◌-◌, ◌<◌, ◌≤◌, List, [], length, take, sym, ◌∙◌, ap, subst, arith, inl, inr, Contains}
+use Rattle.std.proofs.Common.{◌≡◌, ℕ, suc, zero, ◌+◌, ◌-◌, ◌<◌, ◌≤◌, max, List, [], length, take, sym, ◌∙◌, ap, subst, arith, inl, inr, Contains}
 use Rattle.std.specs.Prelude.{◌≢◌, All, AllPairs, slice_index, ℤ, ◌≤ℤ◌}
 use Rattle.std.proofs.lemmas.Bool.{cases_eq, cases_lt, false≢true}
 use Rattle.std.proofs.lemmas.List.{same_lists, get_or_default, get_or-take, length-take}
@@ -7,14 +7,17 @@ use Rattle.std.proofs.lemmas.Grind.{same_number_lists}
 use Rattle.ch_graph.specs.Graph.{Network}
 use Rattle.ch_hierarchy.specs.declared.leg.Leg.{Leg}
 use Rattle.ch_contract.specs.declared.measure.OrderBy.{OrderBy}
+use Rattle.ch_contract.specs.declared.measure.OrderBy.TheVariants.{Depth}
 use Rattle.ch_contract.specs.declared.shortcut.Shortcut.{Shortcut}
 use Rattle.ch_contract.specs.Legs.{Legs, SameLegs, turned_legs}
 use Rattle.ch_contract.specs.Contraction.{IsPairBefore, AreShortcuts, legs_after_contraction, Contracts, key_by, IsPriorityBy, count_touching}
-use Rattle.ch_contract.specs.Order.{are_neighbours, next_depth, depth_after, IsLastTouch, IsPriorityAfter, AreContracted, TakesFirst}
+use Rattle.ch_contract.specs.Order.{are_neighbours, next_depth, depth_after, IsLastTouch, AreContracted}
+use Rattle.ch_contract.specs.Like.{IsPriorityFrom, TakesFirstFrom}
 use Rattle.ch_hierarchy.specs.Rows.{row}
 use Rattle.ch_contract.specs.LegRows.{AreLegsFrom}
 use Rattle.ch_hierarchy.specs.Hierarchy.{LevelsAndLegs}
-use Rattle.ch_contract.specs.Built.{IsHierarchyOf, IsHierarchyInTurn}
+use Rattle.ch_contract.specs.Built.{IsHierarchyOf}
+use Rattle.ch_contract.specs.OneOrder.{GivenNodesNameOneHierarchy, OrdersNameOneHierarchy}
 use Rattle.ch_hierarchy.proofs.theory.Ordered.{ordered_same, every_number}
 use Rattle.ch_contract.proofs.theory.RowLegs.{one_row}
 
@@ -68,11 +71,13 @@ touch_along i order L other M x j a t = record {
   later = λ k le lt. neighbours_along i order L other M x k a lt ∙ t.later k le lt;
 }
 
--- a priority is the same in orders that agree
-pub priority_along : (by : OrderBy) (n h i : ℕ) (order : List ℕ) (L : ℕ → Legs) (other : List ℕ) (M : ℕ → Legs) (x : ℕ) (p : ℤ) → Agree i order L other M → IsPriorityAfter by n h order L i x p → IsPriorityAfter by n h other M i x p
-priority_along by n h i order L other M x p a r =
-    let deep = subst (λ (d : ℕ → ℕ). IsPriorityBy by n h (L r.0) d x p) (depth_along i order L other M a r.0 r.1.within) r.2 in
-    (r.0, touch_along i order L other M x r.0 a r.1, subst (λ (N : Legs). IsPriorityBy by n h N (depth_after other M r.0) x p) (a.legs r.0 r.1.within) deep)
+-- a priority after some given steps is the same in orders that agree
+pub from_along : (k : ℕ) (by : OrderBy) (n h i : ℕ) (order : List ℕ) (L : ℕ → Legs) (other : List ℕ) (M : ℕ → Legs) (x : ℕ) (p : ℤ) → k ≤ i → Agree i order L other M → IsPriorityFrom k by n h order L i x p → IsPriorityFrom k by n h other M i x p
+from_along k by n h i order L other M x p ge a r =
+    let within = r.1.within in
+    let most : max k r.0 ≤ i = omega arith in
+    let deep = subst (λ (d : ℕ → ℕ). IsPriorityBy by n h (L (max k r.0)) d x p) (depth_along i order L other M a (max k r.0) most) r.2 in
+    (r.0, touch_along i order L other M x r.0 a r.1, subst (λ (N : Legs). IsPriorityBy by n h N (depth_after other M (max k r.0)) x p) (a.legs (max k r.0) most) deep)
 
 -- a last touch is not later than another last touch
 not_later : (order : List ℕ) (L : ℕ → Legs) (i x j k : ℕ) → IsLastTouch order L i x j → IsLastTouch order L i x k → k ≤ j
@@ -90,8 +95,8 @@ one_touch : (order : List ℕ) (L : ℕ → Legs) (i x j k : ℕ) → IsLastTouc
 one_touch order L i x j k t s = let le = not_later order L i x j k t s in let ge = not_later order L i x k j s t in omega arith
 
 -- after some steps a node has one priority
-pub one_priority_after : (by : OrderBy) (n h : ℕ) (order : List ℕ) (L : ℕ → Legs) (i x : ℕ) (p q : ℤ) → IsPriorityAfter by n h order L i x p → IsPriorityAfter by n h order L i x q → p ≡ q
-one_priority_after by n h order L i x p q a b = one_priority by n h (L a.0) (depth_after order L a.0) x p q a.2 (subst (λ j. IsPriorityBy by n h (L j) (depth_after order L j) x q) (sym (one_touch order L i x a.0 b.0 a.1 b.1)) b.2)
+pub one_priority_from : (k : ℕ) (by : OrderBy) (n h : ℕ) (order : List ℕ) (L : ℕ → Legs) (i x : ℕ) (p q : ℤ) → IsPriorityFrom k by n h order L i x p → IsPriorityFrom k by n h order L i x q → p ≡ q
+one_priority_from k by n h order L i x p q a b = one_priority by n h (L (max k a.0)) (depth_after order L (max k a.0)) x p q a.2 (subst (λ j. IsPriorityBy by n h (L (max k j)) (depth_after order L (max k j)) x q) (sym (one_touch order L i x a.0 b.0 a.1 b.1)) b.2)
 
 -- in an order of different nodes, no node is among those before its place
 pub not_before : (i : ℕ) (order : List ℕ) → i < length order → AllPairs ◌≢◌ order → Contains (take i order) (slice_index order i) → ⊥
@@ -103,39 +108,46 @@ not_before i order lt distinct c =
     let value = c.2 in
     distinct k i (slice_index order i) before lt (sym (get_or-take i order k (slice_index order i) before) ∙ value ∙ get_or_default order i 0 (slice_index order i) lt)
 
-module _ (by : OrderBy) (g : Network) (h : ℕ) (order : List ℕ) (L : ℕ → Legs) (other : List ℕ) (M : ℕ → Legs) (p : AreContracted g h order L) (first : TakesFirst by g h order L) (q : AreContracted g h other M) (its_first : TakesFirst by g h other M) where
+module _ (k : ℕ) (by : OrderBy) (g : Network) (h : ℕ) (order : List ℕ) (L : ℕ → Legs) (other : List ℕ) (M : ℕ → Legs) (given : take k order ≡ take k other) (p : AreContracted g h order L) (first : TakesFirstFrom k by g h order L) (q : AreContracted g h other M) (its_first : TakesFirstFrom k by g h other M) where
   -- the nodes before a step are the same
   same_before : (i : ℕ) → i ≤ g.nodes → Agree i order L other M → take i order ≡ take i other
   same_before i le a =
       let one = p.nodes.0 in
       let two = q.nodes.0 in
-      same_number_lists (take i order) (take i other) (omega (arith, length-take i order, length-take i other)) (λ k lt.
+      same_number_lists (take i order) (take i other) (omega (arith, length-take i order, length-take i other)) (λ j lt.
       let size = length-take i order in
-      let before : k < i = omega arith in
-      get_or-take i order k 0 before ∙ a.nodes k before ∙ sym (get_or-take i other k 0 before))
+      let before : j < i = omega arith in
+      get_or-take i order j 0 before ∙ a.nodes j before ∙ sym (get_or-take i other j 0 before))
 
-  -- the next node is the same, because each of the two comes first
-  next : (i : ℕ) → i < g.nodes → Agree i order L other M → slice_index order i ≡ slice_index other i
-  next i lt a =
+  -- after the given nodes the next node is the same, because each of the two comes first
+  next_first : (i : ℕ) → k ≤ i → i < g.nodes → Agree i order L other M → slice_index order i ≡ slice_index other i
+  next_first i ge lt a =
       let size = p.nodes.0 in
       let size2 = q.nodes.0 in
       let here : i < length order = omega arith in
       let there : i < length other = omega arith in
       let taken = same_before i (omega arith) a in
-      let one = first i (slice_index other i) lt (q.nodes.1 i 0 there) (λ c. not_before i other there q.nodes.2 (subst (λ l. Contains l (slice_index other i)) taken c)) in
-      let two = its_first i (slice_index order i) lt (p.nodes.1 i 0 here) (λ c. not_before i order here p.nodes.2 (subst (λ l. Contains l (slice_index order i)) (sym taken) c)) in
+      let one = first i (slice_index other i) ge lt (q.nodes.1 i 0 there) (λ c. not_before i other there q.nodes.2 (subst (λ l. Contains l (slice_index other i)) taken c)) in
+      let two = its_first i (slice_index order i) ge lt (p.nodes.1 i 0 here) (λ c. not_before i order here p.nodes.2 (subst (λ l. Contains l (slice_index order i)) (sym taken) c)) in
       let back = agree_back i order L other M a in
-      let mine : one.0 ≡ two.1 = one_priority_after by g.nodes h order L i (slice_index order i) one.0 two.1 one.2 (priority_along by g.nodes h i other M order L (slice_index order i) two.1 back two.3) in
-      let its : one.1 ≡ two.0 = one_priority_after by g.nodes h order L i (slice_index other i) one.1 two.0 one.3 (priority_along by g.nodes h i other M order L (slice_index other i) two.0 back two.2) in
+      let mine : one.0 ≡ two.1 = one_priority_from k by g.nodes h order L i (slice_index order i) one.0 two.1 one.2 (from_along k by g.nodes h i other M order L (slice_index order i) two.1 ge back two.3) in
+      let its : one.1 ≡ two.0 = one_priority_from k by g.nodes h order L i (slice_index other i) one.1 two.0 one.3 (from_along k by g.nodes h i other M order L (slice_index other i) two.0 ge back two.2) in
       let low = one.4.1 (subst (λ z. one.1 ≤ℤ z) (sym mine) (subst (λ z. z ≤ℤ two.1) (sym its) two.4.0)) in
       let high = two.4.1 (subst (λ z. two.1 ≤ℤ z) its (subst (λ z. z ≤ℤ one.1) mine one.4.0)) in
       omega arith
 
+  -- the next node is the same
+  next : (i : ℕ) → i < g.nodes → Agree i order L other M → slice_index order i ≡ slice_index other i
+  next i lt a = elim (cases_lt i k) [
+    | inl early ↦ sym (get_or-take k order i 0 early) ∙ ap (λ l. slice_index l i) given ∙ get_or-take k other i 0 early
+    | inr late ↦ next_first i (omega arith) lt a
+  ]
+
   -- the orders agree up to each step
   agree : (i : ℕ) → i ≤ g.nodes → Agree i order L other M
   agree zero le = record {
-    nodes = λ k lt. absurd (omega arith);
-    legs = λ k below. let none : k ≡ 0 = omega arith in subst (λ z. L z ≡ M z) (sym none) (one_map (L 0) (M 0) (λ u w. p.start u w ∙ sym (q.start u w)));
+    nodes = λ j lt. absurd (omega arith);
+    legs = λ j below. let none : j ≡ 0 = omega arith in subst (λ z. L z ≡ M z) (sym none) (one_map (L 0) (M 0) (λ u w. p.start u w ∙ sym (q.start u w)));
   }
   agree (suc i) le = more (agree i (omega arith))
     where
@@ -145,13 +157,13 @@ module _ (by : OrderBy) (g : Network) (h : ℕ) (order : List ℕ) (L : ℕ → 
           let node = next i lt a in
           let step = subst (λ (N : Legs). Contracts g.nodes h N (slice_index order i) (M (i + 1))) (sym (a.legs i (omega arith))) (subst (λ v. Contracts g.nodes h (M i) v (M (i + 1))) (sym node) (q.step i lt)) in
           record {
-            nodes = λ k below. elim (cases_eq k i) [
+            nodes = λ j below. elim (cases_eq j i) [
               | inl e ↦ subst (λ z. slice_index order z ≡ slice_index other z) (sym e) node
-              | inr ne ↦ a.nodes k (omega arith)
+              | inr ne ↦ a.nodes j (omega arith)
             ];
-            legs = λ k below. elim (cases_lt i k) [
-              | inl past ↦ let e : k ≡ i + 1 = omega arith in subst (λ z. L z ≡ M z) (sym e) (one_contraction g.nodes h (L i) (slice_index order i) (L (i + 1)) (M (i + 1)) (p.step i lt) step)
-              | inr within ↦ a.legs k (omega arith)
+            legs = λ j below. elim (cases_lt i j) [
+              | inl past ↦ let e : j ≡ i + 1 = omega arith in subst (λ z. L z ≡ M z) (sym e) (one_contraction g.nodes h (L i) (slice_index order i) (L (i + 1)) (M (i + 1)) (p.step i lt) step)
+              | inr within ↦ a.legs j (omega arith)
             ];
           }
 
@@ -167,11 +179,7 @@ taken_at n order x nodes lt =
 pub same_rows : (n : ℕ) (xs ys : List (List Leg)) → length xs ≡ n → length ys ≡ n → ((x : ℕ) → x < n → row xs x ≡ row ys x) → xs ≡ ys
 same_rows n xs ys a b each = same_lists xs ys (a ∙ sym b) (λ k d lt. get_or_default xs k d [] lt ∙ each k (omega arith) ∙ sym (get_or_default ys k d [] (omega arith)))
 
-module _ (by : OrderBy) (g : Network) (h : ℕ) (H K : LevelsAndLegs) (order : List ℕ) (L : ℕ → Legs) (other : List ℕ) (M : ℕ → Legs) (p : IsHierarchyOf g h H order L) (first : TakesFirst by g h order L) (q : IsHierarchyOf g h K other M) (its_first : TakesFirst by g h other M) where
-  -- the orders agree
-  all : Agree g.nodes order L other M
-  all = agree by g h order L other M p.contracted first q.contracted its_first g.nodes (omega arith)
-
+module _ (g : Network) (h : ℕ) (H K : LevelsAndLegs) (order : List ℕ) (L : ℕ → Legs) (other : List ℕ) (M : ℕ → Legs) (p : IsHierarchyOf g h H order L) (q : IsHierarchyOf g h K other M) (all : Agree g.nodes order L other M) where
   -- the levels are the same
   levels : H.level ≡ K.level
   levels = same_number_lists H.level K.level (p.sizes.0 ∙ sym q.sizes.0) (λ x lt.
@@ -197,10 +205,18 @@ module _ (by : OrderBy) (g : Network) (h : ℕ) (H K : LevelsAndLegs) (order : L
   downs : H.down ≡ K.down
   downs = rows_agree turned_legs H.down K.down p.sizes.2 q.sizes.2 p.down q.down
 
--- the two hierarchies are equal
-pub one_hierarchy_in_turn : (by : OrderBy) (g : Network) (h : ℕ) (H K : LevelsAndLegs) → IsHierarchyInTurn by g h H → IsHierarchyInTurn by g h K → H ≡ K
-one_hierarchy_in_turn by g h H K p q =
-    let level = levels by g h H K p.0 p.1 q.0 q.1 p.2 p.3 q.2 q.3 in
-    let up = ups by g h H K p.0 p.1 q.0 q.1 p.2 p.3 q.2 q.3 in
-    let down = downs by g h H K p.0 p.1 q.0 q.1 p.2 p.3 q.2 q.3 in
-    λ i. record { level = level i; up = up i; down = down i }
+  -- the two hierarchies are equal
+  pub one_of_order : H ≡ K
+  one_of_order = λ i. record { level = levels i; up = ups i; down = downs i }
+
+-- two hierarchies with the same given nodes, and then in the same order, are equal
+pub one_hierarchy_from : GivenNodesNameOneHierarchy
+one_hierarchy_from by g h given H K p q =
+    one_of_order g h H K p.0 p.1 q.0 q.1 p.2 q.2 (agree (length given) by g h p.0 p.1 q.0 q.1 (p.3 ∙ sym q.3) p.2.contracted p.4 q.2.contracted q.4 g.nodes (omega arith))
+
+-- two hierarchies of nodes that are contracted in the same list are equal
+pub one_hierarchy_in_order : OrdersNameOneHierarchy
+one_hierarchy_in_order g h order H K p q =
+    let size = p.1.contracted.nodes.0 in
+    let none : (N : ℕ → Legs) → TakesFirstFrom (length order) Depth g h order N = λ N i x ge lt inside away. absurd (omega arith) in
+    one_of_order g h H K order p.0 order q.0 p.1 q.1 (agree (length order) Depth g h order p.0 order q.0 (λ t. take (length order) order) p.1.contracted (none p.0) q.1.contracted (none q.0) g.nodes (omega arith))

@@ -1,5 +1,5 @@
 -- An order of contraction that grows by one node.
-use Rattle.std.proofs.Common.{◌≡◌, ℕ, ◌+◌, ◌-◌, ◌<◌, ◌≤◌, true, false, List, [], ◌∷◌, ◌++◌, length, take, refl, sym, ◌∙◌, ap, subst, arith, inl, inr, Contains}
+use Rattle.std.proofs.Common.{◌≡◌, ℕ, zero, suc, ◌+◌, ◌-◌, ◌<◌, ◌≤◌, Bool, true, false, add-one, List, [], ◌∷◌, ◌++◌, length, take, refl, sym, ◌∙◌, ap, subst, arith, inl, inr, Contains}
 use Rattle.std.specs.Prelude.{◌≢◌, AllPairs, All, nat_le, if◌then◌else◌, slice_index, ℤ}
 use Rattle.std.proofs.lemmas.Bool.{cases_eq}
 use Rattle.std.proofs.lemmas.Bool.Decides.{nat_tests}
@@ -9,20 +9,19 @@ use Rattle.ch_graph.specs.Graph.{Network}
 use Rattle.ch_contract.specs.declared.measure.OrderBy.{OrderBy}
 use Rattle.ch_contract.specs.Legs.{Legs, SameLegs, opening}
 use Rattle.ch_contract.specs.Contraction.{Contracts}
-use Rattle.ch_contract.specs.Order.{are_neighbours, IsLastTouch, IsPriorityAfter, IsContractedBefore, IsOrderBy}
+use Rattle.ch_contract.specs.Order.{are_neighbours, IsLastTouch, IsContractedBefore, AreContracted}
+use Rattle.ch_contract.specs.Like.{IsPriorityFrom}
+use Rattle.ch_contract.specs.Begun.{IsBegun}
 use Rattle.ch_hierarchy.proofs.theory.Ordered.{distinct_most, whole_least, pairs_push}
-use Rattle.ch_contract.proofs.theory.OneInTurn.{Agree, priority_along}
+use Rattle.ch_contract.proofs.theory.OneInTurn.{Agree, from_along}
 
--- after the first i steps v comes before x
-abbrev pub ComesBefore : OrderBy → ℕ → ℕ → List ℕ → (ℕ → Legs) → ℕ → ℕ → ℕ → Type 0
-ComesBefore by n h order L i v x = (p q : ℤ) × IsPriorityAfter by n h order L i v p × IsPriorityAfter by n h order L i x q × IsContractedBefore p v q x
+-- after the first i steps, of which k are given, v comes before x
+abbrev pub ComesBefore : ℕ → OrderBy → ℕ → ℕ → List ℕ → (ℕ → Legs) → ℕ → ℕ → ℕ → Type 0
+ComesBefore k by n h order L i v x = (p q : ℤ) × IsPriorityFrom k by n h order L i v p × IsPriorityFrom k by n h order L i x q × IsContractedBefore p v q x
 
--- the nodes of this list were contracted in order; L i are the legs after the first i steps
-pub record IsBegun (by : OrderBy) (g : Network) (h : ℕ) (order : List ℕ) (L : ℕ → Legs) : Type 0 where
-  pub nodes : All (λ v. v < g.nodes) order × AllPairs ◌≢◌ order
-  pub start : SameLegs (L 0) (opening g)
-  pub step : (i : ℕ) → i < length order → Contracts g.nodes h (L i) (slice_index order i) (L (i + 1))
-  pub least : (i x : ℕ) → i < length order → x < g.nodes → (Contains (take i order) x → ⊥) → ComesBefore by g.nodes h order L i (slice_index order i) x
+-- each node of this list after the first k came before all that remained
+abbrev pub AreLeast : ℕ → OrderBy → Network → ℕ → List ℕ → (ℕ → Legs) → Type 0
+AreLeast k by g h order L = (i x : ℕ) → k ≤ i → i < length order → x < g.nodes → (Contains (take i order) x → ⊥) → ComesBefore k by g.nodes h order L i (slice_index order i) x
 
 -- the legs up to step i, and then M
 abbrev pub then_legs : ℕ → (ℕ → Legs) → Legs → ℕ → Legs
@@ -59,6 +58,15 @@ touched_more order L i x touch = record {
   later = λ k le lt. absurd (omega arith);
 }
 
+-- some step touched x last, or none did
+pub last_touch : (order : List ℕ) (L : ℕ → Legs) (i x : ℕ) → (j : ℕ) × IsLastTouch order L i x j
+last_touch order L zero x = (0, record { within = omega arith; touched = λ first. absurd (omega arith); later = λ k le lt. absurd (omega arith) })
+last_touch order L (suc i) x = subst (λ z. (j : ℕ) × IsLastTouch order L z x j) (add-one i) (at (are_neighbours (L i) (slice_index order i) x) refl (last_touch order L i x))
+  where
+    at : (b : Bool) → are_neighbours (L i) (slice_index order i) x ≡ b → (j : ℕ) × IsLastTouch order L i x j → (j : ℕ) × IsLastTouch order L (i + 1) x j
+    at true e rest = (i + 1, touched_more order L i x e)
+    at false e rest = (rest.0, untouched_more order L i x rest.0 e rest.1)
+
 -- the number of contracted nodes is at most the number of nodes
 pub begun_most : (g : Network) (order : List ℕ) → All (λ v. v < g.nodes) order → AllPairs ◌≢◌ order → length order ≤ g.nodes
 begun_most g order below distinct = distinct_most order g.nodes distinct (λ q has. subst (λ z. z < g.nodes) has.2 (below has.0 q has.1))
@@ -91,7 +99,7 @@ module _ (order : List ℕ) (L : ℕ → Legs) (v : ℕ) (M : Legs) where
   pub next : legs_more (length order + 1) ≡ M
   next = then_next (length order) L M (length order + 1) (omega arith)
 
-module _ (by : OrderBy) (g : Network) (h : ℕ) (order : List ℕ) (L : ℕ → Legs) (b : IsBegun by g h order L) (v : ℕ) (within : v < g.nodes) (left : Contains order v → ⊥) where
+module _ (g : Network) (h : ℕ) (order : List ℕ) (L : ℕ → Legs) (b : IsBegun g h order L) (v : ℕ) (within : v < g.nodes) (left : Contains order v → ⊥) where
   -- after one more remaining node is contracted, the contracted nodes differ
   pub nodes_more : All (λ x. x < g.nodes) (more order L v (L 0)) × AllPairs ◌≢◌ (more order L v (L 0))
   nodes_more = (All-push (λ x. x < g.nodes) order v b.nodes.0 within, pairs_push order v b.nodes.1 left)
@@ -100,7 +108,7 @@ module _ (by : OrderBy) (g : Network) (h : ℕ) (order : List ℕ) (L : ℕ → 
   pub begun_fewer : length order < g.nodes
   begun_fewer = omega (arith, begun_most g (order ++ v ∷ []) nodes_more.0 nodes_more.1, length_push order v)
 
-module _ (by : OrderBy) (g : Network) (h : ℕ) (order : List ℕ) (L : ℕ → Legs) (v : ℕ) (M : Legs) (b : IsBegun by g h order L) (within : v < g.nodes) (left : Contains order v → ⊥) (step : Contracts g.nodes h (L (length order)) v M) (first : (x : ℕ) → x < g.nodes → (Contains order x → ⊥) → ComesBefore by g.nodes h order L (length order) v x) where
+module _ (g : Network) (h : ℕ) (order : List ℕ) (L : ℕ → Legs) (v : ℕ) (M : Legs) (b : IsBegun g h order L) (within : v < g.nodes) (left : Contains order v → ⊥) (step : Contracts g.nodes h (L (length order)) v M) where
   -- the step is a contraction
   step_here : Contracts g.nodes h (legs_more order L v M (length order)) (slice_index (more order L v M) (length order)) (legs_more order L v M (length order + 1))
   step_here =
@@ -122,62 +130,58 @@ module _ (by : OrderBy) (g : Network) (h : ℕ) (order : List ℕ) (L : ℕ → 
     | inr ne ↦ let size = length_push order v in step_before k (omega arith)
   ]
 
+  -- the nodes of the longer order are contracted in order
+  pub begun_more : IsBegun g h (order ++ v ∷ []) (then_legs (length order) L M)
+  begun_more = record {
+    nodes = nodes_more g h order L b v within left;
+    start = λ x y. ap (λ (N : Legs). N x y) (then_before (length order) L M 0 (omega arith)) ∙ b.start x y;
+    step = step_more;
+  }
+
+module _ (k : ℕ) (by : OrderBy) (g : Network) (h : ℕ) (order : List ℕ) (L : ℕ → Legs) (v : ℕ) (M : Legs) (least : AreLeast k by g h order L) (from : k ≤ length order) (first : (x : ℕ) → x < g.nodes → (Contains order x → ⊥) → ComesBefore k by g.nodes h order L (length order) v x) where
   -- at each earlier step the node came before all remaining nodes
-  least_before : (k x : ℕ) → k < length order → x < g.nodes → (Contains (take k order) x → ⊥) → ComesBefore by g.nodes h (more order L v M) (legs_more order L v M) k (slice_index (more order L v M) k) x
-  least_before k x lt inside away =
-      let r = b.least k x lt inside away in
-      let a = agree_less (length order) k order L (more order L v M) (legs_more order L v M) (omega arith) (agree order L v M) in
-      let one = priority_along by g.nodes h k order L (more order L v M) (legs_more order L v M) (slice_index order k) r.0 a r.2 in
-      (r.0, r.1, subst (λ z. IsPriorityAfter by g.nodes h (more order L v M) (legs_more order L v M) k z r.0) (before order L v M k lt) one, priority_along by g.nodes h k order L (more order L v M) (legs_more order L v M) x r.1 a r.3, subst (λ z. IsContractedBefore r.0 z r.1 x) (before order L v M k lt) r.4)
+  least_before : (i x : ℕ) → k ≤ i → i < length order → x < g.nodes → (Contains (take i order) x → ⊥) → ComesBefore k by g.nodes h (more order L v M) (legs_more order L v M) i (slice_index (more order L v M) i) x
+  least_before i x ge lt inside away =
+      let r = least i x ge lt inside away in
+      let a = agree_less (length order) i order L (more order L v M) (legs_more order L v M) (omega arith) (agree order L v M) in
+      let one = from_along k by g.nodes h i order L (more order L v M) (legs_more order L v M) (slice_index order i) r.0 ge a r.2 in
+      (r.0, r.1, subst (λ z. IsPriorityFrom k by g.nodes h (more order L v M) (legs_more order L v M) i z r.0) (before order L v M i lt) one, from_along k by g.nodes h i order L (more order L v M) (legs_more order L v M) x r.1 ge a r.3, subst (λ z. IsContractedBefore r.0 z r.1 x) (before order L v M i lt) r.4)
 
   -- at this step the node comes before all remaining nodes
-  least_here : (x : ℕ) → x < g.nodes → (Contains order x → ⊥) → ComesBefore by g.nodes h (more order L v M) (legs_more order L v M) (length order) (slice_index (more order L v M) (length order)) x
+  least_here : (x : ℕ) → x < g.nodes → (Contains order x → ⊥) → ComesBefore k by g.nodes h (more order L v M) (legs_more order L v M) (length order) (slice_index (more order L v M) (length order)) x
   least_here x inside away =
       let r = first x inside away in
       let n : ℕ = length order in
-      let one = priority_along by g.nodes h n order L (more order L v M) (legs_more order L v M) v r.0 (agree order L v M) r.2 in
-      (r.0, r.1, subst (λ z. IsPriorityAfter by g.nodes h (more order L v M) (legs_more order L v M) n z r.0) (sym (here order L v M)) one, priority_along by g.nodes h n order L (more order L v M) (legs_more order L v M) x r.1 (agree order L v M) r.3, subst (λ z. IsContractedBefore r.0 z r.1 x) (sym (here order L v M)) r.4)
+      let one = from_along k by g.nodes h n order L (more order L v M) (legs_more order L v M) v r.0 from (agree order L v M) r.2 in
+      (r.0, r.1, subst (λ z. IsPriorityFrom k by g.nodes h (more order L v M) (legs_more order L v M) n z r.0) (sym (here order L v M)) one, from_along k by g.nodes h n order L (more order L v M) (legs_more order L v M) x r.1 from (agree order L v M) r.3, subst (λ z. IsContractedBefore r.0 z r.1 x) (sym (here order L v M)) r.4)
 
-  -- at all steps the node comes before all remaining nodes
-  least_more : (k x : ℕ) → k < length (more order L v M) → x < g.nodes → (Contains (take k (more order L v M)) x → ⊥) → ComesBefore by g.nodes h (more order L v M) (legs_more order L v M) k (slice_index (more order L v M) k) x
-  least_more k x lt inside away = elim (cases_eq k (length order)) [
+  -- at all steps after the given ones the node comes before all remaining nodes
+  pub least_more : AreLeast k by g h (more order L v M) (legs_more order L v M)
+  least_more i x ge lt inside away = elim (cases_eq i (length order)) [
     | inl e ↦
-        let whole : take k (more order L v M) ≡ order = take-append-le k order (v ∷ []) (omega arith) ∙ take_all k order (omega arith) in
-        subst (λ z. ComesBefore by g.nodes h (more order L v M) (legs_more order L v M) z (slice_index (more order L v M) z) x) (sym e) (least_here x inside (λ has. away (subst (λ l. Contains l x) (sym whole) has)))
+        let whole : take i (more order L v M) ≡ order = take-append-le i order (v ∷ []) (omega arith) ∙ take_all i order (omega arith) in
+        subst (λ z. ComesBefore k by g.nodes h (more order L v M) (legs_more order L v M) z (slice_index (more order L v M) z) x) (sym e) (least_here x inside (λ has. away (subst (λ l. Contains l x) (sym whole) has)))
     | inr ne ↦
         let size = length_push order v in
-        let below : k < length order = omega arith in
-        let part : take k (more order L v M) ≡ take k order = take-append-le k order (v ∷ []) (omega arith) in
-        least_before k x below inside (λ has. away (subst (λ l. Contains l x) (sym part) has))
+        let below : i < length order = omega arith in
+        let part : take i (more order L v M) ≡ take i order = take-append-le i order (v ∷ []) (omega arith) in
+        least_before i x ge below inside (λ has. away (subst (λ l. Contains l x) (sym part) has))
   ]
 
-  -- the longer order follows the rules
-  pub begun_more : IsBegun by g h (order ++ v ∷ []) (then_legs (length order) L M)
-  begun_more = record {
-    nodes = nodes_more by g h order L b v within left;
-    start = λ x y. ap (λ (N : Legs). N x y) (then_before (length order) L M 0 (omega arith)) ∙ b.start x y;
-    step = step_more;
-    least = least_more;
-  }
-
--- an order that takes no node follows the rules
-pub begun_none : (by : OrderBy) (g : Network) (h : ℕ) → IsBegun by g h [] (λ i. opening g)
-begun_none by g h = record {
+-- no node is contracted in an empty list
+pub begun_none : (g : Network) (h : ℕ) → IsBegun g h [] (λ i. opening g)
+begun_none g h = record {
   nodes = (λ k d lt. absurd (omega arith), λ i j d lt inside. absurd (omega arith));
   start = λ x y. refl;
   step = λ i lt. absurd (omega arith);
-  least = λ i x lt inside away. absurd (omega arith);
 }
 
--- an order that follows the rules and takes all nodes is the order of contraction
-pub begun_all : (by : OrderBy) (g : Network) (h : ℕ) (order : List ℕ) (L : ℕ → Legs) → IsBegun by g h order L → ((x : ℕ) → x < g.nodes → Contains order x) → IsOrderBy by g h order L
-begun_all by g h order L b each =
+-- a list of contracted nodes that has all nodes is an order of contraction
+pub begun_all : (g : Network) (h : ℕ) (order : List ℕ) (L : ℕ → Legs) → IsBegun g h order L → ((x : ℕ) → x < g.nodes → Contains order x) → AreContracted g h order L
+begun_all g h order L b each =
     let size : length order ≡ g.nodes = omega (arith, whole_least order g.nodes each, begun_most g order b.nodes.0 b.nodes.1) in
     record {
-      contracted = record {
-        nodes = (size, b.nodes.0, b.nodes.1);
-        start = b.start;
-        step = λ i lt. b.step i (omega arith);
-      };
-      least = λ i x lt inside away. b.least i x (omega arith) inside away;
+      nodes = (size, b.nodes.0, b.nodes.1);
+      start = b.start;
+      step = λ i lt. b.step i (omega arith);
     }

@@ -6,15 +6,8 @@ use Rattle.std.proofs.lemmas.List.{length_push}
 use Rattle.std.proofs.lemmas.List.Elements.{Contains-get_or}
 use Rattle.ch_hierarchy.specs.declared.leg.Leg.{Leg}
 use Rattle.ch_contract.specs.Legs.{Legs}
+use Rattle.ch_contract.specs.Begun.{AreLevels, AreRowsBy}
 use Rattle.ch_contract.proofs.theory.OrderSteps.{then_legs, more, legs_more, before, here, agree, now}
-
--- the level of each contracted node is the number of its step
-abbrev pub AreLevels : List ℕ → List ℕ → Type 0
-AreLevels order levels = (i : ℕ) → i < length order → slice_index levels (slice_index order i) ≡ i + 1
-
--- each contracted node has the row of its step; R says that a row has these legs of a node
-abbrev pub AreRowsBy : (Legs → ℕ → List Leg → Type 0) → List ℕ → (ℕ → Legs) → (ℕ → List Leg) → Type 0
-AreRowsBy R order L rows = (i : ℕ) → i < length order → R (L i) (slice_index order i) (rows (slice_index order i))
 
 module _ (order : List ℕ) (v : ℕ) (left : Contains order v → ⊥) where
   -- the next node is none of the earlier ones

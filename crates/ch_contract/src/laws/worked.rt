@@ -3,6 +3,7 @@ ghost use Rattle.std.specs.Prelude.{◌≡◌, [], ◌∷◌, pos, negsuc, map, 
 ghost use Rattle.ch_contract.specs.Legs.{opening};
 ghost use Rattle.ch_contract.specs.Reference.{has_witness, shortcuts_of, priority_of, order_of, order_by, hierarchy_of, hierarchy_by, meet_of};
 ghost use Rattle.ch_contract.specs.RoundReference.{rounds_of, hierarchy_by_rounds};
+ghost use Rattle.ch_contract.specs.LikeReference.{order_like, hierarchy_like};
 ghost use Rattle.ch_contract.specs.declared.measure.OrderBy.TheVariants.{Depth};
 ghost use Rattle.ch_contract.specs.Examples as examples;
 ghost use Rattle.ch_contract.specs.Examples.{cost, leg, leg_through};
@@ -58,6 +59,29 @@ pub fn orders_by_rounds()
     ensures ring { rounds_of examples.ring 5 ≡ ((pos 0, 0) ∷ []) ∷ ((pos 0, 2) ∷ []) ∷ ((pos 1, 4) ∷ []) ∷ ((pos 2, 1) ∷ []) ∷ ((pos 3, 3) ∷ []) ∷ [] }
     ensures fewer_arcs { rounds_of examples.fewer_arcs 5 ≡ ((negsuc 1, 0) ∷ []) ∷ ((negsuc 1, 2) ∷ []) ∷ ((pos 2, 1) ∷ (pos 3, 4) ∷ []) ∷ ((pos 2, 3) ∷ []) ∷ [] }
     ensures street { rounds_of examples.street 5 ≡ ((negsuc 0, 0) ∷ (negsuc 0, 6) ∷ []) ∷ ((pos 0, 2) ∷ []) ∷ ((pos 0, 4) ∷ []) ∷ ((pos 1, 3) ∷ []) ∷ ((pos 1, 5) ∷ []) ∷ ((pos 3, 1) ∷ []) ∷ [] }
+{}
+
+/// Orders like given ones, where this per cent of the nodes are ordered afresh.
+pub fn orders_like()
+    ensures none { order_like examples.ring 5 (3 ∷ 1 ∷ 4 ∷ 2 ∷ 0 ∷ []) 0 ≡ 3 ∷ 1 ∷ 4 ∷ 2 ∷ 0 ∷ [] }
+    ensures less_than_a_node { order_like examples.ring 5 (3 ∷ 1 ∷ 4 ∷ 2 ∷ 0 ∷ []) 19 ≡ 3 ∷ 1 ∷ 4 ∷ 2 ∷ 0 ∷ [] }
+    ensures some { order_like examples.ring 5 (3 ∷ 1 ∷ 4 ∷ 2 ∷ 0 ∷ []) 40 ≡ 3 ∷ 1 ∷ 4 ∷ 0 ∷ 2 ∷ [] }
+    ensures more { order_like examples.ring 5 (3 ∷ 1 ∷ 4 ∷ 2 ∷ 0 ∷ []) 60 ≡ 3 ∷ 1 ∷ 0 ∷ 2 ∷ 4 ∷ [] }
+    ensures most { order_like examples.ring 5 (3 ∷ 1 ∷ 4 ∷ 2 ∷ 0 ∷ []) 80 ≡ 3 ∷ 0 ∷ 1 ∷ 2 ∷ 4 ∷ [] }
+    ensures all { order_like examples.ring 5 (3 ∷ 1 ∷ 4 ∷ 2 ∷ 0 ∷ []) 100 ≡ 0 ∷ 2 ∷ 1 ∷ 3 ∷ 4 ∷ [] }
+    ensures ring { order_like examples.ring 5 (0 ∷ 1 ∷ 2 ∷ 3 ∷ 4 ∷ []) 60 ≡ 0 ∷ 1 ∷ 3 ∷ 2 ∷ 4 ∷ [] }
+    ensures detour { order_like examples.detour 5 (0 ∷ 1 ∷ 2 ∷ 3 ∷ 4 ∷ []) 60 ≡ 0 ∷ 1 ∷ 3 ∷ 2 ∷ 4 ∷ [] }
+    ensures fewer_arcs { order_like examples.fewer_arcs 5 (0 ∷ 1 ∷ 2 ∷ 3 ∷ 4 ∷ []) 40 ≡ 0 ∷ 1 ∷ 2 ∷ 4 ∷ 3 ∷ [] }
+    ensures street { order_like examples.street 5 (0 ∷ 1 ∷ 2 ∷ 3 ∷ 4 ∷ 5 ∷ 6 ∷ []) 60 ≡ 0 ∷ 1 ∷ 2 ∷ 6 ∷ 4 ∷ 5 ∷ 3 ∷ [] }
+{}
+
+/// A hierarchy in an order like a given one.
+pub fn hierarchies_like()
+    ensures ring { hierarchy_like examples.ring 5 (0 ∷ 1 ∷ 2 ∷ 3 ∷ 4 ∷ []) 60 ≡ record {
+      level = 1 ∷ 2 ∷ 4 ∷ 3 ∷ 5 ∷ [];
+      up = (leg 2 1 1 ∷ []) ∷ (leg 3 1 1 ∷ []) ∷ (leg_through 4 5 2 2 ∷ []) ∷ (leg 5 1 1 ∷ []) ∷ [] ∷ [];
+      down = (leg 5 1 1 ∷ []) ∷ (leg_through 1 5 2 2 ∷ []) ∷ (leg_through 2 5 3 3 ∷ []) ∷ (leg 3 1 1 ∷ []) ∷ [] ∷ [];
+    } }
 {}
 
 /// Hierarchies by rounds.

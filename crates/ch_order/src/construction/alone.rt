@@ -1,16 +1,22 @@
 //! The construction of a hierarchy by the caller alone.
-ghost use Rattle.std.specs.Prelude.{IfOk};
+ghost use Rattle.std.specs.Prelude.{◌≡◌, ◌<◌, ◌≤◌, All, Err, IfOk, length, take};
 ghost use Rattle.ch_graph.specs.Graph.{IsWithinLimits};
 ghost use Rattle.ch_contract.specs.Legs.{IsHopBound};
 ghost use Rattle.ch_contract.specs.Built.{IsHierarchyBy};
+ghost use Rattle.ch_contract.specs.Like.{IsHierarchyFrom, IsHierarchyLike};
+ghost use Rattle.ch_order.specs.declared.construction.like.OrderError.TheVariants as OrderError;
 ghost use Rattle.ch_hierarchy.specs.Kept.{IsKept};
+ghost use Rattle.ch_hierarchy.specs.Saved.{IsOrderOf};
 
 use super::Construction;
-use crate::priority::{PriorityJob, opening_queue_alone};
+use super::like::{OrderError, given_count};
+use crate::priority::PriorityJob;
+use ch_contract::OrderBy;
 use ch_contract::memory::ask_ahead;
-use ch_contract::{OrderBy, Remaining};
+use ch_contract::order::all_nodes;
 use ch_graph::Graph;
 use ch_hierarchy::Hierarchy;
+use ch_work::Open;
 use std::alloc::{AllocError, Global};
 
 /// Builds the contraction hierarchy of a graph by depth, where a witness has at most `hops` legs. It is the hierarchy
@@ -26,7 +32,53 @@ pub fn build_alone(alloc: Global, graph: &Graph, hops: u32) -> Result<Hierarchy,
     ensures limits { IsWithinLimits graph.now }
 {
     ask_ahead(alloc, graph)?;
-    let mut construction = Construction::open_alone(alloc, graph, hops)?;
+    let nodes = all_nodes(alloc, graph.nodes())?;
+    contract_in_turn(alloc, graph, nodes.as_slice(), 0, hops)
+}
+
+/// Builds the contraction hierarchy of a graph in an order like a given one, as [`build_like`](crate::build_like) does.
+/// The caller builds it alone: no thread is started, and no progress is reported.
+///
+/// # Errors
+/// `Order` if the given order does not have each node of the graph exactly once, and `NoMemory` if there is no memory.
+/// What was made is dropped, and the graph and the order are as they were.
+pub fn build_like_alone(
+    alloc: Global,
+    graph: &Graph,
+    given: &[u32],
+    fresh: u32,
+    hops: u32,
+) -> Result<Hierarchy, OrderError>
+    requires hops { IsHopBound hops }
+    requires fresh { fresh ≤ 100 }
+    ensures hierarchy { IfOk result (IsHierarchyLike graph.now hops given.now fresh) }
+    ensures kept { IfOk result (IsKept graph.now) }
+    ensures order { IfOk result (λ _. IsOrderOf graph.now.nodes given.now) }
+    ensures refused { result ≡ Err OrderError.Order → IsOrderOf graph.now.nodes given.now → ⊥ }
+    ensures limits { IsWithinLimits graph.now }
+{
+    ask_ahead(alloc, graph)?;
+    let first = given_count(alloc, graph, given, fresh)?;
+    Ok(contract_in_turn(alloc, graph, given, first, hops)?)
+}
+
+/// Builds the contraction hierarchy of a graph, one node after the other. The first `given` nodes of the list are
+/// contracted as they come in it, and the others by depth. The list has each node once.
+fn contract_in_turn(
+    alloc: Global,
+    graph: &Graph,
+    nodes: &[u32],
+    given: usize,
+    hops: u32,
+) -> Result<Hierarchy, AllocError>
+    requires hops { IsHopBound hops }
+    requires nodes { IsOrderOf graph.now.nodes nodes.now }
+    requires given { given ≤ length nodes.now }
+    ensures { IfOk result (IsHierarchyFrom OrderBy.Depth graph.now hops (take given nodes.now)) }
+{
+    let (first, others) = nodes.split_at(given);
+    let begun = Construction::after(alloc, &Open, graph, first, hops)?;
+    let mut construction = begun.rank_alone(alloc, others, hops)?;
     while let Some(node) = construction.next() {
         construction = construction.contract_alone(alloc, node, hops)?;
     }
@@ -34,26 +86,38 @@ pub fn build_alone(alloc: Global, graph: &Graph, hops: u32) -> Result<Hierarchy,
 }
 
 impl Construction {
-    ghost use Rattle.std.specs.Prelude.{◌≡◌, ◌<◌, ◌≤◌, slice_index};
+    ghost use Rattle.std.specs.Prelude.{slice_index};
     ghost use Rattle.ch_contract.specs.Legs.{AreLegsWithin};
     ghost use Rattle.ch_contract.specs.Remaining.{legs_of};
-    ghost use Rattle.ch_order.specs.Progress.{IsOpen, IsStep};
+    ghost use Rattle.ch_order.specs.Priorities.{IsRanked};
+    ghost use Rattle.ch_order.specs.Progress.{IsStep};
     ghost use Rattle.ch_order.specs.Construction.{IsSized, IsJudging, IsReadyFor, progress_of};
 
-    /// Starts a construction by depth. No node is contracted yet.
-    fn open_alone(alloc: Global, graph: &Graph, hops: u32) -> Result<Construction, AllocError>
-        requires { IsHopBound hops }
+    /// Gives these nodes the priorities by depth that they have now.
+    fn rank_alone(
+        mut self,
+        alloc: Global,
+        nodes: &[u32],
+        hops: u32,
+    ) -> Result<Construction, AllocError>
+        requires hops { IsHopBound hops }
+        requires sizes { IsSized self }
+        requires nodes { All (λ x. x < self.remaining.nodes) nodes.now }
+        requires ready { IsJudging hops self }
         ensures sizes { IfOk result IsSized }
-        ensures nodes { IfOk result (λ c. c.remaining.nodes ≡ graph.now.nodes) }
-        ensures begun { IfOk result (λ c. IsOpen OrderBy.Depth graph.now hops (progress_of c)) }
+        ensures nodes { IfOk result (λ c. c.remaining.nodes ≡ self.remaining.nodes) }
+        ensures ranked { IfOk result (λ c. IsRanked OrderBy.Depth self.remaining.nodes hops nodes.now (progress_of self) (progress_of c)) }
         ensures ready { IfOk result (IsJudging hops) }
     {
-        let remaining = Remaining::open(alloc, graph)?;
-        let nodes = remaining.nodes();
-        let depths = vec![in alloc; 0; nodes as usize]?;
         let by = OrderBy::Depth;
-        let waiting = opening_queue_alone(alloc, &remaining, depths.as_slice(), hops, by)?;
-        Construction::of(alloc, remaining, Vec::new(alloc), waiting, depths)
+        let job = PriorityJob {
+            remaining: &self.remaining,
+            depths: self.depths.as_slice(),
+            hops,
+            by,
+        };
+        job.set_in_turn(alloc, nodes, &mut self.waiting)?;
+        Ok(self)
     }
 
     /// Contracts a node in the order by depth, and keeps its level and its legs.
@@ -77,8 +141,6 @@ impl Construction {
             &mut taken.room,
             &mut taken.waiting,
         )?;
-        taken.contracted += 1;
-        taken.levels[node as usize] = taken.contracted;
         Ok(taken)
     }
 }

@@ -1,10 +1,8 @@
-use Rattle.std.proofs.Common.{◌+◌, ◌<◌, ◌∙◌, refl, sym, subst, arith}
+use Rattle.std.proofs.Common.{◌<◌, ◌∙◌, sym, subst, arith}
 use Rattle.std.specs.Prelude.{All}
-use Rattle.std.specs.Vec.{with_item}
-use Rattle.ch_order.specs.declared.construction.Construction.{Construction}
 use Rattle.ch_contract.specs.Measures.{IsPriorityIn}
 use Rattle.ch_contract.proofs.code.NodeBounds.{neighbours_within}
-use Rattle.ch_order.proofs.ConstructionCalls.{lent_refreshed, stepped_taken, stepped, neighbours_count}
+use Rattle.ch_order.proofs.ConstructionCalls.{lent_refreshed, stepped, neighbours_count}
 use Rattle.ch_order.proofs.construction.Construction.contract.Goals as goal
 
 pub refresh-requires-clause-nodes : goal.refresh-requires-clause-nodes
@@ -26,15 +24,6 @@ refresh-requires-clause-ready g c lifetimes bounds = c.in_ok-taken.ensures.taken
 pub returns-clause-step : goal.returns-clause-step
 returns-clause-step g c =
     let taken = c.in_ok-taken.taken in
-    let last : Construction = record {
-      remaining = taken.remaining;
-      room = c.refresh.new.room;
-      rooms = c.refresh.new.rooms;
-      waiting = c.refresh.new.waiting;
-      depths = taken.depths;
-      levels = with_item taken.levels c.args.node (taken.contracted + 1);
-      contracted = taken.contracted + 1;
-    } in
+    let next = c.requires.next in
     let anew = lent_refreshed (λ d. IsPriorityIn c.args.by taken.remaining c.args.hops d) _ _ _ _ _ _ c.as_slice.ensures.value c.as_slice-2.ensures.value c.in_ok-refresh.ensures.anew in
-    stepped c.args.by c.args.hops c.args.self c.args.node last c.requires.next.node c.requires.next.limits c.requires.next.sizes
-    (stepped_taken c.args.by c.args.hops c.args.self c.args.node _ taken last c.in_ok-taken.ensures.taken refl refl refl refl anew)
+    stepped c.args.by c.args.hops c.args.self c.args.node _ taken _ next.node next.limits next.sizes c.in_ok-taken.ensures.taken anew

@@ -1,11 +1,9 @@
-use Rattle.std.proofs.Common.{◌+◌, ◌<◌, ◌∙◌, refl, sym, subst}
+use Rattle.std.proofs.Common.{◌<◌, ◌∙◌, sym, subst}
 use Rattle.std.specs.Prelude.{All}
-use Rattle.std.specs.Vec.{with_item}
-use Rattle.ch_order.specs.declared.construction.Construction.{Construction}
 use Rattle.ch_contract.specs.declared.measure.OrderBy.TheVariants.{Depth}
 use Rattle.ch_contract.specs.Measures.{IsPriorityIn}
 use Rattle.ch_contract.proofs.code.NodeBounds.{neighbours_within}
-use Rattle.ch_order.proofs.ConstructionCalls.{lent_refreshed, stepped_taken, stepped}
+use Rattle.ch_order.proofs.ConstructionCalls.{lent_refreshed, stepped}
 use Rattle.ch_order.proofs.construction.Construction.contract_alone.Goals as goal
 
 pub refresh_here-requires-clause-nodes : goal.refresh_here-requires-clause-nodes
@@ -17,15 +15,6 @@ refresh_here-requires-clause-nodes c =
 pub returns-clause-step : goal.returns-clause-step
 returns-clause-step c =
     let taken = c.in_ok-taken.taken in
-    let last : Construction = record {
-      remaining = taken.remaining;
-      room = c.refresh_here.new.room;
-      rooms = taken.rooms;
-      waiting = c.refresh_here.new.waiting;
-      depths = taken.depths;
-      levels = with_item taken.levels c.args.node (taken.contracted + 1);
-      contracted = taken.contracted + 1;
-    } in
+    let next = c.requires.next in
     let anew = lent_refreshed (λ d. IsPriorityIn Depth taken.remaining c.args.hops d) _ _ _ _ _ _ c.as_slice.ensures.value c.as_slice-2.ensures.value c.in_ok-refresh_here.ensures.anew in
-    stepped Depth c.args.hops c.args.self c.args.node last c.requires.next.node c.requires.next.limits c.requires.next.sizes
-    (stepped_taken Depth c.args.hops c.args.self c.args.node _ taken last c.in_ok-taken.ensures.taken refl refl refl refl anew)
+    stepped Depth c.args.hops c.args.self c.args.node _ taken _ next.node next.limits next.sizes c.in_ok-taken.ensures.taken anew

@@ -1,57 +1,15 @@
-use Rattle.std.proofs.Common.{sym, ◌∙◌, subst, arith}
 use Rattle.std.proofs.lemmas.Result.{IfOk-weaker}
 use Rattle.ch_contract.specs.declared.measure.OrderBy.TheVariants.{Depth}
-use Rattle.ch_contract.specs.Legs.{AreLegsWithin}
-use Rattle.ch_order.specs.Progress.{IsStep, AreAll}
-use Rattle.ch_order.specs.Construction.{progress_of}
-use Rattle.ch_contract.specs.Remaining.{legs_of}
 use Rattle.ch_contract.proofs.theory.BuiltKept.{hierarchies_kept}
-use Rattle.ch_order.proofs.StepsMade.{steps_at_start, steps_next, steps_count, steps_node, steps_at_end, steps_within, steps_depth, steps_levelled}
+use Rattle.ch_contract.proofs.theory.GivenNodes.{numbers_given}
+use Rattle.ch_contract.proofs.theory.GivenOrders.{in_turn_from}
 use Rattle.ch_order.proofs.construction.alone.build_alone.Goals as goal
 
-pub loop-node-init : goal.loop-node-init
-loop-node-init c =
-    let first = c.in_ok-construction.ensures in
-    (first.sizes, first.nodes, steps_at_start _ _ _ _ (first.sizes.levels ∙ first.nodes) first.begun, first.ready)
-
-pub contract_alone-requires : goal.contract_alone-requires
-contract_alone-requires c =
-    let i = c.loop-node.invariant in
-    record {
-      next = record {
-        hops = c.requires.hops;
-        sizes = i.0;
-        limits = subst (λ n. AreLegsWithin n (legs_of c.loop-node.construction.remaining)) (sym i.1) (steps_within _ _ _ _ i.2);
-        node = omega (arith, i.1, steps_node _ _ _ _ _ i.2 c.in-Some.ensures);
-        count = omega (arith, i.1, steps_count _ _ _ _ _ i.2 c.in-Some.ensures);
-        depth = steps_depth _ _ _ _ c.in-Some.node i.2;
-        ready = i.3;
-      };
-    }
-
-pub loop-node-smaller : goal.loop-node-smaller
-loop-node-smaller c =
-    let i = c.loop-node.invariant in
-    let next = c.in_ok-construction-2.ensures in
-    omega (arith, i.1, steps_count _ _ _ _ _ i.2 c.in-Some.ensures, next.nodes, next.step.contracted)
-
-pub loop-node-preserved : goal.loop-node-preserved
-loop-node-preserved c =
-    let i = c.loop-node.invariant in
-    let next = c.in_ok-construction-2.ensures in
-    let step = subst (λ n. IsStep Depth n c.args.hops (progress_of c.loop-node.construction) c.in-Some.node (progress_of c.in_ok-construction-2.construction)) i.1 next.step in
-    (next.sizes, next.nodes ∙ i.1, steps_next _ _ _ _ _ _ i.2 c.in-Some.ensures step, next.ready)
-
-pub finish-requires-clause-levelled : goal.finish-requires-clause-levelled
-finish-requires-clause-levelled c H all =
-    let i = c.loop-node.invariant in
-    let count = i.0.nodes in
-    steps_levelled _ _ _ _ i.2 c.in_default.ensures (omega (arith, count, i.1)) H (subst (λ n. AreAll n (progress_of c.loop-node.construction) H) i.1 all)
+pub contract_in_turn-requires-clause-nodes : goal.contract_in_turn-requires-clause-nodes
+contract_in_turn-requires-clause-nodes c = numbers_given _ _ _ _ c.as_slice.ensures.value c.in_ok-nodes.ensures c.nodes.ensures
 
 pub returns-clause-hierarchy : goal.returns-clause-hierarchy
-returns-clause-hierarchy c =
-    let i = c.loop-node.invariant in
-    IfOk-weaker c.finish.result _ _ (λ H all. steps_at_end _ _ _ _ i.2 c.in_default.ensures H (subst (λ n. AreAll n (progress_of c.loop-node.construction) H) i.1 all)) c.finish.ensures
+returns-clause-hierarchy c = IfOk-weaker c.contract_in_turn.result _ _ (λ H is. in_turn_from Depth c.args.graph.now c.args.hops H is) c.contract_in_turn.ensures
 
 pub returns-clause-kept : goal.returns-clause-kept
-returns-clause-kept c = IfOk-weaker c.finish.result _ _ (λ H is. hierarchies_kept Depth c.args.graph.now c.args.hops H c.ask_ahead.ensures c.requires.hops is) (returns-clause-hierarchy c)
+returns-clause-kept c = IfOk-weaker c.contract_in_turn.result _ _ (λ H is. hierarchies_kept Depth c.args.graph.now c.args.hops H c.ask_ahead.ensures c.requires.hops is) (returns-clause-hierarchy c)

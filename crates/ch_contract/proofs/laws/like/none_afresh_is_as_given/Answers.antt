@@ -1,0 +1,5 @@
+use Rattle.ch_contract.proofs.theory.GivenOrders.{none_afresh}
+use Rattle.ch_contract.proofs.laws.like.none_afresh_is_as_given.Goals as goal
+
+pub returns : goal.returns
+returns c = none_afresh

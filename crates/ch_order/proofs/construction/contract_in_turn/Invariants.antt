@@ -1,0 +1,10 @@
+use Rattle.std.proofs.Common.{◌≡◌, ◌-◌, take}
+use Rattle.ch_order.specs.Construction.{IsSized, IsJudging, progress_of}
+use Rattle.ch_order.proofs.StepsMade.{IsAfterSomeSteps}
+use Rattle.ch_order.proofs.construction.contract_in_turn.Given as goal
+
+abbrev pub invariant-loop-node : goal.invariant-loop-node
+invariant-loop-node g l = IsSized l.construction × (l.construction.remaining.nodes ≡ l.graph.nodes) × IsAfterSomeSteps l.by l.graph l.hops (take l.given l.nodes) (progress_of l.construction) × IsJudging l.hops l.construction
+
+abbrev pub decreases-loop-node : goal.decreases-loop-node
+decreases-loop-node g l = l.construction.remaining.nodes - l.construction.contracted

@@ -1,0 +1,105 @@
+//! The construction of a hierarchy in an order like a given one.
+ghost use Rattle.std.specs.Prelude.{◌≡◌, ◌≤◌, Some, Err, IfOk};
+ghost use Rattle.ch_graph.specs.Graph.{IsWithinLimits};
+ghost use Rattle.ch_hierarchy.specs.Kept.{IsKept};
+ghost use Rattle.ch_hierarchy.specs.Saved.{IsOrderOf};
+ghost use Rattle.ch_order.specs.declared.construction.like.OrderError.TheVariants as OrderError;
+ghost use Rattle.ch_order.specs.OrderText.{order_text};
+ghost use Rattle.ch_contract.specs.Legs.{IsHopBound};
+ghost use Rattle.ch_contract.specs.Like.{IsHierarchyLike, given_count as count_of};
+
+use super::contract_in_turn;
+use ch_contract::OrderBy;
+use ch_contract::memory::ask_ahead;
+use ch_graph::Graph;
+use ch_hierarchy::{Hierarchy, levels_of};
+use ch_work::{Crew, Gate};
+use std::alloc::{AllocError, Global};
+use std::error::Error;
+use std::fmt;
+use std::thread::Threads;
+
+/// Why no hierarchy in an order like a given one is built.
+#[derive(Clone, Copy, Debug, PartialEq, Eq)]
+pub enum OrderError {
+    /// The given order does not have each node of the graph exactly once.
+    Order,
+    /// There is no memory.
+    NoMemory,
+}
+
+impl fmt::Display for OrderError {
+    ghost output = { λ error. Some (order_text error) };
+
+    fn fmt<W: fmt::Write>(&self, f: &mut fmt::Formatter<W>) -> fmt::Result {
+        match self {
+            OrderError::Order => f.write_str("order"),
+            OrderError::NoMemory => f.write_str("out of memory"),
+        }
+    }
+}
+
+impl Error for OrderError {}
+
+impl From<AllocError> for OrderError {
+    ghost from_gives = { λ _ error. error ≡ OrderError.NoMemory };
+
+    fn from(_refused: AllocError) -> OrderError {
+        OrderError::NoMemory
+    }
+}
+
+/// Builds the contraction hierarchy of a graph in an order like a given one, where a witness has at most `hops` legs.
+/// It serves new weights on roads whose order is known, because priorities are most of the work of building.
+///
+/// The last `fresh` per cent of the nodes, rounded down, are ordered afresh by [`OrderBy::Depth`]. All others come
+/// first, as the given order has them. Depths are raised from the first node on. When the last given node is
+/// contracted, all remaining nodes get their priorities, and workers share these. From then on it is built as by
+/// [`build_in_turn`](crate::build_in_turn). The hierarchy does not depend on the crew, and distances are the same in each order.
+///
+/// # Errors
+/// `Order` if the given order does not have each node of the graph exactly once, and `NoMemory` if the call or a piece
+/// is refused memory. All workers are joined before the call returns. Everything that it made is dropped, and the graph
+/// and the order are as before.
+pub fn build_like<R: Threads + Sync, G: Gate>(
+    crew: &Crew<'_, R, G>,
+    graph: &Graph,
+    given: &[u32],
+    fresh: u32,
+    hops: u32,
+) -> Result<Hierarchy, OrderError>
+    requires hops { IsHopBound hops }
+    requires fresh { fresh ≤ 100 }
+    ensures hierarchy { IfOk result (IsHierarchyLike graph.now hops given.now fresh) }
+    ensures kept { IfOk result (IsKept graph.now) }
+    ensures order { IfOk result (λ _. IsOrderOf graph.now.nodes given.now) }
+    ensures refused { result ≡ Err OrderError.Order → IsOrderOf graph.now.nodes given.now → ⊥ }
+    ensures limits { IsWithinLimits graph.now }
+{
+    ask_ahead(crew.alloc, graph)?;
+    let first = given_count(crew.alloc, graph, given, fresh)?;
+    let by = OrderBy::Depth;
+    Ok(contract_in_turn(crew, graph, given, first, hops, by)?)
+}
+
+/// Returns how many nodes come in the given order, if it has each node of the graph once and these per cent are
+/// ordered afresh.
+pub(super) fn given_count(
+    alloc: Global,
+    graph: &Graph,
+    given: &[u32],
+    fresh: u32,
+) -> Result<usize, OrderError>
+    requires fresh { fresh ≤ 100 }
+    ensures order { IfOk result (λ _. IsOrderOf graph.now.nodes given.now) }
+    ensures count { IfOk result (λ k. k ≡ count_of graph.now.nodes fresh) }
+    ensures refused { result ≡ Err OrderError.Order → IsOrderOf graph.now.nodes given.now → ⊥ }
+{
+    let nodes = graph.nodes();
+    let Some(levels) = levels_of(alloc, nodes, given)? else {
+        return Err(OrderError::Order);
+    };
+    drop(levels);
+    let afresh = u64::from(nodes) * u64::from(fresh) / 100;
+    Ok(given.len() - afresh as usize)
+}
