@@ -13,6 +13,7 @@ from helpers.commands import raises, temporary
 from helpers.marks import each_way, needs
 from helpers.running import PROGRAM, ROOT
 import chtab
+from chtab import files
 
 pytestmark = [needs("python3-numpy"), pytest.mark.usefixtures("program")]
 # Two parallel roads from an inn to a mill, a bridge from there to a school, and a way round.
@@ -161,6 +162,23 @@ def test_networks_of_files_change_too():
             assert network.routes([(2359, 910)])[0] == route
         with network.changed([2 * weight for weight in graph.weights]) as other:
             assert other.distances([(2359, 910)])[0] == 2 * route.weight
+
+
+def test_streets_of_a_map_are_closed_by_their_names():
+    """All arcs of the streets with a name or a number are closed, and what is left goes on being called as it was."""
+    files.write_graph("map.gr", 4, [(1, 2, 5), (2, 1, 5), (2, 3, 7), (3, 4, 1), (1, 4, 90)])
+    streets = [files.Street("primary", "", "Bridge Street", "B1, 12"), files.Street("primary", "", "High Street", "12")]
+    files.write_streets("map.names", files.Streets(streets, [1, 1, 2, 0, 0], "right"))
+    with chtab.Network.open("map.gr", program=PROGRAM) as network:
+        assert network.distances([(1, 4)]).tolist() == [13]
+        for closed, wanted in ((["Bridge Street"], [90, -1, 7]), (["12"], [90, -1, -1]), (["B1"], [90, -1, 7]), (["High Street"], [90, 5, -1])):
+            with network.changed(closed=closed) as other:
+                assert other.distances([(1, 4), (1, 2), (2, 3)]).tolist() == wanted, closed
+        with network.changed({"High Street": 1}, [0], [(4, 1, 3)], folder="own") as other, other.changed(closed=["High Street"]) as again:
+            assert other.distances([(2, 4), (4, 1), (2, 1)]).tolist() == [2, 3, 5] and again.distances([(2, 3), (2, 1)]).tolist() == [-1, 5]
+        assert files.read_streets("own/network.names", 5) == files.Streets(streets, [1, 2, 0, 0, 0], "right")
+        for word in "Nowhere", "", "Bridge":
+            assert raises(chtab.DataFault, network.changed, None, [0, word], told="no street of the map is called").row == 1
 
 
 @each_way

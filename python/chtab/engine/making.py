@@ -30,7 +30,7 @@ if TYPE_CHECKING:
 
 # The files of a network in its folder.
 GRAPH, SAVED, COORDINATES, BENDS, LABELS = "network.gr", "network.ch", "network.co", "network.bends", "network.json"
-NAMES = "network.nodes"
+NAMES, STREETS = "network.nodes", "network.names"
 # Seconds between two looks at the progress of building, and its lines: how many steps of a stage are done, and of how many.
 LOOK = 0.2
 PROGRESS = re.compile(r"chtab: [^,]+, ([\d,]*\d) of ([\d,]*\d) ")
@@ -124,11 +124,11 @@ def labelling_of(arcs: Arcs, digest: str) -> files.Labelling:
 
 
 class Beside:
-    """The files of a network that another one has too: the places of its nodes, and what these are called on the map."""
+    """The files of a network that another one has too: the places of its nodes, what these are called on the map, and the streets of its arcs."""
 
-    def __init__(self, layers: Any) -> None:
+    def __init__(self, layers: Any, streets: files.Streets | None = None) -> None:
         base = os.path.splitext(layers.path)[0]
-        self.stamps = layers.stamps
+        self.stamps, self.streets = layers.stamps, streets
         self.paths = {COORDINATES: layers.paths["coordinates"], NAMES: base + ".nodes"}
 
     def copy_to(self, folder: str) -> None:
@@ -137,6 +137,8 @@ class Beside:
         for name, path in self.paths.items():
             if path is not None and os.path.exists(path):
                 shutil.copyfile(path, os.path.join(folder, name))
+        if self.streets is not None:
+            files.write_streets(os.path.join(folder, STREETS), self.streets)
         self.stamps.see_that_same()
 
 

@@ -47,6 +47,7 @@ class Layers:
         base = os.path.splitext(path)[0]
         self.path, self.asked = path, asked
         self.paths = {"coordinates": coordinates or beside(base + ".co"), "bends": bends or beside(base + ".bends"), "labelling": labelling}
+        self.paths["streets"] = beside(base + ".names")
         self.kept: dict[str, Any] = {}
         self.stamps = Stamps(path, *self.paths.values())
         self.leave_parent()
@@ -83,6 +84,12 @@ class Layers:
     def arcs(self) -> ArcIndex:
         """The arcs by their ends, as `walks.ArcIndex` finds them."""
         return self.read("arcs", lambda: ArcIndex(self.graph))
+
+    @property
+    def streets(self) -> files.Streets | None:
+        """What the arcs are called, as `files.read_streets` gives it; None where the graph has no file of names beside it."""
+        path = self.paths["streets"]
+        return None if path is None else self.read_file("streets", lambda: files.read_streets(path, files.count_arcs(self.path)))
 
     @property
     def rows(self) -> Integers:

@@ -39,9 +39,10 @@ class Scenarios(FromArcs):
     ) -> Self:
         """Makes a network with the same nodes, labels, places and bends, and other arcs. This one goes on answering as it did.
 
-        There are three ways to name arcs: by the row of the columns or of the frame that the network was made of, from 0 on (of files, the arc's
-        place in the graph); by the pair of nodes, which is all arcs from the one to the other; or by a triple of nodes and the key of the edge,
-        if a graph of networkx or osmnx has several edges between two nodes. A row that leads both ways is both arcs.
+        There are four ways to name arcs: by the row of the columns or of the frame that the network was made of, from 0 on (of files, the arc's
+        place in the graph); by the pair of nodes, which is all arcs from the one to the other; by a triple of nodes and the key of the edge, if a
+        graph of networkx or osmnx has several edges between two nodes; or by the name or the number of a street, which is all of its arcs, if the
+        graph of a map has a file of names beside it (`osm_to_gr.py --names`). A row that leads both ways is both arcs.
 
         Parameters
         ----------
@@ -143,6 +144,8 @@ class Given(NamedTuple):
             if not 0 <= arc < self.row_count:
                 raise columns.refused(name, place, f"there is no row {arc} of arcs; they are from 0 to {self.row_count - 1:,}")
             return found
+        if isinstance(arc, str) and self.layers.streets is not None:
+            return self.of_street(name, place, arc)
         if not isinstance(arc, tuple | list) or len(arc) not in (2, 3):
             raise columns.refused(name, place, f"{told(arc)} is neither a row, nor (source, target), nor (source, target, key)")
         tail, head = self.layers.labels.nodes_of(name, [tuple(arc[:2])])[0].tolist()
@@ -153,6 +156,15 @@ class Given(NamedTuple):
             found = found[[self.keys[row] == arc[2] for row in self.rows[found].tolist()]] if len(found) else found
         if not len(found):
             raise columns.refused(name, place, f"there is no arc {told(tuple(arc))}")
+        return found
+
+    def of_street(self, name: str, place: int, word: str) -> Integers:
+        """The arcs of all streets that have this name, or this number."""
+        streets = self.layers.streets
+        which = [number for number, street in enumerate(streets.streets, 1) if word and word in (street.name, *street.ref.split(", "))]
+        found = numpy.flatnonzero(numpy.isin(numpy.array(streets.of_arcs, numpy.int64), which))
+        if not len(found):
+            raise columns.refused(name, place, f"no street of the map is called {told(word)}")
         return found
 
     def between(self, tail: int, head: int) -> Integers:
@@ -213,12 +225,16 @@ class Given(NamedTuple):
         scale, unit = (None, None) if labelling is None else (labelling.scale, labelling.unit)
         most = 0.0 if labelling is None else max(labelling.rounding, rounding, new.rounding)
         keys = None if self.keys is None else [*self.keys, *[0] * count]
+        streets = layers.streets
+        if streets is not None:
+            of_arcs = numpy.array(streets.of_arcs, numpy.int64)[kept]
+            streets = streets._replace(of_arcs=[*of_arcs.tolist(), *[0] * count])
         tails, heads, weights = (
             numpy.append(column[kept], more) for column, more in ((self.tails, new.tails), (self.heads, new.heads), (self.weights, new.weights))
         )
         return arc_columns.Arcs(
             layers.labels, tails, heads, weights, scale, most, unit, None, self.bends(kept, new), self.row_count + count, rows, keys, layers.graph.unit,
-            making.Beside(layers),
+            making.Beside(layers, streets),
         )
 
     def bends(self, kept: Marks, new: New) -> dict[int, list[Point]]:
