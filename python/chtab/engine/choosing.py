@@ -10,7 +10,6 @@ from chtab.engine.program import program_of
 from chtab.errors import ChtabError
 
 if TYPE_CHECKING:
-    from chtab import files
     from chtab.engine.walks import ArcIndex
     from chtab.typing import Path
 

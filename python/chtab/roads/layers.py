@@ -89,7 +89,9 @@ class Layers:
     def streets(self) -> files.Streets | None:
         """What the arcs are called, as `files.read_streets` gives it; None where the graph has no file of names beside it."""
         path = self.paths["streets"]
-        return None if path is None else self.read_file("streets", lambda: files.read_streets(path, files.count_arcs(self.path)))
+        if path is None:
+            return None
+        return self.read_file("streets", functools.partial(files.read_streets, path, files.count_arcs(self.path)))
 
     @property
     def rows(self) -> Integers:

@@ -145,7 +145,7 @@ class Given(NamedTuple):
                 raise columns.refused(name, place, f"there is no row {arc} of arcs; they are from 0 to {self.row_count - 1:,}")
             return found
         if isinstance(arc, str) and self.layers.streets is not None:
-            return self.of_street(name, place, arc)
+            return self.of_street(name, place, arc, self.layers.streets)
         if not isinstance(arc, tuple | list) or len(arc) not in (2, 3):
             raise columns.refused(name, place, f"{told(arc)} is neither a row, nor (source, target), nor (source, target, key)")
         tail, head = self.layers.labels.nodes_of(name, [tuple(arc[:2])])[0].tolist()
@@ -158,9 +158,8 @@ class Given(NamedTuple):
             raise columns.refused(name, place, f"there is no arc {told(tuple(arc))}")
         return found
 
-    def of_street(self, name: str, place: int, word: str) -> Integers:
+    def of_street(self, name: str, place: int, word: str, streets: files.Streets) -> Integers:
         """The arcs of all streets that have this name, or this number."""
-        streets = self.layers.streets
         which = [number for number, street in enumerate(streets.streets, 1) if word and word in (street.name, *street.ref.split(", "))]
         found = numpy.flatnonzero(numpy.isin(numpy.array(streets.of_arcs, numpy.int64), which))
         if not len(found):

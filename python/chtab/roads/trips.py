@@ -19,7 +19,7 @@ from chtab.roads.snapping import Spots
 if TYPE_CHECKING:
     from chtab.engine.node_queries import NodeQueries
     from chtab.roads.layers import Layers
-    from chtab.roads.snapping import Roads, Spots
+    from chtab.roads.snapping import Roads
     from chtab.typing import Integers
 
 # Trips whose routes are asked for together.
