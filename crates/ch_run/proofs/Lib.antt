@@ -10,6 +10,7 @@ pub mod ReadBack
 pub mod Answered
 pub mod Gathered
 pub mod Served
+pub mod Story
 pub mod Counted
 pub mod Nears
 pub mod OneNearText

@@ -10,13 +10,13 @@ use Rattle.ch_run.specs.declared.fault.Which.{Which}
 use Rattle.ch_run.specs.declared.source.Source.{Source}
 use Rattle.ch_run.specs.declared.sources.Sources.{Sources}
 use Rattle.ch_run.specs.NearRun.{ReadsSources}
-use Rattle.ch_run.specs.Run.{AcceptsGraph, Delivers, GoesPast, GoesPastAll, IsOf, IsWrite, Reading, Reads, ReadsAfter, ReadsOnce, StopsAt, WritesAfter, WritesOnce, reading}
+use Rattle.ch_run.specs.Run.{AcceptsGraph, Delivers, GoesPast, GoesPastAll, IsOf, IsWrite, Reading, ReadsOrRefuses, ReadsAfter, ReadsOnce, StopsAt, WritesAfter, WritesOnce, reading}
 use Rattle.ch_run.specs.Source.{HasSavedRefused, ReadsSource}
 use Rattle.ch_run.proofs.Inputs.{of_one}
 use Rattle.ch_run.proofs.Writes.{ends_in, passed_on, passes_on}
 
 -- if a fault is passed on, the run ends in it
-ends_as : {T : Type 0} (r : Result T RunFault) (e : RunFault) → IsErrAnd r (λ y. y ≡ e) → r ≡ Err e
+pub ends_as : {T : Type 0} (r : Result T RunFault) (e : RunFault) → IsErrAnd r (λ y. y ≡ e) → r ≡ Err e
 ends_as (Ok x) e is = absurd is
 ends_as (Err y) e is = ap (λ (f : RunFault). Err f) is
 
@@ -59,14 +59,14 @@ module _ {S T I : Type 0} (which : Which) (failed : I → ℕ) (old new : I) whe
 
 module _ {S T I : Type 0} (which : Which) (gives : I → List ℕ → Result ℕ DeviceFault → I → Type 0) (failed : I → ℕ) (old new : I) (IsRefused : Reading → ReadFault → Type 0) where
   -- a fault that is passed on keeps the promise on an input
-  pub reads_as : (e : RunFault) (r : Result T RunFault) → IsErrAnd r (λ y. y ≡ e) → Reads {T = S} which (Err e) gives failed old new IsRefused → Reads which r gives failed old new IsRefused
+  pub reads_as : (e : RunFault) (r : Result T RunFault) → IsErrAnd r (λ y. y ≡ e) → ReadsOrRefuses {T = S} which (Err e) gives failed old new IsRefused → ReadsOrRefuses which r gives failed old new IsRefused
   reads_as e r is h = record {
     refused = λ fault same. h.refused fault (passed_on r e (RunFault.Read which fault) is same);
     once = once_as {S = S} which failed old new e r is h.once;
   }
 
   -- a run that goes past an input keeps the promise on it
-  pub reads_past : (r : Result S RunFault) (s : Result T RunFault) → GoesPast which r → GoesPast which s → Reads which r gives failed old new IsRefused → Reads which s gives failed old new IsRefused
+  pub reads_past : (r : Result S RunFault) (s : Result T RunFault) → GoesPast which r → GoesPast which s → ReadsOrRefuses which r gives failed old new IsRefused → ReadsOrRefuses which s gives failed old new IsRefused
   reads_past r s past past' h = record {
     refused = λ fault same. absurd (no_end which s (RunFault.Read which fault) past' (stops_read which fault) same);
     once = once_past which failed old new r s past past' h.once;
@@ -96,7 +96,7 @@ module _ {T I : Type 0} (which : Which) (r : Result T RunFault) (failed : I → 
   pub untouched_once : ReadsOnce which r failed x x
   untouched_once = record { device = (λ same. absurd (no_end which r (RunFault.Device which) past (stops_device which) same), λ less. absurd (not_below less)); once = inl refl }
 
-  pub untouched : (gives : I → List ℕ → Result ℕ DeviceFault → I → Type 0) (IsRefused : Reading → ReadFault → Type 0) → Reads which r gives failed x x IsRefused
+  pub untouched : (gives : I → List ℕ → Result ℕ DeviceFault → I → Type 0) (IsRefused : Reading → ReadFault → Type 0) → ReadsOrRefuses which r gives failed x x IsRefused
   untouched gives IsRefused = record { refused = λ fault same. absurd (no_end which r (RunFault.Read which fault) past (stops_read which fault) same); once = untouched_once }
 
   pub untouched_after : (earlier : List Which) (accepted : Type 0) (gives : I → List ℕ → Result ℕ DeviceFault → I → Type 0) (IsRefused : Reading → ReadFault → Type 0) → ReadsAfter earlier accepted which r gives failed x x IsRefused
@@ -124,7 +124,7 @@ source_past graph gives failed r s past past' first (Source.Saved old) (Source.S
 
 -- the promise on an input stays if its refusal implies another
 pub reads_weaker : {T I : Type 0} (which : Which) (r : Result T RunFault) (gives : I → List ℕ → Result ℕ DeviceFault → I → Type 0) (failed : I → ℕ) (old new : I) (P Q : Reading → ReadFault → Type 0) →
-    ((fault : ReadFault) → P (reading gives old new) fault → Q (reading gives old new) fault) → Reads which r gives failed old new P → Reads which r gives failed old new Q
+    ((fault : ReadFault) → P (reading gives old new) fault → Q (reading gives old new) fault) → ReadsOrRefuses which r gives failed old new P → ReadsOrRefuses which r gives failed old new Q
 reads_weaker which r gives failed old new P Q to h = record { refused = λ fault same. to fault (h.refused fault same); once = h.once }
 
 -- the promise on an input that is read after others stays if more comes before it
@@ -194,7 +194,7 @@ err_as (Err y) e P is own = subst P (sym is) own
 pub read : {T I : Type 0} (which : Which) (r : Result T RunFault) (gives : I → List ℕ → Result ℕ DeviceFault → I → Type 0) (failed : I → ℕ) (old new : I) (P : ReadFault → Type 0) (Q : Reading → ReadFault → Type 0) →
     ((fault : ReadFault) → P fault → Q (reading gives old new) fault) →
     ((fault : ReadFault) → r ≡ Err (RunFault.Read which fault) → P fault) → (r ≡ Err (RunFault.Device which)) ↔ (failed old < failed new) → CountsAtMostOne (failed old) (failed new) →
-    Reads which r gives failed old new Q
+    ReadsOrRefuses which r gives failed old new Q
 read which r gives failed old new P Q to refused device once = record { refused = λ fault same. to fault (refused fault same); once = record { device = device; once = once } }
 
 -- the same for an input that is read after others

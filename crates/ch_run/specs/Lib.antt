@@ -1,6 +1,7 @@
 pub mod Fault
 pub mod Lists
 pub mod Run
+pub mod Story
 pub mod Source
 pub mod SavedTextLaws
 pub mod TextLaws

@@ -120,14 +120,14 @@ pub record ReadsOnce {T I : Type 0} (which : Which) (result : Result T RunFault)
   pub once : CountsAtMostOne (failed old) (failed new)
 
 -- the same holds, and the input is refused only for a fault that it has
-pub record Reads {T I : Type 0} (which : Which) (result : Result T RunFault) (gives : I → List ℕ → Result ℕ DeviceFault → I → Type 0) (failed : I → ℕ) (old new : I) (IsRefused : Reading → ReadFault → Type 0) : Type 0 where
+pub record ReadsOrRefuses {T I : Type 0} (which : Which) (result : Result T RunFault) (gives : I → List ℕ → Result ℕ DeviceFault → I → Type 0) (failed : I → ℕ) (old new : I) (IsRefused : Reading → ReadFault → Type 0) : Type 0 where
   pub refused : (fault : ReadFault) → result ≡ Err (RunFault.Read which fault) → IsRefused (reading gives old new) fault
   pub once : ReadsOnce which result failed old new
 
 -- the same holds, and the input is as it was unless the earlier inputs were accepted
 pub record ReadsAfter {T I : Type 0} (earlier : List Which) (accepted : Type 0) (which : Which) (result : Result T RunFault)
     (gives : I → List ℕ → Result ℕ DeviceFault → I → Type 0) (failed : I → ℕ) (old new : I) (IsRefused : Reading → ReadFault → Type 0) : Type 0 where
-  pub reads : Reads which result gives failed old new IsRefused
+  pub reads : ReadsOrRefuses which result gives failed old new IsRefused
   pub unread : (new ≡ old) ⊎ (GoesPastAll earlier result × accepted)
 
 -- a failed write is reported exactly if the output counted one, and it is not tried again

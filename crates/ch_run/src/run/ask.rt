@@ -1,11 +1,15 @@
 //! Runs that answer requests as they come.
-ghost use Rattle.std.specs.Prelude.{◌≡◌, ◌⊎◌, IfErr, IsErrAnd};
+ghost use Rattle.std.specs.Prelude.{◌≡◌, ◌⊎◌, Err, IfErr, IsErrAnd};
 ghost use Rattle.ch_contract.specs.Legs.{IsHopBound};
 ghost use Rattle.ch_text.specs.Device.{CanCountOneMore};
 ghost use Rattle.ch_run.specs.declared.source.Source.TheVariants as SourceOf;
 ghost use Rattle.ch_run.specs.Ask.{IsOfAsk, ServesBy};
-ghost use Rattle.ch_run.specs.Run.{IsGraphRefused, Reads, ReadsOnce, WritesOnce, reading};
+ghost use Rattle.ch_run.specs.Run.{IsGraphRefused, ReadsOrRefuses, ReadsOnce, WritesOnce, reading};
 ghost use Rattle.ch_run.specs.Source.{IsOfLoading, ReadsSource, source_failures, source_origin, source_reading};
+ghost use Rattle.ch_run.specs.Ask.{IsRequestText, Serves};
+ghost use Rattle.ch_run.specs.Source.{IsServing, order_built};
+ghost use Rattle.ch_run.specs.declared.fault.RunFault.TheVariants as FaultOf;
+ghost use Rattle.ch_run.specs.Story.{Loads};
 
 use super::answering::Answering;
 use super::loading::loaded_from;
@@ -52,6 +56,11 @@ pub fn run_ask<R: Threads + Sync, I: Input, S: Input + Drop, J: Input, O: Output
     requires zeros { CanCountOneMore (O.idle output.old) }
     requires hops { source.old ≡ SourceOf.Built → IsHopBound options.now.hops }
 
+    // The story of the run, in the order in which it happens. There may be no memory for the hierarchy that it builds.
+    ensures went { Loads (reading I.read_gives graph.old graph.new) (source_reading S.read_gives source.old source.new) (source.new ≡ source.old) result ((requests.new ≡ requests.old) × (output.new ≡ output.old)) (λ g h.
+        ((result ≡ Err FaultOf.Memory) × (requests.new ≡ requests.old) × (output.new ≡ output.old))
+        ⊎ Serves (IsRequestText options.now g (IsServing (order_built options.now) options.now.hops g h)) O.write_gives g.nodes (reading J.read_gives requests.old requests.new) output.old output.new result) }
+
     // The requests are answered in order, or neither they nor the output are touched.
     ensures served { (IsErrAnd result (IsOfLoading (source_reading S.read_gives source.old source.new)) × (requests.new ≡ requests.old) × (output.new ≡ output.old))
         ⊎ ServesBy options.now (reading I.read_gives graph.old graph.new) (source_reading S.read_gives source.old source.new) (reading J.read_gives requests.old requests.new)
@@ -60,7 +69,7 @@ pub fn run_ask<R: Threads + Sync, I: Input, S: Input + Drop, J: Input, O: Output
     // A run ends only in a fault of its own. A file is refused only for its first fault, and failures of
     // devices are reported exactly.
     ensures own { IfErr result (IsOfAsk (source_reading S.read_gives source.old source.new)) }
-    ensures graph { Reads Which.Graph result I.read_gives I.failed graph.old graph.new IsGraphRefused }
+    ensures graph { ReadsOrRefuses Which.Graph result I.read_gives I.failed graph.old graph.new IsGraphRefused }
     ensures source { ReadsSource (reading I.read_gives graph.old graph.new) result S.read_gives S.failed source.old source.new }
     ensures requests { ReadsOnce Which.Requests result J.failed requests.old requests.new }
     ensures output { WritesOnce result O.failed O.idle output.old output.new }

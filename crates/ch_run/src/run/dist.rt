@@ -8,9 +8,12 @@ ghost use Rattle.ch_query.specs.Replies.{AreQueries};
 ghost use Rattle.ch_text.specs.Device.{CanCountOneMore};
 ghost use Rattle.ch_run.specs.declared.source.Source.TheVariants as SourceOf;
 ghost use Rattle.ch_run.specs.DistRun.{AcceptsQueries, HasQueriesRefused, IsAnsweredBy, IsOfDist};
-ghost use Rattle.ch_run.specs.Run.{Delivers, IsGraphRefused, Reads, ReadsAfter, WritesAfter, reading};
+ghost use Rattle.ch_run.specs.Run.{Delivers, IsGraphRefused, ReadsOrRefuses, ReadsAfter, WritesAfter, reading};
 ghost use Rattle.ch_run.specs.Source.{AcceptsLoaded, IsOfRoutes, ReadsSource, source_failures, source_origin, source_reading};
 ghost use Rattle.ch_run.specs.Text.{IsTextBy, writes_routes};
+ghost use Rattle.ch_read.specs.declared.form.Form.TheVariants as FormOf;
+ghost use Rattle.ch_read.specs.Names.{NamesQueries};
+ghost use Rattle.ch_run.specs.Story.{IsRefused, Loads, Reads, Writes};
 
 use super::inputs::queries_from;
 use super::loading::{Loaded, loaded_from};
@@ -55,6 +58,11 @@ pub fn run_dist<R: Threads + Sync, I: Input, S: Input + Drop, J: Input, O: Outpu
     requires zeros { CanCountOneMore (O.idle output.old) }
     requires hops { source.old ≡ SourceOf.Built → IsHopBound options.now.hops }
 
+    // The story of the run, in the order in which it happens.
+    ensures went { Loads (reading I.read_gives graph.old graph.new) (source_reading S.read_gives source.old source.new) (source.new ≡ source.old) result ((queries.new ≡ queries.old) × (output.new ≡ output.old)) (λ g h.
+        Reads Which.Queries (reading J.read_gives queries.old queries.new) (λ bytes pairs. NamesQueries bytes g.nodes pairs) (IsRefused Which.Queries (FormOf.Queries g.nodes)) result (output.new ≡ output.old) (λ pairs.
+        Writes O.write_gives output.old output.new (IsTextBy (writes_routes options.now) g (IsOfRoutes options.now g h) pairs) result)) }
+
     // The output takes the text that answers the queries: all of it, or its first bytes.
     ensures written { Delivers result O.write_gives output.old output.new
         (IsAnsweredBy options.now (reading I.read_gives graph.old graph.new) (source_reading S.read_gives source.old source.new) (reading J.read_gives queries.old queries.new)) }
@@ -62,7 +70,7 @@ pub fn run_dist<R: Threads + Sync, I: Input, S: Input + Drop, J: Input, O: Outpu
     // A run ends only in a fault of its own. A file is refused only for its first fault, and failures of
     // devices are reported exactly. No device is touched before all earlier inputs were accepted.
     ensures own { IfErr result (IsOfDist (source_reading S.read_gives source.old source.new)) }
-    ensures graph { Reads Which.Graph result I.read_gives I.failed graph.old graph.new IsGraphRefused }
+    ensures graph { ReadsOrRefuses Which.Graph result I.read_gives I.failed graph.old graph.new IsGraphRefused }
     ensures source { ReadsSource (reading I.read_gives graph.old graph.new) result S.read_gives S.failed source.old source.new }
     ensures queries { ReadsAfter (Which.Graph ∷ Which.Saved ∷ []) (AcceptsLoaded (reading I.read_gives graph.old graph.new) (source_reading S.read_gives source.old source.new))
         Which.Queries result J.read_gives J.failed queries.old queries.new

@@ -5,6 +5,8 @@ ghost use Rattle.ch_read.specs.declared.fault.ReadFault.{ReadFault as FaultAt};
 ghost use Rattle.ch_text.specs.Device.{CanCountOneMore, CountsAtMostOne};
 ghost use Rattle.ch_text.specs.Moves.{GaveAll};
 ghost use Rattle.ch_run.specs.Run.{IsGraphRefused, IsListRefused, IsOf, IsQueriesRefused, IsUnread, ReadsGraph, ReadsNodes, ReadsQueries, reading};
+ghost use Rattle.ch_read.specs.declared.form.Form.TheVariants as FormOf;
+ghost use Rattle.ch_run.specs.Story.{EndsAt, IsRefused};
 ghost use Rattle.ch_query.specs.Replies.{AreQueries};
 
 use crate::fault::{RunFault, Which};
@@ -27,6 +29,7 @@ pub(crate) fn graph_from<R: Threads + Sync, I: Input, G: Gate>(
     ensures once { CountsAtMostOne (I.failed input.old) (I.failed input.new) }
     ensures same { I.origin input.new ≡ I.origin input.old }
     ensures of_input { IfErr result (IsOf Which.Graph) }
+    ensures ends { IfErr result (EndsAt Which.Graph (reading I.read_gives input.old input.new) (IsRefused Which.Graph FormOf.Graph)) }
 {
     let bytes = bytes_from(crew.alloc, input, Which::Graph)?;
     match read_graph_by(crew, &bytes) {
@@ -50,6 +53,7 @@ pub(crate) fn queries_from<I: Input>(
     ensures once { CountsAtMostOne (I.failed input.old) (I.failed input.new) }
     ensures same { I.origin input.new ≡ I.origin input.old }
     ensures of_input { IfErr result (IsOf Which.Queries) }
+    ensures ends { IfErr result (EndsAt Which.Queries (reading I.read_gives input.old input.new) (IsRefused Which.Queries (FormOf.Queries graph.now.nodes))) }
 {
     let bytes = bytes_from(alloc, input, Which::Queries)?;
     match read_queries(alloc, &bytes, graph.nodes()) {
@@ -74,6 +78,7 @@ pub(crate) fn nodes_from<I: Input>(
     ensures once { CountsAtMostOne (I.failed input.old) (I.failed input.new) }
     ensures same { I.origin input.new ≡ I.origin input.old }
     ensures of_input { IfErr result (IsOf which) }
+    ensures ends { IfErr result (EndsAt which (reading I.read_gives input.old input.new) (IsRefused which (FormOf.Nodes graph.now.nodes))) }
 {
     let bytes = bytes_from(alloc, input, which)?;
     match read_nodes(alloc, &bytes, graph.nodes()) {

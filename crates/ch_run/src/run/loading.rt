@@ -1,12 +1,17 @@
 //! A graph, and a saved hierarchy if there is one. Both are read to their end and checked.
-ghost use Rattle.std.specs.Prelude.{◌≡◌, ◌<◌, ◌↔◌, ◌⊎◌, IfOk, IfErr, IfSome, IsNone};
+ghost use Rattle.std.specs.Prelude.{◌≡◌, ◌<◌, ◌↔◌, ◌⊎◌, IfOk, IfErr, IfSome, IsNone, IsOkAnd, ⊤};
 ghost use Rattle.ch_graph.specs.Saved.{OrderAndLegs};
 ghost use Rattle.ch_read.specs.declared.fault.ReadFault.{ReadFault as FaultAt};
 ghost use Rattle.ch_hierarchy.specs.declared.fault.CheckFault.{CheckFault as FaultOf};
 ghost use Rattle.ch_hierarchy.specs.Kept.{IsKept};
 ghost use Rattle.ch_contract.specs.Legs.{IsHopBound};
 ghost use Rattle.ch_text.specs.Device.{CanCountOneMore, CountsAtMostOne};
-ghost use Rattle.ch_run.specs.Run.{AcceptsGraph, GoesPast, IsGraphRefused, IsOf, Reads, reading};
+ghost use Rattle.ch_run.specs.Run.{AcceptsGraph, GoesPast, IsGraphRefused, IsOf, ReadsOrRefuses, reading};
+ghost use Rattle.ch_read.specs.declared.form.Form.TheVariants as FormOf;
+ghost use Rattle.ch_read.specs.Names.{NamesGraph, NamesSaved};
+ghost use Rattle.ch_graph.specs.Graph.{IsWithinLimits};
+ghost use Rattle.ch_hierarchy.specs.Saved.{NamesKept};
+ghost use Rattle.ch_run.specs.Story.{EndsAt, IsRefused, IsSavedRefusedOn, Loads, Reads};
 ghost use Rattle.ch_run.specs.Source.{AreChecked, AreLoaded, HasCheckRefused, HasSavedRefused, IsOfChecked, IsOfLoading, IsSavedRefused, IsServing, ReadsSaved, ReadsSource, source_failures, source_origin, source_reading};
 
 use super::inputs::{bytes_from, graph_from};
@@ -45,9 +50,11 @@ pub(crate) fn loaded_from<R: Threads + Sync, I: Input, S: Input + Drop, G: Gate>
 ) -> Result<Loaded, RunFault>
     requires graph { CanCountOneMore (I.failed graph.old) }
     requires source { CanCountOneMore (source_failures S.failed source.old) }
+    ensures went { Loads (reading I.read_gives graph.old graph.new) (source_reading S.read_gives source.old source.new) (source.new ≡ source.old) result ⊤ (λ g h.
+        IsOkAnd result (λ loaded. (loaded.graph ≡ g) × (loaded.saved ≡ h))) }
     ensures value { IfOk result (λ loaded. AreLoaded (reading I.read_gives graph.old graph.new) (source_reading S.read_gives source.old source.new) loaded.graph loaded.saved) }
     ensures own { IfErr result (IsOfLoading (source_reading S.read_gives source.old source.new)) }
-    ensures graph { Reads Which.Graph result I.read_gives I.failed graph.old graph.new IsGraphRefused }
+    ensures graph { ReadsOrRefuses Which.Graph result I.read_gives I.failed graph.old graph.new IsGraphRefused }
     ensures source { ReadsSource (reading I.read_gives graph.old graph.new) result S.read_gives S.failed source.old source.new }
     ensures same_graph { I.origin graph.new ≡ I.origin graph.old }
     ensures same_source { source_origin S.origin source.new ≡ source_origin S.origin source.old }
@@ -78,6 +85,10 @@ fn checked_from<R: Threads + Sync, I: Input, S: Input, G: Gate>(
 ) -> Result<Checked, RunFault>
     requires graph { CanCountOneMore (I.failed graph.old) }
     requires saved { CanCountOneMore (S.failed saved.old) }
+
+    ensures went { Reads Which.Graph (reading I.read_gives graph.old graph.new) (λ bytes g. NamesGraph bytes g × IsWithinLimits g) (IsRefused Which.Graph FormOf.Graph) result (saved.new ≡ saved.old) (λ g.
+        Reads Which.Saved (reading S.read_gives saved.old saved.new) (λ bytes H. (s : OrderAndLegs) × NamesSaved bytes g.nodes s × NamesKept g s H) (IsSavedRefusedOn g) result ⊤ (λ H.
+        IsOkAnd result (λ checked. (checked.graph ≡ g) × (checked.hierarchy ≡ H)))) }
 
     ensures value { IfOk result (λ checked. (s : OrderAndLegs) ×
         AreChecked (reading I.read_gives graph.old graph.new) (reading S.read_gives saved.old saved.new) checked.graph s checked.hierarchy) }
@@ -167,6 +178,7 @@ fn saved_from<R: Threads + Sync, S: Input, G: Gate>(
     ensures same { S.origin input.new ≡ S.origin input.old }
     ensures of_input { IfErr result (IsOf Which.Saved) }
     ensures unchecked { (fault : FaultOf) → result ≡ Err (RunFault.Check fault) → ⊥ }
+    ensures ends { IfErr result (EndsAt Which.Saved (reading S.read_gives input.old input.new) (IsSavedRefusedOn graph.now)) }
 {
     let bytes = bytes_from(crew.alloc, input, Which::Saved)?;
     match read_saved_by(crew, &bytes, graph.nodes()) {

@@ -6,7 +6,7 @@ ghost use Rattle.ch_hierarchy.specs.Kept.{IsKept};
 ghost use Rattle.ch_text.specs.Device.{CanCountOneMore};
 ghost use Rattle.ch_run.specs.declared.source.Source.TheVariants as SourceOf;
 ghost use Rattle.ch_run.specs.NearRun.{AcceptsNearSources, AcceptsNodeLists, AreNodeLists, HasNearTargetsRefused, IsNearBy, IsOfNear, ReadsSources, sources_failures, sources_origin, sources_reading};
-ghost use Rattle.ch_run.specs.Run.{Delivers, IsGraphRefused, Reads, ReadsAfter, WritesAfter, reading};
+ghost use Rattle.ch_run.specs.Run.{Delivers, IsGraphRefused, ReadsOrRefuses, ReadsAfter, WritesAfter, reading};
 ghost use Rattle.ch_run.specs.Source.{AcceptsLoaded, ReadsSource, source_failures, source_origin, source_reading};
 ghost use Rattle.ch_run.specs.TableRun.{HasSourcesRefused};
 ghost use Rattle.ch_run.specs.Text.{IsNearTextFor};
@@ -80,7 +80,7 @@ pub fn run_near<
     // A run ends only in a fault of its own. A file is refused only for its first fault, and failures of
     // devices are reported exactly. No device is touched before all earlier inputs were accepted.
     ensures own { IfErr result (IsOfNear (source_reading S.read_gives source.old source.new) (sources_reading J.read_gives sources.old sources.new)) }
-    ensures graph { Reads Which.Graph result I.read_gives I.failed graph.old graph.new IsGraphRefused }
+    ensures graph { ReadsOrRefuses Which.Graph result I.read_gives I.failed graph.old graph.new IsGraphRefused }
     ensures source { ReadsSource (reading I.read_gives graph.old graph.new) result S.read_gives S.failed source.old source.new }
     ensures sources { ReadsSources (Which.Graph ∷ Which.Saved ∷ []) (AcceptsLoaded (reading I.read_gives graph.old graph.new) (source_reading S.read_gives source.old source.new))
         result J.read_gives J.failed sources.old sources.new

@@ -4,9 +4,10 @@ use Rattle.ch_run.specs.Source.{IsServing, order_built}
 use Rattle.ch_run.specs.declared.fault.Which.{Which}
 use Rattle.ch_run.proofs.Counted.{counted_once, told_counted}
 use Rattle.ch_run.proofs.Loading.{loaded_built, loaded_kept, loaded_limits, loading_memory, loading_no_write, loading_past}
-use Rattle.ch_run.proofs.Owed.{err_as, past_memory, reads_as, reads_past, source_as, source_past, untouched_once, unwritten_once}
+use Rattle.ch_run.proofs.Owed.{ends_as, err_as, past_memory, reads_as, reads_past, source_as, source_past, untouched_once, unwritten_once}
 use Rattle.ch_run.proofs.Served.{asked_in, served_weaker, serving_past}
 use Rattle.ch_run.proofs.Writes.{passes_on}
+use Rattle.ch_run.proofs.Story.{loads_on, loads_stops}
 use Rattle.ch_run.proofs.run.ask.run_ask.Goals as goal
 
 -- the loaded graph and hierarchy meet the requirements of the answers
@@ -79,3 +80,21 @@ returns-clause-output g c = record { device = told_counted _ _ _ _ c.serve.resul
 
 pub returns-clause-requests : goal.returns-clause-requests
 returns-clause-requests g c = record { device = c.serve.ensures.device; once = c.serve.ensures.once }
+
+-- the story, as far as it went
+pub returns-in_err-loaded-clause-went : goal.returns-in_err-loaded-clause-went
+returns-in_err-loaded-clause-went g c = loads_stops _ _ _ _ _ _ _ _ c.from_residual.ensures.1 (refl, refl) c.in_err-loaded.ensures.went
+
+pub returns-in_err-checked-clause-went : goal.returns-in_err-checked-clause-went
+returns-in_err-checked-clause-went g c = loads_on _ _ _ _ _ _ _ _ _ _ (inl (ends_as _ _ c.from_residual-in_err-checked.ensures.1, refl, refl)) c.in_ok-loaded.ensures.went
+
+pub returns-clause-went : goal.returns-clause-went
+returns-clause-went g c =
+    let options = c.args.options.now in
+    let network = c.in_ok-loaded.loaded.graph in
+    let saved = c.in_ok-loaded.loaded.saved in
+    let H = c.in_ok-checked.checked.hierarchy in
+    loads_on _ _ _ _ _ _ _ _ _ _
+    (inr (served_weaker (IsTextOfRequest options network H) (IsRequestText options network (IsServing (order_built options) options.hops network saved))
+    (asked_in options network saved H (rw c.building_order-order.ensures at c.in_ok-checked.ensures.serving)) g.O.Output.write_gives network.nodes _ _ _ c.serve.result (rw c.in_ok-checked.ensures.graph at c.serve.ensures.served)))
+    c.in_ok-loaded.ensures.went

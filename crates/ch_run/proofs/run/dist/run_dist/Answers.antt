@@ -1,9 +1,10 @@
-use Rattle.std.proofs.Common.{inl, inr}
+use Rattle.std.proofs.Common.{inl, inr, refl}
 use Rattle.std.proofs.lemmas.Result.{IfErr-weaker}
 use Rattle.ch_run.proofs.Loading.{loaded_built, loaded_kept, loaded_limits, loading_no_write, loading_past, of_no_write}
-use Rattle.ch_run.proofs.Owed.{own_as, past_memory, past_of, read, reads_as, reads_past, source_as, source_past, undelivered, untouched_after, unwritten}
+use Rattle.ch_run.proofs.Owed.{err_as, own_as, past_memory, past_of, read, reads_as, reads_past, source_as, source_past, undelivered, untouched_after, unwritten}
 use Rattle.ch_run.proofs.Writes.{delivered, gone_past, passes_on}
 use Rattle.ch_run.specs.declared.fault.Which.{Which}
+use Rattle.ch_run.proofs.Story.{delivers_writes, loads_on, loads_stops, writes_none}
 use Rattle.ch_run.proofs.run.dist.run_dist.Goals as goal
 
 -- the loaded graph and hierarchy meet the requirements of the text
@@ -121,3 +122,29 @@ returns-clause-queries g c =
 pub returns-clause-output : goal.returns-clause-output
 returns-clause-output g c =
     record { writes = record { device = c.write_text.ensures.device; once = c.write_text.ensures.once }; unwritten = inr (c.write_text.ensures.own, (_, _, c.in_ok-loaded.ensures.value, (_, c.in_ok-queries.ensures.value))) }
+
+-- the story, as far as it went
+pub returns-in_err-loaded-clause-went : goal.returns-in_err-loaded-clause-went
+returns-in_err-loaded-clause-went g c = loads_stops _ _ _ _ _ _ _ _ c.from_residual.ensures.1 (refl, refl) c.in_err-loaded.ensures.went
+
+pub returns-in_err-queries-clause-went : goal.returns-in_err-queries-clause-went
+returns-in_err-queries-clause-went g c = loads_on _ _ _ _ _ _ _ _ _ _ (inl (err_as _ _ _ c.from_residual-in_err-queries.ensures.1 c.in_err-queries.ensures.ends, refl)) c.in_ok-loaded.ensures.went
+
+pub returns-in_err-text-clause-went : goal.returns-in_err-text-clause-went
+returns-in_err-text-clause-went g c =
+    let read = c.in_ok-queries.ensures.value in
+    loads_on _ _ _ _ _ _ _ _ _ _ (inr (read.0, _, read.1, read.2, writes_none _ _ _ _ c.from_residual-in_err-text.ensures.1)) c.in_ok-loaded.ensures.went
+
+pub returns-clause-went : goal.returns-clause-went
+returns-clause-went g c =
+    let read = c.in_ok-queries.ensures.value in
+    loads_on _ _ _ _ _ _ _ _ _ _
+    (inr (
+      read.0,
+      _,
+      read.1,
+      read.2,
+      delivers_writes _ _ _ _ c.write_text.result c.write_text.ensures.own
+          (delivered c.write_text.result _ _ _ _ _ (rw c.deref-2.ensures.value (rw c.deref.ensures.value at c.in_ok-text.ensures)) c.write_text.ensures.written),
+    ))
+    c.in_ok-loaded.ensures.went

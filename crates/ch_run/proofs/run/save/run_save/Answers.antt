@@ -1,8 +1,9 @@
-use Rattle.std.proofs.Common.{inr}
+use Rattle.std.proofs.Common.{inl, inr, refl}
 use Rattle.ch_run.proofs.Loading.{of_no_write}
-use Rattle.ch_run.proofs.Owed.{past_memory, read, reads_as, reads_past, unwritten}
+use Rattle.ch_run.proofs.Owed.{err_as, past_memory, read, reads_as, reads_past, unwritten}
 use Rattle.ch_run.proofs.Writes.{delivered, gone_past}
 use Rattle.ch_run.specs.declared.fault.Which.{Which}
+use Rattle.ch_run.proofs.Story.{delivers_writes, writes_none}
 use Rattle.ch_run.proofs.run.save.run_save.Goals as goal
 
 -- the graph was refused
@@ -35,3 +36,29 @@ returns-clause-graph g c = reads_past _ _ _ _ _ _ _ _ tt (gone_past c.write_text
 
 pub returns-clause-output : goal.returns-clause-output
 returns-clause-output g c = record { writes = record { device = c.write_text.ensures.device; once = c.write_text.ensures.once }; unwritten = inr (c.write_text.ensures.own, (_, c.in_ok-graph.ensures.value)) }
+
+-- the story, as far as it went
+pub returns-in_err-graph-clause-went : goal.returns-in_err-graph-clause-went
+returns-in_err-graph-clause-went g c = inl (err_as _ _ _ c.from_residual.ensures.1 c.in_err-graph.ensures.ends, refl)
+
+pub returns-in_err-hierarchy-clause-went : goal.returns-in_err-hierarchy-clause-went
+returns-in_err-hierarchy-clause-went g c =
+    let read = c.in_ok-graph.ensures.value in
+    inr (read.0, _, read.1, read.2, writes_none _ _ _ _ c.from_residual-in_err-hierarchy.ensures.1)
+
+pub returns-in_err-text-clause-went : goal.returns-in_err-text-clause-went
+returns-in_err-text-clause-went g c =
+    let read = c.in_ok-graph.ensures.value in
+    inr (read.0, _, read.1, read.2, writes_none _ _ _ _ c.from_residual-in_err-text.ensures.1)
+
+pub returns-clause-went : goal.returns-clause-went
+returns-clause-went g c =
+    let read = c.in_ok-graph.ensures.value in
+    inr (
+      read.0,
+      _,
+      read.1,
+      read.2,
+      delivers_writes _ _ _ _ c.write_text.result c.write_text.ensures.own
+          (delivered c.write_text.result _ _ _ _ _ (c.build_by.ensures.limits, (_, c.in_ok-hierarchy.ensures.hierarchy, rw c.deref.ensures.value c.in_ok-text.ensures)) c.write_text.ensures.written),
+    )

@@ -1,0 +1,113 @@
+-- Steps of the story of a run.
+use Rattle.std.proofs.Common.{◌≡◌, ◌⊎◌, ℕ, List, Option, Some, None, Result, Ok, Err, inl, inr, refl, sym, ap, subst}
+use Rattle.std.specs.Prelude.{IfErr, IsErrAnd, IsOkAnd, ⊤}
+use Rattle.ch_graph.specs.Graph.{IsWithinLimits, Network}
+use Rattle.ch_graph.specs.Saved.{OrderAndLegs}
+use Rattle.ch_hierarchy.specs.Saved.{NamesKept}
+use Rattle.ch_read.specs.declared.form.Form.TheVariants as Form
+use Rattle.ch_read.specs.Names.{NamesGraph, NamesSaved}
+use Rattle.ch_hierarchy.specs.Hierarchy.{LevelsAndLegs}
+use Rattle.ch_read.specs.declared.fault.ReadFault.{ReadFault}
+use Rattle.ch_read.specs.declared.fault.ReadError.{ReadError}
+use Rattle.ch_read.specs.declared.fault.ReadError.TheVariants.{Fault, NoMemory}
+use Rattle.ch_text.specs.declared.device.DeviceFault.{DeviceFault}
+use Rattle.ch_run.specs.declared.fault.RunFault.{RunFault}
+use Rattle.ch_run.specs.declared.fault.Which.{Which}
+use Rattle.ch_run.specs.declared.run.loading.Checked.{Checked}
+use Rattle.ch_run.specs.declared.source.Source.{Source}
+use Rattle.ch_run.specs.Source.{source_reading}
+use Rattle.ch_run.specs.Fault.{input_fault}
+use Rattle.ch_run.specs.Run.{Delivers, IsUnread, IsWrite, NoInput, OneInput, Reading, ReadingIf, reading}
+use Rattle.ch_run.specs.Story.{EndsAt, IsRefused, IsSavedRefusedOn, Loads, Reads, ReadsIf, Writes}
+use Rattle.ch_run.proofs.Owed.{err_as}
+
+-- what `checked_from` promises of the story
+abbrev pub ChecksStory : (graph saved : Reading) → (unread : Type 0) → Result Checked RunFault → Type 0
+ChecksStory graph saved unread result =
+    Reads Which.Graph graph (λ bytes g. NamesGraph bytes g × IsWithinLimits g) (IsRefused Which.Graph Form.Graph) result unread (λ g.
+    Reads Which.Saved saved (λ bytes H. (s : OrderAndLegs) × NamesSaved bytes g.nodes s × NamesKept g s H) (IsSavedRefusedOn g) result ⊤ (λ H.
+    IsOkAnd result (λ checked. (checked.graph ≡ g) × (checked.hierarchy ≡ H))))
+
+-- an input that was not read to its end ends the run
+pub unread_ends : (which : Which) (input : Reading) (refuses : List ℕ → RunFault → Type 0) (fault : RunFault) → IsUnread which input fault → EndsAt which input refuses fault
+unread_ends which input refuses (RunFault.Device other) unread = unread
+unread_ends which input refuses RunFault.Memory unread = (unread.0, inl unread.1)
+unread_ends which input refuses (RunFault.Read other f) unread = absurd unread
+unread_ends which input refuses RunFault.Cells unread = absurd unread
+unread_ends which input refuses (RunFault.CellsAt line) unread = absurd unread
+unread_ends which input refuses (RunFault.Write count) unread = absurd unread
+unread_ends which input refuses (RunFault.Check f) unread = absurd unread
+
+-- an input whose reader refused its bytes, or had no memory for them, ends the run
+pub refused_ends : (which : Which) (input : Reading) (refuses : List ℕ → RunFault → Type 0) (bytes : List ℕ) (error : ReadError) → input.all bytes → ((fault : ReadFault) → error ≡ Fault fault → refuses bytes (RunFault.Read which fault)) →
+    EndsAt which input refuses (input_fault which error)
+refused_ends which input refuses bytes (Fault fault) all so = (bytes, all, so fault refl)
+refused_ends which input refuses bytes NoMemory all so = (bytes, inr all)
+
+-- the run that read an input in vain stops at it, like the call that read it
+pub reads_stops : (S : Type 0) {T V : Type 0} (which : Which) (input : Reading) (names : List ℕ → V → Type 0) (refuses : List ℕ → RunFault → Type 0) (e : RunFault) (r : Result T RunFault) (before later : Type 0) (none next : V → Type 0) →
+    IsErrAnd r (λ other. other ≡ e) → ((value : V) → none value → next value) → (before → later) → Reads {T = S} which input names refuses (Err e) before none → Reads which input names refuses r later next
+reads_stops S which input names refuses e r before later none next is goes so (inl (ends, at)) = inl (err_as r e (EndsAt which input refuses) is ends, so at)
+reads_stops S which input names refuses e r before later none next is goes so (inr (bytes, value, all, named, on)) = inr (bytes, value, all, named, goes value on)
+
+module _ (S : Type 0) {T : Type 0} (graph : Reading) (saved : ReadingIf) (unread : Type 0) (r : Result T RunFault) (later : Type 0) (next : Network → Option LevelsAndLegs → Type 0) where
+  if_stops : (input : ReadingIf) (names : List ℕ → LevelsAndLegs → Type 0) (refuses : List ℕ → RunFault → Type 0) (e : RunFault) (on : Option LevelsAndLegs → Type 0) → IsErrAnd r (λ other. other ≡ e) → later →
+      ReadsIf {T = S} Which.Saved input names refuses (Err e) ⊤ (λ h. ⊥) → ReadsIf Which.Saved input names refuses r later on
+  if_stops NoInput names refuses e on is rest none = absurd none
+  if_stops (OneInput input) names refuses e on is rest reads = reads_stops S Which.Saved input names refuses e r ⊤ later (λ H. ⊥) (λ H. on (Some H)) is (λ H none. absurd none) (λ at. rest) reads
+
+  -- the run that loaded in vain stops there
+  pub loads_stops : (e : RunFault) → IsErrAnd r (λ other. other ≡ e) → later → Loads {T = S} graph saved unread (Err e) ⊤ (λ g h. ⊥) → Loads graph saved unread r later next
+  loads_stops e is rest (inl (ends, same)) = inl (err_as r e _ is ends, (same.0, rest))
+  loads_stops e is rest (inr (bytes, g, all, named, reads)) = inr (bytes, g, all, named, if_stops saved _ _ e (λ h. next g h) is rest reads)
+
+  if_goes : (done : S) (g k : Network) (h : Option LevelsAndLegs) (names : List ℕ → LevelsAndLegs → Type 0) (refuses : List ℕ → RunFault → Type 0) → next g h → (input : ReadingIf) →
+      ReadsIf {T = S} Which.Saved input names refuses (Ok done) ⊤ (λ l. (g ≡ k) × (h ≡ l)) → ReadsIf Which.Saved input names refuses r later (λ l. next k l)
+  if_goes done g k h names refuses goes NoInput (same, is) = subst (λ (m : Network). next m None) same (subst (next g) is goes)
+  if_goes done g k h names refuses goes (OneInput input) (inl (ends, rest)) = absurd ends
+  if_goes done g k h names refuses goes (OneInput input) (inr (others, H, whole, named, (same, is))) = inr (others, H, whole, named, subst (λ (m : Network). next m (Some H)) same (subst (next g) is goes))
+
+  -- the run that loaded a graph and a hierarchy goes on with them
+  pub loads_on : (done : S) (g : Network) (h : Option LevelsAndLegs) → next g h → Loads {T = S} graph saved unread (Ok done) ⊤ (λ k l. (g ≡ k) × (h ≡ l)) → Loads graph saved unread r later next
+  loads_on done g h goes (inl (ends, same)) = absurd ends
+  loads_on done g h goes (inr (bytes, k, all, named, reads)) = inr (bytes, k, all, named, if_goes done g k h _ _ goes saved reads)
+
+-- a text that was written has P, if the text has it
+pub writes_weaker : {T S : Type 0} (takes : S → List ℕ → Result ℕ DeviceFault → S → Type 0) (old new : S) (text : List ℕ) (P : List ℕ → Type 0) (r : Result T RunFault) → P text → Writes takes old new (λ bytes. bytes ≡ text) r → Writes takes old new P r
+writes_weaker takes old new text P (Ok done) so wrote = (wrote.0, subst P (sym wrote.1) so, wrote.2)
+writes_weaker takes old new text P (Err (RunFault.Write count)) so wrote = (wrote.0, subst P (sym wrote.1) so, wrote.2)
+writes_weaker takes old new text P (Err RunFault.Memory) so wrote = wrote
+writes_weaker takes old new text P (Err RunFault.Cells) so wrote = absurd wrote
+writes_weaker takes old new text P (Err (RunFault.CellsAt line)) so wrote = absurd wrote
+writes_weaker takes old new text P (Err (RunFault.Read which f)) so wrote = absurd wrote
+writes_weaker takes old new text P (Err (RunFault.Device which)) so wrote = absurd wrote
+writes_weaker takes old new text P (Err (RunFault.Check f)) so wrote = absurd wrote
+
+-- a run without memory for the text has written nothing
+pub writes_none : {T S : Type 0} (takes : S → List ℕ → Result ℕ DeviceFault → S → Type 0) (x : S) (P : List ℕ → Type 0) (r : Result T RunFault) → IsErrAnd r (λ other. other ≡ RunFault.Memory) → Writes takes x x P r
+writes_none takes x P (Ok done) is = absurd is
+writes_none {T} takes x P (Err e) is = subst (λ (f : RunFault). Writes {T = T} takes x x P (Err f)) (sym is) refl
+
+-- a run that delivered its text, or failed in a write, wrote it
+pub delivers_writes : {T S : Type 0} (takes : S → List ℕ → Result ℕ DeviceFault → S → Type 0) (old new : S) (P : List ℕ → Type 0) (r : Result T RunFault) → IfErr r IsWrite → Delivers r takes old new P → Writes takes old new P r
+delivers_writes takes old new P (Ok done) own wrote = wrote
+delivers_writes takes old new P (Err (RunFault.Write count)) own wrote = wrote count refl
+delivers_writes takes old new P (Err RunFault.Memory) own wrote = absurd own
+delivers_writes takes old new P (Err RunFault.Cells) own wrote = absurd own
+delivers_writes takes old new P (Err (RunFault.CellsAt line)) own wrote = absurd own
+delivers_writes takes old new P (Err (RunFault.Read which f)) own wrote = absurd own
+delivers_writes takes old new P (Err (RunFault.Device which)) own wrote = absurd own
+delivers_writes takes old new P (Err (RunFault.Check f)) own wrote = absurd own
+
+module _ {S : Type 0} (gives : S → List ℕ → Result ℕ DeviceFault → S → Type 0) (graph : Reading) (old new : S) where
+  -- a graph and a saved hierarchy were read by one call
+  pub loads_checked : (checked : Checked) (T : Type 0) (done : T) → ChecksStory graph (reading gives old new) (new ≡ old) (Ok checked) → Loads {T = T} graph (source_reading gives (Source.Saved old) (Source.Saved new)) (Source.Saved new ≡ Source.Saved old) (Ok done) ⊤ (λ g h. (checked.graph ≡ g) × (Some checked.hierarchy ≡ h))
+  loads_checked checked T done (inl (ends, at)) = absurd ends
+  loads_checked checked T done (inr (bytes, g, all, named, inl (ends, at))) = absurd ends
+  loads_checked checked T done (inr (bytes, g, all, named, inr (others, H, whole, names, (same, is)))) = inr (bytes, g, all, named, inr (others, H, whole, names, (same, ap (λ (K : LevelsAndLegs). Some K) is)))
+
+  -- or one of them in vain
+  pub loads_refused : (e : RunFault) (T : Type 0) (r : Result T RunFault) → IsErrAnd r (λ other. other ≡ e) → (P : Network → Option LevelsAndLegs → Type 0) → ChecksStory graph (reading gives old new) (new ≡ old) (Err e) → Loads {T = T} graph (source_reading gives (Source.Saved old) (Source.Saved new)) (Source.Saved new ≡ Source.Saved old) r ⊤ P
+  loads_refused e T r is P (inl (ends, same)) = inl (err_as r e _ is ends, (ap (λ (x : S). Source.Saved x) same, tt))
+  loads_refused e T r is P (inr (bytes, g, all, named, inl (ends, at))) = inr (bytes, g, all, named, inl (err_as r e _ is ends, tt))
+  loads_refused e T r is P (inr (bytes, g, all, named, inr (others, H, whole, names, none))) = absurd none

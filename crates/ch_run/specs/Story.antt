@@ -1,0 +1,64 @@
+-- The story of a run: what it did with its inputs and its output, in the order in which it did it. Each step is followed by what comes
+-- after it.
+use Rattle.std.specs.Prelude.{◌≡◌, ◌⊎◌, ℕ, List, Option, Some, None, Result, Ok, Err, IsErrAnd}
+use Rattle.ch_graph.specs.Graph.{Network, IsWithinLimits}
+use Rattle.ch_graph.specs.Saved.{OrderAndLegs}
+use Rattle.ch_hierarchy.specs.Hierarchy.{LevelsAndLegs}
+use Rattle.ch_hierarchy.specs.Saved.{NamesKept, IsFirstFault}
+use Rattle.ch_read.specs.declared.form.Form.{Form}
+use Rattle.ch_read.specs.declared.form.Form.TheVariants as Form
+use Rattle.ch_read.specs.Checks.{IsFault}
+use Rattle.ch_read.specs.Names.{NamesGraph, NamesSaved}
+use Rattle.ch_text.specs.Moves.{Took, TookUntilFault}
+use Rattle.ch_text.specs.declared.device.DeviceFault.{DeviceFault}
+use Rattle.ch_run.specs.declared.fault.Which.{Which}
+use Rattle.ch_run.specs.declared.fault.RunFault.{RunFault}
+use Rattle.ch_run.specs.Lists.{HasTooManyCells}
+use Rattle.ch_run.specs.Run.{NoInput, OneInput, Reading, ReadingIf, ReadsAll}
+
+-- the bytes of an input of this form are refused, for this fault
+abbrev pub IsRefused : Which → Form → List ℕ → RunFault → Type 0
+IsRefused which form bytes (RunFault.Read input fault) = (which ≡ input) × IsFault form bytes fault.line fault.kind
+IsRefused which form bytes _ = ⊥
+
+-- the bytes of a saved hierarchy are refused on this graph, for a fault of their lines or for their first fault on the graph
+abbrev pub IsSavedRefusedOn : Network → List ℕ → RunFault → Type 0
+IsSavedRefusedOn g bytes (RunFault.Read input fault) = (Which.Saved ≡ input) × IsFault (Form.Saved g.nodes) bytes fault.line fault.kind
+IsSavedRefusedOn g bytes (RunFault.Check fault) = (s : OrderAndLegs) × NamesSaved bytes g.nodes s × IsFirstFault g s fault
+IsSavedRefusedOn g bytes _ = ⊥
+
+-- the run stopped at this input, for this fault: a read failed, and no read came after it. Or there was no memory. Or the input was read
+-- to its end, and its bytes are refused
+abbrev pub EndsAt : Which → Reading → (refuses : List ℕ → RunFault → Type 0) → RunFault → Type 0
+EndsAt which input refuses (RunFault.Device other) = (which ≡ other) × ((bytes : List ℕ) × input.failed bytes)
+EndsAt which input refuses RunFault.Memory = (bytes : List ℕ) × (input.some bytes ⊎ input.all bytes)
+EndsAt which input refuses fault = ReadsAll input (λ bytes. refuses bytes fault)
+
+-- the run stopped at this input, and left what comes later as it was. Or it read the input to its end, its bytes name a value, and the
+-- run went on with that value
+abbrev pub Reads : {T V : Type 0} → Which → Reading → (names : List ℕ → V → Type 0) → (refuses : List ℕ → RunFault → Type 0) → Result T RunFault → (later : Type 0) → (next : V → Type 0) → Type 0
+Reads {T} {V} which input names refuses result later next =
+    (IsErrAnd result (EndsAt which input refuses) × later) ⊎ ((bytes : List ℕ) × (value : V) × input.all bytes × names bytes value × next value)
+
+-- the same of an input that only some runs have
+abbrev pub ReadsIf : {T V : Type 0} → Which → ReadingIf → (names : List ℕ → V → Type 0) → (refuses : List ℕ → RunFault → Type 0) → Result T RunFault → (later : Type 0) → (next : Option V → Type 0) → Type 0
+ReadsIf which NoInput names refuses result later next = next None
+ReadsIf which (OneInput input) names refuses result later next = Reads which input names refuses result later (λ value. next (Some value))
+
+-- the run read a graph within the limits, and then a saved hierarchy, if there is one, which is right for the graph. `unread` says that
+-- the saved hierarchy is as it was
+abbrev pub Loads : {T : Type 0} → (graph : Reading) → (saved : ReadingIf) → (unread : Type 0) → Result T RunFault → (later : Type 0) → (next : Network → Option LevelsAndLegs → Type 0) → Type 0
+Loads graph saved unread result later next =
+    Reads Which.Graph graph (λ bytes g. NamesGraph bytes g × IsWithinLimits g) (IsRefused Which.Graph Form.Graph) result (unread × later) (λ g.
+    ReadsIf Which.Saved saved (λ bytes H. (s : OrderAndLegs) × NamesSaved bytes g.nodes s × NamesKept g s H) (IsSavedRefusedOn g) result later (λ h. next g h))
+
+-- the lists make too many cells for a table, and the run ends for that. Or they don't, and it went on
+abbrev pub Cells : {T : Type 0} → (from to : List ℕ) → Result T RunFault → (later next : Type 0) → Type 0
+Cells from to result later next = (HasTooManyCells from to × (result ≡ Err RunFault.Cells) × later) ⊎ ((HasTooManyCells from to → ⊥) × next)
+
+-- the run wrote an answer: all of it, or its first bytes up to a failed write. Or there was no memory, and it wrote nothing
+abbrev pub Writes : {T S : Type 0} → (takes : S → List ℕ → Result ℕ DeviceFault → S → Type 0) → (old new : S) → (answers : List ℕ → Type 0) → Result T RunFault → Type 0
+Writes takes old new answers (Ok done) = (text : List ℕ) × answers text × Took takes old text new
+Writes takes old new answers (Err (RunFault.Write count)) = (text : List ℕ) × answers text × TookUntilFault takes old text count new
+Writes takes old new answers (Err RunFault.Memory) = new ≡ old
+Writes takes old new answers (Err _) = ⊥
