@@ -1,6 +1,6 @@
 #!/usr/bin/python3
-"""Runs each command of README.md, docs/GUIDE.md and examples/README.md as it stands there, in order, and compares what it prints with the lines below it;
-so with the lines of Python that begin with `>>>`. What needs a package that is missing is told and left out.
+"""Runs each command of README.md, docs/GUIDE.md, docs/PYTHON.md and examples/README.md, in order, and compares what it prints with the lines
+below it, and so each line of Python with `>>>` before it. What needs a package that is missing is told and left out.
 
 The pictures of the guide are those that the commands make, and the code of docs/CALLING.md stands in the sources, where it is proved.
 The last line is 'N passed, N failed'.
@@ -17,10 +17,10 @@ from pathlib import Path
 from helpers.packages import missing
 from helpers.running import ROOT, Count, build
 
-PAGES = ROOT / "README.md", ROOT / "docs" / "GUIDE.md", ROOT / "examples" / "README.md"
-PACKAGES = "python3-numpy", "python3-scipy", "python3-shapely"
+PAGES = ROOT / "README.md", ROOT / "docs" / "GUIDE.md", ROOT / "docs" / "PYTHON.md", ROOT / "examples" / "README.md"
+PACKAGES = "python3-numpy", "python3-scipy", "python3-shapely", "python3-pandas"
 # Those of a section that imports one.
-OF_SECTIONS = {"pandas": "python3-pandas", "osmnx": "python3-osmnx"}
+OF_SECTIONS = {"osmnx": "python3-osmnx"}
 PICTURES = "routes.svg", "reach.svg", "near.svg"
 # What the commands find in the folder that they are run in, beside the program.
 PLACES = "tools", "examples", "tests"
