@@ -110,22 +110,53 @@ def test_names_of_the_last_version_go_on():
 
 
 @needs("python3-numpy")
+def public_calls():
+    """The calls that users see, each with its name: those of networks, of what these answer, and of files."""
+    from chtab.near.found import Nearest
+    from chtab.roads.reach import Isochrones
+    from chtab.roads.routes import TripRoutes
+
+    for name in filter(lambda name: inspect.isfunction(getattr(files, name)), files.__all__):
+        yield f"files.{name}", getattr(files, name)
+    for kind in chtab.Network, Routes, Near, Nearest, TripRoutes, Isochrones:
+        for name in filter(lambda name: name[0] != "_", dir(kind)):
+            call = getattr(kind, name)
+            if "Returns" in (inspect.getdoc(call) or "") or kind is chtab.Network:
+                yield f"{kind.__name__}.{name}", call
+
+
+def parts_of(text):
+    """The parts of a text in the form of numpy, by their headings."""
+    return dict(re.findall(r"^(Parameters|Returns|Yields|Raises)\n-+\n(.*?)(?=\n\n\w|\Z)", text, re.MULTILINE | re.DOTALL))
+
+
+# Calls that can't fail, because what they give is there.
+NEVER_FAIL = "files.scale_comment", "Network.close", "Routes.rows", "Routes.edges", "Near.owners", "Nearest.labels", "TripRoutes.to_geojson", "Isochrones.to_geojson"
+# The most lines of a text, which is to fit on a screen.
+SCREEN = 62
+
+
+@needs("python3-numpy", "python3-scipy", "python3-shapely")
 def test_each_call_tells_what_it_takes_and_gives():
-    """The text of each call that users see has its parameters by name, with what it gives and what goes wrong, in the form of numpy."""
-    calls = [(name, getattr(files, name)) for name in files.__all__ if inspect.isfunction(getattr(files, name))]
-    calls += [(name, getattr(chtab.Network, name)) for name in dir(chtab.Network) if name[0] != "_"]
-    calls += [(f"Routes.{name}", getattr(Routes, name)) for name in ("to_frame", "to_geojson")]
-    calls += [(f"Near.{name}", getattr(Near, name)) for name in ("owners", "to_frame", "to_sparse")]
-    for name, call in calls:
+    """The text of each call that users see has its parameters by name, the shapes of arrays, what it gives, what goes wrong, and the unit of numbers."""
+    count = 0
+    for name, call in public_calls():
+        count += 1
         if isinstance(call, property):
             assert call.fget.__doc__, name
             continue
-        words = [word for word in inspect.signature(call).parameters if word not in ("self", "running", "more")]
+        words = [word for word in inspect.signature(call).parameters if word not in ("self", "running", "more", "style")]
         text = inspect.getdoc(call)
-        parts = dict(re.findall(r"^(Parameters|Returns|Yields|Raises)\n-+\n(.*?)(?=\n\n\w|\Z)", text, re.MULTILINE | re.DOTALL))
+        parts = parts_of(text)
         told = [word for line in re.findall(r"^(\w.*?) :", parts.get("Parameters", ""), re.MULTILINE) for word in line.split(", ")]
         assert told == words, (name, told, words)
-        assert name == "close" or {"Returns", "Yields", "Raises"} & {*parts}, name
+        assert name in NEVER_FAIL or "Raises" in parts, name
+        assert name == "Network.close" or {"Returns", "Yields", "Raises"} & {*parts}, name
+        arrays = re.findall(r"^\S.*\barray of (?!bool).*", parts.get("Parameters", "") + "\n" + parts.get("Returns", ""), re.MULTILINE)
+        assert all("shape" in line or "list of" in line for line in arrays) or name.startswith("files."), (name, arrays)
+        assert not name.startswith("Network.") or name == "Network.close" or re.search(r"\b(unit|metres|degrees)\b", text), name
+        assert len(text.splitlines()) <= SCREEN, name
+    assert count > 60, count
 
 
 @needs("python3-numpy")

@@ -100,6 +100,11 @@ def whole(path: str) -> Iterator[str]:
     ------
     str
         The path to write to, as long as the `with` lasts.
+
+    Raises
+    ------
+    OSError
+        The file can't take its name.
     """
     part = f"{path}.part-{os.getpid()}"
     try:

@@ -271,7 +271,7 @@ class Accessibility:
         Returns
         -------
         array of float64, shape (n,) or (n, m)
-            The sums; 0 where no target is near.
+            The sums, in the unit of the values; 0 where no target is near.
 
         Raises
         ------

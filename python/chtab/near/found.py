@@ -81,6 +81,11 @@ class Near:
         -------
         pandas.DataFrame
             A row for each target of a source, with the columns source, target, place and weight.
+
+        Raises
+        ------
+        ImportError
+            pandas is not there.
         """
         import pandas
 
@@ -94,6 +99,11 @@ class Near:
         -------
         scipy.sparse.csr_matrix of int64 or float64, shape (n, l)
             A row for each source and a column for each target. A weight 0 is stored too; where nothing is stored, the target is not near.
+
+        Raises
+        ------
+        ImportError
+            scipy is not there.
         """
         from scipy.sparse import csr_matrix
 
@@ -163,6 +173,11 @@ class Nearest(OnMap, Columns):
         -------
         pandas.DataFrame
             A row for each source and rank: source, rank (from 1 on), target, place and weight, the last three NA where there is no further target.
+
+        Raises
+        ------
+        ImportError
+            pandas is not there.
         """
         import pandas
 

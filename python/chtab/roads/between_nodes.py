@@ -159,7 +159,7 @@ class BetweenNodes:
 
         Parameters
         ----------
-        pairs, targets : array of labels
+        pairs, targets : array of labels, shape (n, 2), or (n,) each
             As `distances` takes them.
         progress : bool or callable, optional
             As `distances` takes it.
@@ -167,7 +167,8 @@ class BetweenNodes:
         Returns
         -------
         chtab.Routes
-            A sequence of `files.Answer`, in the order of the pairs, with `to_frame`, `to_geojson` and `to_geodataframe`.
+            A sequence of `files.Answer`, in the order of the pairs, with `to_frame`, `to_geojson` and `to_geodataframe`. Weights are in the network's
+            `unit`.
 
         Raises
         ------
@@ -185,13 +186,13 @@ class BetweenNodes:
         values : array of float, shape (m,) or (m, c)
             A value for each row of the arcs that the network was made of, in one column or several; of files for each line of the graph. Of several
             arcs between two nodes a route takes the one of least weight, and of these the first.
-        pairs, targets : array of labels
+        pairs, targets : array of labels, shape (n, 2), or (n,) each
             As `distances` takes them.
 
         Returns
         -------
         array of float64, shape (n,) or (n, c)
-            The sums; NaN where no path leads.
+            The sums, in the unit of the values; NaN where no path leads.
 
         Raises
         ------

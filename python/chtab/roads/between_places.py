@@ -160,7 +160,7 @@ class BetweenPlaces:
         Returns
         -------
         list of Trip
-            n trips, with `weight`, `metres`, `line` and `nodes`; the list has `to_frame`, `to_geojson` and `to_geodataframe`.
+            n trips, with `weight` in the network's `unit`, `metres`, `line` and `nodes`; the list has `to_frame`, `to_geojson` and `to_geodataframe`.
 
         Raises
         ------

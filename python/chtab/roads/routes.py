@@ -99,6 +99,11 @@ class Routes(showing.OnMap, collections.abc.Sequence):
         pandas.DataFrame
             A row for each pair, called by its place, `query`: source, target, weight (NA where no path leads), how many arcs (NA), and the list
             of nodes (empty).
+
+        Raises
+        ------
+        ImportError
+            pandas is not there.
         """
         import numpy
         import pandas
@@ -210,6 +215,11 @@ class TripRoutes(showing.OnMap, list):
         -------
         pandas.DataFrame
             A row for each trip, called by its place, `query`: weight and metres (NaN where there is no way), and the list of nodes.
+
+        Raises
+        ------
+        ImportError
+            pandas is not there.
         """
         import pandas
 
