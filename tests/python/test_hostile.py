@@ -179,13 +179,13 @@ def test_a_graph_that_was_changed_is_not_asked_on():
 
 def test_a_signal_may_close_what_is_asked():
     """Its handler closes the network in the middle of a question of the same thread, which then fails. Nothing waits for itself."""
-    with mood("slow=5"), chtab.Network.open(FIRST, program=STANDIN, load=False) as slow, of_country() as quick:
+    with mood("slow=30"), chtab.Network.open(FIRST, program=STANDIN, load=False) as slow, of_country() as quick:
         nodes = list(range(1, quick.nodes + 1)) * 8
         for network, call in (slow, lambda: slow.distances([(1, 3)])), (quick, lambda: quick.table(nodes, nodes)):
             with alarm(lambda *_: network.close(), 0.7):
                 begun = time.monotonic()
                 raises(chtab.ChtabError, call, told="the network is closed")
-                assert time.monotonic() - begun < 4
+                assert time.monotonic() - begun < 25
 
 
 def test_a_question_within_a_question_of_a_run_is_refused():
