@@ -13,7 +13,8 @@ HEAD = """\
 -- What a distance of chtab rests on, in the order in which it is read. The page docs/BELIEVE.md goes with it.
 --
 -- Part 1 is what you read in the hour of that page. Part 2 says what chains of reads and writes are, part 3 what the bytes of
--- files mean, and part 4 which files are accepted. Then come the types of the code and the standard words that the definitions use. Nothing else is used.
+-- files mean, and part 4 which files are accepted. Then come the types of the code and the standard words that the definitions use.
+-- Definitions that count only for routes and for saved hierarchies are named and left out.
 --
 -- `tests/believe.py --write` writes this file from the sources, and `./check` compares the two."""
 # The parts, each with the names that it leaves to the next one, and what it is.
