@@ -17,6 +17,7 @@ import sys
 import time
 
 from helpers import running
+from helpers.maps import tool
 from helpers.packages import PYTHON, run_checks
 from helpers.running import PROGRAM, ROOT
 from helpers.serving import BROWSER, COUNTRY, SERVICE, Keys, ask, browser, by_both, faulty_service, send, service, shown_page
@@ -468,6 +469,127 @@ def places_are_called_as_the_page_calls_them():
                 assert page.message() == "" and not page.all("[aria-invalid=true]"), page.message()
 
 
+def with_names():
+    """The country with the names of its streets, and the bends of its roads."""
+    tool("osm_to_gr", "--quiet", "--bends", "--names", f"{COUNTRY}.osm.bz2", "named")
+    return "named"
+
+
+def rows(page):
+    return page.run("return [...document.querySelectorAll('#turns button > span:first-child')].map(part => part.textContent)")
+
+
+def a_list_of_turns():
+    """Each maneuver of the chosen way has a row, which shows its point: by a press, and by arrow keys."""
+    with shown_page(out=with_names()) as (_, page):
+        page.fill("start", "vaduz", Keys.ENTER)
+        page.fill("goal", "eschen", Keys.ENTER)
+        page.wait("route")
+        there = page.until(lambda: len(rows(page)) > 5 and rows(page))
+        assert there[0].startswith("Head ") and there[-1] == "Arrive at B" and any("Feldkircher Strasse" in row for row in there), there
+        assert there[1].startswith("Leave Adlerkreisel") and not any("undefined" in row for row in there), there
+        _, value = ask(page.address, "/route/v1/x/{},{};{},{}?steps=true&overview=false".format(*page.at("start"), *page.at("goal")))
+        steps = value["routes"][0]["legs"][0]["steps"]
+        shown = [step for step, before in zip(steps, [None, *steps]) if not (step["maneuver"]["type"].startswith("exit") and before["maneuver"].get("exit"))]
+        assert len(shown) == len(there)
+        page.all("#turns button")[2].click()
+        assert point(page) == shown[2]["maneuver"]["location"]
+        page.find("there").click()
+        page.until(lambda: rows(page) == there)
+        page.find("there").click()
+        page.until(lambda: page.state() == "route" and rows(page))
+        page.tab_to("back")
+        page.keys(Keys.TAB)
+        for place, key in enumerate((Keys.ARROW_DOWN, Keys.ARROW_DOWN, Keys.ARROW_UP)):
+            page.keys(key)
+            row = (1, 2, 1)[place]
+            assert page.run("return document.activeElement.textContent").startswith(there[row]) and point(page) == shown[row]["maneuver"]["location"]
+        page.keys(Keys.TAB)
+        assert page.focus() == "swap", "the list is one stop"
+        page.find("back").click()
+        page.until(lambda: rows(page) and rows(page)[-1] == "Arrive at A")
+        page.find("mode-reach").click()
+        page.wait("reach")
+        assert not page.find("turns-part").is_displayed() and not page.faults()
+
+
+def point(page):
+    return page.page("[state.map.point.getLatLng()].map(at => [at.lng, at.lat].map(part => Number(part.toFixed(6))))[0]")
+
+
+def places_on_the_way():
+    """They are set on the map, and by keyboard; the way leads over them, in their order, and a fault calls them as the page does."""
+    with shown_page() as (_, page), chtab.Network.open(f"{COUNTRY}.gr", program=PROGRAM) as network:
+        page.fill("start", "vaduz", Keys.ENTER)
+        page.press_long([9.53, 47.18])
+        assert page.page("state.vias.length") == 0 and not page.find("via").is_displayed(), "without A and B there is no way"
+        page.fill("goal", "eschen", Keys.ENTER)
+        page.wait("route")
+        direct = int(page.weight())
+        page.fill("via", "ruggell", Keys.ENTER)
+        page.until(lambda: page.state() == "route" and page.weight() == str(over(network, page, "start", "via1", "goal")))
+        assert int(page.weight()) > direct and page.text("via") == "" and page.focus() == "via"
+        page.press_long([9.51, 47.16])
+        page.until(lambda: page.state() == "route" and page.weight() == str(over(network, page, "start", "via1", "via2", "goal")))
+        labels = [pin.get_attribute("aria-label") for pin in page.all(".pin")]
+        assert labels[2] == "1: Ruggell" and labels[3].startswith("2: "), labels
+        page.until(lambda: "Arrive at 1" in rows(page) and "Arrive at 2" in rows(page))
+        page.find("swap").click()
+        page.until(lambda: page.state() == "route" and page.weight() == str(over(network, page, "start", "via2", "via1", "goal")))
+        page.run("document.querySelectorAll('.pin')[3].focus()")
+        page.keys(Keys.DELETE)
+        page.until(lambda: page.state() == "route" and page.page("state.vias.length") == 1)
+        page.fill("via", "48.1, 11.6", Keys.ENTER)
+        page.wait("error")
+        assert page.message().startswith("2 is ") and "from the nearest road" in page.message(), page.message()
+        page.find("clear").click()
+        page.wait("idle")
+        assert page.page("state.vias.length") == 0 and len(page.all(".pin")) == 0 and not page.faults()
+
+
+def over(network, page, *ends):
+    places = [page.at(end) for end in ends]
+    return sum(weight_by_dist(network, one, other) for one, other in zip(places, places[1:]))
+
+
+def the_map_and_the_address():
+    """A button shows the whole network; a place that is refused doesn't move the map; the address keeps what is shown, and none of it is run."""
+    with shown_page() as (_, page):
+        bounds = "(bounds => [bounds.getWest(), bounds.getSouth(), bounds.getEast(), bounds.getNorth()])(map.getBounds())"
+        page.page("map.setView([47.14, 9.52], 16, { animate: false }) && null")
+        page.find("fit").click()
+        west, south, east, north = page.page("state.network.bounds")
+        page.until(lambda: (found := page.page(bounds))[0] <= west and found[1] <= south and found[2] >= east and found[3] >= north)
+        page.fill("start", "vaduz", Keys.ENTER)
+        before = page.page(bounds)
+        page.fill("goal", "48.1, 11.6", Keys.ENTER)
+        page.wait("error")
+        time.sleep(0.5)
+        assert page.page(bounds) == before, "the map stays"
+        page.fill("goal", "eschen", Keys.ENTER)
+        page.wait("route")
+        page.fill("via", "ruggell", Keys.ENTER)
+        page.until(lambda: page.state() == "route" and page.page("state.vias.length") == 1)
+        page.find("back").click()
+        page.until(lambda: page.state() == "route" and page.find("back").get_attribute("aria-pressed") == "true")
+        address, weights = page.run("return location.href"), [page.weight(), page.weight("back")]
+        assert "#a=47.141000,9.520900&b=47.220000,9.545000&via=47.239000,9.528000&way=back" in address, address
+        page.driver.get("about:blank")
+        page.driver.get(address)
+        page.wait("route")
+        assert [page.weight(), page.weight("back")] == weights and page.at("via1") == [9.528, 47.239] and page.text("goal") == "Eschen"
+        page.find("mode-reach").click()
+        page.wait("reach")
+        page.driver.refresh()
+        page.wait("reach")
+        assert page.find("mode-reach").get_attribute("aria-selected") == "true"
+        for strange in "#a=<img src=x onerror=alert(1)>&b=999,999", "#a=1,2,3&via=;;x", "#%00%ff", "#a=NaN,NaN&b=Infinity,0", "#mode=javascript:alert(1)":
+            page.driver.get("about:blank")
+            page.driver.get(page.address.geturl() + strange)
+            page.wait("idle")
+            assert not page.faults(), page.faults()
+
+
 GROUPS = (
     (SERVICE, [
         *by_both(requests_are_answered, faults_are_told_in_a_line, clients_that_go_away), fifty_clients_for_a_minute,
@@ -475,7 +597,7 @@ GROUPS = (
     ]),
     (BROWSER, [
         *by_both(a_page_with_routes_and_reach), a_page_where_there_is_no_way, a_page_by_keyboard_alone, names_are_never_run,
-        html_that_gets_in_is_not_run, places_are_called_as_the_page_calls_them,
+        html_that_gets_in_is_not_run, places_are_called_as_the_page_calls_them, a_list_of_turns, places_on_the_way, the_map_and_the_address,
     ]),
 )
 

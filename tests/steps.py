@@ -97,7 +97,8 @@ def turns_at_a_cross():
     for more, start, goal, wanted in (
         ({"_3": {"name": "West Street"}}, WEST, NORTH, ["continue left West Street"]), ({"_4": {"name": "West Street"}}, WEST, EAST, []),
         ({"_4": {"name": ""}}, WEST, EAST, []), ({"_2": {"name": ""}, "_3": {"name": ""}}, WEST, NORTH, ["turn left"]),
-        ({"_4": {"name": "", "ref": "16"}}, WEST, EAST, ["new name straight"]), ({"_3": {"oneway": "yes"}}, NORTH, EAST, ["turn left East Street"]),
+        ({"_4": {"name": "", "ref": "16"}}, WEST, EAST, ["new name straight"]), ({"_4": {"name": "West Street", "ref": "16"}}, WEST, EAST, []),
+        ({"_3": {"name": "West Street", "ref": "16"}}, WEST, NORTH, ["continue left West Street"]), ({"_3": {"oneway": "yes"}}, NORTH, EAST, ["turn left East Street"]),
     ):
         with asked(cross((2, 3, 4, 5), **more)) as (ask, _):
             assert told(ask, start, goal) == wanted, (more, told(ask, start, goal))

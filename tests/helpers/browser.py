@@ -139,6 +139,10 @@ class Browser:
     def click(self, place):
         ActionChains(self.driver).move_to_element_with_offset(self.find("map"), *self.pixel(place)).click().perform()
 
+    def press_long(self, place):
+        """A long press on the map, which a mouse makes by its right button."""
+        ActionChains(self.driver).move_to_element_with_offset(self.find("map"), *self.pixel(place)).context_click().perform()
+
     def hover(self, element):
         ActionChains(self.driver).move_to_element(element).perform()
 

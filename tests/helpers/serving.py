@@ -104,9 +104,9 @@ def browser(*size):
 
 
 @contextlib.contextmanager
-def shown_page(*size, places="9.5209 47.1410 Vaduz\n9.5450 47.2200 Eschen\n9.5280 47.2390 Ruggell\n", title="Liechtenstein", more=()):
-    """The page of the country with these places, in a browser: the service's process and the page."""
+def shown_page(*size, places="9.5209 47.1410 Vaduz\n9.5450 47.2200 Eschen\n9.5280 47.2390 Ruggell\n", title="Liechtenstein", more=(), out=COUNTRY):
+    """The page of the country, or of another network, with these places, in a browser: the service's process and the page."""
     pathlib.Path("places.txt").write_text(places)
-    with service(COUNTRY, "--places", "places.txt", "--title", title, *more) as (child, address), browser(*size) as page:
+    with service(out, "--places", "places.txt", "--title", title, *more) as (child, address), browser(*size) as page:
         page.show(address)
         yield child, page

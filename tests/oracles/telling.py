@@ -110,9 +110,9 @@ class Teller:
         for place, (one, other) in enumerate(zip(path, path[1:]), 1):
             kind, modifier = self.maneuver(one, other)
             street = self.streets[other]
-            if kind is None and (street["name"] or street["ref"]) and not same_text(street, last) and not street["junction"]:
+            if kind is None and called(street) not in ("", called(last)) and not street["junction"]:
                 kind, modifier = "new name", word(self.angle(one, other))
-            if kind or street["name"] or street["ref"]:
+            if kind or called(street):
                 last = street
             if kind:
                 told.append([kind, modifier, 0, self.found[one][1][0], place])
@@ -196,10 +196,11 @@ class Teller:
                 entered, count = None, 0
 
 
-def same_text(one, other):
-    return (one["name"], one["ref"]) == (other["name"], other["ref"])
+def called(street):
+    """The name of a street, or its number where it has none."""
+    return street["name"] or street["ref"]
 
 
 def same(one, other):
-    """Whether two streets are the same, by a name or a number."""
-    return same_text(one, other) and bool(one["name"] or one["ref"])
+    """Whether two streets are the same."""
+    return called(one) == called(other) != ""

@@ -87,7 +87,8 @@ class Crossings:
         self.street_of = numpy.where(known < 0, known.reshape(-1, 2)[:, ::-1].reshape(-1), known).clip(0)
 
     def judge_streets(self):
-        """What has to be known of streets: rings, ramps, fast roads, ferries, and numbers by which those of one kind or one name are the same."""
+        """What has to be known of streets: rings, ramps, fast roads, ferries, and numbers by which those of one kind, or that are called alike, are
+        the same."""
         def flags(test):
             return numpy.array([test(street) for street in self.streets], bool)
 
@@ -101,7 +102,7 @@ class Crossings:
         self.is_fast = flags(lambda street: street.highway in FAST)
         self.is_ferry = flags(lambda street: street.highway == FERRY)
         self.is_called = flags(lambda street: bool(street.name or street.ref))
-        self.kind, self.called = numbers(lambda street: street.highway), numbers(lambda street: (street.name, street.ref))
+        self.kind, self.called = numbers(lambda street: street.highway), numbers(lambda street: street.name or street.ref)
 
     def meeting(self, nodes):
         """The ends that meet at the crossings of some nodes."""

@@ -126,7 +126,7 @@ class Judge:
         return found, is_left
 
     def are_same(self, streets, others):
-        """Whether streets have the same name and number, and not none."""
+        """Whether streets are called alike, and not by nothing."""
         return (self.crossings.called[streets] == self.crossings.called[others]) & self.crossings.is_called[streets]
 
     def ends_of_roads(self):

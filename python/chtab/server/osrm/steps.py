@@ -50,64 +50,71 @@ class Steps:
         """The steps of some legs, each of which is a way, for those who travel by `mode`; lines have the form `geometries`."""
         if not len(which):
             return []
-        which = numpy.asarray(which)
+        which, lines = numpy.asarray(which), Lines(traces)
         pieces = pieces_of(self.known, legs, which, traces)
         passages = passages_of(self.known, pieces)
-        rows = list(zip(*(column.tolist() for column in passages[:-1]), passages.modifiers))
-        streets, stops = pieces.streets.tolist(), pieces.stops.tolist()
-        legs_of_rows, numbers = pieces.legs[passages.before], numpy.arange(len(which) + 1)
-        cuts, firsts = (numpy.searchsorted(column, numbers).tolist() for column in (legs_of_rows, pieces.legs))
+        numbers, streets = numpy.arange(len(which) + 1), pieces.streets.tolist()
+        rows = rows_of(passages, lines.firsts[pieces.legs[passages.before]] + pieces.stops[passages.before], lines)
+        of_rows = pieces.legs[passages.before][(passages.kinds != SILENT) | passages.is_crossing]
+        cuts, firsts = (numpy.searchsorted(column, numbers).tolist() for column in (of_rows, pieces.legs))
         alone = self.known.street_of[2 * legs.starts.roads[which]].tolist()
-        found = []
-        for leg, trace in enumerate(traces):
+        found, ended = [], []
+        for leg, departure in enumerate(lines.departures()):
             first, last = firsts[leg], firsts[leg + 1]
-            begun, ended = (streets[first], streets[last - 1]) if first < last else (alone[leg],) * 2
-            steps = self.steps_of(rows[cuts[leg]:cuts[leg + 1]], streets, stops, first, begun, trace)
-            found.append(self.told(steps, ended, trace, mode, geometries))
-        return found
+            begun, end = (streets[first], streets[last - 1]) if first < last else (alone[leg],) * 2
+            found.append(self.steps_of(rows[cuts[leg]:cuts[leg + 1]], streets, first, begun, departure))
+            ended.append(end)
+        return self.told(found, ended, lines, mode, geometries)
 
-    def steps_of(self, rows, streets, stops, first, begun, trace):
+    def steps_of(self, rows, streets, first, begun, departure):
         """The steps of a leg by its passages, the last one aside. Its first piece is `first`, on the street `begun`."""
-        places = trace.places.tolist()
-        ahead = int(bearings(trace.places[:1], trace.places[1:2])[0]) if len(places) > 1 else 0
-        departs = f'"type": "depart", "location": {places[0]}, "bearing_before": 0, "bearing_after": {ahead}'
-        around = f'{{"location": {places[0]}, "bearings": [{ahead}], "entry": [true], "out": 0}}'
-        found = [Step(0, begun, begun, departs, "", [around])]
-        for before, came, goes, node, bearing, onward, kind, number, is_crossing, ring, behind, modifier in rows:
+        place, location, ahead = departure
+        departs = f'"type": "depart", "location": {location}, "bearing_before": 0, "bearing_after": {ahead}'
+        crossings = [f'{{"location": {location}, "bearings": [{ahead}], "entry": [true], "out": 0}}']
+        found, texts = [Step(place, begun, begun, departs, "", crossings)], self.texts
+        for key, kind, place, location, before, bearing, onward, number, ring, behind, modifier in rows:
+            text = texts.get(key) or self.crossing(*key)
             if kind == SILENT:
-                if is_crossing:
-                    found[-1].crossings.append(self.crossing(node, came, goes))
+                crossings.append(text)
                 continue
-            place, along = stops[before], streets[before + 1]
+            along = streets[before + 1]
             called_by, word, more, number = along, TYPES[kind], "", f', "exit": {number}' if number else ""
             if kind in ROTARIES:
                 called_by = streets[behind] if behind >= 0 else along
-                beside = [streets[piece] for piece in (ring - 1, behind) if piece >= first]
-                name = self.streets[streets[ring]].name
-                if name and all(self.streets[street].name != name for street in beside):
-                    word, more = ROTARIES[kind], f', "rotary_name": {json.dumps(name)}'
-            maneuver = f'"type": "{word}", "modifier": "{modifier}", "location": {places[place]}, "bearing_before": {bearing}, ' \
-                f'"bearing_after": {onward}{number}'
-            found.append(Step(place, called_by, along, maneuver, more, [self.crossing(node, came, goes)]))
+                word, more = self.ring(kind, streets, first, ring, behind)
+            maneuver = f'"type": "{word}", "modifier": "{modifier}", "location": {location}, "bearing_before": {bearing}, "bearing_after": {onward}{number}'
+            crossings = [text]
+            found.append(Step(place, called_by, along, maneuver, more, crossings))
         return found
 
-    def told(self, steps, ended, trace, mode, geometries):
-        """The text of a leg's steps, which ends with its arrival in the street `ended`."""
-        cuts = numpy.array([*(step.place for step in steps), len(trace.places) - 1])
-        metres, weights = numpy.diff(trace.metres[cuts]).round(1).tolist(), numpy.diff(trace.weights[cuts]).tolist()
-        lines = lines_of(trace.places, cuts, geometries)
-        texts = []
-        for step, length, weight, line in zip(steps, metres, weights, lines):
-            texts.append(self.text_of(step, length, weight / 1_000, line, mode))
-        place = trace.places[-1].tolist()
-        came = int(bearings(trace.places[-2:-1], trace.places[-1:])[0]) if len(trace.places) > 1 else 0
-        arrives = f'"type": "arrive", "location": {place}, "bearing_before": {came}, "bearing_after": 0'
-        around = f'{{"location": {place}, "bearings": [{(came + 180) % 360}], "entry": [true], "in": 0}}'
-        last = Step(0, ended, ended, arrives, "", [around])
-        texts.append(self.text_of(last, 0.0, 0.0, lines[-1], mode))
-        return Told(f"[{', '.join(texts)}]", self.summary(steps, metres))
+    def ring(self, kind, streets, first, ring, behind):
+        """The type of a maneuver at a ring, and the ring's name where it has one of its own. It begins with the piece `ring`."""
+        name = self.streets[streets[ring]].name
+        beside = [streets[piece] for piece in (ring - 1, behind) if piece >= first]
+        if name and all(self.streets[street].name != name for street in beside):
+            return ROTARIES[kind], f', "rotary_name": {json.dumps(name)}'
+        return TYPES[kind], ""
+
+    def told(self, of_legs, ended, lines, mode, geometries):
+        """The texts of the steps of legs, each of which ends with its arrival in a street."""
+        starts = numpy.array([step.place for steps in of_legs for step in (*steps, steps[0])])
+        counts = numpy.array([len(steps) + 1 for steps in of_legs])
+        lasts = numpy.cumsum(counts) - 1
+        starts[lasts] = lines.lasts
+        ends = numpy.append(starts[1:], 0)
+        ends[lasts] = lines.lasts
+        metres, weights = (column[ends] - column[starts] for column in (lines.metres, lines.weights))
+        columns = zip(metres.round(1).tolist(), (weights / 1_000).tolist(), lines.texts(starts, ends, geometries))
+        found = []
+        for steps, end, arrival in zip(of_legs, ended, lines.arrivals()):
+            every = [*steps, Step(0, end, end, *arrival)]
+            parts = [next(columns) for _ in every]
+            texts = [self.text_of(step, *part, mode) for step, part in zip(every, parts)]
+            found.append(Told(f"[{', '.join(texts)}]", self.summary(steps, [length for length, _, _ in parts])))
+        return found
 
     def text_of(self, step, length, duration, line, mode):
+        """The text of a step, so many metres and seconds long."""
         mode = FERRY if self.streets[step.along].highway == FERRY else mode
         return f'{{"distance": {length}, "duration": {duration}, "weight": {duration}, {self.called[step.street]}{step.more}, "mode": "{mode}"{self.side}, ' \
             f'"geometry": {line}, "maneuver": {{{step.maneuver}}}, "intersections": [{", ".join(step.crossings)}]}}'
@@ -149,16 +156,51 @@ def called(street):
     return json.dumps(told)[1:-1]
 
 
-def lines_of(places, cuts, geometries):
-    """The lines of steps, which lie between places of a leg, and of its arrival, as texts of JSON; each has at least two places."""
-    starts, ends = cuts[:-1], cuts[1:]
-    counts = numpy.append(numpy.maximum(ends - starts + 1, 2), 2)
-    firsts = numpy.cumsum(counts) - counts
-    starts = numpy.append(starts, ends[-1])
-    which = numpy.arange(counts.sum()) - numpy.repeat(firsts - starts, counts)
-    line = places[numpy.minimum(which, numpy.repeat(numpy.append(ends, ends[-1]), counts))]
-    if geometries in DIGITS:
-        return [json.dumps(text) for text in polylines.encoded_each(line, firsts, DIGITS[geometries])]
-    listed = line.tolist()
-    cuts = [*firsts.tolist(), len(listed)]
-    return [json.dumps({"type": "LineString", "coordinates": listed[first:last]}) for first, last in zip(cuts, cuts[1:])]
+def rows_of(passages, places, lines):
+    """The passages that are told of, as rows: the key of the crossing's text, what is done, the place in all lines and its location, and what else is
+    told."""
+    kept = numpy.flatnonzero((passages.kinds != SILENT) | passages.is_crossing)
+    columns = (passages.nodes, passages.ins, passages.outs)
+    keys = list(zip(*(column[kept].tolist() for column in columns)))
+    others = passages.before, passages.came, passages.goes, passages.exits, passages.rings, passages.behind
+    return list(zip(
+        keys, passages.kinds[kept].tolist(), places[kept].tolist(), lines.places[places[kept]].tolist(), *(column[kept].tolist() for column in others),
+        [passages.modifiers[place] for place in kept.tolist()],
+    ))
+
+
+class Lines:
+    """How legs lie, one after the other: their places, and the metres and weights up to there. Leg k lies from place `firsts[k]` to `lasts[k]`."""
+
+    def __init__(self, traces):
+        self.places, self.metres, self.weights = (
+            numpy.concatenate([getattr(trace, name) for trace in traces]) for name in ("places", "metres", "weights")
+        )
+        counts = numpy.array([len(trace.places) for trace in traces])
+        self.firsts, self.lasts = numpy.cumsum(counts) - counts, numpy.cumsum(counts) - 1
+
+    def departures(self):
+        """Of each leg its first place, where that is, and the direction there."""
+        ahead = bearings(self.places[self.firsts], self.places[numpy.minimum(self.firsts + 1, self.lasts)])
+        return zip(self.firsts.tolist(), self.places[self.firsts].tolist(), ahead.tolist())
+
+    def arrivals(self):
+        """Of each leg the maneuver, what else is told, and the crossing of its arrival, as texts of JSON."""
+        came = bearings(self.places[numpy.maximum(self.lasts - 1, self.firsts)], self.places[self.lasts])
+        for location, bearing in zip(self.places[self.lasts].tolist(), came.tolist()):
+            yield (
+                f'"type": "arrive", "location": {location}, "bearing_before": {bearing}, "bearing_after": 0', "",
+                [f'{{"location": {location}, "bearings": [{(bearing + 180) % 360}], "entry": [true], "in": 0}}'],
+            )
+
+    def texts(self, starts, ends, geometries):
+        """The lines from some places to others, as texts of JSON; each has at least two places."""
+        counts = numpy.maximum(ends - starts + 1, 2)
+        firsts = numpy.cumsum(counts) - counts
+        which = numpy.arange(counts.sum()) - numpy.repeat(firsts - starts, counts)
+        line = self.places[numpy.minimum(which, numpy.repeat(ends, counts))]
+        if geometries in DIGITS:
+            # The letters of a polyline are no quotes.
+            return ['"' + text.replace("\\", "\\\\") + '"' for text in polylines.encoded_each(line, firsts, DIGITS[geometries])]
+        listed, cuts = line.tolist(), [*firsts.tolist(), len(line)]
+        return [json.dumps({"type": "LineString", "coordinates": listed[first:last]}) for first, last in zip(cuts, cuts[1:])]

@@ -4,7 +4,7 @@ import { Refused } from "./service.js";
 
 // Names in the list, at most.
 const MOST = 8;
-const NAMES = { start: "Start", goal: "Goal" };
+const NAMES = { start: "Start", goal: "Goal", via: "On the way" };
 
 export class PlaceField {
   /** Takes over the field of this end, "start" or "goal", its list and its line for faults. `example` is a point that may be typed. `choose` is

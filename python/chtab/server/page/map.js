@@ -5,6 +5,8 @@
 const STEP = 10, STRIDE = 50;
 const ARROWS = { ArrowLeft: [-1, 0], ArrowRight: [1, 0], ArrowUp: [0, -1], ArrowDown: [0, 1] };
 const LETTERS = { start: "A", goal: "B" };
+/** What a pin is called: A, B, or the number of a place on the way. */
+export const letterOf = (end, vias) => LETTERS[end] ?? String(vias.indexOf(end) + 1);
 // A point so many metres from a place, or nearer, is called by the place's name.
 const NEAR = 300;
 // A click within so many milliseconds after a pin was dropped belongs to the drop.
@@ -27,12 +29,18 @@ export class RoadMap {
     this.animate = !matchMedia("(prefers-reduced-motion: reduce)").matches;
     const motion = Object.fromEntries(["fadeAnimation", "zoomAnimation", "markerZoomAnimation", "inertia"].map(name => [name, this.animate]));
     this.map = L.map(into, { zoomControl: false, minZoom: 3, maxZoom: 19, zoomSnap: .25, attributionControl: false, ...motion });
-    const [west, south, east, north] = network.bounds;
-    this.map.fitBounds([[south, west], [north, east]], this.clear());
+    this.fit();
     this.addControls();
     this.addLayers();
     this.addLabels();
     this.map.on("click", event => performance.now() - this.dropped < DROP || handlers.clicked(event.latlng));
+    this.map.on("contextmenu", event => handlers.pressedLong(event.latlng));
+  }
+
+  /** Shows the whole network. */
+  fit() {
+    const [west, south, east, north] = this.network.bounds;
+    this.map.fitBounds([[south, west], [north, east]], this.clear());
   }
 
   /** How far a pin has to stay from the map's edges, so that all of it is seen: options of Leaflet's `fitBounds`. */
@@ -107,7 +115,7 @@ export class RoadMap {
   }
 
   addPin(end, at) {
-    const head = element("b", end, element("i", "", LETTERS[end]));
+    const head = element("b", LETTERS[end] ? end : "via", element("i", "", LETTERS[end] ?? ""));
     const icon = L.divIcon({ className: "pin", html: head, iconSize: [44, 44], iconAnchor: [22, 42] });
     const pin = L.marker(at, { icon, draggable: true, zIndexOffset: 500 }).addTo(this.map);
     pin.on("drag", () => this.handlers.moving(end)).on("dragend", () => {
@@ -122,11 +130,12 @@ export class RoadMap {
     return pin;
   }
 
-  /** Gives a pin its name for screen readers, and shows or hides it. */
-  describePin(end, told, isShown) {
+  /** Gives a pin its letter and its name for screen readers, and shows or hides it. */
+  describePin(end, letter, told, isShown) {
     const pin = this.pins[end]?.getElement();
     if (pin) {
-      pin.setAttribute("aria-label", `${LETTERS[end]}: ${told}`);
+      pin.querySelector("i").textContent = letter;
+      pin.setAttribute("aria-label", `${letter}: ${told}`);
       pin.hidden = !isShown;
     }
   }
@@ -181,6 +190,15 @@ export class RoadMap {
 
   clearAnswer() {
     this.answer.clearLayers();
+    this.point = null;
+  }
+
+  /** Marks the point of a maneuver, [longitude, latitude], and moves the map where it isn't seen. */
+  showPoint(at) {
+    this.point?.remove();
+    this.point = L.circleMarker(latLng(at), { radius: 9, weight: 4, opacity: 1, fillOpacity: 1, interactive: false, className: "turn-point" });
+    this.point.addTo(this.answer);
+    this.map.panInside(latLng(at), this.clear());
   }
 
   /** Draws both ways, Features of GeoJSON, and over them the chosen one: "there" or "back". */

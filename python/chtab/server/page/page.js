@@ -1,21 +1,25 @@
 // The page of a network: two places and the ways between them, or one place and what is reached from it.
+import * as address from "./address.js";
 import { PlaceField } from "./field.js";
-import { RoadMap } from "./map.js";
+import { letterOf, RoadMap } from "./map.js";
 import { byId, limitsOf, say, showBands, showWays, tell } from "./panel.js";
-import { ask, reachFrom, Refused, waysBetween } from "./service.js";
+import { ask, reachFrom, Refused, turnsOver, waysOver } from "./service.js";
 import { beginSheet, covered } from "./sheet.js";
+import { beginTurns, rowsOf, showTurns } from "./turns.js";
 import { pointTold } from "./words.js";
 
 const ENDS = ["start", "goal"];
-const LETTERS = { start: "A", goal: "B" };
+// The field of a place on the way, and how many of these there may be.
+const VIA = "via", MOST_VIAS = 8;
 const MODES = ["route", "reach"];
 // Milliseconds after the last move of a pin in which reach is not asked for.
 const REST = 300;
 
 /** What the page shows now. `request` is underway, `isBehind` says that a pin has moved since, `later` is the timer of a request that
- * waits, and `isSought` says that the map has to move to the answer. */
+ * waits, and `isSought` says that the map has to move to the answer. `vias` has the pins of places on the way, in order, of which `made` were
+ * set up to now. */
 export const state = {
-  network: null, map: null, fields: {}, mode: "route", way: "there", request: null, isBehind: false, later: 0, isSought: false,
+  network: null, map: null, fields: {}, mode: "route", way: "there", request: null, isBehind: false, later: 0, isSought: false, vias: [], made: 0,
 };
 
 const lonLat = at => [at.lng, at.lat].map(part => Number(part.toFixed(7)));
@@ -26,9 +30,15 @@ const show = name => {
 /** The name of the place at a point, or the point itself. */
 const told = at => state.map.nameNear(at) ?? pointTold(at);
 
+/** The pins that the way leads over. */
+const stops = () => ["start", ...state.vias, "goal"];
+
 /** Sets a place, or with null takes it away, and asks anew. */
 function setPlace(end, at) {
   state.map.setPin(end, at);
+  if (!at) {
+    state.vias = state.vias.filter(via => via !== end);
+  }
   tell("");
   showPlaces();
   return update();
@@ -39,12 +49,27 @@ function showPlaces() {
   for (const end of ENDS) {
     const at = state.map.at(end);
     state.fields[end].show(at ? told(at) : "");
-    state.map.describePin(end, at ? told(at) : "", isRoute || end === "start");
   }
+  for (const end of stops()) {
+    const at = state.map.at(end);
+    state.map.describePin(end, letterOf(end, state.vias), at ? told(at) : "", isRoute || end === "start");
+  }
+  byId("via-line").hidden = !isRoute || !ENDS.every(end => state.map.at(end)) || state.vias.length >= MOST_VIAS;
   byId("goal-line").hidden = !isRoute;
   byId("swap").hidden = !isRoute;
   byId("hint").hidden = Boolean(state.map.at("start") && (!isRoute || state.map.at("goal")));
   byId("reach-view").hidden = isRoute;
+  const [start, goal, ...vias] = [...ENDS, ...state.vias].map(end => state.map.at(end));
+  address.write({ start, goal, vias, mode: state.mode, way: state.way });
+}
+
+/** Adds a place on the way. */
+function addVia(at) {
+  if (at && state.mode === "route" && ENDS.every(end => state.map.at(end)) && state.vias.length < MOST_VIAS) {
+    const end = `${VIA}${state.made += 1}`;
+    state.vias.push(end);
+    setPlace(end, at);
+  }
 }
 
 /** Asks for what the page has to show now. A request that is still underway is withdrawn. */
@@ -62,14 +87,30 @@ async function update() {
   }
   document.body.classList.add("busy");
   show("busy");
-  const answered = answerFor(lonLat(start), goal && lonLat(goal), request.signal);
+  const answered = answerFor(lonLat(start), request.signal);
   const showing = await answered.then(answer => () => showAnswer(answer), fault => () => showFault(fault));
   if (state.request === request) {
     showing();
     moveToAnswer();
     if (state.isBehind) {
       update();
+    } else if (document.body.dataset.state === "route") {
+      tellTurns(request);
     }
+  }
+}
+
+/** Shows the turns of the chosen way, as long as nothing else is asked for. */
+async function tellTurns(request) {
+  state.turning = request;
+  if (state.network.unit !== "milliseconds") {
+    return;
+  }
+  const ends = state.way === "there" ? stops() : stops().reverse();
+  const names = ends.map(end => letterOf(end, state.vias));
+  const route = await turnsOver(ends.map(end => lonLat(state.map.at(end))), state.network.profile, request.signal).catch(() => null);
+  if (route && state.turning === request) {
+    showTurns(rowsOf(route, names), at => state.map.showPoint(at));
   }
 }
 
@@ -80,9 +121,10 @@ function moveToAnswer() {
   }
 }
 
-async function answerFor(start, goal, signal) {
+async function answerFor(start, signal) {
   if (state.mode === "route") {
-    return { ways: await waysBetween(start, goal, signal) };
+    const ends = stops();
+    return { ways: await waysOver(ends.map(end => lonLat(state.map.at(end))), ends.map(end => letterOf(end, state.vias)), signal) };
   }
   const limits = limitsOf(state.network);
   return { reach: await reachFrom(start, limits, signal), limits };
@@ -112,17 +154,20 @@ function showFault(fault) {
   byId("route-view").hidden = true;
   say("");
   tell(fault instanceof Refused ? fault.message : `The page has a fault: ${fault.message}`);
-  // The service calls the places A and B, as the page does, and tells of both in one line.
+  // A message calls the places as the page does, and tells of several in one line. The map stays, since a place may be far away.
   const clauses = fault.message.split("; ");
   for (const end of ENDS) {
-    state.fields[end].mark(clauses.some(clause => clause.startsWith(`${LETTERS[end]} is `)));
+    state.fields[end].mark(clauses.some(clause => clause.startsWith(`${letterOf(end, [])} is `)));
   }
+  state.isSought = false;
   show("error");
 }
 
 function endRequest() {
   state.request = null;
+  state.turning = null;
   state.map.clearAnswer();
+  showTurns([]);
   document.body.classList.remove("busy");
 }
 
@@ -150,6 +195,7 @@ function choose(mode) {
   byId("view").setAttribute("aria-labelledby", `mode-${mode}`);
   tell("");
   state.map.clearAnswer();
+  showTurns([]);
   byId("route-view").hidden = true;
   showBands(state.network);
   showPlaces();
@@ -168,12 +214,16 @@ function onTabKey(event) {
 
 function swap() {
   const [start, goal] = ENDS.map(end => state.map.at(end));
+  state.vias.reverse();
   state.map.setPin("start", goal);
   return setPlace("goal", start);
 }
 
 function clear() {
-  state.map.setPin("start", null);
+  for (const end of ["start", ...state.vias]) {
+    state.map.setPin(end, null);
+  }
+  state.vias = [];
   return setPlace("goal", null);
 }
 
@@ -188,9 +238,10 @@ const handlers = {
   clicked: at => setPlace(!state.map.at("start") || state.mode === "reach" ? "start" : "goal", at),
   moving: follow,
   moved: end => setPlace(end, state.map.at(end)),
+  pressedLong: addVia,
   removed: end => {
     setPlace(end, null);
-    byId(end).focus();
+    byId(ENDS.includes(end) ? end : VIA).focus();
   },
 };
 
@@ -202,6 +253,7 @@ function beginControls() {
   for (const way of ["there", "back"]) {
     byId(way).addEventListener("click", () => {
       state.way = way;
+      showPlaces();
       update();
     });
   }
@@ -210,6 +262,22 @@ function beginControls() {
   byId("longest").addEventListener("change", update);
   byId("swap").addEventListener("click", swap);
   byId("clear").addEventListener("click", clear);
+  byId("fit").addEventListener("click", () => state.map.fit());
+  beginTurns();
+}
+
+/** Sets what the page's address says. */
+function beginAddress() {
+  const { start, goal, vias, mode, way } = address.read(location.hash, MOST_VIAS);
+  state.way = way;
+  state.map.setPin("start", start);
+  state.map.setPin("goal", goal);
+  if (start && goal) {
+    state.vias = vias.map((_, index) => `${VIA}${index + 1}`);
+    state.made = vias.length;
+    vias.forEach((at, index) => state.map.setPin(state.vias[index], at));
+  }
+  choose(mode);
 }
 
 async function begin() {
@@ -222,13 +290,17 @@ async function begin() {
     state.map = new RoadMap("map", state.network, handlers, covered);
     const example = [(south + north) / 2, (west + east) / 2].map(degrees => degrees.toFixed(2)).join(", ");
     state.fields = Object.fromEntries(ENDS.map(end => [end, new PlaceField(end, places, example, at => chosen(end, at))]));
+    state.fields[VIA] = new PlaceField(VIA, places, example, at => {
+      state.fields[VIA].show("");
+      addVia(at);
+    });
   } catch (fault) {
     tell(fault instanceof Refused ? fault.message : `The page has a fault: ${fault.message}`);
     show("error");
     return;
   }
   beginControls();
-  choose("route");
+  beginAddress();
 }
 
 begin();
