@@ -72,8 +72,6 @@ class Crossings:
         nodes = numpy.column_stack([self.roads.firsts, self.roads.lasts]).reshape(-1)
         self.ends = numpy.lexsort([numpy.arange(len(nodes)), self.leads, nodes])
         self.firsts = numpy.searchsorted(nodes[self.ends], numpy.arange(len(self.crossing) + 1))
-        self.rank = numpy.empty(len(nodes), numpy.int64)
-        self.rank[self.ends] = numpy.arange(len(nodes)) - self.firsts[nodes[self.ends]]
 
     def find_open(self):
         """By which ends each node is left, and the street of leaving by each: that of the lightest arc, or where the road is closed that way

@@ -41,7 +41,7 @@ class Steps:
     """Tells steps by the crossings of a network."""
 
     def __init__(self, crossings):
-        self.known, self.texts = crossings, {}
+        self.known, self.texts, self.around = crossings, {}, {}
         self.streets = crossings.streets
         self.called = [called(street) for street in crossings.streets]
         self.side = f', "driving_side": "{crossings.side}"' if crossings.side else ""
@@ -131,23 +131,23 @@ class Steps:
         return ", ".join(name for name in lengths if name in longest)
 
     def crossing(self, node, came, goes):
-        """The text of a crossing that is passed from one end of a road to another."""
-        key = node, came, goes
-        text = self.texts.get(key)
-        if text is None:
-            if len(self.texts) >= MOST_TEXTS:
-                self.texts.clear()
-            self.texts[key] = text = self.crossing_text(node, came, goes)
+        """The text of a crossing that is passed from one end of a road to another. It is kept."""
+        if len(self.texts) >= MOST_TEXTS:
+            self.texts.clear()
+            self.around.clear()
+        location, bearings_there, ends, is_open = self.around.get(node) or self.look_around(node)
+        entries = ", ".join("true" if may and end != came or end == goes else "false" for end, may in zip(ends, is_open))
+        text = f'{{"location": {location}, "bearings": {bearings_there}, "entry": [{entries}], "in": {ends.index(came)}, "out": {ends.index(goes)}}}'
+        self.texts[node, came, goes] = text
         return text
 
-    def crossing_text(self, node, came, goes):
-        known = self.known
-        ends = known.meeting(numpy.array([node])).ends
-        is_open = known.is_open(numpy.full(len(ends), node), ends) & (ends != came) | (ends == goes)
-        return json.dumps({
-            "location": known.roads.places[node - 1].round(6).tolist(), "bearings": known.leads[ends].tolist(), "entry": is_open.tolist(),
-            "in": int(known.rank[came]), "out": int(known.rank[goes]),
-        })
+    def look_around(self, node):
+        """Where a node lies, the directions of the ends that meet there, clockwise from north, the ends, and whether the node may be left by each. They
+        are kept."""
+        ends = self.known.meeting(numpy.array([node])).ends
+        is_open = self.known.is_open(numpy.full(len(ends), node), ends)
+        self.around[node] = self.known.roads.places[node - 1].round(6).tolist(), self.known.leads[ends].tolist(), ends.tolist(), is_open.tolist()
+        return self.around[node]
 
 
 def called(street):
