@@ -43,9 +43,11 @@ def states(page):
     page.fill("start", "vaduz", Keys.ENTER)
     page.fill("goal", "eschen", Keys.ENTER)
     page.wait("route")
+    # The list of turns comes after the route.
+    page.until(lambda: page.all("#turns button"))
     yield "route"
     page.find("back").click()
-    page.until(lambda: page.state() == "route" and page.find("back").get_attribute("aria-pressed") == "true")
+    page.until(lambda: page.state() == "route" and page.find("back").get_attribute("aria-pressed") == "true" and page.all("#turns button"))
     yield "back"
     page.find("mode-reach").click()
     page.wait("reach")
