@@ -10,7 +10,7 @@ distance is -1, because columns of int64 have no other number to say so, and amo
 from __future__ import annotations
 
 import os
-from typing import TYPE_CHECKING, Any, Self
+from typing import TYPE_CHECKING, Any, Self, Unpack
 
 from numpy.typing import NDArray
 
@@ -31,6 +31,7 @@ from chtab.roads.trips import Trips
 
 if TYPE_CHECKING:
     from chtab.engine.folders import Folder
+    from chtab.typing import OfRuns
 
 
 class Network(Scenarios, BetweenNodes, BetweenPlaces, Accessibility):
@@ -63,7 +64,7 @@ class Network(Scenarios, BetweenNodes, BetweenPlaces, Accessibility):
     @classmethod
     def open(
         cls, graph: str | os.PathLike, saved: str | os.PathLike | None = None, *, coordinates: str | os.PathLike | None = None,
-        bends: str | os.PathLike | None = None, unit: str | None = None, scale: float | None = None, raw: bool = False, **running: Any,
+        bends: str | os.PathLike | None = None, unit: str | None = None, scale: float | None = None, raw: bool = False, **running: Unpack[OfRuns],
     ) -> Self:
         """Loads a graph, and returns once it can answer: after building its hierarchy, or after checking the one in `saved`.
 

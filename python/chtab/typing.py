@@ -1,10 +1,12 @@
 """The types of what calls take and give, for annotations: `from chtab.typing import Integers`. It needs numpy."""
 import os
 from collections.abc import Iterable, Mapping
-from typing import IO, Any, Literal, TypeAlias
+from typing import IO, Any, Literal, TypeAlias, TypedDict
 
 import numpy
 from numpy.typing import ArrayLike, NDArray
+
+from chtab.engine.progress import Asked as Progress
 
 # Columns as callers give them: arrays, lists, and columns of frames.
 Column: TypeAlias = ArrayLike
@@ -29,3 +31,37 @@ Values: TypeAlias = ArrayLike | Mapping[Any, float]
 Point: TypeAlias = tuple[float, float]
 # Whether weights are those from sources to targets, or from targets to sources.
 Direction: TypeAlias = Literal["to", "from"]
+
+
+class OfRuns(TypedDict, total=False):
+    """How the program runs for a network: `Network.open` has the meaning of each."""
+
+    program: Path | None
+    workers: int
+    timeout: float | None
+    load: bool
+    routes: bool
+    runs: int
+    library: bool | Path
+
+
+class OfBuilding(OfRuns, total=False):
+    """The same for a network of arcs, whose building tells how far it is."""
+
+    progress: Progress
+
+
+class OfLines(OfBuilding, total=False):
+    """What else a GeoDataFrame is taken with: `Network.from_arrays` has the meaning."""
+
+    scale: float | None
+    unit: str | None
+    both_ways: bool
+
+
+class OfRows(OfLines, total=False):
+    """What else a frame is taken with: `Network.from_arrays` has the meaning."""
+
+    nodes: ArrayLike | None
+    x: ArrayLike | None
+    y: ArrayLike | None

@@ -31,11 +31,12 @@ with chtab.Network.open(Path("roads.gr"), saved="roads.ch", timeout=5.0) as netw
     print(len(routes), near.offsets.sum(), routes.to_geojson()["features"], network.trip_routes(spots, spots)[0].metres)
 """
 WRONG = (
-    ("chtab.Netwrok", 'has no attribute "Netwrok"'), ("network.distanses([(1, 3)])", 'has no attribute "distanses"; maybe "distances"'),
+    ("chtab.Netwrok", 'has no attribute "Netwrok"'), ("network.distanses([(1, 3)])", 'has no attribute "distanses"'),
     ("network.table([1], [2], within='3')", 'Argument "within" to "table"'), ("network.table([1])", 'Missing positional argument "targets"'),
     ("network.table([1], [2], whithin=3)", 'Unexpected keyword argument "whithin"'), ("network.near(None, [1], direction='back')", 'Argument "direction" to "near"'),
-    ("network.reach(5)", 'Argument 1 to "reach"'), ("network.snap(9.5, None)", 'Argument 2 to "snap"'), ("network.isochrones(spots, 300)", 'Argument 2 to "isochrones"'),
+    ("network.reach(5)", 'Argument 1 to "reach"'), ("network.snap(9.5, None)", 'Argument 2 to "snap"'), ("network.isochrones(5, [300])", 'Argument 1 to "isochrones"'),
     ("network.nearest([9.5], [47.1])[2]", "Tuple index out of range"), ("network.routes([(1, 3)]).to_geojsn()", 'has no attribute "to_geojsn"'),
+    ("chtab.Network.open('a', progam='b')", 'Unexpected keyword argument "progam"'), ("chtab.Network.open('a', workers='2')", 'Argument "workers" to "open"'),
     ("chtab.Network.open(3)", 'Argument 1 to "open"'), ("chtab.Network.from_arrays([1], [2], [3], both_ways=True).nodes.upper()", '"int" has no attribute "upper"'),
     ("chtab.files.read_graph('a.gr').weigths", 'has no attribute "weigths"'), ("chtab.DataFault('a', row='b')", 'Argument "row" to "DataFault"'),
 )

@@ -3,7 +3,7 @@ from __future__ import annotations
 
 import os
 import warnings
-from typing import TYPE_CHECKING, Any, Self
+from typing import TYPE_CHECKING, Any, Self, Unpack
 
 import numpy
 from numpy.typing import ArrayLike
@@ -20,6 +20,7 @@ if TYPE_CHECKING:
     import pandas
     import scipy.sparse
     from chtab.engine.folders import Folder
+    from chtab.typing import OfBuilding, OfLines, OfRows
 
 OF_ARCS = "nodes", "x", "y", "scale", "unit", "both_ways", "geometry", "folder"
 ENDS = "source", "target", "weight"
@@ -39,7 +40,7 @@ class FromArcs:
     def from_arrays(
         cls, sources: ArrayLike, targets: ArrayLike, weights: ArrayLike, *, nodes: ArrayLike | None = None, x: ArrayLike | None = None,
         y: ArrayLike | None = None, scale: float | None = None, unit: str | None = None, both_ways: bool = False, geometry: ArrayLike | None = None,
-        raw: bool = False, folder: str | os.PathLike | None = None, **running: Any,
+        raw: bool = False, folder: str | os.PathLike | None = None, **running: Unpack[OfBuilding],
     ) -> Self:
         """Makes a network of arcs: arc k leads from `sources[k]` to `targets[k]`, and its weight is `weights[k]`.
 
@@ -100,7 +101,7 @@ class FromArcs:
     @classmethod
     def from_frame(
         cls, frame: pandas.DataFrame, source: str = "source", target: str = "target", weight: str = "weight", *, geometry: str | None = None,
-        raw: bool = False, folder: str | os.PathLike | None = None, **more: Any,
+        raw: bool = False, folder: str | os.PathLike | None = None, **more: Unpack[OfRows],
     ) -> Self:
         """Makes a network of a frame with a row for each arc, such as a DataFrame of pandas.
 
@@ -140,7 +141,7 @@ class FromArcs:
     @classmethod
     def from_networkx(
         cls, graph: networkx.Graph, weight: str = "travel_time", scale: float | None = 1000, *, unit: str | None = None, x: str | None = "x",
-        y: str | None = "y", geometry: str | None = "geometry", raw: bool = False, folder: str | os.PathLike | None = None, **running: Any,
+        y: str | None = "y", geometry: str | None = "geometry", raw: bool = False, folder: str | os.PathLike | None = None, **running: Unpack[OfBuilding],
     ) -> Self:
         """Makes a network of a graph of networkx, such as one of osmnx as it is, simplified or not.
 
@@ -188,7 +189,7 @@ class FromArcs:
     @classmethod
     def from_geodataframe(
         cls, edges: geopandas.GeoDataFrame, nodes: geopandas.GeoDataFrame | None = None, source: str = "u", target: str = "v",
-        weight: str | None = None, *, raw: bool = False, folder: str | os.PathLike | None = None, **more: Any,
+        weight: str | None = None, *, raw: bool = False, folder: str | os.PathLike | None = None, **more: Unpack[OfLines],
     ) -> Self:
         """Makes a network of a GeoDataFrame with a line for each arc, such as `osmnx.graph_to_gdfs` gives, or a layer of roads.
 
@@ -232,7 +233,7 @@ class FromArcs:
     def from_sparse(
         cls, matrix: scipy.sparse.spmatrix, *, nodes: ArrayLike | None = None, x: ArrayLike | None = None, y: ArrayLike | None = None,
         scale: float | None = None, unit: str | None = None, both_ways: bool = False, raw: bool = False,
-        folder: str | os.PathLike | None = None, **running: Any,
+        folder: str | os.PathLike | None = None, **running: Unpack[OfBuilding],
     ) -> Self:
         """Makes a network of a sparse matrix, as `scipy.sparse.csgraph` takes it: what is stored in row i and column j is the arc from i to j.
 
