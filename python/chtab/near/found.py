@@ -30,7 +30,7 @@ class Near:
     offsets : array of int64, shape (n + 1,)
         Where the targets of each source start.
     places : array of int64, shape (p,)
-        The places in the list of targets, from 0 on.
+        The positions of the targets in the list `targets`, counted from 0.
     weights : array of int64 or float64, shape (p,)
         Their weights, in the network's `unit`.
     sources, targets : array of labels, shape (n,) and (l,)
@@ -52,7 +52,7 @@ class Near:
         return len(self.sources)
 
     def __getitem__(self, source: int) -> tuple[NDArray[numpy.int64], NDArray]:
-        """The places and the weights of the targets of one source, by its place from 0 on."""
+        """The positions and the weights of the targets of one source, which is named by its own position, counted from 0."""
         source = range(len(self))[operator.index(source)]
         some = slice(self.offsets[source], self.offsets[source + 1])
         return self.places[some], self.weights[some]
