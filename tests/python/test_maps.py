@@ -156,12 +156,12 @@ def test_tables_are_sound():
 
 
 def test_the_page_has_the_tables():
-    """docs/MAPS.md has the tables as they are used, and each option of the command."""
-    page = (ROOT / "docs" / "MAPS.md").read_text()
+    """docs/MAPS.md has the tables as they are used, and docs/REFERENCE.md each option of the command."""
+    page, reference = ((ROOT / "docs" / name).read_text() for name in ("MAPS.md", "REFERENCE.md"))
     for table in tables.everything():
         assert f"\n\n{table}\n\n" in page, f"docs/MAPS.md lacks this table; tests/helpers/tables.py prints all:\n{table}"
     for option in set(re.findall(r"--[a-z-]+", tool("osm_to_gr", "--help")[0])) - {"--help"}:
-        assert f"| `{option}" in page, option
+        assert f"| `{option}" in reference, option
 
 
 def test_ferries_take_their_time():
