@@ -49,7 +49,7 @@ def kit():
 
 
 def finding(names, library_of):
-    """The arguments by which the compiler finds these libraries and all below them. `library_of` says where the one of a crate is."""
+    """The compiler's arguments for these libraries and all below them. `library_of` says where the one of a crate is."""
     folder, _ = kit()
     arguments = []
     for each in ("std", *names):
@@ -61,12 +61,12 @@ def finding(names, library_of):
 
 
 def to_object(file):
-    """The arguments by which the compiler writes the object file of a program."""
+    """The compiler's arguments for the object file of a program."""
     return ["--toolchain", kit()[0] / "toolchain", "--backend", "llvm", "-o", file]
 
 
 def to_archive(file):
-    """The arguments by which the compiler writes a static library."""
+    """The compiler's arguments for a static library."""
     return ["--crate-type", "staticlib", "--toolchain", kit()[0] / "toolchain", "-o", file]
 
 
