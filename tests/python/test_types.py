@@ -8,7 +8,8 @@ from helpers.marks import needs
 from helpers.packages import PYTHON
 from helpers.running import ROOT
 
-pytestmark = needs("python3-mypy", "python3-numpy")
+# aiohttp tells types of its own, by which the service is judged.
+pytestmark = needs("python3-mypy", "python3-numpy", "python3-aiohttp")
 SETTINGS = ROOT / "python" / "pyproject.toml"
 # A caller of the package: calls that are right, and calls that are wrong, each with a part of the line in which mypy says so.
 RIGHT = """
@@ -57,8 +58,10 @@ def mypy(tmp_path_factory):
 
 
 def test_the_package_is_typed(mypy):
-    """Each function of each module tells the types of what it takes and gives, and mypy finds no fault in any."""
-    assert (ROOT / "python" / "chtab" / "py.typed").exists() and "disallow_untyped_defs = true" in SETTINGS.read_text()
+    """Each function of each module, those of the service too, tells the types of what it takes and gives, and mypy finds no fault in any."""
+    settings = SETTINGS.read_text()
+    assert (ROOT / "python" / "chtab" / "py.typed").exists() and "disallow_untyped_defs = true" in settings
+    assert "ignore_errors" not in settings and "disallow_untyped_defs = false" not in settings
     status, lines = mypy()
     assert (status, lines) == (0, []), "\n".join(lines)
 

@@ -10,14 +10,24 @@ It needs Debian's packages python3-aiohttp, python3-numpy, python3-scipy, python
 
 Example:  tools/page.py --places places.txt roads
 """
+from __future__ import annotations
+
 import argparse
 import logging
 import math
 import os
 import sys
+from collections.abc import Callable, Sequence
+from typing import TYPE_CHECKING, Any
 
 from chtab import cli, files
 from chtab.errors import ChtabError
+
+if TYPE_CHECKING:
+    from chtab.server.networks import Named, Networks
+    from chtab.server.osrm import answering
+    from chtab.server.ports import Port
+    from chtab.server.service import Choices, Service
 
 # The seconds after which a worker thread lets another one go on.
 TURN = 0.0005
@@ -27,9 +37,9 @@ MOST = 100_000
 SIZES = {"max_viaroute_size": "route", "max_table_size": "table", "max_trip_size": "trip", "max_matching_size": "match", "max_nearest_size": "nearest"}
 
 
-def number_of(low, high, what):
+def number_of(low: int, high: int, what: str) -> Callable[[str], int]:
     """A kind of argument: a whole number of this range."""
-    def number(word):
+    def number(word: str) -> int:
         if not (word.isascii() and word.isdecimal()) or not low <= int(word) <= high:
             raise argparse.ArgumentTypeError(f"{word!r} is no {what} from {low} to {high}")
         return int(word)
@@ -37,7 +47,7 @@ def number_of(low, high, what):
     return number
 
 
-def network_in(word):
+def network_in(word: str) -> tuple[str, str]:
     """A network and what clients call it: (name, the start of the names of its files)."""
     name, mark, out = word.partition("=")
     if not (mark and out and name.isascii() and name.replace("-", "").replace("_", "").isalnum()):
@@ -45,7 +55,7 @@ def network_in(word):
     return name, out
 
 
-def parser_of():
+def parser_of() -> cli.Parser:
     """The parser of this command."""
     parser = cli.parser_of("page", __doc__)
     parser.add_argument("--places", metavar="FILE", help="places with names, for labels: a longitude, a latitude and a name a line")
@@ -74,7 +84,7 @@ def parser_of():
     return parser
 
 
-def add_listening(parser):
+def add_listening(parser: argparse.ArgumentParser) -> None:
     """The options of what the service listens on, and of what it writes about it."""
     parser.add_argument("--host", default="127.0.0.1", metavar="H", help="the address of this machine that is listened on (127.0.0.1)")
     parser.add_argument("--port", type=number_of(0, 65_535, "port"), default=8080, metavar="P", help="the port (8080); 0: any that is free")
@@ -91,7 +101,7 @@ def add_listening(parser):
     )
 
 
-def add_engines(parser):
+def add_engines(parser: argparse.ArgumentParser) -> None:
     """The options of what answers."""
     engines = parser.add_mutually_exclusive_group()
     engines.add_argument(
@@ -102,9 +112,9 @@ def add_engines(parser):
     engines.add_argument("--pipe", action="store_true", help="answer by a run of the program beside each process, which can be ended at any time")
 
 
-def add_limits(parser):
+def add_limits(parser: argparse.ArgumentParser) -> None:
     """The limits of requests and of connections."""
-    size = {"type": number_of(1, MOST, "number"), "metavar": "N"}
+    size: dict[str, Any] = {"type": number_of(1, MOST, "number"), "metavar": "N"}
     parser.add_argument("--max-viaroute-size", **size, help="the most coordinates of route (500)")
     parser.add_argument("--max-table-size", **size, help="the most coordinates of table (1,000); each table of that size is answered, with distances too")
     parser.add_argument("--max-trip-size", **size, help="the most coordinates of trip (100)")
@@ -117,7 +127,7 @@ def add_limits(parser):
         parser.add_argument(name, type=float, default=seconds, help=argparse.SUPPRESS)
 
 
-def words_of(words):
+def words_of(words: Sequence[str]) -> argparse.Namespace:
     """The choices that the words of the command line make. Words that are refused end the process with status 2."""
     parser = parser_of()
     found = parser.parse_args(words)
@@ -131,7 +141,7 @@ def words_of(words):
     return found
 
 
-def named(words):
+def named(words: argparse.Namespace) -> list[Named]:
     """The networks of the command line."""
     from chtab.server.networks import Named
 
@@ -140,7 +150,7 @@ def named(words):
     return [Named(name, out, f"{out}.ch" if os.path.exists(f"{out}.ch") else None) for name, out in words.network]
 
 
-def chosen(words, networks):
+def chosen(words: argparse.Namespace, networks: Sequence[Named]) -> bool | str:
     """Whether the library answers, or its file; without words about it, whether it fits."""
     from chtab.engine import choosing
 
@@ -153,7 +163,7 @@ def chosen(words, networks):
     return not words.pipe and all(choosing.fits(words.program, each, words.workers) for each in saved)
 
 
-def sizes_of(words):
+def sizes_of(words: argparse.Namespace) -> answering.Limits:
     """The limits of OSRM's interface. Where the size of tables is chosen, each table of that size may be asked for, with distances too."""
     from chtab.server.osrm import answering
 
@@ -163,7 +173,7 @@ def sizes_of(words):
     return answering.Limits(**found)
 
 
-def choices_of(words):
+def choices_of(words: argparse.Namespace) -> Choices:
     """What the words of the command line choose for the service."""
     from chtab.server.connections import caps_of
     from chtab.server.requests import Limits
@@ -176,10 +186,10 @@ def choices_of(words):
     )
 
 
-def main(words):
+def main(words: Sequence[str]) -> None:
     """Serves what the words ask for, until a signal ends it."""
     # Help needs none of the modules below.
-    words = words_of(words)
+    found = words_of(words)
     from chtab.server import web_policy
     from chtab.server.networks import Networks
     from chtab.server.ports import port_at
@@ -189,22 +199,22 @@ def main(words):
     logging.basicConfig(format="chtab-page: %(message)s")
     if not LEAFLET.is_dir():
         raise ChtabError("the page needs Debian's package libjs-leaflet")
-    if words.log:
-        log_to(words.log)
-    choices = choices_of(words)
+    if found.log:
+        log_to(found.log)
+    choices = choices_of(found)
     web_policy.tile_sources(choices.tiles)
     sys.setswitchinterval(TURN)
-    networks = named(words)
-    more = {"program": words.program, "workers": words.workers, "timeout": words.timeout, "load": words.processes == 1}
+    networks = named(found)
+    more = {"program": found.program, "workers": found.workers, "timeout": found.timeout, "load": found.processes == 1}
     # A port that is taken is told before the time that reading takes.
-    port = port_at(words.host, words.port, words.takeover)
-    with Networks(networks, library=chosen(words, networks), **more) as served:
-        status = serve_all(words, served, choices, port)
+    port = port_at(found.host, found.port, found.takeover)
+    with Networks(networks, library=chosen(found, networks), **more) as served:
+        status = serve_all(found, served, choices, port)
     if status:
         sys.exit(status)
 
 
-def serve_all(words, networks, choices, port):
+def serve_all(words: argparse.Namespace, networks: Networks, choices: Choices, port: Port) -> int:
     """Serves networks by one process or several, until a signal ends it; the status of the process."""
     import asyncio
 
@@ -215,11 +225,11 @@ def serve_all(words, networks, choices, port):
 
     metrics = Metrics(words.processes)
 
-    def service(row):
+    def service(row: int) -> Service:
         networks.load()
         return Service(networks, choices, metrics, row)
 
-    def tell():
+    def tell() -> None:
         print(port.address, flush=True)
         notify("READY=1")
 
@@ -231,6 +241,6 @@ def serve_all(words, networks, choices, port):
     return Family(words.processes, service, metrics, port, networks.told).run(tell)
 
 
-def command():
+def command() -> None:
     """Runs this command on the words that the process was called with."""
     cli.run("chtab-page", main, needs=("aiohttp", "numpy", "scipy", "shapely"))

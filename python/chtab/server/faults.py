@@ -1,6 +1,9 @@
 """What the service tells of a request that it can't answer: JSON with a line, in the form of the interface that was asked."""
+from __future__ import annotations
+
 import errno
 import logging
+from collections.abc import Callable
 
 from aiohttp import web
 from aiohttp.http_exceptions import BadHttpMessage
@@ -20,14 +23,14 @@ NO_NAMES = errno.ENAMETOOLONG, errno.EINVAL, errno.ENOENT, errno.ENOTDIR, errno.
 REASONS = {404: "page", 405: "page", 403: "page", 408: "sending", 413: "size", 415: "form", 499: "gone", 503: "busy", 504: "time", 500: "fault"}
 
 
-def fault(request, text, status, code=INTERNAL, reason=None):
+def fault(request: web.BaseRequest, text: str, status: int, code: str = INTERNAL, reason: str | None = None) -> web.Response:
     """The answer to a request that was not answered. The request keeps why."""
     request["refused"] = reason or REASONS.get(status, "form"), text
     value = {"code": code, "message": text} if web_policy.is_osrm(request.path) else {"error": text}
     return web.json_response(value, status=status, headers={"Retry-After": "1"} if status == 503 else None)
 
 
-def fault_of(request, raised, most_bytes, told):
+def fault_of(request: web.BaseRequest, raised: Exception, most_bytes: int, told: Callable[[str], str]) -> web.Response:
     """The answer that tells of a fault. `told` gives files the names that the user knows."""
     match raised:
         case Refusal():

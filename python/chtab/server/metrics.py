@@ -3,10 +3,17 @@
 The counts stand in memory that all processes of a service share. Each has a row of its own, which it alone changes, so that no lock is needed;
 the sums are those of all rows.
 """
+from __future__ import annotations
+
 import bisect
 import mmap
+from collections.abc import Iterable, Sequence
+from typing import TYPE_CHECKING
 
 import numpy
+
+if TYPE_CHECKING:
+    from chtab.typing import Integers
 
 SERVICES = "route", "table", "nearest", "trip", "match", "api", "page"
 STATUSES = 200, 204, 206, 304, 400, 403, 404, 405, 408, 413, 415, 416, 499, 500, 503, 504
@@ -27,38 +34,38 @@ WIDTH = sum(PARTS)
 class Metrics:
     """The counts of a service of so many processes. It is made before they are forked."""
 
-    def __init__(self, processes=1):
+    def __init__(self, processes: int = 1) -> None:
         self.shared = mmap.mmap(-1, 8 * WIDTH * processes)
         self.rows = numpy.frombuffer(self.shared, numpy.int64).reshape(processes, WIDTH)
         self.of_processes = [Row(row) for row in self.rows]
 
-    def text(self):
+    def text(self) -> str:
         """The counts in Prometheus' text, version 0.0.4."""
         rows = self.of_processes
         lines = [*head("chtab_requests_total", "counter", "Requests that were answered.")]
-        for service, statuses in zip(SERVICES, sum(row.counts for row in rows).tolist()):
+        for service, statuses in zip(SERVICES, sum_of(row.counts for row in rows).tolist()):
             for status, count in zip((*STATUSES, "other"), statuses):
                 if count:
                     lines.append(f'chtab_requests_total{{service="{service}",status="{status}"}} {count}')
         lines += self.seconds(rows)
         lines += head("chtab_refusals_total", "counter", "Requests that were refused, and connections that were closed, by reason.")
-        lines += [f'chtab_refusals_total{{reason="{name}"}} {count}' for name, count in zip(REASONS, sum(row.refusals for row in rows).tolist()) if count]
+        lines += [f'chtab_refusals_total{{reason="{name}"}} {count}' for name, count in zip(REASONS, sum_of(row.refusals for row in rows).tolist()) if count]
         for name, kind, about, value in self.states(rows):
             lines += [*head(name, kind, about), f"{name} {value}"]
         return "\n".join(lines) + "\n"
 
-    def seconds(self, rows):
+    def seconds(self, rows: Sequence[Row]) -> list[str]:
         """The seconds from requests to their answers: a histogram for each service that was asked."""
         name = "chtab_request_seconds"
         lines = head(name, "histogram", "Seconds from a request to its answer.")
-        for service, ranges, micros in zip(SERVICES, sum(row.ranges for row in rows), sum(row.micros for row in rows).tolist()):
+        for service, ranges, micros in zip(SERVICES, sum_of(row.ranges for row in rows), sum_of(row.micros for row in rows).tolist()):
             sums = numpy.cumsum(ranges).tolist()
             if sums[-1]:
                 lines += [f'{name}_bucket{{service="{service}",le="{edge}"}} {count}' for edge, count in zip((*EDGES, "+Inf"), sums)]
                 lines += [f'{name}_sum{{service="{service}"}} {micros / 1e6}', f'{name}_count{{service="{service}"}} {sums[-1]}']
         return lines
 
-    def states(self, rows):
+    def states(self, rows: Sequence[Row]) -> list[tuple[str, str, str, int]]:
         waiting, engines, begun, memory, connections = (sum(row.of(state) for row in rows) for state in STATES)
         return [
             ("chtab_requests_waiting", "gauge", "Requests that are underway or wait.", waiting),
@@ -70,36 +77,41 @@ class Metrics:
         ]
 
 
-def head(name, kind, about):
+def sum_of(columns: Iterable[Integers]) -> Integers:
+    """The sums of columns of one shape."""
+    return numpy.sum([*columns], axis=0)
+
+
+def head(name: str, kind: str, about: str) -> list[str]:
     return [f"# HELP {name} {about}", f"# TYPE {name} {kind}"]
 
 
 class Row:
     """What one process counts."""
 
-    def __init__(self, row):
+    def __init__(self, row: Integers) -> None:
         counts, self.micros, ranges, self.refusals, self.states = numpy.split(row, numpy.cumsum(PARTS)[:-1])
         self.counts, self.ranges = counts.reshape(len(SERVICES), -1), ranges.reshape(len(SERVICES), -1)
         self.services, self.statuses, self.reasons, self.names = (
             {name: place for place, name in enumerate(names)} for names in (SERVICES, STATUSES, REASONS, STATES)
         )
 
-    def add(self, service, status, seconds):
+    def add(self, service: str, status: int, seconds: float) -> None:
         """Counts an answer."""
         place = self.services[service]
         self.counts[place, self.statuses.get(status, len(STATUSES))] += 1
         self.micros[place] += int(seconds * 1e6)
         self.ranges[place, bisect.bisect_left(EDGES, seconds)] += 1
 
-    def refuse(self, reason):
+    def refuse(self, reason: str) -> None:
         """Counts a refusal."""
         self.refusals[self.reasons[reason]] += 1
 
-    def of(self, state):
+    def of(self, state: str) -> int:
         """What was noted last of a state."""
         return int(self.states[self.names[state]])
 
-    def note(self, **states):
+    def note(self, **states: int) -> None:
         """Notes how things stand now; a process that ended has nothing."""
         for name, value in states.items():
             self.states[self.names[name]] = value

@@ -3,13 +3,20 @@
 Files are opened when the service begins, and are open as long as it goes on: whatever is read later, by a process that is begun anew or by a run
 of the program, is what was there at first, also where another file has taken the name since.
 """
+from __future__ import annotations
+
 import os
-from typing import NamedTuple
+from collections.abc import Iterator, Sequence
+from typing import IO, TYPE_CHECKING, Any, NamedTuple, Self
 
 from chtab import files
 from chtab.errors import ChtabError
 from chtab.network import Network
 from chtab.server.osrm.answering import numbers_in
+
+if TYPE_CHECKING:
+    from chtab.engine.asking import Engine
+    from chtab.engine.in_process import InProcess
 
 # What a network has besides its graph and its coordinates, where it is there.
 OPTIONAL = "bends", "names", "nodes"
@@ -27,10 +34,11 @@ class Named(NamedTuple):
 class Kept:
     """Files that are open, each with a path that leads to what was opened, in this process and in those beside it."""
 
-    def __init__(self):
-        self.paths, self.open = {}, []
+    def __init__(self) -> None:
+        self.paths: dict[str, str] = {}
+        self.open: list[IO[bytes]] = []
 
-    def path(self, name):
+    def path(self, name: str) -> str:
         """The path of a file that is opened now."""
         file = open(name, "rb")
         self.open.append(file)
@@ -38,14 +46,14 @@ class Kept:
         self.paths[path] = name
         return path
 
-    def told(self, text):
+    def told(self, text: str) -> str:
         """A text in which files have the names that they were opened by."""
         # The longest first, because one path may begin another.
         for path in sorted(self.paths, key=len, reverse=True):
             text = text.replace(path, self.paths[path])
         return text
 
-    def close(self):
+    def close(self) -> None:
         for file in self.open:
             file.close()
 
@@ -53,7 +61,7 @@ class Kept:
 class Served:
     """A network with what its arcs are called, `files.Streets` or None, and what the map calls its nodes, or None."""
 
-    def __init__(self, named, kept, **running):
+    def __init__(self, named: Named, kept: Kept, **running: Any) -> None:
         paths = {suffix: kept.path(f"{named.out}.{suffix}") for suffix in ("gr", "co")}
         paths |= {suffix: kept.path(f"{named.out}.{suffix}") for suffix in OPTIONAL if os.path.exists(f"{named.out}.{suffix}")}
         saved = None if named.saved is None else kept.path(named.saved)
@@ -64,15 +72,16 @@ class Served:
         self.numbers = numbers_in(paths["nodes"], self.network.nodes) if "nodes" in paths else None
 
     @property
-    def engine(self):
+    def engine(self) -> Engine | InProcess:
         return self.network._engine
 
 
 class Networks:
     """The networks of a service, each opened with these options of `Network.open`. The first one is that of the page and of requests in JSON."""
 
-    def __init__(self, named, **running):
-        self.kept, self.served = Kept(), []
+    def __init__(self, named: Sequence[Named], **running: Any) -> None:
+        self.kept = Kept()
+        self.served: list[Served] = []
         try:
             for each in named:
                 self.served.append(Served(each, self.kept, **running))
@@ -83,33 +92,33 @@ class Networks:
             self.close()
             raise
 
-    def __iter__(self):
+    def __iter__(self) -> Iterator[Served]:
         return iter(self.served)
 
     @property
-    def first(self):
+    def first(self) -> Served:
         return self.served[0]
 
-    def told(self, text):
+    def told(self, text: str) -> str:
         """A text in which files have the names that the command line gave them."""
         return self.kept.told(text)
 
-    def load(self):
+    def load(self) -> None:
         """Begins what answers, where it is not there."""
         for each in self.served:
             each.engine.load()
 
-    def are_ready(self):
+    def are_ready(self) -> bool:
         """Whether something is there that answers by each network."""
         return all(each.engine.living() for each in self.served)
 
-    def close(self):
+    def close(self) -> None:
         for each in self.served:
             each.network.close()
         self.kept.close()
 
-    def __enter__(self):
+    def __enter__(self) -> Self:
         return self
 
-    def __exit__(self, *_):
+    def __exit__(self, *_: object) -> None:
         self.close()

@@ -3,11 +3,14 @@ in it.
 
 The owner of a port answers at an abstract address of Unix that has the name of the port. Whoever runs as the same user gets the sockets there.
 """
+from __future__ import annotations
+
 import contextlib
 import errno
 import os
 import socket
 import struct
+from typing import Any
 
 from chtab.errors import ChtabError
 
@@ -22,7 +25,7 @@ class Listening(socket.socket):
 
     is_next = True
 
-    def accept(self):
+    def accept(self) -> tuple[socket.socket, Any]:
         """The next connection; none is there each time after one was."""
         self.is_next = not self.is_next
         if self.is_next:
@@ -33,16 +36,16 @@ class Listening(socket.socket):
 class Port:
     """A port that is listened on, and the socket at which it can be asked for."""
 
-    def __init__(self, listening, control):
+    def __init__(self, listening: socket.socket, control: socket.socket) -> None:
         self.listening, self.control = listening, control
         control.setblocking(False)
 
     @property
-    def address(self):
+    def address(self) -> str:
         host, port = self.listening.getsockname()[:2]
         return f"http://{f'[{host}]' if ':' in host else host}:{port}/"
 
-    def hand_over(self):
+    def hand_over(self) -> bool:
         """Gives the port to the service that asks for it; whether one did. It goes on here until this service ends."""
         try:
             asking, _ = self.control.accept()
@@ -57,23 +60,23 @@ class Port:
                 return True
         return False
 
-    def close(self):
+    def close(self) -> None:
         self.listening.close()
         self.control.close()
 
 
-def user_of(connection):
+def user_of(connection: socket.socket) -> int:
     """The number of the user at the other end."""
     _, user, _ = CREDENTIALS.unpack(connection.getsockopt(socket.SOL_SOCKET, socket.SO_PEERCRED, CREDENTIALS.size))
     return user
 
 
-def name_of(listening):
+def name_of(listening: socket.socket) -> str:
     """The address of Unix at which a port is asked for."""
     return "\0chtab-page/{}/{}".format(*listening.getsockname()[:2])
 
 
-def port_at(host, port, takes_over=False):
+def port_at(host: str, port: int, takes_over: bool = False) -> Port:
     """The port of an address: that of the service that listens there, where it is to be taken over, and else one that nobody has."""
     family, kind, protocol, _, address = socket.getaddrinfo(host, port, type=socket.SOCK_STREAM, flags=socket.AI_PASSIVE)[0]
     listening = Listening(family, kind, protocol)
@@ -97,7 +100,7 @@ def port_at(host, port, takes_over=False):
     return Port(listening, control)
 
 
-def taken_over(address):
+def taken_over(address: tuple[Any, ...]) -> Port:
     """The port of a service that runs, which it gives to this one."""
     host, port = address[:2]
     try:
@@ -108,7 +111,7 @@ def taken_over(address):
                 raise ChtabError(f"the service at port {port} of {host} is another user's")
             _, found, _, _ = socket.recv_fds(asking, 1, 2)
     except OSError:
-        found = ()
+        found = []
     if len(found) != 2:
         raise ChtabError(f"what listens at port {port} of {host} is no service of this kind and of this user, which could be taken over")
     for number in found:
@@ -116,7 +119,7 @@ def taken_over(address):
     return Port(Listening(fileno=found[0]), socket.socket(fileno=found[1]))
 
 
-def notify(state):
+def notify(state: str) -> None:
     """Tells systemd how the service stands, where it waits for that (`Type=notify`)."""
     name = os.environ.get("NOTIFY_SOCKET")
     if name:

@@ -3,13 +3,20 @@
 A few requests are answered at once, in threads, and never all of them for one address. Questions that can be answered together are taken
 together, from all addresses in turn.
 """
+from __future__ import annotations
+
 import asyncio
 import collections
 import concurrent.futures
-from collections.abc import Callable
+from collections.abc import Callable, Sequence
 from dataclasses import dataclass, field
+from typing import Any, TypeAlias
 
 from chtab.errors import ProgramFault
+
+
+# A call that answers a list of questions.
+Call: TypeAlias = Callable[[list[Any]], Sequence[Any]]
 
 
 class Busy(Exception):
@@ -26,14 +33,14 @@ class Job:
     call that `is_shared` may be answered together, as far as their sizes go."""
 
     address: str
-    call: Callable
-    question: object
-    is_gone: Callable
+    call: Call
+    question: Any
+    is_gone: Callable[[], bool]
     is_shared: bool = False
     size: int = 1
-    answer: asyncio.Future = field(default_factory=lambda: asyncio.get_running_loop().create_future())
+    answer: asyncio.Future[Any] = field(default_factory=lambda: asyncio.get_running_loop().create_future())
 
-    def end(self, found):
+    def end(self, found: Any) -> None:
         """Gives the answer, or the fault, to the client that waits for it."""
         if self.answer.done():
             return
@@ -43,7 +50,7 @@ class Job:
             self.answer.set_result(found)
 
 
-def answers_to(call, questions):
+def answers_to(call: Call, questions: list[Any]) -> Sequence[Any]:
     """The answers to questions. A run that ended is begun anew, and asked once more."""
     try:
         return call(questions)
@@ -64,20 +71,22 @@ class Turns:
         The size of questions that are answered together.
     """
 
-    def __init__(self, at_once, most, together):
+    def __init__(self, at_once: int, most: int, together: int) -> None:
         self.at_once, self.most, self.together = at_once, most, together
         self.threads = concurrent.futures.ThreadPoolExecutor(at_once)
         # The jobs that wait, by address, the one whose turn it is first; how many batches are underway; and how many jobs are not answered.
-        self.lines, self.underway, self.unanswered = collections.OrderedDict(), collections.Counter(), 0
+        self.lines: collections.OrderedDict[str, collections.deque[Job]] = collections.OrderedDict()
+        self.underway: collections.Counter[str] = collections.Counter()
+        self.unanswered = 0
 
     @property
-    def is_full(self):
+    def is_full(self) -> bool:
         return self.unanswered >= self.most
 
-    def close(self):
+    def close(self) -> None:
         self.threads.shutdown(wait=False, cancel_futures=True)
 
-    async def answer(self, job):
+    async def answer(self, job: Job) -> Any:
         """The answer to a job, once it was its turn."""
         if self.is_full:
             self.make_room(job.address)
@@ -90,31 +99,31 @@ class Turns:
             self.unanswered -= 1
             self.forget(job)
 
-    def make_room(self, address):
+    def make_room(self, address: str) -> None:
         """Sends away the last request of the address of which the most wait, where more of it wait than of this one."""
-        greedy, line = max(self.lines.items(), key=lambda item: len(item[1]), default=(address, ()))
+        greedy, line = max(self.lines.items(), key=lambda item: len(item[1]), default=(address, collections.deque()))
         if len(line) <= len(self.lines.get(address, ())) + 1:
             raise Busy
         job = line.pop()
         self.drop_line(greedy)
         job.end(Busy())
 
-    def forget(self, job):
+    def forget(self, job: Job) -> None:
         """Takes away a job that still waits, whose client waits no longer."""
         line = self.lines.get(job.address)
         if line and job in line:
             line.remove(job)
             self.drop_line(job.address)
 
-    def drop_line(self, address):
+    def drop_line(self, address: str) -> None:
         if not self.lines[address]:
             del self.lines[address]
 
-    def may_begin(self, address):
+    def may_begin(self, address: str) -> bool:
         """One thread is kept for others than any address."""
         return self.underway[address] < max(1, self.at_once - 1)
 
-    def begin(self):
+    def begin(self) -> None:
         """Begins what can begin."""
         while self.underway.total() < self.at_once:
             address = next(filter(self.may_begin, self.lines), None)
@@ -125,7 +134,7 @@ class Turns:
                 self.underway[address] += 1
                 asyncio.get_running_loop().create_task(self.run(address, jobs))
 
-    def taken(self, address):
+    def taken(self, address: str) -> list[Job]:
         """The next job of an address, and those that are answered together with it; none where the clients went away."""
         first = self.next_of(address)
         if first is None:
@@ -141,7 +150,7 @@ class Turns:
                 size += job.size
         return jobs
 
-    def next_of(self, address):
+    def next_of(self, address: str) -> Job | None:
         """Takes the next job of an address, whose turn comes again after those of all others; None where its client went away."""
         job = self.lines[address].popleft()
         self.lines.move_to_end(address)
@@ -151,7 +160,7 @@ class Turns:
             return None
         return job
 
-    async def run(self, address, jobs):
+    async def run(self, address: str, jobs: list[Job]) -> None:
         """Answers jobs in a thread."""
         loop = asyncio.get_running_loop()
         try:

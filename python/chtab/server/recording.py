@@ -1,11 +1,18 @@
 """What is noted of each request: its counts, and a line of the access log."""
+from __future__ import annotations
+
 import logging
 import logging.handlers
 import time
+from typing import TYPE_CHECKING
 
 from chtab.server import web_policy
 from chtab.server.connections import client_of
 from chtab.server.metrics import REASONS, SERVICES
+
+if TYPE_CHECKING:
+    from aiohttp import web
+    from chtab.server.metrics import Row
 
 ACCESS, LOG = logging.getLogger("chtab.access"), logging.getLogger("chtab.service")
 # Seconds between two lines on standard error about one kind of event.
@@ -14,7 +21,7 @@ MINUTE = 60.0
 TOLD = {"connections": "connections were closed because there were more than there may be", "system": "times the system refused a connection"}
 
 
-def log_to(path):
+def log_to(path: str) -> None:
     """Writes the access log to the end of a file, `-` standard output. A file that was moved is begun anew, so that it can be rotated."""
     handler = logging.StreamHandler(open(1, "w", closefd=False)) if path == "-" else logging.handlers.WatchedFileHandler(path)
     handler.setFormatter(logging.Formatter("%(message)s"))
@@ -23,7 +30,7 @@ def log_to(path):
     ACCESS.propagate = False
 
 
-def service_of(path):
+def service_of(path: str) -> str:
     """The service that a request counts for."""
     if web_policy.is_osrm(path):
         name = path.split("/")[1]
@@ -31,7 +38,7 @@ def service_of(path):
     return "api" if path.startswith("/api/") else "page"
 
 
-def escaped(text):
+def escaped(text: str) -> str:
     """A text as it stands between quotes in the log: ASCII, without quotes, blanks of other kinds or ends of lines."""
     plain = text.encode("ascii", "backslashreplace").decode()
     return "".join(letter if letter.isprintable() and letter != '"' else f"\\x{ord(letter):02x}" for letter in plain)
@@ -41,12 +48,12 @@ class Recorder:
     """Counts what is answered in a row of metrics, and logs it where a log was asked for. Requests of the address `proxy` are those of the clients
     that it names."""
 
-    def __init__(self, row, proxy=None):
+    def __init__(self, row: Row, proxy: str | None = None) -> None:
         self.row, self.proxy = row, proxy
         # For each kind of event how often it came since it was told, and when that was.
-        self.events = {kind: [0, -MINUTE] for kind in TOLD}
+        self.events: dict[str, list[float]] = {kind: [0, -MINUTE] for kind in TOLD}
 
-    def note(self, request, response, seconds):
+    def note(self, request: web.BaseRequest, response: web.StreamResponse, seconds: float) -> None:
         """Notes a request that was answered. `request["refused"]` is the reason of a refusal with its line, where there is one."""
         reason, why = request.get("refused", ("", ""))
         self.row.add(service_of(request.path), response.status, seconds)
@@ -56,13 +63,13 @@ class Recorder:
             size = response.content_length or 0
             self.log(client_of(request, self.proxy), f"{request.method} {request.raw_path}", response.status, size, seconds, f"{reason}: {why}" if reason else "")
 
-    def log(self, address, asked, status, size, seconds, why):
+    def log(self, address: str, asked: str, status: int, size: int, seconds: float, why: str) -> None:
         """When, who, what, the status, the bytes of the answer, the milliseconds that it took, and why it was refused."""
         now = time.strftime("%Y-%m-%dT%H:%M:%SZ", time.gmtime())
         more = f' "{escaped(why)}"' if why else ""
         ACCESS.info("%s", f'{now} {escaped(address) or "-"} "{escaped(asked)}" {status} {size} {1000 * seconds:.1f}{more}')
 
-    def note_event(self, kind, address, status, why):
+    def note_event(self, kind: str, address: str, status: int, why: str) -> None:
         """Notes what happened to a connection that has no request."""
         if kind in REASONS:
             self.row.refuse(kind)
@@ -71,7 +78,7 @@ class Recorder:
         if kind in TOLD:
             self.tell(kind)
 
-    def tell(self, kind):
+    def tell(self, kind: str) -> None:
         """Tells of an event on standard error, where that was not done within the last minute."""
         event, now = self.events[kind], time.monotonic()
         event[0] += 1

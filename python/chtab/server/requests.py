@@ -1,7 +1,14 @@
 """Requests in JSON: their limits, and their fields, which are judged before anything is looked up."""
+from __future__ import annotations
+
 import json
 import zlib
+from collections.abc import Sequence
 from dataclasses import dataclass
+from typing import TYPE_CHECKING, Any
+
+if TYPE_CHECKING:
+    from chtab.typing import Point
 
 # What zlib calls the forms of bodies that are packed.
 PACKED = {"gzip": 31, "x-gzip": 31, "deflate": 15}
@@ -33,12 +40,12 @@ class Limits:
 class Refused(Exception):
     """A request that is refused, with the status and the line for the client."""
 
-    def __init__(self, text, status=400):
+    def __init__(self, text: str, status: int = 400) -> None:
         super().__init__(text)
         self.status = status
 
 
-def bytes_in(body, encoding, most):
+def bytes_in(body: bytes, encoding: str, most: int) -> bytes:
     """The bytes of a body, unpacked where it says that it is packed; never more than `most`."""
     encoding = encoding.strip().lower()
     if encoding in ("", "identity"):
@@ -57,26 +64,26 @@ def bytes_in(body, encoding, most):
     return found
 
 
-def number_in(value, low, high, name):
+def number_in(value: Any, low: float, high: float, name: str) -> float:
     if isinstance(value, bool) or not isinstance(value, (int, float)) or not low <= value <= high:
         raise Refused(f"{name} is a number from {low:,} to {high:,}")
     return value
 
 
-def place_in(value, name):
+def place_in(value: Any, name: str) -> Point:
     """A place: [longitude, latitude] in degrees."""
     if not isinstance(value, list) or len(value) != 2:
         raise Refused(f"{name} is a place [longitude, latitude]")
     return number_in(value[0], -180, 180, f"the longitude of {name}"), number_in(value[1], -90, 90, f"the latitude of {name}")
 
 
-def places_in(value, name, most):
+def places_in(value: Any, name: str, most: int) -> list[Point]:
     if not isinstance(value, list) or not 1 <= len(value) <= most:
         raise Refused(f"{name} is a list of 1 to {most:,} places")
     return [place_in(place, f"{name}[{index}]") for index, place in enumerate(value)]
 
 
-def fields_of(body, needed, optional=()):
+def fields_of(body: bytes, needed: Sequence[str], optional: Sequence[str] = ()) -> dict[str, Any]:
     """The fields of a request, which is an object of JSON with these and no others."""
     try:
         fields = json.loads(body)

@@ -3,13 +3,17 @@
 Requests wait for their turn in lines of bounded length, and a few are answered at once, in threads. Whatever goes wrong, a client gets JSON
 with a line that says what, and never a traceback.
 """
+from __future__ import annotations
+
 import asyncio
 import json
 import math
 import pathlib
 import resource
 import time
+from collections.abc import Callable, Sequence
 from dataclasses import dataclass
+from typing import TYPE_CHECKING, Any
 
 import numpy
 from aiohttp import web
@@ -25,6 +29,17 @@ from chtab.server.osrm.options import Refusal
 from chtab.server.queue import Job, Turns
 from chtab.server.requests import Limits, Refused, bytes_in, fields_of, number_in, place_in, places_in
 from chtab.server.tiles import Tiles
+
+if TYPE_CHECKING:
+    from chtab.files import Place
+    from chtab.roads.routes import Trip
+    from chtab.roads.snapping import Spots
+    from chtab.server.connections import Connections
+    from chtab.server.networks import Networks
+    from chtab.server.osrm.answering import Answers
+    from chtab.server.queue import Call
+    from chtab.server.recording import Recorder
+    from chtab.typing import Geojson, Point
 
 PAGE = pathlib.Path(__file__).parent / "page"
 # Debian's package libjs-leaflet.
@@ -44,20 +59,20 @@ class Choices:
     of OSRM's interface may call the network, none where by any, and the address of the proxy or None."""
 
     title: str = ""
-    places: tuple = ()
+    places: tuple[Place, ...] = ()
     tiles: str | None = None
     limits: Limits = Limits()
     osrm: answering.Limits = answering.Limits()
     caps: Caps = Caps(1_000, 250)
-    allowed: tuple = ()
-    profiles: tuple = ()
+    allowed: tuple[str, ...] = ()
+    profiles: tuple[str, ...] = ()
     proxy: str | None = None
 
 
 class Service:
     """The answers to requests, by `networks` that it keeps and doesn't close. `row` counts what this process answers, among those of `metrics`."""
 
-    def __init__(self, networks, choices=Choices(), metrics=None, row=0):
+    def __init__(self, networks: Networks, choices: Choices = Choices(), metrics: Metrics | None = None, row: int = 0) -> None:
         first = networks.first
         self.networks, self.network, self.choices, self.limits = networks, first.network, choices, choices.limits
         self.title, self.caps, self.proxy = choices.title or first.title, choices.caps, choices.proxy
@@ -79,16 +94,16 @@ class Service:
         self.is_failing, self.doubt, self.is_ending = False, asyncio.Event(), False
 
     @property
-    def longest(self):
+    def longest(self) -> int:
         """The characters of an address, and of a header, that are read."""
         return min(max(LONGEST, 2 * self.choices.osrm.address), LONGEST_OF_ALL)
 
-    def application(self, connections, recorder):
+    def application(self, connections: Connections, recorder: Recorder) -> web.Application:
         """The application of aiohttp, whose requests come by some connections and are recorded."""
         app = web.Application(client_max_size=self.limits.body, middlewares=[self.middleware(connections, recorder)])
         app.add_routes([
             web.get(web_policy.OSRM, self.answer_osrm),
-            web.get("/", lambda request: web.FileResponse(PAGE / "index.html")),
+            web.get("/", self.page),
             web.static("/page", PAGE),
             web.static("/leaflet", LEAFLET, follow_symlinks=True),
             web.get("/health", self.health),
@@ -102,12 +117,12 @@ class Service:
         app.on_cleanup.append(self.close)
         return app
 
-    def middleware(self, connections, recorder):
+    def middleware(self, connections: Connections, recorder: Recorder) -> Any:
         """What surrounds each answer: a fault is told as JSON with a line, headers are added, and the request is recorded."""
         allow = web_policy.allower(self.choices.allowed)
 
         @web.middleware
-        async def around(request, handler):
+        async def around(request: web.Request, handler: Any) -> web.StreamResponse:
             begun, connection = time.monotonic(), connections.begin(request)
             try:
                 response = web_policy.preflight(request) if allow and web_policy.is_preflight(request) else await handler(request)
@@ -125,7 +140,7 @@ class Service:
 
         return around
 
-    def fault(self, request, raised):
+    def fault(self, request: web.Request, raised: Exception) -> web.Response:
         """The answer that tells of a fault. Where what answers failed, it is looked at."""
         response = fault_of(request, raised, self.limits.body, self.networks.told)
         if request.get("refused", ("",))[0] == "program":
@@ -133,19 +148,19 @@ class Service:
             self.doubt.set()
         return response
 
-    async def close(self, app):
+    async def close(self, app: web.Application) -> None:
         self.turns.close()
 
-    async def answer(self, request, call, question, is_shared=False, size=1):
+    async def answer(self, request: web.Request, call: Call, question: Any, is_shared: bool = False, size: int = 1) -> Any:
         """The answer to a question of a client, once it is its turn: `call` answers a list of questions."""
         job = Job(client_of(request, self.proxy), call, question, lambda: is_gone(request), is_shared, size)
         return await self.turns.answer(job)
 
-    async def answer_alone(self, request, call, *words):
+    async def answer_alone(self, request: web.Request, call: Callable[..., Any], *words: Any) -> Any:
         """The value of a call, made in a thread once it is the client's turn."""
         return await self.answer(request, lambda questions: [call(*words)], None)
 
-    async def body_of(self, request):
+    async def body_of(self, request: web.Request) -> bytes:
         """The bytes of a request, once all are there."""
         try:
             body = await asyncio.wait_for(request.read(), self.limits.sending)
@@ -153,21 +168,21 @@ class Service:
             raise Refused("the request took too long to come", 408) from None
         return bytes_in(body, request.headers.get("Content-Encoding", ""), self.limits.body)
 
-    def answering(self, call):
+    def answering(self, call: Callable[[bytes], Any]) -> Any:
         """A handler that answers the body of a request with JSON."""
-        async def handle(request):
+        async def handle(request: web.Request) -> web.Response:
             body = await self.body_of(request)
             return json_of(await self.answer_alone(request, lambda: json.dumps(call(body))))
 
         return handle
 
-    async def answer_route(self, request):
+    async def answer_route(self, request: web.Request) -> web.Response:
         """Answers a request for a route, together with those that wait beside it: one question to the program serves them all."""
         fields = fields_of(await self.body_of(request), ("from", "to"))
         places = [place_in(fields[name], name) for name in ("from", "to")]
         return json_of(await self.answer(request, self.route_texts, places, is_shared=True))
 
-    async def answer_osrm(self, request):
+    async def answer_osrm(self, request: web.Request) -> web.Response:
         """Answers a request of OSRM's interface; routes, and the nearest roads, together with those that wait beside them."""
         words = url.words_of(request.raw_path, self.choices.osrm.address)
         answers = self.answers_for(words.profile)
@@ -178,7 +193,7 @@ class Service:
             return json_of(await self.answer(request, answers.nearest_ones, question, True))
         return json_of(await self.answer_alone(request, getattr(answers, question.service), question))
 
-    def answers_for(self, profile):
+    def answers_for(self, profile: str) -> Answers:
         """The answers of the network that a profile names; where one network is served, they know by which names it is called."""
         if len(self.osrm) == 1:
             return self.osrm[0]
@@ -186,24 +201,28 @@ class Service:
             raise Refusal("InvalidValue", f"the profiles are {', '.join(self.by_name)}")
         return self.by_name[profile]
 
-    async def health(self, request):
+    async def page(self, request: web.Request) -> web.FileResponse:
+        """The page."""
+        return web.FileResponse(PAGE / "index.html")
+
+    async def health(self, request: web.Request) -> web.Response:
         """Whether a request that comes now is taken and can be answered. It is told at once, whatever waits."""
         state = "ending" if self.is_ending else "failing" if self.is_failing else "busy" if self.turns.is_full else "ready"
         return web.json_response({"status": state, "waiting": self.turns.unanswered}, status=200 if state == "ready" else 503)
 
-    def try_engines(self):
+    def try_engines(self) -> None:
         """Begins what answers, where it is not there, and asks it a question. What fails is a `ChtabError`."""
         for each in self.networks:
             each.engine.load()
             if each.network.nodes and each.engine.distances(PROBE).tolist() != [0]:
                 raise ChtabError("what answers says that a node is not at itself")
 
-    async def tell_metrics(self, request):
+    async def tell_metrics(self, request: web.Request) -> web.Response:
         """What all processes of the service counted."""
         self.note()
         return web.Response(body=self.metrics.text().encode(), headers={"Content-Type": "text/plain; version=0.0.4; charset=utf-8"})
 
-    def note(self, connections=None):
+    def note(self, connections: int | None = None) -> None:
         """Notes how things stand in this process, for whichever process tells the metrics."""
         engines = [each.engine for each in self.networks]
         living, begun = sum(engine.living() for engine in engines), sum(engine.begun for engine in engines)
@@ -211,7 +230,7 @@ class Service:
         if connections is not None:
             self.row.note(connections=connections)
 
-    async def describe(self, request):
+    async def describe(self, request: web.Request) -> web.Response:
         """What the page has to know."""
         coordinates, limits, choices = self.network.coordinates, self.limits, self.choices
         xs, ys = ([x for x in column if not math.isnan(x)] for column in (coordinates.longitudes, coordinates.latitudes))
@@ -223,27 +242,27 @@ class Service:
             "limits": {"list": limits.list, "cells": limits.cells, "bands": limits.bands, "metres": limits.metres, "route": choices.osrm.route},
         })
 
-    async def tile(self, request):
+    async def tile(self, request: web.Request) -> web.Response:
         zoom, x, y = (int(request.match_info[name]) for name in ("zoom", "x", "y"))
         if zoom > 22 or max(x, y) >= 2**zoom:
             raise Refused("there is no such tile", 404)
         text = await self.answer_alone(request, self.tiles.tile, zoom, x, y)
         return web.Response(text=text, content_type="image/svg+xml", headers={"Cache-Control": "max-age=3600"})
 
-    def spots(self, places, names):
+    def spots(self, places: Sequence[Point], names: Sequence[str]) -> tuple[Spots, dict[int, str]]:
         """The places on roads, and what is told of those that are too far from each: {index: line}. `names` are the places'."""
         spots = self.network.roads.find_any(*zip(*places))
         far = {place: metres for place, metres in enumerate(spots.metres.tolist()) if not metres <= self.limits.metres}
         return spots, {place: f"{names[place]} is {length_text(metres)} from the nearest road" for place, metres in far.items()}
 
-    def near_spots(self, places, names):
+    def near_spots(self, places: Sequence[Point], names: Sequence[str]) -> Spots:
         """The same of places that are all near enough."""
         spots, far = self.spots(places, names)
         if far:
             raise Refused("; ".join(far.values()))
         return spots
 
-    def route_texts(self, pairs):
+    def route_texts(self, pairs: Sequence[Sequence[Point]]) -> list[str | Refused]:
         """For each pair of places a Feature of GeoJSON, as text: the line of the way, or null where there is none. Where a place is too far
         from each road, that is the error in its place."""
         spots, far = self.spots([place for pair in pairs for place in pair], ENDS * len(pairs))
@@ -255,10 +274,10 @@ class Service:
             self.route_text(found[pair], starts, ends, pair) if pair in found else Refused("; ".join(told[pair])) for pair in range(len(pairs))
         ]
 
-    def route_text(self, trip, starts, ends, pair):
+    def route_text(self, trip: Trip, starts: Spots, ends: Spots, pair: int) -> str:
         return trip.to_text({"unit": self.network.unit, "from": spot_of(starts, pair), "to": spot_of(ends, pair)})
 
-    def table(self, body):
+    def table(self, body: bytes) -> dict[str, Any]:
         """The weights, a row for each source, null for a source that is too far from each road; and which places are."""
         fields = fields_of(body, ("sources", "targets"), ("within",))
         lists = {name: places_in(fields[name], name, self.limits.list) for name in ("sources", "targets")}
@@ -281,7 +300,7 @@ class Service:
         ]
         return {"unit": self.network.unit, "weights": cells, **({"faults": faults} if faults else {})}
 
-    def reach(self, body):
+    def reach(self, body: bytes) -> Geojson:
         """A collection of GeoJSON: a MultiPolygon for each limit, the largest first."""
         fields = fields_of(body, ("from", "limits"))
         limits = fields["limits"]
@@ -292,7 +311,7 @@ class Service:
         return {**self.network.isochrones(spot, limits), "unit": self.network.unit, "from": spot_of(spot, 0)}
 
 
-def spot_of(spots, place):
+def spot_of(spots: Spots, place: int) -> dict[str, Any]:
     """Where a place was taken to, and how far that is."""
     return {
         "at": [round(float(spots.longitudes[place]), 6), round(float(spots.latitudes[place]), 6)],
@@ -300,11 +319,11 @@ def spot_of(spots, place):
     }
 
 
-def json_of(text):
+def json_of(text: str) -> web.Response:
     return web.Response(text=text, content_type="application/json")
 
 
-def resident_bytes():
+def resident_bytes() -> int:
     """The memory of this process."""
     pages = pathlib.Path("/proc/self/statm").read_text().split()[1]
     return int(pages) * resource.getpagesize()

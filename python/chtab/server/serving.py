@@ -3,6 +3,8 @@
 With several processes the first one reads the networks and looks after the others, which are forked from it. Each has a run of its own. All of
 them take connections from one socket, so that what waits there is lost by none that ends. One that ends by itself is begun anew.
 """
+from __future__ import annotations
+
 import asyncio
 import contextlib
 import logging
@@ -11,6 +13,8 @@ import select
 import signal
 import sys
 import time
+from collections.abc import Callable
+from typing import TYPE_CHECKING, Any, NoReturn, cast
 
 from aiohttp import web
 
@@ -18,6 +22,11 @@ from chtab.errors import ChtabError
 from chtab.server.connections import Connections
 from chtab.server.ports import notify
 from chtab.server.recording import Recorder
+
+if TYPE_CHECKING:
+    from chtab.server.metrics import Metrics
+    from chtab.server.ports import Port
+    from chtab.server.service import Service
 
 LOG = logging.getLogger("chtab.service")
 ENDING = signal.SIGINT, signal.SIGTERM
@@ -40,22 +49,23 @@ BACKLOG = 1_024
 class Serving:
     """A service that listens, until a signal comes, or what answers can't be begun."""
 
-    def __init__(self, service, port):
+    def __init__(self, service: Service, port: Port) -> None:
         self.service, self.port = service, port
         self.recorder = Recorder(service.row, service.proxy)
         self.connections = Connections(service.limits.idle, service.caps, self.recorder, service.proxy)
         self.loop, self.ended = asyncio.get_running_loop(), asyncio.Event()
         self.is_succeeded, self.status = False, 0
 
-    async def run(self, tell, parent=None):
+    async def run(self, tell: Callable[[], object], parent: int | None = None) -> int:
         """Serves, and ends once what is underway is answered; the status of the process. It ends too when the process that looks after this one
         has ended, which closes the pipe `parent`."""
         service, limits = self.service, self.service.limits
         runner = web.AppRunner(service.application(self.connections, self.recorder), access_log=None)
         await runner.setup()
+        http = cast(web.Server, runner.server)
         self.loop.set_exception_handler(self.told_fault)
         protocols = self.connections.watched(
-            runner.server, access_log=None, keepalive_timeout=limits.idle, max_line_size=service.longest, max_field_size=service.longest,
+            http, access_log=None, keepalive_timeout=limits.idle, max_line_size=service.longest, max_field_size=service.longest,
             auto_decompress=False,
         )
         server = await self.loop.create_server(protocols, sock=self.port.listening, backlog=BACKLOG)
@@ -79,12 +89,12 @@ class Serving:
             if self.is_succeeded:
                 await self.connections.empty(GRACE)
             await runner.shutdown()
-            await runner.server.shutdown(limits.ending)
+            await http.shutdown(limits.ending)
             service.networks.close()
             await runner.cleanup()
         return self.status
 
-    def hear(self, parent):
+    def hear(self, parent: int | None) -> None:
         """Hears of what ends the service, and of another one that takes the port over."""
         for number in ENDING:
             self.loop.add_signal_handler(number, self.ended.set)
@@ -92,25 +102,30 @@ class Serving:
         if parent is not None:
             self.loop.add_reader(parent, self.ended.set)
         else:
-            self.loop.add_reader(self.port.control, lambda: self.port.hand_over() and self.succeeded())
+            self.loop.add_reader(self.port.control, self.hand_over)
 
-    def succeeded(self):
+    def hand_over(self) -> None:
+        """Gives the port to another service that asks for it."""
+        if self.port.hand_over():
+            self.succeeded()
+
+    def succeeded(self) -> None:
         self.is_succeeded = True
 
-    def told_fault(self, loop, context):
+    def told_fault(self, loop: asyncio.AbstractEventLoop, context: dict[str, Any]) -> None:
         """Tells of a connection that the system refused once a minute, and of any other fault as ever."""
         if isinstance(context.get("exception"), OSError):
             self.recorder.note_event("system", "", 0, str(context["exception"]))
         else:
             loop.default_exception_handler(context)
 
-    async def keep_notes(self):
+    async def keep_notes(self) -> None:
         """Notes how things stand, as long as the service goes on."""
         while True:
             self.service.note(len(self.connections))
             await asyncio.sleep(NOTES)
 
-    async def keep_answering(self):
+    async def keep_answering(self) -> None:
         """Looks whether what answers is there, begins it where it is not, and ends the service where that fails again and again."""
         tries = 0
         while True:
@@ -134,7 +149,7 @@ class Serving:
                 await asyncio.sleep(LOOKS)
 
 
-async def serve(service, port, tell, parent=None):
+async def serve(service: Service, port: Port, tell: Callable[[], object], parent: int | None = None) -> int:
     """Serves at a port until a signal comes; the status of the process."""
     return await Serving(service, port).run(tell, parent)
 
@@ -142,11 +157,11 @@ async def serve(service, port, tell, parent=None):
 class Child:
     """A process that serves: its number, its place among the others, and the pipe that it tells by once it serves."""
 
-    def __init__(self, number, place, told):
+    def __init__(self, number: int, place: int, told: int) -> None:
         self.number, self.place, self.told, self.is_serving = number, place, told, False
         self.ending = os.pidfd_open(number)
 
-    def close(self):
+    def close(self) -> None:
         os.close(self.ending)
         os.close(self.told)
 
@@ -158,14 +173,15 @@ class Family:
     gives files the names that the user knows.
     """
 
-    def __init__(self, count, make, metrics, port, told):
+    def __init__(self, count: int, make: Callable[[int], Service], metrics: Metrics, port: Port, told: Callable[[str], str]) -> None:
         self.count, self.make, self.metrics, self.port, self.told = count, make, metrics, port, told
-        self.children, self.is_ending, self.status = {}, False, 0
+        self.children: dict[int, Child] = {}
+        self.is_ending, self.status = False, 0
         # For each place how often a process failed to serve there, and when the next one is begun.
         self.failures, self.due = [0] * count, {place: 0.0 for place in range(count)}
         self.life, self.parent_end = os.pipe()
 
-    def run(self, tell):
+    def run(self, tell: Callable[[], object]) -> int:
         """Begins the processes, tells when all of them serve, and looks after them until a signal comes; the status of the process."""
         for number in ENDING:
             signal.signal(number, self.end)
@@ -181,7 +197,7 @@ class Family:
             self.judge(is_told)
         return self.status
 
-    def judge(self, was_ready):
+    def judge(self, was_ready: bool) -> None:
         """Ends all where no process has served at first, or none serves and tries fail again and again."""
         if self.is_ending:
             return
@@ -193,14 +209,14 @@ class Family:
             self.status = GIVEN_UP
             self.end()
 
-    def begin_due(self):
+    def begin_due(self) -> None:
         """Begins the processes whose time has come."""
         for place, due in list(self.due.items()):
             if due <= time.monotonic() and not self.is_ending:
                 del self.due[place]
                 self.begin(place)
 
-    def begin(self, place):
+    def begin(self, place: int) -> None:
         """Forks a process, which ends without coming back. Signals wait meanwhile, so that none is missed by both or heard by the wrong one."""
         told, tell = os.pipe()
         signal.pthread_sigmask(signal.SIG_BLOCK, ENDING)
@@ -215,7 +231,7 @@ class Family:
         if self.is_ending:
             self.end()
 
-    def serve(self, place, tell):
+    def serve(self, place: int, tell: int) -> NoReturn:
         status = 1
         try:
             for number in ENDING:
@@ -231,7 +247,7 @@ class Family:
                 sys.stdout.flush()
             os._exit(status)
 
-    def look(self):
+    def look(self) -> None:
         """Waits until something happens, and sees to it."""
         poll, control = select.poll(), self.port.control
         poll.register(control, select.POLLIN)
@@ -251,7 +267,7 @@ class Family:
             if child.ending in ready:
                 self.bury(child)
 
-    def bury(self, child):
+    def bury(self, child: Child) -> None:
         """Notes that a process has ended, and when another is begun in its place."""
         _, status = os.waitpid(child.number, 0)
         del self.children[child.number]
@@ -264,7 +280,7 @@ class Family:
         self.due[child.place] = time.monotonic() + pause
         print(f"chtab-page: process {child.number} ended, and is begun anew", file=sys.stderr)
 
-    def end(self, *_):
+    def end(self, *_: object) -> None:
         """Ends all processes, each once it has answered what is underway."""
         if not self.is_ending:
             notify("STOPPING=1")

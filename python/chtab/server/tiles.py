@@ -1,9 +1,16 @@
 """The roads of a network as a map: square tiles of SVG in the numbering that web maps have, drawn from the graph alone."""
+from __future__ import annotations
+
 import functools
+from typing import TYPE_CHECKING
 
 import numpy
 
 from chtab.roads import picture
+
+if TYPE_CHECKING:
+    from chtab.roads.snapping import Roads
+    from chtab.typing import Floats, Integers
 
 # Pixels of a tile, units of the drawing for each, and how far beyond its border roads are looked for, in pixels.
 SIDE, FINE, BEYOND = 256, 4, 8
@@ -23,7 +30,7 @@ MOST = 60_000
 KEPT_TILES = 512
 
 
-def world(places):
+def world(places: Floats) -> Floats:
     """Longitudes and latitudes (n, 2) as parts of the map's square, from its north-west corner."""
     x = places[:, 0] / 360 + 0.5
     y = 0.5 - numpy.arcsinh(numpy.tan(numpy.radians(numpy.clip(places[:, 1], -85, 85)))) / (2 * numpy.pi)
@@ -33,20 +40,20 @@ def world(places):
 class Tiles:
     """The tiles of a network's roads."""
 
-    def __init__(self, roads, is_timed):
+    def __init__(self, roads: Roads, is_timed: bool) -> None:
         from chtab.roads.lines import metres_between
 
         arcs, ends, _ = roads.segments()
         kept = ~numpy.isnan(ends).any(axis=1)
         arcs, ends = arcs[kept], ends[kept]
         self.ends = numpy.hstack([world(ends[:, :2]), world(ends[:, 2:])])
-        self.low, self.high = (end(self.ends[:, :2], self.ends[:, 2:]) for end in (numpy.minimum, numpy.maximum))
+        self.low, self.high = numpy.minimum(self.ends[:, :2], self.ends[:, 2:]), numpy.maximum(self.ends[:, :2], self.ends[:, 2:])
         metres = numpy.bincount(arcs, metres_between(*ends.T), len(roads.weights)) if len(arcs) else numpy.zeros(0)
         speeds = metres * 3600 / numpy.maximum(roads.weights, 1) if is_timed else numpy.full(len(roads.weights), 30.0)
         self.kinds = numpy.searchsorted([kind[0] for kind in KINDS], speeds[arcs], side="right") - 1
 
     @functools.lru_cache(KEPT_TILES)
-    def tile(self, zoom, x, y):
+    def tile(self, zoom: int, x: int, y: int) -> str:
         """The text of a tile."""
         scale = 2.0**zoom
         margin = BEYOND / SIDE
@@ -72,12 +79,12 @@ class Tiles:
             'fill="none" stroke-linecap="round" stroke-linejoin="round">', *borders, *roads, "</svg>",
         ])
 
-    def line(self, places, scale, corner):
+    def line(self, places: Integers, scale: float, corner: Integers) -> str:
         """These pieces of road as an SVG path, in a tile's units."""
         ends = numpy.round((self.ends[places] * scale - numpy.tile(corner, 2)) * SIDE * FINE).astype(int)
         ends = numpy.unique(ends, axis=0).tolist() if len(ends) else []
         return picture.path([((a, b), (c, d)) for a, b, c, d in ends])
 
 
-def stroke(line, colour, pixels):
+def stroke(line: str, colour: str, pixels: float) -> str:
     return f'<path d="{line}" stroke="{colour}" stroke-width="{pixels * FINE:.1f}"/>' if line else ""

@@ -1,7 +1,10 @@
 """What the service tells browsers about its answers: what a page may load and run, what they tell others of it, and which pages of other sites
 may ask (CORS: the Fetch standard of WHATWG).
 """
+from __future__ import annotations
+
 import re
+from collections.abc import Callable, Collection, Mapping
 
 from aiohttp import web
 
@@ -20,7 +23,7 @@ OPEN_TO_OTHERS = ("/api/", "/health", "/roads/")
 REMEMBERED = 86_400
 
 
-def tile_sources(tiles):
+def tile_sources(tiles: str | None) -> list[str]:
     """The servers of a layer of map tiles, as a policy names them: none where it is None or the service's own. An address of no such server is
     a `ChtabError`."""
     if tiles is None or not ABSOLUTE.match(tiles):
@@ -29,10 +32,10 @@ def tile_sources(tiles):
     found = [SERVER.match(address) for address in addresses]
     if None in found:
         raise ChtabError(f"{tiles} is not the address of map tiles, as https://tile.example.org/{{z}}/{{x}}/{{y}}.png")
-    return [server[1] for server in found]
+    return [server[1] for server in found if server]
 
 
-def headers(tiles):
+def headers(tiles: str | None) -> dict[str, str]:
     """The headers of each answer, for a page with this layer of map tiles or None. No script runs but those that are served as files."""
     images = " ".join(["'self'", "data:", *tile_sources(tiles)])
     policy = {
@@ -47,7 +50,7 @@ def headers(tiles):
     }
 
 
-def add_headers(response, added):
+def add_headers(response: web.StreamResponse, added: Mapping[str, str]) -> None:
     """Adds headers to an answer that is not sent yet."""
     response.headers.update(added)
     # The page's files are asked for anew each time, because files of two versions don't fit together.
@@ -57,18 +60,18 @@ def add_headers(response, added):
 # Pages of other sites.
 
 
-def is_osrm(path):
+def is_osrm(path: str) -> bool:
     return bool(IS_OSRM.fullmatch(path))
 
 
-def is_open(request):
+def is_open(request: web.BaseRequest) -> bool:
     return request.path.startswith(OPEN_TO_OTHERS) or is_osrm(request.path)
 
 
-def allower(origins):
+def allower(origins: Collection[str]) -> Callable[[web.BaseRequest, web.StreamResponse], None] | None:
     """A call for a request and its answer, which names the origin that asks where it is one of these; `*` stands for all. None where there is no
     origin."""
-    def allow(request, response):
+    def allow(request: web.BaseRequest, response: web.StreamResponse) -> None:
         if not is_open(request):
             return
         origin = request.headers.get("Origin")
@@ -76,18 +79,18 @@ def allower(origins):
             response.headers["Access-Control-Allow-Origin"] = "*"
         else:
             response.headers.add("Vary", "Origin")
-            if origin in origins:
+            if origin is not None and origin in origins:
                 response.headers["Access-Control-Allow-Origin"] = origin
 
     return allow if origins else None
 
 
-def is_preflight(request):
+def is_preflight(request: web.BaseRequest) -> bool:
     """Whether a browser asks what a page of another site may send."""
     return request.method == "OPTIONS" and is_open(request)
 
 
-def preflight(request):
+def preflight(request: web.BaseRequest) -> web.Response:
     """The answer to that."""
     return web.Response(status=204, headers={
         "Access-Control-Allow-Methods": "GET, POST", "Access-Control-Allow-Headers": "Content-Type", "Access-Control-Max-Age": str(REMEMBERED),

@@ -1,6 +1,9 @@
 """Answers to requests of OSRM's interface, by one network."""
+from __future__ import annotations
+
 import json
-from typing import NamedTuple
+from collections.abc import Iterable, Mapping, Sequence
+from typing import TYPE_CHECKING, Any, NamedTuple
 
 import numpy
 
@@ -11,6 +14,13 @@ from chtab.server.osrm import matching, options, telling, tours, url
 from chtab.server.osrm.crossings import Crossings
 from chtab.server.osrm.options import Refusal
 from chtab.server.osrm.steps import Steps
+
+if TYPE_CHECKING:
+    from chtab import files
+    from chtab.network import Network
+    from chtab.roads.legs import Legs
+    from chtab.roads.snapping import Roads
+    from chtab.typing import Floats, Integers, Point
 
 # OSRM's words for ways of travelling.
 MODES = {"car": "driving", "bicycle": "cycling", "foot": "walking"}
@@ -33,24 +43,24 @@ class Limits(NamedTuple):
     nearest: int = 100
 
     @property
-    def address(self):
+    def address(self) -> int:
         """The characters of an address."""
         return max(32_768, OF_ADDRESS + OF_COORDINATE * max(self.route, self.table, self.trip, self.match))
 
-    def coordinates(self, service):
-        return 1 if service == "nearest" else getattr(self, service)
+    def coordinates(self, service: str) -> int:
+        return 1 if service == "nearest" else int(getattr(self, service))
 
 
 class Question(NamedTuple):
     """A request that was read."""
 
     service: str
-    coordinates: list
+    coordinates: list[Point]
     general: options.General
-    own: object
+    own: Any
 
 
-def profile_of(comments):
+def profile_of(comments: Sequence[str]) -> str:
     """The way of travelling that a graph was made for, by its comments; empty where they don't say so."""
     for name in profiles.NAMES:
         if any(comment.startswith(f"Roads for {profiles.profile(name).people},") for comment in comments):
@@ -62,13 +72,16 @@ class Answers:
     """Answers by a network. Clients may call it by each of the names `profiles`, and where there is none by any name. `streets` are what its arcs
     are called, `files.Streets` or None, and `numbers` what the map calls its nodes, or None."""
 
-    def __init__(self, network, profiles=(), limits=Limits(), streets=None, numbers=None):
+    def __init__(
+        self, network: Network, profiles: Sequence[str] = (), limits: Limits = Limits(), streets: files.Streets | None = None,
+        numbers: Integers | None = None,
+    ) -> None:
         coordinates = network.coordinates
         self.network, self.limits, self.profiles = network, limits, profiles
         steps = Steps(Crossings(network.roads, coordinates.copies(), streets))
         self.voice = telling.Voice(steps, numbers, MODES.get(profile_of(coordinates.comments), "driving"))
 
-    def question(self, words):
+    def question(self, words: url.Words) -> Question:
         """The question of a request's words, which is read before anything is looked up."""
         if self.network.unit != "milliseconds":
             raise Refusal("InvalidService", "the weights of this network are not milliseconds, so that it has no durations")
@@ -80,7 +93,7 @@ class Answers:
         self.see_to_limits(question)
         return question
 
-    def see_to_limits(self, question):
+    def see_to_limits(self, question: Question) -> None:
         limits, own = self.limits, question.own
         if question.service == "nearest" and own > limits.nearest:
             raise Refusal("TooBig", f"number: at most {limits.nearest:,}")
@@ -95,13 +108,14 @@ class Answers:
 
     # Where coordinates are taken to.
 
-    def spots_of(self, questions):
+    def spots_of(self, questions: Sequence[Question]) -> tuple[Spots, dict[int, Refusal]]:
         """The spots of questions, one after the other, and the faults of those that have a coordinate without a road: {place: fault}."""
         roads = self.network.roads
         spots = roads.find_any(*zip(*(place for question in questions for place in question.coordinates)))
-        faults, first = {}, 0
+        faults: dict[int, Refusal] = {}
+        first = 0
         for place, question in enumerate(questions):
-            facing = [index for index, bearing in enumerate(question.general.bearings) if bearing]
+            facing = [(index, bearing) for index, bearing in enumerate(question.general.bearings) if bearing]
             if facing:
                 spots, fault = facing_spots(roads, spots, question, first, facing)
             else:
@@ -112,14 +126,14 @@ class Answers:
             first += len(question.coordinates)
         return spots, faults
 
-    def own_spots(self, question):
+    def own_spots(self, question: Question) -> Spots:
         """The spots of one question. What lies near no road is a fault."""
         spots, faults = self.spots_of([question])
         for fault in faults.values():
             raise fault
         return spots
 
-    def waypoints(self, spots, has_hints):
+    def waypoints(self, spots: Spots, has_hints: bool) -> list[dict[str, Any]]:
         """OSRM's waypoints of spots. Hints are empty."""
         columns = (spots.longitudes.round(6).tolist(), spots.latitudes.round(6).tolist(), spots.metres.round(1).tolist())
         steps, hint = self.voice.steps, {"hint": ""} if has_hints else {}
@@ -128,7 +142,7 @@ class Answers:
 
     # Routes.
 
-    def routes(self, questions):
+    def routes(self, questions: Sequence[Question]) -> list[str | Refusal]:
         """The answers to questions for routes, as texts or faults, found together."""
         spots, faults = self.spots_of(questions)
         cuts = numpy.cumsum([0, *(len(question.coordinates) for question in questions)]).tolist()
@@ -147,19 +161,19 @@ class Answers:
             for place, question in enumerate(questions)
         ]
 
-    def route_texts(self, legs, parts, own):
+    def route_texts(self, legs: Legs, parts: Sequence[list[int]], own: Sequence[options.Route]) -> list[str]:
         """The texts of routes, each over a part of the legs, and told with its own options."""
         wanted = [leg for part, each in zip(parts, own) if each.has_lines for leg in part]
         return telling.routes(self.voice, legs, parts, dict(zip(wanted, legs.traces(wanted))), own)
 
-    def route_answer(self, question, text, spots):
+    def route_answer(self, question: Question, text: str, spots: Spots) -> str:
         general = question.general
         more = f', "waypoints": {json.dumps(self.waypoints(spots, general.has_hints))}' if general.has_waypoints else ""
         return f'{{"code": "Ok", "routes": [{text}]{more}}}'
 
     # Round trips and tracks.
 
-    def trip(self, question):
+    def trip(self, question: Question) -> str:
         """A trip over all coordinates, in an order that is short."""
         own, general = question.own, question.general
         spots = self.own_spots(question)
@@ -177,7 +191,7 @@ class Answers:
             more = f', "waypoints": {json.dumps(told)}'
         return f'{{"code": "Ok", "trips": [{text}]{more}}}'
 
-    def match(self, question):
+    def match(self, question: Question) -> str:
         """The likeliest roads of a track."""
         own, general = question.own, question.general
         track = matching.Track(numpy.array(question.coordinates), general.radiuses, own.timestamps)
@@ -192,9 +206,9 @@ class Answers:
         more = f', "tracepoints": {json.dumps(self.tracepoints(question, parts))}' if general.has_waypoints else ""
         return f'{{"code": "Ok", "matchings": [{matchings}]{more}}}'
 
-    def tracepoints(self, question, parts):
+    def tracepoints(self, question: Question, parts: Sequence[matching.Part]) -> list[dict[str, Any] | None]:
         """Where each coordinate was taken to; null for one that was left out."""
-        found = [None] * len(question.coordinates)
+        found: list[dict[str, Any] | None] = [None] * len(question.coordinates)
         for number, part in enumerate(parts):
             told = self.waypoints(part.spots, question.general.has_hints)
             for index, (place, each, others) in enumerate(zip(part.places, told, part.others)):
@@ -203,13 +217,13 @@ class Answers:
 
     # Tables.
 
-    def table(self, question):
+    def table(self, question: Question) -> str:
         """The durations of a table, the metres of the routes that these are of, or both."""
         own, general = question.own, question.general
         spots = self.own_spots(question)
         starts, ends = spots[own.sources], spots[own.destinations]
         best, ways = table_ways(self.network._trips, starts, ends)
-        found = {"code": "Ok"}
+        found: dict[str, Any] = {"code": "Ok"}
         if own.has_durations:
             durations = (best / telling.MILLISECONDS * own.scale).round(3)
             found["durations"] = with_nulls(durations, best)
@@ -219,7 +233,7 @@ class Answers:
             found["sources"], found["destinations"] = (self.waypoints(some, general.has_hints) for some in (starts, ends))
         return json.dumps(found)
 
-    def metres(self, starts, ends, best, ways):
+    def metres(self, starts: Spots, ends: Spots, best: Integers, ways: Integers) -> Floats:
         """The metres of the route of each cell that has one."""
         rows, columns = numpy.nonzero(best < FAR)
         metres = numpy.zeros(best.shape)
@@ -232,7 +246,7 @@ class Answers:
 
     # The nearest roads.
 
-    def nearest(self, question):
+    def nearest(self, question: Question) -> str:
         """As many of the nearest roads as are asked for."""
         [(longitude, latitude)] = question.coordinates
         spots = self.network.roads.find_some(longitude, latitude, question.own)
@@ -240,26 +254,26 @@ class Answers:
         spots = spots[numpy.argsort(spots.metres, kind="stable")]
         return self.nearest_answer(question, spots[spots.metres <= question.general.radiuses[0]])
 
-    def nearest_ones(self, questions):
+    def nearest_ones(self, questions: Sequence[Question]) -> list[str | Refusal]:
         """The answers to questions for the one nearest road, as texts or faults, found together."""
         spots, faults = self.spots_of(questions)
         return [faults.get(place) or self.nearest_answer(question, spots[place:place + 1]) for place, question in enumerate(questions)]
 
-    def nearest_answer(self, question, spots):
-        found = {"code": "Ok"}
+    def nearest_answer(self, question: Question, spots: Spots) -> str:
+        found: dict[str, Any] = {"code": "Ok"}
         if question.general.has_waypoints:
             waypoints = self.waypoints(spots, question.general.has_hints)
             found["waypoints"] = [{"nodes": self.ends_of(spots, place), **waypoint} for place, waypoint in enumerate(waypoints)]
         return json.dumps(found)
 
-    def ends_of(self, spots: Spots, place):
+    def ends_of(self, spots: Spots, place: int) -> list[int]:
         """The numbers of the nodes at both ends of a spot's road."""
         roads, numbers = self.network.roads, self.voice.numbers
         nodes = [int(column[spots.roads[place]]) for column in (roads.firsts, roads.lasts)]
         return nodes if numbers is None else numbers[numpy.array(nodes) - 1].tolist()
 
 
-def with_nulls(cells, best):
+def with_nulls(cells: Floats, best: Integers) -> list[list[float | None]]:
     """The rows of a table, with null where there is no way."""
     rows = cells.tolist()
     for row, column in zip(*map(numpy.ndarray.tolist, numpy.nonzero(best == FAR))):
@@ -270,7 +284,7 @@ def with_nulls(cells, best):
 # Where coordinates were taken to.
 
 
-def numbers_in(path, count):
+def numbers_in(path: str, count: int) -> Integers | None:
     """The map's numbers of nodes 1, 2, .. by a file of names, or None where there is none, or not each name is a number."""
     try:
         with open(path, "rb") as file:
@@ -281,28 +295,30 @@ def numbers_in(path, count):
     return numpy.array(numbers, numpy.int64) if fits else None
 
 
-def facing_spots(roads, spots, question, first, facing):
+def facing_spots(
+    roads: Roads, spots: Spots, question: Question, first: int, facing: Sequence[tuple[int, tuple[int, int]]],
+) -> tuple[Spots, Refusal | None]:
     """The spots with those of some coordinates of a question in their place, which face the direction that is asked for, and the fault where one has
     none. The spots of the question begin at `first`."""
     found = []
-    for index in facing:
-        one = roads.find_facing(*question.coordinates[index], *question.general.bearings[index])
+    for index, bearing in facing:
+        one = roads.find_facing(*question.coordinates[index], *bearing)
         if not len(one):
             return spots, Refusal("NoSegment", f"no road leads in the direction of coordinate {index}")
         found.append(one)
     every = matching.together([spots, *found])
     which = numpy.arange(len(spots))
-    which[[first + index for index in facing]] = len(spots) + numpy.arange(len(facing))
+    which[[first + index for index, _ in facing]] = len(spots) + numpy.arange(len(facing))
     return every[which], None
 
 
-def far_fault(metres, radiuses):
+def far_fault(metres: Floats, radiuses: Sequence[float]) -> Refusal | None:
     """The refusal of a coordinate that has no road within its radius, None where each has one."""
     far = numpy.flatnonzero(~(metres <= radiuses))[:1].tolist()
     return Refusal("NoSegment", f"coordinate {far[0]} is {length_text(metres[far[0]])} from the nearest road, more than its radius") if far else None
 
 
-def see_that_near(spots, radiuses):
+def see_that_near(spots: Spots, radiuses: Sequence[float]) -> None:
     """Refuses a coordinate that has no road within its radius."""
     fault = far_fault(spots.metres, radiuses)
     if fault:

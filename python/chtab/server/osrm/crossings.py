@@ -3,13 +3,22 @@
 An end of a road is numbered: 2k is the end of road k at its first place, and 2k + 1 the one at its last. Who drives along road k leaves by the
 end 2k and comes to the crossing by 2k + 1, and the other way round who drives back. So the number of an end is also that of leaving by it.
 """
-from typing import NamedTuple
+from __future__ import annotations
+
+from collections.abc import Callable, Hashable, Mapping
+from typing import TYPE_CHECKING, NamedTuple
 
 import numpy
 
 from chtab.files import Street
 from chtab.roads.lines import ranges
 from chtab.roads.snapping import NONE
+
+if TYPE_CHECKING:
+    from chtab import files
+    from chtab.roads.lines import Lines
+    from chtab.roads.snapping import Roads
+    from chtab.typing import Floats, Integers, Marks
 
 # The direction in which a road leads away is that of the point so many metres along it.
 AHEAD = 10.0
@@ -19,11 +28,11 @@ RAMPS, FAST, FERRY = ("motorway_link", "trunk_link"), ("motorway", "trunk"), "fe
 class Meeting(NamedTuple):
     """The ends of roads that meet at some crossings, one after the other: to which of the crossings each belongs, and the end."""
 
-    owners: numpy.ndarray
-    ends: numpy.ndarray
+    owners: Integers
+    ends: Integers
 
 
-def bearings(starts, ends):
+def bearings(starts: Floats, ends: Floats) -> Integers:
     """The directions from places to others (n, 2) in whole degrees, clockwise from north; 0 where they are the same."""
     (x, y), (u, v) = numpy.radians(starts).T, numpy.radians(ends).T
     east = numpy.sin(u - x) * numpy.cos(v)
@@ -31,12 +40,12 @@ def bearings(starts, ends):
     return numpy.rint(numpy.degrees(numpy.arctan2(east, north))).astype(numpy.int64) % 360
 
 
-def turned(bearing, other):
+def turned(bearing: Integers, other: Integers) -> Integers:
     """The angle from one direction to another, from -180 to 179 degrees; above 0 is to the right."""
     return (other - bearing + 180) % 360 - 180
 
 
-def leading(lines):
+def leading(lines: Lines) -> Integers:
     """For each end of each line the direction in which the line leads away from there."""
     count = len(lines)
     shares = numpy.minimum(1.0, AHEAD / numpy.where(lines.metres > 0, lines.metres, 1.0))
@@ -55,9 +64,10 @@ def leading(lines):
 class Crossings:
     """The crossings of some roads, whose arcs have streets, `files.Streets` or None. `copies` are the nodes that stand for others."""
 
-    def __init__(self, roads, copies, streets=None):
+    def __init__(self, roads: Roads, copies: Mapping[int, int], streets: files.Streets | None = None) -> None:
         self.roads = roads
-        self.streets, self.side = [Street(), *(streets.streets if streets else ())], streets and streets.side
+        self.streets = [Street(), *(streets.streets if streets else ())]
+        self.side = streets and streets.side
         self.street_of_arc = numpy.array(streets.of_arcs, numpy.int64) if streets else numpy.zeros(len(roads.tails), numpy.int64)
         self.crossing = numpy.arange(len(roads.places) + 1)
         for copy, node in copies.items():
@@ -67,13 +77,13 @@ class Crossings:
         self.find_open()
         self.judge_streets()
 
-    def find_ends(self):
+    def find_ends(self) -> None:
         """The ends at each crossing, clockwise from north: those of crossing c are `ends[firsts[c]:firsts[c + 1]]`."""
         nodes = numpy.column_stack([self.roads.firsts, self.roads.lasts]).reshape(-1)
         self.ends = numpy.lexsort([numpy.arange(len(nodes)), self.leads, nodes])
         self.firsts = numpy.searchsorted(nodes[self.ends], numpy.arange(len(self.crossing) + 1))
 
-    def find_open(self):
+    def find_open(self) -> None:
         """By which ends each node is left, and the street of leaving by each: that of the lightest arc, or where the road is closed that way
         that of coming back."""
         kept = numpy.flatnonzero(self.roads.road_of != NONE)
@@ -84,14 +94,14 @@ class Crossings:
         known[ends[order]] = self.street_of_arc[kept[order]]
         self.street_of = numpy.where(known < 0, known.reshape(-1, 2)[:, ::-1].reshape(-1), known).clip(0)
 
-    def judge_streets(self):
+    def judge_streets(self) -> None:
         """What has to be known of streets: rings, ramps, fast roads, ferries, and numbers by which those of one kind, or that are called alike, are
         the same."""
-        def flags(test):
+        def flags(test: Callable[[Street], bool]) -> Marks:
             return numpy.array([test(street) for street in self.streets], bool)
 
-        def numbers(key):
-            known = {}
+        def numbers(key: Callable[[Street], Hashable]) -> Integers:
+            known: dict[Hashable, int] = {}
             return numpy.array([known.setdefault(key(street), len(known)) for street in self.streets])
 
         self.is_ring = flags(lambda street: bool(street.junction))
@@ -102,13 +112,13 @@ class Crossings:
         self.is_called = flags(lambda street: bool(street.name or street.ref))
         self.kind, self.called = numbers(lambda street: street.highway), numbers(lambda street: street.name or street.ref)
 
-    def meeting(self, nodes):
+    def meeting(self, nodes: Integers) -> Meeting:
         """The ends that meet at the crossings of some nodes."""
         crossings = self.crossing[nodes]
         counts = self.firsts[crossings + 1] - self.firsts[crossings]
         return Meeting(numpy.repeat(numpy.arange(len(nodes)), counts), self.ends[ranges(self.firsts[crossings], counts)])
 
-    def is_open(self, nodes, ends):
+    def is_open(self, nodes: Integers, ends: Integers) -> Marks:
         """Whether a node may be left by an end, of each pair."""
         keys = nodes << 32 | ends
         at = numpy.searchsorted(self.open_keys, keys).clip(0, max(len(self.open_keys) - 1, 0))

@@ -2,13 +2,21 @@
 
 A leg is cut into pieces, each a road or a part of one that is driven along in one direction. Between two pieces lies a passage of a crossing.
 """
-from typing import NamedTuple
+from __future__ import annotations
+
+from collections.abc import Sequence
+from typing import TYPE_CHECKING, Any, NamedTuple
 
 import numpy
 
 from chtab.roads.lines import ranges
 from chtab.server.osrm.crossings import turned
 from chtab.roads.snapping import NONE
+
+if TYPE_CHECKING:
+    from chtab.roads.legs import Legs, Trace
+    from chtab.server.osrm.crossings import Crossings
+    from chtab.typing import Integers, Marks
 
 # Degrees up to which a way leads straight on, slightly to a side, and to a side; beyond it the turn is sharp.
 STRAIGHT, SLIGHT, SQUARE = 20, 40, 120
@@ -21,17 +29,17 @@ class Pieces(NamedTuple):
     """The pieces of legs, one leg after the other: the place of the leg in the list of those that were asked for, the end that is left by, the
     street, the node that it comes to, and the place of its end in the leg's trace."""
 
-    legs: numpy.ndarray
-    ends: numpy.ndarray
-    streets: numpy.ndarray
-    heads: numpy.ndarray
-    stops: numpy.ndarray
+    legs: Integers
+    ends: Integers
+    streets: Integers
+    heads: Integers
+    stops: Integers
 
-    def chosen(self, which):
+    def chosen(self, which: Any) -> Pieces:
         return Pieces(*(column[which] for column in self))
 
 
-def pieces_of(crossings, legs, which, traces):
+def pieces_of(crossings: Crossings, legs: Legs, which: Integers, traces: Sequence[Trace]) -> Pieces:
     """The pieces of some legs, `which` an array of their numbers. What leads along no road is none, nor is a stretch without length."""
     is_walk, walks = legs.is_walk[which], legs.walks
     arc_counts = walks.firsts[which + 1] - walks.firsts[which]
@@ -63,24 +71,24 @@ class Passages(NamedTuple):
     comes and goes, what is done there, the number of the exit where a ring is entered or left, whether three roads meet, and where a ring is
     entered or left the piece of its beginning and the one behind it, -1 where there is none; to which side one goes."""
 
-    before: numpy.ndarray
-    ins: numpy.ndarray
-    outs: numpy.ndarray
-    nodes: numpy.ndarray
-    came: numpy.ndarray
-    goes: numpy.ndarray
-    kinds: numpy.ndarray
-    exits: numpy.ndarray
-    is_crossing: numpy.ndarray
-    rings: numpy.ndarray
-    behind: numpy.ndarray
-    modifiers: list
+    before: Integers
+    ins: Integers
+    outs: Integers
+    nodes: Integers
+    came: Integers
+    goes: Integers
+    kinds: Integers
+    exits: Integers
+    is_crossing: Marks
+    rings: Integers
+    behind: Integers
+    modifiers: list[str]
 
 
 class Judge:
     """Judges the passages between pieces of legs."""
 
-    def __init__(self, crossings, pieces):
+    def __init__(self, crossings: Crossings, pieces: Pieces) -> None:
         self.crossings, self.pieces = crossings, pieces
         self.before = numpy.flatnonzero(pieces.legs[1:] == pieces.legs[:-1])
         self.outs, self.ins = pieces.ends[self.before + 1], pieces.ends[self.before] ^ 1
@@ -91,13 +99,13 @@ class Judge:
         self.is_back = self.ins == self.outs
         self.look_around()
 
-    def __len__(self):
+    def __len__(self) -> int:
         return len(self.before)
 
-    def any_of(self, owners):
+    def any_of(self, owners: Integers) -> Marks:
         return numpy.bincount(owners, minlength=len(self)) > 0
 
-    def look_around(self):
+    def look_around(self) -> None:
         """What there is beside the way that is taken: how many roads meet, and the others, by which one may leave or not."""
         owners, ends = self.crossings.meeting(self.nodes)
         angles = turned(self.came[owners], self.crossings.leads[ends])
@@ -107,12 +115,12 @@ class Judge:
         self.all_others = owners[is_other], ends[is_other], angles[is_other]
         self.others = owners[may], ends[may], angles[may]
 
-    def is_straighter(self):
+    def is_straighter(self) -> Marks:
         """Whether another open way is straighter than the one that is taken."""
         owners, _, angles = self.others
         return self.any_of(owners[abs(angles) < abs(self.angles[owners])])
 
-    def forks(self):
+    def forks(self) -> tuple[Marks, Marks]:
         """Whether two ways of one kind lead on, neither of which turns off, nor is it alone the same street; and whether ours is the left one."""
         owners, ends, angles = self.others
         is_one = numpy.bincount(owners, minlength=len(self)) == 1
@@ -125,11 +133,11 @@ class Judge:
         found[owner], is_left[owner] = fits, self.angles[owner] < angle
         return found, is_left
 
-    def are_same(self, streets, others):
+    def are_same(self, streets: Integers, others: Integers) -> Marks:
         """Whether streets are called alike, and not by nothing."""
         return (self.crossings.called[streets] == self.crossings.called[others]) & self.crossings.is_called[streets]
 
-    def ends_of_roads(self):
+    def ends_of_roads(self) -> Marks:
         """Whether the road ends at another: three meet, and one goes on to the left and one to the right."""
         owners, _, angles = self.all_others
         is_three = (self.meet == 3) & ~self.is_back
@@ -139,7 +147,7 @@ class Judge:
         found[owner] = (abs(angle) > SLIGHT) & (abs(ours) > SLIGHT) & ((angle > 0) != (ours > 0))
         return found
 
-    def is_merged_to_the_left(self):
+    def is_merged_to_the_left(self) -> Marks:
         """Whether the fast road that is joined comes from the left; where that is not seen, it does so where one drives on the right."""
         owners, ends, _ = self.all_others
         is_fast = self.crossings.is_fast[self.crossings.street_of[ends]]
@@ -148,7 +156,7 @@ class Judge:
         is_left, is_right = (self.any_of(owner[(abs(off) < 90) & side]) for side in (off < 0, off > 0))
         return is_left | ~is_right & (self.crossings.side != LEFT)
 
-    def kinds(self):
+    def kinds(self) -> tuple[Integers, Marks]:
         """What is done at each passage, new names aside, and whether it leads to the left where a fork or a merge says so."""
         known = self.crossings
         is_crossing = self.meet > 2
@@ -164,9 +172,10 @@ class Judge:
             (is_crossing & ~known.is_link[self.old] & ~known.is_fast[self.old] & known.is_ramp[self.new], ON_RAMP),
             (is_fork, FORK), (is_turned & is_same, CONTINUE), (self.ends_of_roads(), END_OF_ROAD), (is_turned, TURN),
         )
-        return numpy.select(*zip(*rules), SILENT), numpy.where(merges, self.is_merged_to_the_left(), is_left)
+        found = numpy.select([holds for holds, _ in rules], [kind for _, kind in rules], SILENT)
+        return found, numpy.where(merges, self.is_merged_to_the_left(), is_left)
 
-    def with_new_names(self, kinds):
+    def with_new_names(self, kinds: Integers) -> Integers:
         """The same with what is told for its name alone: the street has another one than the last that had any since the maneuver before."""
         pieces, known = self.pieces, self.crossings
         begins = numpy.ones(len(pieces.legs), bool)
@@ -177,7 +186,7 @@ class Judge:
         is_new = (kinds == SILENT) & known.is_called[self.new] & (known.called[self.new] != was) & ~known.is_ring[self.new]
         return numpy.where(is_new, NEW_NAME, kinds)
 
-    def exits(self, kinds):
+    def exits(self, kinds: Integers) -> tuple[Integers, Integers, Integers]:
         """The number of the exit by which each ring is left, at the passage that enters it and at the one that leaves it, 0 elsewhere; and for each
         passage that enters a ring or leaves it the piece by which it is entered, and the one behind it, -1 where there is none."""
         owners, ends, _ = self.others
@@ -199,7 +208,7 @@ class Judge:
         return numbers, rings, behind
 
 
-def modifier_of(angle):
+def modifier_of(angle: int) -> str:
     """The word for a turn by so many degrees to the right."""
     size, side = abs(angle), RIGHT if angle > 0 else LEFT
     if size <= STRAIGHT:
@@ -210,7 +219,7 @@ def modifier_of(angle):
 MODIFIERS = [modifier_of(angle) for angle in range(-180, 180)]
 
 
-def passages_of(crossings, pieces):
+def passages_of(crossings: Crossings, pieces: Pieces) -> Passages:
     """The passages between pieces."""
     judge = Judge(crossings, pieces)
     kinds, is_left = judge.kinds()

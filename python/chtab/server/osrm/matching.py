@@ -3,13 +3,20 @@
 A place is likelier to lie near its road, and the way between two points to be about as long as the straight line between the places. A place
 to which no way leads that is about as long is left out. Where many are, the track is parted, and so it is where much time passes.
 """
-from typing import NamedTuple
+from __future__ import annotations
+
+from collections.abc import Iterable, Sequence
+from typing import TYPE_CHECKING, NamedTuple
 
 import numpy
 
 from chtab.roads.legs import legs_between
 from chtab.roads.lines import metres_between
 from chtab.roads.snapping import Spots
+
+if TYPE_CHECKING:
+    from chtab.roads.trips import Trips
+    from chtab.typing import Floats, Integers
 
 # The metres by which a place lies off its road, where none are told, and within how many times as many roads are looked for; and how many.
 PRECISION, TIMES, MOST_ROADS = 5.0, 3.0, 6
@@ -28,34 +35,35 @@ class Track(NamedTuple):
     """A track: its places in degrees (n, 2), the metres of `radiuses` by which each lies off its road, infinite where that is not told, and the
     seconds of each, or None."""
 
-    places: numpy.ndarray
-    radiuses: list
-    timestamps: list | None
+    places: Floats
+    radiuses: list[float]
+    timestamps: list[int] | None
 
 
 class Part(NamedTuple):
     """A part of a track that hangs together: the numbers of its places, the points on roads that they were taken to, how many other roads were
     near each, and how sure it is, from 0 to 1."""
 
-    places: list
+    places: list[int]
     spots: Spots
-    others: list
+    others: list[int]
     confidence: float
 
 
-def matched(trips, track, is_parted=True, is_tidied=False):
+def matched(trips: Trips, track: Track, is_parted: bool = True, is_tidied: bool = False) -> list[Part]:
     """The parts of a track, each of at least two places."""
     kept = tidied(track) if is_tidied else list(range(len(track.places)))
     model = Model(trips, track)
     model.look_up(kept)
-    left, chains = [place for place in kept if len(model.spots[place])], []
+    left = [place for place in kept if len(model.spots[place])]
+    chains: list[Chain] = []
     while left:
         chain, left = begun(model, left, is_parted)
         chains.append(chain)
     return [chain.part() for chain in chains if len(chain.places) > 1]
 
 
-def begun(model, places, is_parted):
+def begun(model: Model, places: list[int], is_parted: bool) -> tuple[Chain, list[int]]:
     """The chain from the first of some places on, and the places from which the next one begins."""
     chain = Chain(model, places[0])
     for at, place in enumerate(places[1:], 1):
@@ -66,7 +74,7 @@ def begun(model, places, is_parted):
     return chain, chain.left_out if len(chain.left_out) > 1 else []
 
 
-def tidied(track):
+def tidied(track: Track) -> list[int]:
     """The places but those that lie near the one before, in place or in time."""
     kept, steps = [0], track.places
     for place in range(1, len(steps)):
@@ -78,41 +86,44 @@ def tidied(track):
     return kept
 
 
-def is_gap(track, before, place):
+def is_gap(track: Track, before: int, place: int) -> bool:
     return track.timestamps is not None and track.timestamps[place] - track.timestamps[before] > GAP
 
 
 class Model:
     """What is known of the places of a track: the points on roads near each, and the ways between those of two places."""
 
-    def __init__(self, trips, track):
-        self.trips, self.track, self.ways = trips, track, {}
+    def __init__(self, trips: Trips, track: Track) -> None:
+        self.trips, self.track = trips, track
+        self.ways: dict[tuple[int, int], Floats] = {}
         self.spreads = [radius if numpy.isfinite(radius) and radius > 0 else PRECISION for radius in track.radiuses]
         self.spots = [self.near(place) for place in range(len(track.places))]
 
-    def near(self, place):
-        found = self.trips.roads.find_some(*self.track.places[place], MOST_ROADS)
+    def near(self, place: int) -> Spots:
+        x, y = self.track.places[place]
+        found = self.trips.roads.find_some(x, y, MOST_ROADS)
         return found[found.metres <= TIMES * self.spreads[place]]
 
-    def emission(self, place):
+    def emission(self, place: int) -> Floats:
         """The logarithms of how likely each point is, by its distance."""
         return -0.5 * (self.spots[place].metres / self.spreads[place]) ** 2
 
-    def look_up(self, kept):
+    def look_up(self, kept: Iterable[int]) -> None:
         """Looks up the ways between each two places that follow on each other and have roads near them."""
         there = [place for place in kept if len(self.spots[place])]
         self.find(list(zip(there, there[1:])))
 
-    def find(self, pairs):
+    def find(self, pairs: Sequence[tuple[int, int]]) -> None:
         """Looks up the metres of the ways between the points of pairs of places, infinite where there is none."""
-        starts, ends = [], []
+        of_starts: list[Spots] = []
+        of_ends: list[Spots] = []
         for before, place in pairs:
             one, other = self.spots[before], self.spots[place]
-            starts.append(one[numpy.repeat(numpy.arange(len(one)), len(other))])
-            ends.append(other[numpy.tile(numpy.arange(len(other)), len(one))])
+            of_starts.append(one[numpy.repeat(numpy.arange(len(one)), len(other))])
+            of_ends.append(other[numpy.tile(numpy.arange(len(other)), len(one))])
         if not pairs:
             return
-        starts, ends = together(starts), together(ends)
+        starts, ends = together(of_starts), together(of_ends)
         metres = numpy.empty(len(starts))
         for first in range(0, len(starts), BATCH):
             some = slice(first, first + BATCH)
@@ -124,7 +135,7 @@ class Model:
             self.ways[before, place] = metres[at:at + shape[0] * shape[1]].reshape(shape)
             at += shape[0] * shape[1]
 
-    def transition(self, before, place):
+    def transition(self, before: int, place: int) -> Floats:
         """The logarithms of how likely each way between two places is; minus infinity where there is none that is about as long as the straight
         line."""
         if (before, place) not in self.ways:
@@ -132,7 +143,7 @@ class Model:
         off = abs(self.ways[before, place] - self.straight(before, place))
         return numpy.where(off <= MOST_OFF, -off / BETA, -numpy.inf)
 
-    def straight(self, before, place):
+    def straight(self, before: int, place: int) -> float:
         """The metres between two places of the track."""
         (x, y), (u, v) = self.track.places[before], self.track.places[place]
         return float(metres_between(*map(numpy.atleast_1d, (x, y, u, v)))[0])
@@ -141,11 +152,13 @@ class Model:
 class Chain:
     """Places that follow on each other by ways of roads, with the best way to each point of each (Viterbi 1967)."""
 
-    def __init__(self, model, place):
-        self.model, self.places, self.left_out = model, [place], []
-        self.scores, self.before = [model.emission(place)], []
+    def __init__(self, model: Model, place: int) -> None:
+        self.model, self.places = model, [place]
+        self.left_out: list[int] = []
+        self.scores = [model.emission(place)]
+        self.before: list[Integers] = []
 
-    def take(self, place):
+    def take(self, place: int) -> bool:
         """Adds a place, where a way leads to it; whether one does."""
         total = self.scores[-1][:, None] + self.model.transition(self.places[-1], place)
         best = total.max(axis=0)
@@ -158,7 +171,7 @@ class Chain:
         self.left_out = []
         return True
 
-    def part(self):
+    def part(self) -> Part:
         """The likeliest points."""
         picked = [int(self.scores[-1].argmax())]
         for before in reversed(self.before):
@@ -172,18 +185,18 @@ class Chain:
         return Part(self.places, spots, others, confidence(straight, metres))
 
 
-def confidence(straight, metres):
+def confidence(straight: float, metres: float) -> float:
     """How likely a match of so many metres is right for a track of so many."""
     if not straight or not metres:
         return 1.0 if straight == metres else 0.0
 
-    def density(middle, width):
+    def density(middle: float, width: float) -> float:
         return numpy.exp(-abs(numpy.log(metres / straight) - middle) / width) / (2 * width)
 
     right, wrong = SHARE_RIGHT * density(*RIGHT), (1 - SHARE_RIGHT) * density(*WRONG)
     return round(float(right / (right + wrong)), 6)
 
 
-def together(parts):
+def together(parts: Sequence[Spots]) -> Spots:
     """Several spots, one after the other."""
     return Spots(*(numpy.concatenate(columns) for columns in zip(*(vars(part).values() for part in parts))))

@@ -1,8 +1,10 @@
 """The options of each service. One that would change the answer, and that this service doesn't have, is refused by its name."""
+from __future__ import annotations
+
 import math
 import re
-from typing import NamedTuple
-
+from collections.abc import Callable, Mapping
+from typing import Any, NamedTuple
 
 NUMBER = re.compile(r"\d+(?:\.\d*)?|\.\d+", re.ASCII)
 INDEX = re.compile(r"\d{1,9}", re.ASCII)
@@ -17,12 +19,12 @@ TIMESTAMP = re.compile(r"\d{1,18}", re.ASCII)
 class Refusal(Exception):
     """A request that is refused. Its status is 400, as OSRM has it."""
 
-    def __init__(self, code, text):
+    def __init__(self, code: str, text: str) -> None:
         super().__init__(text)
         self.code = code
 
 
-def unsupported(name):
+def unsupported(name: str) -> Refusal:
     """The refusal of an option that this service doesn't have, and that would change the answer."""
     return Refusal("InvalidOptions", f"{name}: not supported")
 
@@ -31,13 +33,13 @@ class General(NamedTuple):
     """What all services take: for each coordinate the metres within which a road has to lie, and the direction in which it has to be driven along
     with how many degrees off it are taken, or None; whether waypoints have hints, which are empty, and whether there are waypoints."""
 
-    radiuses: list
-    bearings: list
+    radiuses: list[float]
+    bearings: list[tuple[int, int] | None]
     has_hints: bool
     has_waypoints: bool
 
     @property
-    def has_bearings(self):
+    def has_bearings(self) -> bool:
         return any(self.bearings)
 
 
@@ -47,10 +49,10 @@ class Route(NamedTuple):
     geometries: str
     overview: str
     has_steps: bool
-    annotations: tuple
+    annotations: tuple[str, ...]
 
     @property
-    def has_lines(self):
+    def has_lines(self) -> bool:
         """Whether it has to be known how the route lies."""
         return self.has_steps or self.overview != "false" or any(name != "nodes" for name in self.annotations)
 
@@ -70,7 +72,7 @@ class Match(NamedTuple):
     coordinates are left out that say little."""
 
     route: Route
-    timestamps: list | None
+    timestamps: list[int] | None
     is_parted: bool
     is_tidied: bool
 
@@ -78,8 +80,8 @@ class Match(NamedTuple):
 class Table(NamedTuple):
     """The coordinates that rows and columns belong to, and what cells tell."""
 
-    sources: list
-    destinations: list
+    sources: list[int]
+    destinations: list[int]
     has_durations: bool
     has_distances: bool
     scale: float
@@ -88,23 +90,23 @@ class Table(NamedTuple):
 class Reader:
     """The options of one request, each taken by its name. `finish` refuses those that nothing took."""
 
-    def __init__(self, service, given, count):
+    def __init__(self, service: str, given: Mapping[str, str], count: int) -> None:
         self.service, self.given, self.count = service, dict(given), count
 
-    def take(self, name, default):
+    def take(self, name: str, default: str) -> str:
         return self.given.pop(name, default)
 
-    def choice(self, name, *words):
+    def choice(self, name: str, *words: str) -> str:
         """One of these words, the first where none is given."""
         word = self.take(name, words[0])
         if word not in words:
             raise Refusal("InvalidQuery", f"{name}: one of {', '.join(words)}")
         return word
 
-    def boolean(self, name, default):
+    def boolean(self, name: str, default: bool) -> bool:
         return self.choice(name, *(("true", "false") if default else ("false", "true"))) == "true"
 
-    def elements(self, name):
+    def elements(self, name: str) -> list[str]:
         """A list with an element for each coordinate, which is empty where the default holds."""
         if name not in self.given:
             return [""] * self.count
@@ -113,29 +115,29 @@ class Reader:
             raise Refusal("InvalidOptions", f"{name}: {len(found):,} elements for {self.count:,} coordinates")
         return found
 
-    def only(self, name, *harmless):
+    def only(self, name: str, *harmless: str) -> None:
         """Refuses an option with any element but these, or none."""
         if set(self.elements(name)) - {"", *harmless}:
             raise unsupported(name)
 
-    def refuse(self, *names):
+    def refuse(self, *names: str) -> None:
         for name in names:
             if name in self.given:
                 raise unsupported(name)
 
-    def number(self, name, text):
+    def number(self, name: str, text: str) -> float:
         """A number above or equal to 0."""
         value = float(text) if NUMBER.fullmatch(text) else math.inf
         if math.isinf(value):
             raise Refusal("InvalidQuery", f"{name}: a number from 0 on, as 1.5")
         return value
 
-    def whole(self, name, text):
+    def whole(self, name: str, text: str) -> int:
         if not INDEX.fullmatch(text):
             raise Refusal("InvalidQuery", f"{name}: a whole number from 0 on")
         return int(text)
 
-    def indices(self, name):
+    def indices(self, name: str) -> list[int]:
         """Indices of coordinates, or all of them."""
         text = self.take(name, "all")
         if text == "all":
@@ -147,12 +149,12 @@ class Reader:
             raise Refusal("InvalidOptions", f"{name}: more than there are coordinates")
         return found
 
-    def finish(self):
+    def finish(self) -> None:
         for name in self.given:
             raise Refusal("InvalidQuery", f"{name[:40]}: not an option of {self.service}")
 
 
-def general(reader):
+def general(reader: Reader) -> General:
     """What all services take."""
     texts = reader.elements("radiuses")
     radiuses = [math.inf if text in ("", "unlimited") else reader.number("radiuses", text) for text in texts]
@@ -166,7 +168,7 @@ def general(reader):
     return General(radiuses, bearings, reader.boolean("generate_hints", True), not reader.boolean("skip_waypoints", False))
 
 
-def bearing_in(text):
+def bearing_in(text: str) -> tuple[int, int] | None:
     """A direction from 0 to 360 degrees and how many degrees off it are taken, from 0 to 180; None where none is given."""
     if not text:
         return None
@@ -176,7 +178,7 @@ def bearing_in(text):
     return int(found[1]), int(found[2])
 
 
-def route(reader):
+def route(reader: Reader) -> Route:
     if reader.count < 2:
         raise Refusal("InvalidOptions", "a route has at least two coordinates")
     # One route is a right answer where others are asked for too: OSRM doesn't promise them.
@@ -188,14 +190,14 @@ def route(reader):
     return told_route(reader)
 
 
-def told_route(reader):
+def told_route(reader: Reader) -> Route:
     """What routes of all services are told with."""
     geometries = reader.choice("geometries", "polyline", "polyline6", "geojson")
     overview = reader.choice("overview", "simplified", "full", "false")
     return Route(geometries, overview, reader.boolean("steps", False), route_annotations(reader.take("annotations", "false")))
 
 
-def route_annotations(text):
+def route_annotations(text: str) -> tuple[str, ...]:
     if text in ("true", "false"):
         return ANNOTATIONS if text == "true" else ()
     names = text.split(",", len(ANNOTATIONS))
@@ -204,7 +206,7 @@ def route_annotations(text):
     return tuple(name for name in ANNOTATIONS if name in names)
 
 
-def trip(reader):
+def trip(reader: Reader) -> Trip:
     """A trip over all coordinates, in whichever order is short."""
     if reader.count < 2:
         raise Refusal("InvalidOptions", "a trip has at least two coordinates")
@@ -213,7 +215,7 @@ def trip(reader):
     return Trip(told_route(reader), is_round, source == "first", destination == "last")
 
 
-def match(reader):
+def match(reader: Reader) -> Match:
     """The roads of a track."""
     if reader.count < 2:
         raise Refusal("InvalidOptions", "a track has at least two coordinates")
@@ -222,7 +224,7 @@ def match(reader):
     return Match(told_route(reader), timestamps(reader), gaps == "split", is_tidied)
 
 
-def timestamps(reader):
+def timestamps(reader: Reader) -> list[int] | None:
     """The seconds of a track's coordinates, each later than the one before or as late; None where none are given."""
     if "timestamps" not in reader.given:
         return None
@@ -236,7 +238,7 @@ def timestamps(reader):
     return found
 
 
-def table(reader):
+def table(reader: Reader) -> Table:
     if reader.count < 2:
         raise Refusal("InvalidOptions", "a table has at least two coordinates")
     reader.refuse("fallback_speed", "fallback_coordinate")
@@ -247,7 +249,7 @@ def table(reader):
     return Table(reader.indices("sources"), reader.indices("destinations"), "duration" in annotations, "distance" in annotations, scale)
 
 
-def nearest(reader):
+def nearest(reader: Reader) -> int:
     """How many roads are looked for."""
     if reader.count != 1:
         raise Refusal("InvalidOptions", "nearest has one coordinate")
@@ -257,10 +259,10 @@ def nearest(reader):
     return number
 
 
-OF_SERVICE = {"route": route, "table": table, "nearest": nearest, "trip": trip, "match": match}
+OF_SERVICE: dict[str, Callable[[Reader], Any]] = {"route": route, "table": table, "nearest": nearest, "trip": trip, "match": match}
 
 
-def read(service, given, count):
+def read(service: str, given: Mapping[str, str], count: int) -> tuple[General, Any]:
     """The general options and those of the service, for so many coordinates."""
     reader = Reader(service, given, count)
     own = OF_SERVICE[service](reader)

@@ -1,19 +1,27 @@
 """Lines of places as text (Google's encoded polyline): each number is a difference, in groups of five bits, the least first."""
+from __future__ import annotations
+
+from typing import TYPE_CHECKING
+
 import numpy
 
 from chtab.server.osrm.options import Refusal
+
+if TYPE_CHECKING:
+    from collections.abc import Sequence
+    from chtab.typing import Floats, Integers, Point
 
 # Groups of five bits of one difference: those of 360 degrees in millionths have 30 bits and a sign.
 MOST_GROUPS = 7
 SHIFTS = 5 * numpy.arange(MOST_GROUPS, dtype=numpy.int32)
 
 
-def encoded(places, precision):
+def encoded(places: Floats, precision: int) -> str:
     """The text of places (n, 2), longitude and latitude in degrees, with so many digits behind the point."""
     return encoded_each(places, [0], precision)[0] if len(places) else ""
 
 
-def encoded_each(places, firsts, precision):
+def encoded_each(places: Floats, firsts: Sequence[int] | Integers, precision: int) -> list[str]:
     """The texts of several lines of at least one place each, which stand one after the other and begin at `firsts`."""
     whole = numpy.floor(places[:, ::-1] * 10.0**precision + 0.5).astype(numpy.int32)
     steps = whole.copy()
@@ -34,9 +42,10 @@ def encoded_each(places, firsts, precision):
     return [text[start:end] for start, end in zip(cuts, cuts[1:])]
 
 
-def decoded(text, precision, most):
+def decoded(text: str, precision: int, most: int) -> list[Point]:
     """The places of a text, (longitude, latitude) in degrees. More than `most` are refused before they are read."""
-    numbers, value, shift = [], 0, 0
+    numbers: list[int] = []
+    value = shift = 0
     for letter in text.encode("ascii"):
         group = letter - 63
         if not 0 <= group < 64 or shift >= 5 * MOST_GROUPS:

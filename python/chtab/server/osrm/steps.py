@@ -2,8 +2,11 @@
 
 What is told of a crossing depends on it alone, and on how it is passed, so that its text is kept.
 """
+from __future__ import annotations
+
 import json
-from typing import NamedTuple
+from collections.abc import Iterable, Iterator, Sequence
+from typing import TYPE_CHECKING, Any, NamedTuple, TypeAlias
 
 import numpy
 
@@ -11,9 +14,19 @@ from chtab.server.osrm import polylines
 from chtab.server.osrm.crossings import FERRY, bearings
 from chtab.server.osrm.maneuvers import ENTER, EXIT, SILENT, TYPES, passages_of, pieces_of
 
+if TYPE_CHECKING:
+    from numpy.typing import ArrayLike
+    from chtab.files import Street
+    from chtab.roads.legs import Legs, Trace
+    from chtab.server.osrm.crossings import Crossings
+    from chtab.server.osrm.maneuvers import Passages
+    from chtab.typing import Floats, Integers
+
 # Texts of crossings that are kept, some 200 bytes each.
 MOST_TEXTS = 1 << 18
 DIGITS = {"polyline": 5, "polyline6": 6}
+# A passage of a crossing, as `rows_of` gives it.
+Row: TypeAlias = tuple[Any, ...]
 # What rings are called that have names of their own.
 ROTARIES = {ENTER: "rotary", EXIT: "exit rotary"}
 
@@ -34,23 +47,26 @@ class Step(NamedTuple):
     along: int
     maneuver: str
     more: str
-    crossings: list
+    crossings: list[str]
 
 
 class Steps:
     """Tells steps by the crossings of a network."""
 
-    def __init__(self, crossings):
-        self.known, self.texts, self.around = crossings, {}, {}
+    def __init__(self, crossings: Crossings) -> None:
+        self.known = crossings
+        self.texts: dict[tuple[int, int, int], str] = {}
+        self.around: dict[int, tuple[list[float], list[int], list[int], list[bool]]] = {}
         self.streets = crossings.streets
         self.called = [called(street) for street in crossings.streets]
         self.side = f', "driving_side": "{crossings.side}"' if crossings.side else ""
 
-    def of(self, legs, which, traces, mode, geometries):
+    def of(self, legs: Legs, which: ArrayLike, traces: Sequence[Trace], mode: str, geometries: str) -> list[Told]:
         """The steps of some legs, each of which is a way, for those who travel by `mode`; lines have the form `geometries`."""
+        which = numpy.asarray(which)
         if not len(which):
             return []
-        which, lines = numpy.asarray(which), Lines(traces)
+        lines = Lines(traces)
         pieces = pieces_of(self.known, legs, which, traces)
         passages = passages_of(self.known, pieces)
         numbers, streets = numpy.arange(len(which) + 1), pieces.streets.tolist()
@@ -66,7 +82,7 @@ class Steps:
             ended.append(end)
         return self.told(found, ended, lines, mode, geometries)
 
-    def steps_of(self, rows, streets, first, begun, departure):
+    def steps_of(self, rows: Iterable[Row], streets: list[int], first: int, begun: int, departure: tuple[int, list[float], int]) -> list[Step]:
         """The steps of a leg by its passages, the last one aside. Its first piece is `first`, on the street `begun`."""
         place, location, ahead = departure
         departs = f'"type": "depart", "location": {location}, "bearing_before": 0, "bearing_after": {ahead}'
@@ -87,7 +103,7 @@ class Steps:
             found.append(Step(place, called_by, along, maneuver, more, crossings))
         return found
 
-    def ring(self, kind, streets, first, ring, behind):
+    def ring(self, kind: int, streets: list[int], first: int, ring: int, behind: int) -> tuple[str, str]:
         """The type of a maneuver at a ring, and the ring's name where it has one of its own. It begins with the piece `ring`."""
         name = self.streets[streets[ring]].name
         beside = [streets[piece] for piece in (ring - 1, behind) if piece >= first]
@@ -95,7 +111,7 @@ class Steps:
             return ROTARIES[kind], f', "rotary_name": {json.dumps(name)}'
         return TYPES[kind], ""
 
-    def told(self, of_legs, ended, lines, mode, geometries):
+    def told(self, of_legs: Sequence[list[Step]], ended: Sequence[int], lines: Lines, mode: str, geometries: str) -> list[Told]:
         """The texts of the steps of legs, each of which ends with its arrival in a street."""
         starts = numpy.array([step.place for steps in of_legs for step in (*steps, steps[0])])
         counts = numpy.array([len(steps) + 1 for steps in of_legs])
@@ -113,24 +129,24 @@ class Steps:
             found.append(Told(f"[{', '.join(texts)}]", self.summary(steps, [length for length, _, _ in parts])))
         return found
 
-    def text_of(self, step, length, duration, line, mode):
+    def text_of(self, step: Step, length: float, duration: float, line: str, mode: str) -> str:
         """The text of a step, so many metres and seconds long."""
         mode = FERRY if self.streets[step.along].highway == FERRY else mode
         return f'{{"distance": {length}, "duration": {duration}, "weight": {duration}, {self.called[step.street]}{step.more}, "mode": "{mode}"{self.side}, ' \
             f'"geometry": {line}, "maneuver": {{{step.maneuver}}}, "intersections": [{", ".join(step.crossings)}]}}'
 
-    def summary(self, steps, metres):
+    def summary(self, steps: Sequence[Step], metres: Sequence[float]) -> str:
         """The names or numbers of the two longest streets, in the order in which they are come to."""
-        lengths = {}
+        lengths: dict[str, float] = {}
         for step, length in zip(steps, metres):
             street = self.streets[step.along]
             name = street.name or street.ref
             lengths[name] = lengths.get(name, 0) + length
         lengths.pop("", None)
-        longest = sorted(lengths, key=lengths.get, reverse=True)[:2]
+        longest = sorted(lengths, key=lengths.__getitem__, reverse=True)[:2]
         return ", ".join(name for name in lengths if name in longest)
 
-    def crossing(self, node, came, goes):
+    def crossing(self, node: int, came: int, goes: int) -> str:
         """The text of a crossing that is passed from one end of a road to another. It is kept."""
         if len(self.texts) >= MOST_TEXTS:
             self.texts.clear()
@@ -141,7 +157,7 @@ class Steps:
         self.texts[node, came, goes] = text
         return text
 
-    def look_around(self, node):
+    def look_around(self, node: int) -> tuple[list[float], list[int], list[int], list[bool]]:
         """Where a node lies, the directions of the ends that meet there, clockwise from north, the ends, and whether the node may be left by each. They
         are kept."""
         ends = self.known.meeting(numpy.array([node])).ends
@@ -150,13 +166,13 @@ class Steps:
         return self.around[node]
 
 
-def called(street):
+def called(street: Street) -> str:
     """What a step on a street is called: its name, and what else signs have of it."""
     told = {"name": street.name, **{key: getattr(street, key) for key in ("ref", "destinations") if getattr(street, key)}}
     return json.dumps(told)[1:-1]
 
 
-def rows_of(passages, places, lines):
+def rows_of(passages: Passages, places: Integers, lines: Lines) -> list[Row]:
     """The passages that are told of, as rows: the key of the crossing's text, what is done, the place in all lines and its location, and what else is
     told."""
     kept = numpy.flatnonzero((passages.kinds != SILENT) | passages.is_crossing)
@@ -172,19 +188,19 @@ def rows_of(passages, places, lines):
 class Lines:
     """How legs lie, one after the other: their places, and the metres and weights up to there. Leg k lies from place `firsts[k]` to `lasts[k]`."""
 
-    def __init__(self, traces):
+    def __init__(self, traces: Sequence[Trace]) -> None:
         self.places, self.metres, self.weights = (
             numpy.concatenate([getattr(trace, name) for trace in traces]) for name in ("places", "metres", "weights")
         )
         counts = numpy.array([len(trace.places) for trace in traces])
         self.firsts, self.lasts = numpy.cumsum(counts) - counts, numpy.cumsum(counts) - 1
 
-    def departures(self):
+    def departures(self) -> Iterator[tuple[int, list[float], int]]:
         """Of each leg its first place, where that is, and the direction there."""
         ahead = bearings(self.places[self.firsts], self.places[numpy.minimum(self.firsts + 1, self.lasts)])
         return zip(self.firsts.tolist(), self.places[self.firsts].tolist(), ahead.tolist())
 
-    def arrivals(self):
+    def arrivals(self) -> Iterator[tuple[str, str, list[str]]]:
         """Of each leg the maneuver, what else is told, and the crossing of its arrival, as texts of JSON."""
         came = bearings(self.places[numpy.maximum(self.lasts - 1, self.firsts)], self.places[self.lasts])
         for location, bearing in zip(self.places[self.lasts].tolist(), came.tolist()):
@@ -193,7 +209,7 @@ class Lines:
                 [f'{{"location": {location}, "bearings": [{(bearing + 180) % 360}], "entry": [true], "in": 0}}'],
             )
 
-    def texts(self, starts, ends, geometries):
+    def texts(self, starts: Integers, ends: Integers, geometries: str) -> list[str]:
         """The lines from some places to others, as texts of JSON; each has at least two places."""
         counts = numpy.maximum(ends - starts + 1, 2)
         firsts = numpy.cumsum(counts) - counts

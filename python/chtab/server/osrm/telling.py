@@ -1,12 +1,21 @@
 """Routes as OSRM tells them: `routes` with their legs, steps and annotations."""
+from __future__ import annotations
+
 import json
 import math
-from typing import NamedTuple
+from collections.abc import Mapping, Sequence
+from typing import TYPE_CHECKING, Any, NamedTuple
 
 import numpy
 
 from chtab.server.osrm import polylines
 from chtab.server.osrm.steps import DIGITS, Steps
+
+if TYPE_CHECKING:
+    from chtab.roads.legs import Legs, Trace
+    from chtab.server.osrm.options import Route
+    from chtab.server.osrm.steps import Told
+    from chtab.typing import Floats, Integers
 
 # A point of a simplified line is left out where it lies off the line by less than so much of the longer side of the route.
 COARSE = 1 / 1_000
@@ -20,18 +29,18 @@ class Voice(NamedTuple):
     travelling."""
 
     steps: Steps
-    numbers: numpy.ndarray | None
+    numbers: Integers | None
     mode: str
 
 
-def seconds(milliseconds):
+def seconds(milliseconds: int) -> float:
     return int(milliseconds) / MILLISECONDS
 
 
-def routes(voice, legs, parts, traces, options):
+def routes(voice: Voice, legs: Legs, parts: Sequence[list[int]], traces: Mapping[int, Trace], options: Sequence[Route]) -> list[str]:
     """The texts of routes, each over some legs, one after the other: `parts` has the numbers of each. `traces` says how legs lie, where that is
     asked for, and `options` what each route is told with."""
-    stepping = {}
+    stepping: dict[str, list[int]] = {}
     for part, option in zip(parts, options):
         if option.has_steps:
             stepping.setdefault(option.geometries, []).extend(part)
@@ -42,10 +51,10 @@ def routes(voice, legs, parts, traces, options):
     return [route(voice, legs, part, traces, option, told) for part, option in zip(parts, options)]
 
 
-def route(voice, legs, which, traces, options, told):
+def route(voice: Voice, legs: Legs, which: list[int], traces: Mapping[int, Trace], options: Route, told: Mapping[int, Told]) -> str:
     """The text of the route over some legs, one after the other."""
     duration = seconds(legs.weights[which].sum())
-    whole = {"distance": round(float(legs.metres[which].sum()), 1), "duration": duration, "weight": duration, "weight_name": "duration"}
+    whole: dict[str, Any] = {"distance": round(float(legs.metres[which].sum()), 1), "duration": duration, "weight": duration, "weight_name": "duration"}
     if options.overview != "false":
         lines = [traces[leg].places for leg in which]
         if options.overview == "simplified":
@@ -55,17 +64,17 @@ def route(voice, legs, which, traces, options, told):
     return f'{json.dumps(whole)[:-1]}, "legs": [{texts}]}}'
 
 
-def leg_text(voice, legs, leg, traces, options, told):
+def leg_text(voice: Voice, legs: Legs, leg: int, traces: Mapping[int, Trace], options: Route, told: Told | None) -> str:
     weight = seconds(legs.weights[leg])
-    found = {"distance": round(float(legs.metres[leg]), 1), "duration": weight, "weight": weight, "summary": told.summary if told else ""}
+    found: dict[str, Any] = {"distance": round(float(legs.metres[leg]), 1), "duration": weight, "weight": weight, "summary": told.summary if told else ""}
     if options.annotations:
         found["annotation"] = annotation(legs, leg, traces.get(leg), options.annotations, voice.numbers)
     return f'{json.dumps(found)[:-1]}, "steps": {told.steps if told else "[]"}}}'
 
 
-def annotation(legs, leg, trace, wanted, numbers):
+def annotation(legs: Legs, leg: int, trace: Trace | None, wanted: Sequence[str], numbers: Integers | None) -> dict[str, Any]:
     """What lies between each two places of the full line, and the nodes that the leg passes. What lies between sums up to the whole leg."""
-    found = {}
+    found: dict[str, Any] = {}
     if "nodes" in wanted:
         nodes = legs.nodes(leg)
         called = nodes if numbers is None else numbers[numpy.array(nodes, int) - 1].tolist()
@@ -83,24 +92,24 @@ def annotation(legs, leg, trace, wanted, numbers):
     return found | ({"metadata": METADATA} if "datasources" in wanted else {})
 
 
-def between(column):
+def between(column: Any) -> list[Any]:
     """The differences along a line. A line of one place is told as two."""
     return (numpy.diff(column) if len(column) > 1 else column).tolist()
 
 
-def joined(lines):
+def joined(lines: Sequence[Floats]) -> Floats:
     """Lines of which each begins where the one before ends, as one of at least two places."""
     line = numpy.concatenate([lines[0], *(each[1:] if (each[0] == before[-1]).all() else each for before, each in zip(lines, lines[1:]))])
     return line if len(line) > 1 else line[[0, 0]]
 
 
-def geometry(line, form):
+def geometry(line: Floats, form: str) -> Any:
     if form in DIGITS:
         return polylines.encoded(line, DIGITS[form])
     return {"type": "LineString", "coordinates": line.tolist()}
 
 
-def simplified(lines):
+def simplified(lines: Sequence[Floats]) -> list[Floats]:
     """The lines with fewer places (Douglas and Peucker 1973): the first and last of each, and those that show on a picture of the whole."""
     from shapely.geometry import LineString
 

@@ -3,9 +3,19 @@
 Few places are tried in each order. Of more the nearest one comes next, and then the order is improved, as long as that helps, by turning a
 stretch of it round (Croes 1958) or by moving a stretch of up to three places (Or 1976). That is a heuristic: a shorter order may exist.
 """
+from __future__ import annotations
+
 import itertools
+from collections.abc import Callable
+from typing import TYPE_CHECKING, TypeAlias
 
 import numpy
+
+if TYPE_CHECKING:
+    from chtab.typing import Integers
+
+# By how much a change lengthens a round trip, and a call that gives the order then.
+Change: TypeAlias = "tuple[int, Callable[[], Integers]]"
 
 # Places, one of which is fixed, of which each order is tried; and places that are moved together at most.
 FEW, STRETCH = 8, 3
@@ -13,7 +23,7 @@ FEW, STRETCH = 8, 3
 NONE = 1 << 48
 
 
-def tour(costs, is_round=True, is_first_fixed=False, is_last_fixed=False):
+def tour(costs: Integers, is_round: bool = True, is_first_fixed: bool = False, is_last_fixed: bool = False) -> Integers:
     """An order of all places, 0 to n - 1.
 
     Parameters
@@ -49,7 +59,7 @@ def tour(costs, is_round=True, is_first_fixed=False, is_last_fixed=False):
     return numpy.roll(found, -found.tolist().index(count))[1:]
 
 
-def circle(links):
+def circle(links: Integers) -> Integers:
     """A round trip over all places, of any beginning."""
     count = len(links)
     if count <= FEW:
@@ -57,13 +67,13 @@ def circle(links):
     return improved(links, nearest_next(links))
 
 
-def best_of_all(links):
+def best_of_all(links: Integers) -> Integers:
     """The shortest one, of all orders that begin with place 0."""
     orders = numpy.array([(0, *rest) for rest in itertools.permutations(range(1, len(links)))], numpy.int64)
     return orders[links[orders, numpy.roll(orders, -1, axis=1)].sum(axis=1).argmin()]
 
 
-def nearest_next(links):
+def nearest_next(links: Integers) -> Integers:
     """The order in which the nearest place that is left comes next."""
     left, order = numpy.ones(len(links), bool), [0]
     for _ in range(len(links) - 1):
@@ -73,7 +83,7 @@ def nearest_next(links):
     return numpy.array(order)
 
 
-def improved(links, order):
+def improved(links: Integers, order: Integers) -> Integers:
     """The order after each change that makes it shorter, the best one first."""
     while True:
         changes = [turned_round(links, order), *(moved(links, order, length) for length in range(1, STRETCH + 1))]
@@ -83,7 +93,7 @@ def improved(links, order):
         order = better()
 
 
-def turned_round(links, order):
+def turned_round(links: Integers, order: Integers) -> Change:
     """By how much the best stretch that is turned round lengthens a round trip, and a call that gives the order then. The first place stays."""
     count, ahead = len(order), numpy.roll(order, -1)
     forth, back = (numpy.append(0, numpy.cumsum(column)) for column in (links[order, ahead], links[ahead, order]))
@@ -99,7 +109,7 @@ def turned_round(links, order):
     return int(gains.min()), lambda: numpy.concatenate([order[:start], order[start:stop + 1][::-1], order[stop + 1:]])
 
 
-def moved(links, order, length):
+def moved(links: Integers, order: Integers, length: int) -> Change:
     """The same of a stretch of so many places that is moved between two others."""
     count, ahead = len(order), numpy.roll(order, -1)
     first = numpy.arange(1, count - length + 1)[:, None]
@@ -112,7 +122,7 @@ def moved(links, order, length):
     start, place = at // count + 1, at % count
     stretch = order[start:start + length]
 
-    def then():
+    def then() -> Integers:
         rest = numpy.concatenate([order[:start], order[start + length:]])
         to = place + 1 if place < start else place + 1 - length
         return numpy.concatenate([rest[:to], stretch, rest[to:]])

@@ -1,10 +1,15 @@
 """The words of an address: `/SERVICE/VERSION/PROFILE/COORDINATES?NAME=VALUE&..`, decoded after they were taken apart."""
+from __future__ import annotations
+
 import re
 import urllib.parse
-from typing import NamedTuple
+from typing import TYPE_CHECKING, NamedTuple
 
 from chtab.server.osrm.options import Refusal, unsupported
 from chtab.server.osrm.polylines import decoded
+
+if TYPE_CHECKING:
+    from chtab.typing import Point
 
 SERVICES = "route", "table", "nearest", "trip", "match"
 # A service that OSRM has besides.
@@ -23,10 +28,10 @@ class Words(NamedTuple):
     service: str
     profile: str
     coordinates: str
-    options: dict
+    options: dict[str, str]
 
 
-def words_of(target, most):
+def words_of(target: str, most: int) -> Words:
     """The words of a request's target, which has at most so many characters."""
     if len(target) > most:
         raise Refusal("TooBig", f"an address has at most {most:,} characters")
@@ -47,7 +52,7 @@ def words_of(target, most):
     return Words(service, text_of(parts[2]), coordinates.removesuffix(".json"), options_of(query))
 
 
-def text_of(part):
+def text_of(part: str) -> str:
     """A part of an address with its escapes read. The words of this interface are ASCII."""
     if BROKEN.search(part):
         raise Refusal("InvalidUrl", "a percent sign is followed by two hexadecimal digits")
@@ -57,9 +62,9 @@ def text_of(part):
     return text
 
 
-def options_of(query):
+def options_of(query: str) -> dict[str, str]:
     """The values of options by their names, each given once."""
-    options = {}
+    options: dict[str, str] = {}
     for part in query.split("&") if query else ():
         name, mark, value = part.partition("=")
         name = text_of(name)
@@ -71,7 +76,7 @@ def options_of(query):
     return options
 
 
-def coordinates_of(text, most):
+def coordinates_of(text: str, most: int) -> list[Point]:
     """The coordinates of an address, at most so many: (longitude, latitude) in degrees."""
     line = POLYLINE.fullmatch(text)
     found = decoded(line[2], 6 if line[1] else 5, most) if line else listed(text, most)
@@ -81,7 +86,7 @@ def coordinates_of(text, most):
     return found
 
 
-def listed(text, most):
+def listed(text: str, most: int) -> list[Point]:
     if text.count(";") >= most:
         raise Refusal("TooBig", f"at most {most:,} coordinates")
     found = []
