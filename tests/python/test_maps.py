@@ -196,7 +196,7 @@ def test_what_is_left_out_is_told():
     text = osm(nodes, ways, [((("way", 1, "from"), ("way", 1, "via"), ("way", 1, "to")), {"type": "restriction", "restriction": "no_u_turn"})])
     pathlib.Path("all.osm").write_text(text)
     told, table = tool("osm_to_gr", "--turns", "all.osm", "all")
-    assert told == "4 nodes and 8 arcs in all.gr, all.co and all.nodes\n", told
+    assert told == "4 nodes and 8 arcs in all.gr, all.co, all.nodes and all.ways\n", told
     assert table.splitlines() == [
         "left out of all.osm, for cars:",
         "  3  ways of other kinds                                  2 highway=footway, 1 highway=steps",
@@ -445,7 +445,7 @@ def test_files_of_streets():
     pathlib.Path("names.osm").write_text(text, encoding="utf-8")
     for words, side in (("--driving-side", "left"), "left"), ((), "right"):
         told = tool("osm_to_gr", "--quiet", "--names", *words, "names.osm", "named", env=os.environ | {"LC_ALL": "C"})[0]
-        assert told.endswith("named.gr, named.co, named.nodes and named.names\n"), told
+        assert told.endswith("named.gr, named.co, named.nodes, named.ways and named.names\n"), told
         found = files.read_streets("named.names", 8)
         assert found.of_arcs == [1, 1, 2, 2, 3, 3, 4, 4] and found.side == side
         assert [found.streets[place].name for place in (0, 2, 3)] == [names[place] for place in (0, 2, 3)]
@@ -472,6 +472,31 @@ def test_files_of_streets():
     assert not pathlib.Path("named.names").exists()
 
 
+def test_files_of_ways():
+    """Each arc has the number of its way, and those that lead along no road have none; a file that is spoilt, or of another graph, is refused."""
+    nodes = {1: (0, 0), 2: (-1, 0), 3: (0, 1), 4: (1, 0)}
+    turn = [("way", 1, "from"), ("node", 1, "via"), ("way", 2, "to")], {"type": "restriction", "restriction": "no_left_turn"}
+    pathlib.Path("ways.osm").write_text(osm(nodes, [([2, 1], ROAD), ([1, 3], ROAD), ([4, 1], ROAD)], [turn]))
+    for words, inner in ((), 0), (("--turns",), 1):
+        tool("osm_to_gr", "--quiet", *words, "ways.osm", "own")
+        graph, names = files.read_graph("own.gr"), files.read_names("own.nodes")
+        found = files.read_ways("own.ways", len(graph.tails)).tolist()
+        ends = [{int(names[tail]), int(names[head])} for tail, head in zip(graph.tails, graph.heads)]
+        assert found == [{(1, 2): 1, (1, 3): 2, (1, 4): 3, (1,): 0}[tuple(sorted(pair))] for pair in ends] and found.count(0) == inner, (words, found)
+    whole = pathlib.Path("own.ways").read_text()
+    for spoilt, arcs, told in (
+        (whole[:whole.rindex("w")], len(found), "cut short"), (whole.replace("sp ways", "sp names"), len(found), "not a file of ways"), (whole, len(found) + 1, "another graph"),
+        (whole.replace("w 3", "w three", 1), len(found), "three"), (whole.replace("w 3", "w 3 4", 1), len(found), "line"), ("", 0, "not a file of ways"),
+        (whole.replace("w 3", f"w {2**63}", 1), len(found), "too large"),
+    ):
+        pathlib.Path("spoilt.ways").write_text(spoilt)
+        try:
+            files.read_ways("spoilt.ways", arcs)
+            raise AssertionError(spoilt)
+        except files.FileFault as fault:
+            assert str(fault).startswith("spoilt.ways") and told in str(fault), (told, fault)
+
+
 def test_random_maps_agree_with_the_other_converter():
     """Arc for arc, for each way of travelling, all parts and the largest."""
     draw, compared = random.Random("maps"), 0
@@ -488,6 +513,7 @@ def test_random_maps_agree_with_the_other_converter():
             for part, wanted in (("all", found), ("largest", mapping.largest(found))):
                 made, _ = converted(text, profile=profile, part=part, names=True, **choices)
                 assert called(made) == [mapping.street(tags[arc[3]], arc[5]) for arc in wanted], (place, profile, part, choices, text)
+                assert made.ways == [int(arc[3]) for arc in wanted], (place, profile, part, choices, text)
                 assert (made.arcs, made.names if made.arcs else []) == mapping.numbered(wanted), (place, profile, part, choices, text)
                 compared += len(made.arcs)
     assert compared > 10_000, compared

@@ -201,11 +201,12 @@ def test_what_is_refused_is_named():
     with temporary() as left, of_roads() as network:
         own = left()
         for change, column, row, told in (
-            ({"closed": [9]}, "closed", 0, "no row 9"), ({"closed": [-1]}, "closed", 0, "no row -1"), ({"closed": [0, ("inn", "x")]}, "closed", 0, "'x'"),
+            ({"closed": [9]}, "closed", 0, "no row 9"), ({"closed": [-1]}, "closed", 0, "no row -1"), ({"closed": [0, ("inn", "x")]}, "closed", 1, "'x'"), ({"closed": [0, ("x",)]}, "closed", 1, "no node has the label 'x'"),
             ({"closed": [0, ("inn", "school")]}, "closed", 1, "there is no arc ('inn', 'school')"), ({"closed": [("inn", "mill", 0)]}, "closed", 0, "have none"),
-            ({"closed": [True]}, "closed", 0, "True is neither"), ({"closed": (0, 1)}, "closed", None, "[(0, 1)] is one arc, and [0, 1] are rows"), ({"closed": ["inn"]}, "closed", 0, "neither a row"),
+            ({"closed": [True]}, "closed", 0, "True names no arc"), ({"closed": [()]}, "closed", 0, "names no arc"), ({"closed": "way/5"}, "closed", None, "['way/5'] is one way"), ({"closed": (0, 1)}, "closed", None, "[(0, 1)] is one arc, and [0, 1] are rows"), ({"closed": ["inn"]}, "closed", 0, "'inn' names no arc, as streets have no names here"),
+            ({"closed": ("inn",)}, "closed", None, "[('inn',)] is one arc"), ({"closed": [0, "way/5"]}, "closed", 1, "nothing says which arcs are parts of way 5"),
             ({"weights": [1, 2]}, "weights", None, "there are 5 rows"), ({"weights": [1, 2, 3, 4, -5]}, "weights", 4, "below 0"),
-            ({"weights": {0: float("nan")}}, "weights", 0, "nan is no weight"), ({"weights": {"inn": 3}}, "weights", 0, "neither a row"),
+            ({"weights": {0: float("nan")}}, "weights", 0, "nan is no weight"), ({"weights": {"inn": 3}}, "weights", 0, "names no arc"),
             ({"added": [("inn", "x", 3)]}, "added target", 0, "no node has the label 'x'"), ({"added": [("inn", "mill")]}, "added", None, "rows of"),
             ({"added": [("inn", "mill", -1)]}, "added weight", 0, "below 0"),
         ):

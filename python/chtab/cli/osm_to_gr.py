@@ -6,6 +6,7 @@ It writes
   OUT.gr     the graph: arcs in the order of the map's ways, weights rounded to the nearest whole number
   OUT.co     the coordinates, in the form of the DIMACS challenge: `v NODE X Y`, longitude and latitude times 1,000,000
   OUT.nodes  line k has the number on OpenStreetMap's map of node k. Nodes are in the order of these numbers
+  OUT.ways   for each arc, in the order of OUT.gr, a line `w NUMBER` with the number of its way on the map; 0 if it is part of none
   OUT.bends  with --bends: the points of each arc between its ends, `b ARC X Y`. If no arc has any, an older file is removed
   OUT.names  with --names: what each arc is called, as signs have it. Without --names an older file is removed
 

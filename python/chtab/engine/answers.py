@@ -1,8 +1,8 @@
-"""What is asked of a run, and how its answer is matched to the question.
+"""Questions to a run, and how each answer is matched to its question.
 
-A question goes between two guards. A guard is a query from a node to itself, whose answer is known; the node is drawn anew each time. So an
-answer that belongs to another question is found out before a number of it is used. Within the guards each line is matched too: the ends of a
-distance, the arcs of a route, the source of a row and the number of its cells. What doesn't match is a `ProgramFault`.
+A question is sent between two guards. A guard is a query from a node to itself, whose answer is known; the node is drawn at random each time. An
+answer to another question is therefore detected before any number of it is used. Between the guards each line is matched too: the ends of a
+distance, the arcs of a route, the source of a row and the number of its cells. Whatever doesn't match is a `ProgramFault`.
 """
 from __future__ import annotations
 
@@ -18,7 +18,7 @@ from chtab.errors import unasked
 if TYPE_CHECKING:
     from chtab.typing import Integers
 
-# The weight of what no walk leads to.
+# The weight where there is no walk.
 NO_WALK = -1
 # What `chtab ask` writes for queries, and for a table.
 DISTANCES = re.compile(rb"(?:d \d++ \d++ (?:\d{1,19}+|-)\n)*+")
@@ -27,16 +27,16 @@ ROWS = re.compile(rb"(?:t \d++(?: (?:\d{1,19}+|-))*+\n)*+")
 
 
 class Question(abc.ABC):
-    """What is asked of a run.
+    """A question to a run.
 
     Attributes
     ----------
     request : bytes
         The lines of the request.
     mark : bytes
-        What the text of the answer has `count` times.
+        Bytes that occur `count` times in the text of the answer.
     count : int
-        How often it has the mark.
+        How often the mark occurs.
     """
 
     def __init__(self, request: bytes, mark: bytes, count: int) -> None:
@@ -44,7 +44,7 @@ class Question(abc.ABC):
 
     @abc.abstractmethod
     def value_of(self, text: bytes) -> Any:
-        """The value of the answer, from its whole text. Where that is the answer to another question, that is a `ProgramFault`."""
+        """The value of the answer, from its whole text. Raises a `ProgramFault` if the text answers another question."""
 
 
 class Guard(NamedTuple):
@@ -55,18 +55,18 @@ class Guard(NamedTuple):
 
 
 def guard(nodes: int) -> Guard:
-    """A guard at one of the nodes from 1 to `nodes`."""
+    """A guard at a node that is drawn from 1 to `nodes`."""
     node = 1 + secrets.randbelow(nodes)
     return Guard(b"q %d %d\n" % (node, node), b"d %d %d 0\n" % (node, node))
 
 
 class Answer:
-    """An answer that comes from a run bit by bit, between the answers to two guards.
+    """An answer that arrives from a run in pieces, between the answers to two guards.
 
     Parameters
     ----------
     question : Question
-        What is asked.
+        The question.
     nodes : int
         How many nodes the graph of the run has, at least 1.
     """
@@ -79,7 +79,7 @@ class Answer:
         self.lacks = question.count + (self.before + self.behind).count(question.mark)
 
     def feed(self, chunk: bytes) -> None:
-        """Takes what came next. Where it can't become the answer that is due, that is a `ProgramFault`."""
+        """Takes the next piece. Raises a `ProgramFault` if it can't be a part of the expected answer."""
         self.text += chunk
         self.lacks -= chunk.count(self.question.mark)
         begun = self.text[:len(self.before)]
@@ -87,12 +87,12 @@ class Answer:
             raise unasked()
 
     def end(self) -> bytes:
-        """What came from the last distance on, which answers the guard behind where no mark is lacking."""
+        """The text from the last distance on, which is the answer to the second guard once no mark is lacking."""
         return bytes(self.text[self.text.rindex(b"d"):])
 
     @property
     def is_whole(self) -> bool:
-        """Whether all of it came."""
+        """Whether all of it has arrived."""
         return not self.lacks and len(self.end()) == len(self.behind)
 
     def value(self) -> Any:
@@ -140,15 +140,15 @@ class Routes(Question):
                 raise unasked()
             found.append(answer)
             letters.append("d" if answer.nodes is None else "dr" + "a" * len(answer.weights or ()))
-        # Numbers are taken as they come; each has to stand in a line of its kind.
+        # Numbers are taken in order, so the lines have to be of the kinds that these numbers need.
         if at != len(words) or text.translate(None, b"0123456789 -\n") != "".join(letters).encode():
             raise unasked()
         return found
 
 
 def route_at(words: Integers, at: int) -> tuple[files.Answer, int]:
-    """The answer to one query, whose numbers stand from a place on, and where the next ones do. The arcs have to lead from its source to its
-    target, and weigh what it says."""
+    """The answer to one query, whose numbers start at a place, and the place where the next ones start. The arcs have to lead from its source to its
+    target, and their weights have to add up to its weight."""
     if at + 3 > len(words):
         raise unasked()
     source, target, weight = words[at:at + 3].tolist()
@@ -166,7 +166,7 @@ def route_at(words: Integers, at: int) -> tuple[files.Answer, int]:
 
 
 class Table(Question):
-    """Asks for a table, which leaves out what is above the limit. The value is its text: a row for each source."""
+    """Asks for a table without distances above the limit. The value is its text: a row for each source."""
 
     def __init__(self, sources: Sequence[int], targets: Sequence[int], limit: int | None = None) -> None:
         self.sources, self.width, self.limit = list(sources), len(targets), limit
@@ -219,7 +219,7 @@ def most_of(text: bytes) -> int:
 
 
 def numbers(text: bytes, width: int) -> Integers:
-    """The numbers of lines that were matched, int64 (n, width), -1 for `-`."""
+    """The numbers of matched lines, int64 (n, width), -1 for `-`."""
     import numpy
 
     text = text.translate(None, b"adrt").replace(b"-", b"-1")

@@ -1,4 +1,4 @@
-"""What is asked of the program: distances, routes and tables, by runs of `chtab ask` that are kept."""
+"""Asks the program for distances, routes and tables, by runs of `chtab ask` that are kept."""
 from __future__ import annotations
 
 import collections
@@ -27,14 +27,14 @@ WITHIN = "this thread has asked a question that is not answered yet"
 
 @dataclass(frozen=True)
 class Setting:
-    """What an engine answers by.
+    """What an engine answers from, and how it runs the program.
 
     Parameters
     ----------
     program, graph : str
         The paths of the program and of the graph.
     saved : str, optional
-        That of a saved hierarchy.
+        The path of a saved hierarchy.
     workers : int
         Threads of a run, from 1 to 64.
     timeout : float, optional
@@ -54,15 +54,15 @@ class Setting:
     within: int | None = None
 
     def command(self) -> list[str]:
-        """The words of a run that answers requests."""
+        """The command of a run that answers requests."""
         return [self.program, "ask", "--deep", *self.words(), self.graph]
 
     def near_command(self, options: Sequence[str], lists: Sequence[str]) -> list[str]:
-        """The words of a run that tells near rows of the nodes in these files."""
+        """The command of a run that writes the near rows of the nodes in these files."""
         return [self.program, "near", *options, *self.words(), self.graph, *lists]
 
     def stamps(self) -> Stamps:
-        """What tells the files from those that are written in their place later."""
+        """The stamps of the files, by which a file that was written anew later is recognized."""
         return Stamps(self.graph, self.saved)
 
     def words(self) -> list[str]:
@@ -72,20 +72,20 @@ class Setting:
 
 
 class Run:
-    """A place for one child at a time: whoever holds the lock asks it.
+    """A place for one child at a time. Whoever holds the lock may ask it.
 
-    The child is begun by the first question. One whose exchange was broken off is ended before the next question, and another is begun.
+    The first question starts the child. If an exchange with it was broken off, the next question ends this child and starts another.
     """
 
     def __init__(self, engine: Engine) -> None:
         self.setting, self.nodes, self.stamps, self.tally = engine.setting, engine.nodes, engine.stamps, engine.tally
-        # The thread that holds the lock may come again: the handler of a signal asks, or closes, in the middle of a question.
+        # The lock can be taken again by its own thread, because the handler of a signal may ask or close in the middle of a question.
         self.lock, self.is_held, self.is_killed = threading.RLock(), False, False
         self.child: Child | None = None
 
     @contextlib.contextmanager
     def held(self) -> Iterator[None]:
-        """Holds the lock for a question. One in the middle of another is refused."""
+        """Holds the lock for a question. A question in the middle of another one of the same thread is refused."""
         with self.lock:
             if self.is_held:
                 raise ChtabError(WITHIN)
@@ -96,7 +96,7 @@ class Run:
                 self.is_held = False
 
     def ask(self, question: answers.Question | None) -> Any:
-        """The value of the answer to a question, or of None when the child has loaded."""
+        """Returns the value of the answer to a question; for None, waits until the child has loaded."""
         if self.child is not None and (self.child.is_busy or not self.child.is_open):
             self.child.close()
             self.child = None
@@ -106,7 +106,7 @@ class Run:
         return None if question is None else child.ask(question, deadlines.current(self.setting.timeout))
 
     def begin(self) -> Child:
-        """Begins a child."""
+        """Starts a child."""
         self.stamps.see_that_same()
         self.child = child = Child(self.setting.command(), self.nodes)
         self.tally["begun"] += 1
@@ -116,14 +116,14 @@ class Run:
         return child
 
     def kill(self) -> None:
-        """Ends the child at once. A question that is under way fails."""
+        """Ends the child immediately. A question that is under way fails."""
         self.is_killed = True
         child = self.child
         if child is not None:
             child.kill()
 
     def end(self) -> None:
-        """Ends the child that was killed, once the question that is under way has failed."""
+        """Cleans up after the killed child, once the question that was under way has failed."""
         with self.lock:
             # A question of this thread itself ends it.
             if self.child is not None and not self.is_held:
@@ -131,13 +131,13 @@ class Run:
 
 
 class Engine:
-    """Answers, each matched to its question. Calls may come from several threads, and from processes that were forked.
+    """Answers questions by runs of the program, and matches each answer to its question. Several threads and forked processes may share an engine.
 
-    A run is begun by the first question that needs it. It loads the network then, which no time is counted for, and is kept. Each run answers all
-    questions. Another one is begun where those that are there are asked by other threads, but no more than `setting.runs` in all. A run that fails
-    is ended; the question that it failed is told why, and the next one begins another run.
+    The first question starts a run, which loads the network and is kept. The time limit doesn't cover this loading. Each run can answer any question.
+    While all runs are busy with questions of other threads, a further run is started, up to `setting.runs` in all. A run that fails is ended: its
+    question raises the reason, and the next question starts another run.
 
-    A run belongs to the process that began it. A process that was forked begins runs of its own, and leaves those of its parent alone.
+    A run belongs to the process that started it. A forked process starts its own runs, and leaves those of its parent alone.
     """
 
     def __init__(self, setting: Setting) -> None:
@@ -151,14 +151,14 @@ class Engine:
         forks.follow(self)
 
     def leave_parent(self) -> None:
-        """Begins with no run, and with a lock that nobody holds: in a process that was forked too."""
+        """Resets the engine to no runs and to a free lock, at first and in each forked process."""
         self.lock = threading.RLock()
         self.runs: list[Run] = []
         self.owner = os.getpid()
         self.tally: collections.Counter[str] = collections.Counter()
 
     def load(self) -> None:
-        """Begins a run, so that a file that is refused is told now. Of a graph without nodes nothing can be asked."""
+        """Starts a run, so that a refused file is an error now and not later. A graph without nodes needs none, because no question fits it."""
         if self.nodes:
             self.ask(None)
 
@@ -204,7 +204,7 @@ class Engine:
                 raise
 
     def run_for_question(self) -> Run:
-        """A run that nobody asks, or a new one, or the one that was chosen longest ago."""
+        """Chooses an idle run; otherwise a new one if there may be more, or the run that was chosen longest ago."""
         with self.lock:
             if self.is_closed:
                 raise ChtabError(CLOSED)
@@ -216,11 +216,11 @@ class Engine:
 
     @property
     def begun(self) -> int:
-        """How many programs were begun in this process."""
+        """How many programs this process has started."""
         return self.tally["begun"]
 
     def living(self) -> int:
-        """How many runs have a program that answers."""
+        """How many runs have a living program."""
         children = [run.child for run in list(self.runs)]
         return sum(child is not None and child.is_open and child.process.poll() is None for child in children)
 

@@ -1,5 +1,5 @@
-"""Tables of any size, in blocks, by several runs of the program on this machine or on those of a Dask cluster. Each run is kept, and makes
-one block after the other."""
+"""Tables of any size, in blocks, by several runs of the program on this machine or on a cluster of Dask. Each run is kept, and makes one block after
+the other."""
 from __future__ import annotations
 
 import concurrent.futures
@@ -24,9 +24,9 @@ if TYPE_CHECKING:
 
 # The limits of one table: its cells, and the length of each list.
 CELLS, LENGTH = 2**22, 2**16
-# The most sources of a block whose size nobody gave. A block costs about a search for each source and each target.
+# The most sources of a block, unless the caller gives its size. A block costs about a search for each source and each target.
 HEIGHT = 2_048
-# How many cells are worth a further run: to begin one costs reading and checking.
+# How many cells are worth a further run, which has to read and check the network first.
 WORTH = 2**20
 # Seconds to wait for a scheduler, and for its first worker.
 PATIENCE = 10
@@ -38,7 +38,7 @@ class Failed(ChtabError):
 
 @dataclass(frozen=True)
 class Block:
-    """Where its rows and columns begin, and their nodes."""
+    """A block of a table: its first row and column, and the nodes of its rows and columns."""
 
     row: int
     column: int
@@ -51,7 +51,7 @@ class Block:
 
 
 def sides(height: int, width: int, side: int | None = None) -> tuple[int, int]:
-    """How many sources and targets a block has: `side` of each, or as many as the limits of a table let it have."""
+    """How many sources and targets a block has: `side` of each, or as many as the limits of a table allow."""
     if side is not None:
         return side, side
     rows = max(1, min(height, HEIGHT))
@@ -59,7 +59,7 @@ def sides(height: int, width: int, side: int | None = None) -> tuple[int, int]:
 
 
 def cut(sources: Any, targets: Any, side: int | None = None) -> Iterator[Block]:
-    """The blocks of a table, row of blocks by row of blocks."""
+    """Yields the blocks of a table, one row of blocks after the other."""
     height, width = sides(len(sources), len(targets), side)
     for row in range(0, len(sources), height):
         for column in range(0, len(targets), width):
@@ -67,7 +67,7 @@ def cut(sources: Any, targets: Any, side: int | None = None) -> Iterator[Block]:
 
 
 def made(running: asking.Engine, block: Block) -> bytes:
-    """What the program writes for a block. It runs in any process, on any machine."""
+    """The text of a block. This may be called in any process, on any machine."""
     try:
         return running.table(block.sources, block.targets)
     except ProgramFault as fault:
@@ -75,7 +75,7 @@ def made(running: asking.Engine, block: Block) -> bytes:
 
 
 class Pool:
-    """Threads of this machine, each with a run of its own that is kept."""
+    """Threads on this machine, each with a run of its own that is kept."""
 
     as_completed = staticmethod(concurrent.futures.as_completed)
 
@@ -107,7 +107,7 @@ class Pool:
 
 
 def run_on_worker(block: Block, setting: asking.Setting) -> bytes:
-    """A block on a worker of Dask, by the run that its thread keeps."""
+    """Makes a block on a worker of Dask, by the run that its thread keeps."""
     import distributed
 
     kept = distributed.get_worker().__dict__.setdefault("chtab_engines", {})
@@ -118,13 +118,13 @@ def run_on_worker(block: Block, setting: asking.Setting) -> bytes:
 
 
 def close_on_worker(dask_worker: Any) -> None:
-    """Closes what a worker keeps."""
+    """Closes the runs that a worker keeps."""
     for running in dask_worker.__dict__.pop("chtab_engines", {}).values():
         running.close()
 
 
 def send_package(client: Any) -> None:
-    """Sends the code of this package to all workers, also to those that come later."""
+    """Sends the code of this package to all workers, also to those that join later."""
     folder = pathlib.Path(__file__).parent.parent
     with tempfile.TemporaryDirectory() as kept:
         path = os.path.join(kept, "chtab.zip")
@@ -135,7 +135,7 @@ def send_package(client: Any) -> None:
 
 
 class Cluster:
-    """The same on the workers of a Dask scheduler."""
+    """Makes blocks, as `Pool` does, on the workers of a Dask scheduler."""
 
     def __init__(self, setting: asking.Setting, address: str) -> None:
         try:
@@ -169,7 +169,7 @@ class Cluster:
 
 
 def compute(pool: Any, blocks: Sequence[Block], folder: pathlib.Path) -> None:
-    """Runs all blocks; the text of each is kept in a file of its own."""
+    """Makes all blocks, and keeps the text of each in a file of its own."""
     begun = {pool.begin(block): block for block in blocks}
     with Progress("blocks", len(blocks), "blocks") as progress:
         try:
@@ -185,7 +185,7 @@ def compute(pool: Any, blocks: Sequence[Block], folder: pathlib.Path) -> None:
 
 
 def rows(folder: pathlib.Path, sources: Sequence[int], targets: Sequence[int], height: int, width: int) -> Iterator[bytes]:
-    """The text of each row, its source and its cells, in order and put together from the blocks' files."""
+    """Yields the text of each row, its source and its cells, in order, joined from the files of the blocks."""
     for row in range(0, len(sources), height):
         parts = [targets[column:column + width] for column in range(0, len(targets), width)]
         with contextlib.ExitStack() as stack:
@@ -204,7 +204,7 @@ def make(
     setting: asking.Setting, sources: Sequence[int], targets: Sequence[int], out: Path, side: int | None = None, processes: int = 1,
     scheduler: str | None = None,
 ) -> int:
-    """Makes the table of these nodes in OUT (.csv or .npy), which is there once it is whole. The number of its blocks is answered."""
+    """Writes the table of these nodes to OUT (.csv or .npy), which appears once it is complete. Returns the number of its blocks."""
     out = pathlib.Path(out)
     if out.suffix not in (".csv", ".npy"):
         raise Failed("OUT has to end in .csv or .npy")

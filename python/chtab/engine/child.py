@@ -1,7 +1,8 @@
-"""A run of the program that is asked again and again, and the pipes that lead to it.
+"""A run of the program that answers many questions, and the pipes that lead to it.
 
-A run is ended, with its process group, when it is closed or no longer used, when the interpreter ends, when an answer takes too long or is
-another's, and when anything else (Ctrl-C among it) breaks a question off. One whose owner was killed ends by itself, because its input ends.
+A run is ended, with its process group, when it is closed or no longer used, when the interpreter ends, when an answer takes too long or doesn't
+match its question, and when anything else, such as Ctrl-C, breaks a question off. If its owner is killed, a run ends by itself, because its input
+ends.
 """
 from __future__ import annotations
 
@@ -29,7 +30,7 @@ PATIENCE = 1
 
 @functools.cache
 def see_to(program: str) -> None:
-    """Sees to it that the program can be run: the script of a checkout proves and builds it first, and tells of that on standard error."""
+    """Makes sure that the program can be run. In a checkout its script proves and builds it first, and reports that on standard error."""
     try:
         done = subprocess.run([program, "--help"], stdin=subprocess.DEVNULL, stdout=subprocess.DEVNULL)
     except OSError as fault:
@@ -39,7 +40,7 @@ def see_to(program: str) -> None:
 
 
 def fault_of(told: bytes, status: int) -> ProgramFault:
-    """The fault of a run that ended, by what it told on standard error: its own line, where there is one."""
+    """The fault of a run that has ended, with its own line from standard error if it wrote one."""
     lines = told.decode(errors="replace").strip().splitlines()
     lines = [line for line in lines if line.startswith(("chtab: ", "error: "))] or lines
     how = f"was ended by signal {-status}" if status < 0 else f"ended with status {status}"
@@ -47,18 +48,18 @@ def fault_of(told: bytes, status: int) -> ProgramFault:
 
 
 class Begun(Protocol):
-    """What asks a run: whether it still does."""
+    """What uses a run, and whether it still does."""
 
     is_open: bool
 
 
-# The runs that were begun and have not been ended, each with the process that began it, what leads to it, and a reference to its child.
+# The runs that were started and not ended yet, each with the process that started it, its open streams, and a reference to its child.
 BEGUN: dict[subprocess.Popen[bytes], tuple[int, tuple[IO[bytes], ...], weakref.ref[Begun]]] = {}
 
 
 def end_unused() -> None:
-    """Ends the runs whose children are closed or no longer there, also those whose end was broken off before. In a process that was forked
-    from their owner only what leads to them is closed."""
+    """Ends the runs whose children are closed or no longer referenced, also those whose end was broken off before. In a process that was forked from
+    their owner, this closes their streams and leaves the runs alone."""
     for process, (owner, streams, reference) in list(BEGUN.items()):
         child = reference()
         if child is not None and child.is_open:
@@ -86,7 +87,7 @@ def end_all() -> None:
 
 
 def kill(process: subprocess.Popen[bytes]) -> None:
-    """Ends a run and all that it began, where it hasn't ended. Any thread may do so."""
+    """Ends a run and all processes that it started, unless it has ended. Any thread may call this."""
     if process.poll() is None:
         with contextlib.suppress(ProcessLookupError):
             os.killpg(process.pid, signal.SIGKILL)
@@ -94,9 +95,9 @@ def kill(process: subprocess.Popen[bytes]) -> None:
 
 
 def begin(command: Sequence[str], told: IO[bytes]) -> tuple[subprocess.Popen[bytes], IO[bytes], IO[bytes]]:
-    """Begins a run that writes its errors to a file: its process, and the ends of both pipes.
+    """Starts a run that writes its errors to a file. Returns its process and our ends of both pipes.
 
-    The pipes are not those of the process's object. That one keeps them open where it is dropped early.
+    The pipes are not those of `Popen`, which would keep them open if it is dropped early.
     """
     end_unused()
     (theirs_in, ours_in), (ours_out, theirs_out) = os.pipe(), os.pipe()
@@ -114,20 +115,20 @@ def begin(command: Sequence[str], told: IO[bytes]) -> tuple[subprocess.Popen[byt
 
 
 class Child:
-    """A run that answers requests in order. One thread asks it at a time. It has a process group of its own, so that Ctrl-C at a terminal
-    doesn't reach it before its parent.
+    """A run that answers requests in order, for one thread at a time. It has a process group of its own, so that Ctrl-C at a terminal reaches its
+    parent first.
 
     Parameters
     ----------
     command : list of str
-        The words of the run.
+        The command of the run.
     nodes : int
         How many nodes its graph has, at least 1.
     """
 
     def __init__(self, command: Sequence[str], nodes: int) -> None:
         self.nodes = nodes
-        # A run whose exchange was broken off anywhere is busy, and can't be asked again.
+        # A run stays busy if its exchange was broken off, and then can't be asked again.
         self.is_open, self.is_loaded, self.is_busy = True, False, False
         with forks.STEADY:
             self.told = tempfile.TemporaryFile()
@@ -138,17 +139,17 @@ class Child:
             forks.follow(self)
 
     def leave_parent(self) -> None:
-        """Closes, in a process that was forked, what leads to the parent's run. The run goes on."""
+        """Closes this process's copies of the streams to the run of its parent, in a forked process. The run continues."""
         self.close()
 
     def load(self) -> None:
-        """Asks a first question where none was asked. Its answer comes when the run has read what it answers by, which may take any time."""
+        """Asks a first question, unless one was asked. Its answer comes once the run has read its files, however long that takes."""
         if not self.is_loaded:
             self.ask(answers.Table([1], [1]))
             self.is_loaded = True
 
     def ask(self, question: answers.Question, deadline: Deadline = Deadline(None)) -> Any:
-        """The value of the answer to a question, which has to be there in time. Whatever goes wrong ends the run."""
+        """Returns the value of the answer to a question, which has to arrive before the deadline. Any error ends the run."""
         self.is_busy = True
         try:
             answer = answers.Answer(question, self.nodes)
@@ -161,7 +162,7 @@ class Child:
         return value
 
     def exchange(self, answer: answers.Answer, deadline: Deadline) -> None:
-        """Writes the request of an answer and reads what is there of the answer, in turns, so that neither side waits for the other."""
+        """Writes the request and reads the answer in turns, so that neither side waits for the other for ever."""
         if self.read():
             raise unasked()
         left = memoryview(answer.request)
@@ -171,7 +172,7 @@ class Child:
             answer.feed(self.read())
 
     def wait(self, left: memoryview, deadline: Deadline) -> None:
-        """Waits until there is something to read, or something of what is left can be written."""
+        """Waits until something can be read, or some of the rest can be written."""
         ready = select.poll()
         ready.register(self.answered, select.POLLIN)
         if left:
@@ -179,7 +180,7 @@ class Child:
         ready.poll(deadline.milliseconds())
 
     def write(self, left: memoryview) -> memoryview:
-        """What is left after as much was written as the pipe takes. A run that reads no more gets no more, and its output tells why."""
+        """Writes as much as the pipe takes, and returns the rest. A run that no longer reads gets no more; its output then says why."""
         try:
             return left[os.write(self.requests.fileno(), left[:CHUNK]):]
         except BlockingIOError:
@@ -188,7 +189,7 @@ class Child:
             return left[:0]
 
     def read(self) -> bytes:
-        """What the run has written by now."""
+        """Returns what the run has written by now."""
         try:
             chunk = os.read(self.answered.fileno(), CHUNK)
         except BlockingIOError:
@@ -198,7 +199,7 @@ class Child:
         return chunk
 
     def fault(self) -> ProgramFault:
-        """Why the run closed its output."""
+        """The reason why the run closed its output."""
         try:
             status = self.process.wait(PATIENCE)
         except subprocess.TimeoutExpired:
@@ -207,11 +208,11 @@ class Child:
         return fault_of(self.told.read(), status)
 
     def kill(self) -> None:
-        """Ends the run, so that a thread that waits for its answer is told. Any thread may do so."""
+        """Ends the run, so that a thread that waits for its answer gets an error. Any thread may call this."""
         if os.getpid() == self.owner:
             kill(self.process)
 
     def close(self) -> None:
-        """Ends the run, and closes what leads to it."""
+        """Ends the run, and closes its streams."""
         self.is_open = False
         end_unused()

@@ -1,4 +1,4 @@
-"""Who answers for a network: the library for C in this process, or runs of the program."""
+"""Chooses who answers for a network: the library for C in this process, or runs of the program."""
 from __future__ import annotations
 
 from collections.abc import Callable
@@ -17,17 +17,17 @@ AUTO = "auto"
 
 
 def engine_of(setting: asking.Setting, choice: bool | str, arcs: Callable[[], ArcIndex]) -> asking.Engine | InProcess:
-    """The engine of a setting: the library in this process where it is chosen and fits, and else runs of the program.
+    """The engine of a setting: the library in this process if it is chosen and fits, and otherwise runs of the program.
 
     Parameters
     ----------
     setting : asking.Setting
         The files, and how the program would run.
     choice : bool or str
-        True, or the path of the library: the library, and an error where it doesn't fit. False: the program. "auto": the library where it fits
-        and no time is set, because only a run can be ended at once.
-    arcs : call
-        The `walks.ArcIndex` of the graph, when it is first needed.
+        True, or the path of the library: the library, and an error if it doesn't fit. False: the program. "auto": the library if it fits and no
+        time limit is set, because only a run can be ended at any time.
+    arcs : callable
+        Makes the `walks.ArcIndex` of the graph, when it is first needed.
     """
     if choice is False or choice == AUTO and setting.timeout is not None:
         return asking.Engine(setting)
@@ -41,13 +41,13 @@ def engine_of(setting: asking.Setting, choice: bool | str, arcs: Callable[[], Ar
 
 
 def fits(program: Path | None, saved: str | None, workers: int) -> bool:
-    """Whether the library stands beside a program, and answers for a network with a saved hierarchy as runs with these options would."""
+    """Whether the library is beside a program, and can answer for a network with a saved hierarchy in place of runs with these options."""
     setting = asking.Setting(program_of(program), "", saved, workers)
     return saved is not None and lack_of(setting, library.beside(setting.program)) is None
 
 
 def lack_of(setting: asking.Setting, path: str | None) -> str | None:
-    """Why the library does not fit a setting, None where it does."""
+    """The reason why the library does not fit a setting, None if it does."""
     if path is None:
         return f"there is no {library.NAME} beside the program {setting.program}, or it is older than the sources; `packaging/library` makes it"
     if setting.workers != 1:

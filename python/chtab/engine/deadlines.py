@@ -1,4 +1,4 @@
-"""Until when an answer has to be there: `timeout` of a network holds for a whole call, however many questions that takes."""
+"""The deadlines of answers. The `timeout` of a network covers a whole call, however many questions it asks."""
 from __future__ import annotations
 
 import contextlib
@@ -17,14 +17,14 @@ Asker = TypeVar("Asker")
 
 
 class Deadline:
-    """When an answer has to be there: so many seconds from now, or at any time (None)."""
+    """The time by which an answer has to arrive, that many seconds from now; None for no limit."""
 
     def __init__(self, seconds: float | None) -> None:
         self.seconds = math.inf if seconds is None else seconds
         self.until = time.monotonic() + self.seconds
 
     def milliseconds(self) -> float | None:
-        """What is left, None where that has no end. Where nothing is, that is a `TimedOut`."""
+        """The milliseconds that are left, None if there is no limit. If none are left, raises `TimedOut`."""
         left = self.until - time.monotonic()
         if left <= 0:
             raise TimedOut(f"chtab took longer than {self.seconds:g} seconds, and was ended")
@@ -32,7 +32,7 @@ class Deadline:
 
 
 class OfThread(threading.local):
-    """The deadline of the call that a thread makes, None between calls."""
+    """The deadline of the call that a thread is making, None between calls."""
 
     deadline: Deadline | None = None
 
@@ -41,13 +41,13 @@ CALL = OfThread()
 
 
 def current(seconds: float | None) -> Deadline:
-    """The deadline of the call that this thread makes; outside of a call one from now on."""
+    """The deadline of the call that this thread is making; outside of a call, a new one that starts now."""
     return CALL.deadline or Deadline(seconds)
 
 
 @contextlib.contextmanager
 def taken(deadline: Deadline | None) -> Iterator[None]:
-    """Makes a deadline that of this thread: another thread works for its call."""
+    """Gives this thread the deadline of another thread's call, for which it works."""
     before, CALL.deadline = CALL.deadline, deadline
     try:
         yield
@@ -57,7 +57,7 @@ def taken(deadline: Deadline | None) -> Iterator[None]:
 
 @contextlib.contextmanager
 def uncounted() -> Iterator[None]:
-    """What is done within doesn't count, such as the loading of a network."""
+    """Stops the clock of the deadline for what is done within, such as loading a network."""
     begun = time.monotonic()
     try:
         yield
@@ -67,7 +67,7 @@ def uncounted() -> Iterator[None]:
 
 
 def whole(call: Callable[Concatenate[Asker, Given], Found]) -> Callable[Concatenate[Asker, Given], Found]:
-    """A call of a network whose time is counted from its beginning. A call that it makes in turn belongs to it."""
+    """Decorates a call of a network, so that its deadline runs from its start. Calls that it makes in turn share this deadline."""
     @functools.wraps(call)
     def timed(self: Asker, *given: Given.args, **named: Given.kwargs) -> Found:
         if CALL.deadline is not None:

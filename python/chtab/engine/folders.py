@@ -1,4 +1,4 @@
-"""Temporary folders that are removed with what keeps them, and also when the process is ended by a signal."""
+"""Temporary folders that are removed with the object that keeps them, and also when a signal ends the process."""
 from __future__ import annotations
 
 import contextlib
@@ -11,22 +11,22 @@ from typing import IO, cast
 
 from chtab.engine import forks
 
-# Reads a line, and ends. Where there is none, because whoever should write it is gone, the folder is removed first. Signals that end the process
-# may come to the shell as well, such as those to all processes of a service.
+# Reads a line and ends. If the input ends without a line, because the process that should write it has died, this removes the folder first. Signals
+# that end the process may reach the shell as well, such as those to all processes of a service, so that it ignores them.
 SCRIPT = 'trap "" HUP INT TERM; read -r line || rm -rf -- "$1"'
 
 
 class Folder:
-    """A folder of files that goes with what keeps it: it is removed by `remove`, when it is no longer used, at the end of the interpreter, and
-    when the process is killed. A process that was forked leaves it alone.
+    """A folder that is removed by `remove`, when this object is no longer used, at the end of the interpreter, and when the process is killed. A
+    forked process leaves it alone.
 
-    A shell outlives the process for that. It has a process group of its own, and waits for the end of a pipe, which comes when all processes that
-    could write to it are gone. So a process that was forked closes it.
+    For the last case a shell outlives the process. It has a process group of its own, and waits for the end of a pipe, which comes when all processes
+    that could write to the pipe are gone. Forked processes therefore close their end of it.
 
     Parameters
     ----------
     path : str, optional
-        Where it is made; without it among the system's temporary folders.
+        Where to make it; by default among the system's temporary folders.
     """
 
     def __init__(self, path: str | None = None) -> None:
@@ -42,7 +42,7 @@ class Folder:
             forks.follow(self)
 
     def leave_parent(self) -> None:
-        """Closes, in a process that was forked, what the shell waits for."""
+        """Closes this process's end of the pipe that the shell waits for, in a forked process."""
         if self.watcher is not None:
             cast(IO[bytes], self.watcher.stdin).close()
             # The shell is no child of this process, which must not wait for it.
@@ -56,7 +56,7 @@ class Folder:
 
 
 def watched(path: str) -> subprocess.Popen[bytes] | None:
-    """The shell that removes a folder when this process is gone; None where none can be begun."""
+    """Starts the shell that removes a folder when this process is gone; None if none can be started."""
     words = ["/bin/sh", "-c", SCRIPT, "chtab", path]
     with contextlib.suppress(OSError):
         return subprocess.Popen(words, stdin=subprocess.PIPE, stdout=subprocess.DEVNULL, stderr=subprocess.DEVNULL, start_new_session=True)
@@ -64,7 +64,7 @@ def watched(path: str) -> subprocess.Popen[bytes] | None:
 
 
 def remove_in(owner: int, path: str, watcher: subprocess.Popen[bytes] | None) -> None:
-    """Removes a folder in the process that made it, and ends the shell."""
+    """Removes a folder, in the process that made it alone, and ends the shell."""
     if os.getpid() != owner:
         return
     shutil.rmtree(path, ignore_errors=True)

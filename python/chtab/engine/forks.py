@@ -1,7 +1,8 @@
-"""Forked processes: what a process holds no longer after it was forked from another.
+"""Forked processes: what a process has to give up after it was forked.
 
-A forked process has copies of all that its parent holds. Among these are the pipes of the parent's runs, and locks that threads of the
-parent hold, which are not there to give them back. Whatever keeps such things is followed: it is told in each forked process.
+A forked process has copies of all that its parent holds. Among these are the pipes of the parent's runs, and locks that are held by threads of the
+parent, which don't exist in the forked process and would never release them. An object that keeps such things calls `follow`, and its
+`leave_parent` is then called in each forked process.
 """
 from __future__ import annotations
 
@@ -11,19 +12,19 @@ import weakref
 from typing import Protocol
 
 class Followed(Protocol):
-    """What is told in a process that was forked."""
+    """An object that has to know when its process was forked."""
 
     def leave_parent(self) -> None:
-        """Gives up what the parent holds."""
+        """Gives up what belongs to the parent."""
 
 
-# Held while a run is begun. No process is forked meanwhile, because it would have pipes that nothing there knows of.
+# Held while a run is started. No process is forked meanwhile, because it would inherit pipes that nothing in it knows of.
 STEADY = threading.RLock()
 FOLLOWED: weakref.WeakSet[Followed] = weakref.WeakSet()
 
 
 def follow(thing: Followed) -> None:
-    """Calls `thing.leave_parent()` in each process that is forked from this one, as long as the thing is there."""
+    """Calls `thing.leave_parent()` in each process that is forked from this one, as long as the object exists."""
     FOLLOWED.add(thing)
 
 

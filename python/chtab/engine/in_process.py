@@ -1,4 +1,4 @@
-"""What is asked of the library for C, in this process: distances, routes and tables, by a handle for each thread, and handles for near rows."""
+"""Asks the library for C, in this process: a handle for each thread answers distances, routes and tables, and further ones answer near rows."""
 from __future__ import annotations
 
 import contextlib
@@ -24,12 +24,12 @@ if TYPE_CHECKING:
     from chtab.engine.walks import ArcIndex
     from chtab.typing import Integers
 
-# What one call of the library answers at most: distances, and targets of a table. So few calls take more than a second, none more than some
-# seconds, and time is looked at between them.
+# The most that one call of the library answers: distances, and targets of a table. Hardly any call then takes more than a second, and the deadline
+# is checked between calls.
 TOGETHER, WIDTH = 1 << 13, 1 << 13
-# The most routes that one call gives, and the nodes of routes for which there is room at first.
+# The most routes that one call gives, and how many nodes of routes have room at first.
 ROUTES, ROOM = 1 << 11, 1 << 16
-# What frees the places of a handle: none are kept in place of them.
+# No places: keeping these frees the places that a handle has.
 NO_PLACES = numpy.zeros(0, numpy.uint32)
 
 
@@ -38,8 +38,8 @@ Value = TypeVar("Value")
 
 
 def timed(question: Question) -> Question:
-    """A question whose answer may take the time of the setting, which is counted from when the network is open. It is looked at before each call, and
-    behind the last one, because one call may answer all."""
+    """Decorates a question with the time limit of the setting, which runs from when the network is open. It is checked before each call of the
+    library, and after the last one, because a single call may answer the question."""
     @functools.wraps(question)
     def ask(self: InProcess, *words: Any) -> Any:
         self.handle()
@@ -52,7 +52,7 @@ def timed(question: Question) -> Question:
 
 
 class OfThread(threading.local):
-    """What a thread has: its handle, and until when the answer to its question has to be there."""
+    """What belongs to a thread: its handle, and the deadline of its question."""
 
     handle: library.Handle | None = None
     deadline = deadlines.Deadline(None)
@@ -64,12 +64,12 @@ def files_of(setting: asking.Setting) -> list[str]:
 
 
 class InProcess:
-    """Answers as `asking.Engine` gives them, by the library. Calls may come from several threads, and from processes that were forked.
+    """Answers as `asking.Engine` does, by the library. Several threads and forked processes may share it.
 
-    Each thread that asks has a handle of its own, made by its first question. All handles share one network in memory. The first handle opens
-    the network. The first thread that asks has it, and when that thread has ended, the next new one.
+    The first question of a thread makes a handle for it. All handles share one network in memory, which the first handle opens. That handle belongs
+    to the first thread that asks, and after the end of this thread to the next new one.
 
-    A process that was forked opens the network anew with its first question, and leaves the handles of its parent alone.
+    The first question of a forked process opens the network anew, and leaves the handles of its parent alone.
     """
 
     def __init__(self, setting: asking.Setting, calls: ctypes.CDLL, arcs: Callable[[], ArcIndex]) -> None:
@@ -81,7 +81,7 @@ class InProcess:
         forks.follow(self)
 
     def leave_parent(self) -> None:
-        """Begins with no handle, and with a lock that nobody holds: in a process that was forked too."""
+        """Resets to no handles and to a free lock, at first and in each forked process."""
         self.lock, self.owner, self.begun = threading.RLock(), os.getpid(), 0
         self.of_thread = OfThread()
         self.handles: weakref.WeakSet[library.Handle] = weakref.WeakSet()
@@ -92,7 +92,7 @@ class InProcess:
     # Handles.
 
     def load(self) -> None:
-        """Opens the network, so that a file that is refused is told now."""
+        """Opens the network, so that a refused file is an error now and not later."""
         self.first_handle()
 
     def first_handle(self) -> library.Handle:
@@ -110,12 +110,12 @@ class InProcess:
             return self.first
 
     def opened(self) -> library.Handle:
-        """The first handle."""
+        """Opens the first handle."""
         contents = []
         for path in files_of(self.setting):
             with open(path, "rb") as file:
                 contents.append(file.read())
-        # Looked at behind the files: what was read is what was there at first.
+        # Checked after reading, so that what was read is what was there at first.
         self.stamps.see_that_same()
         handle = library.Handle(self.calls)
         interruptible(LONG, handle.open, *contents)
@@ -124,7 +124,7 @@ class InProcess:
         return handle
 
     def handle(self) -> library.Handle:
-        """The handle of the thread that asks."""
+        """The handle of the current thread."""
         if self.is_closed:
             raise ChtabError(library.GONE)
         if self.owner != os.getpid():
@@ -142,7 +142,7 @@ class InProcess:
         return self.another(first)
 
     def another(self, first: library.Handle) -> library.Handle:
-        """A further handle. This waits for the call that the thread of the first one makes, and holds no lock meanwhile."""
+        """Makes a further handle. This waits for a call that uses the first one, and holds no lock meanwhile."""
         made = first.share()
         with self.lock:
             if self.is_closed:
@@ -152,9 +152,9 @@ class InProcess:
 
     @contextlib.contextmanager
     def near_handle(self) -> Iterator[library.Handle]:
-        """A handle for one question on near rows, which no other question has meanwhile. Afterwards its places are freed."""
+        """Lends a handle to one question on near rows, and frees its places afterwards."""
         handle = self.spare_handle()
-        # In a process that is forked meanwhile this is the list of the parent alone, as its handles are.
+        # A process that is forked meanwhile has a list of its own, so that this handle stays with its parent.
         spare = self.spare
         yield handle
         # A network that was closed meanwhile has answered this question.
@@ -174,17 +174,17 @@ class InProcess:
         return self.another(first)
 
     def living(self) -> int:
-        """Whether the network is open in this process: 1, or else 0."""
+        """1 if the network is open in this process, and 0 otherwise."""
         return int(self.first is not None)
 
     @property
     def runs(self) -> list[library.Handle]:
-        """The handles of this process: none before the network was opened."""
+        """The handles of this process; none before the network is opened."""
         with self.lock:
             return list(self.handles)
 
     def close(self) -> None:
-        """Closes all handles, each after the call that is under way with it. A question of another thread that takes several calls fails."""
+        """Closes all handles, each once the call that uses it has ended. A question of another thread fails if it needs further calls."""
         self.is_closed = True
         if self.owner != os.getpid():
             self.leave_parent()
@@ -202,12 +202,12 @@ class InProcess:
     # Questions.
 
     def call(self, searches: int, call: Callable[..., Value], *words: Any) -> Value:
-        """The value of a call that makes so many searches, if there is time left for it."""
+        """Returns the value of a call that makes that many searches, if there is time left for it."""
         self.of_thread.deadline.milliseconds()
         return interruptible(searches, call, *words)
 
     def few_distances(self, sources: Sequence[int], targets: Sequence[int]) -> list[int] | None:
-        """The distances of at most `library.FEW` pairs of nodes from 1 to `nodes`, two lists; None where they have to be asked for by arrays."""
+        """The distances of at most `library.FEW` pairs of nodes from 1 to `nodes`, given as two lists; None if this needs arrays."""
         return self.handle().few_distances([node - 1 for node in sources], [node - 1 for node in targets])
 
     @timed
@@ -255,7 +255,7 @@ class InProcess:
         return weights, numpy.maximum(counts - 1, 0), lines[lines != library.NO_LINE].astype(numpy.int64)
 
     def found(self, pairs: Integers, call: Callable[..., Any]) -> list[NDArray[Any]]:
-        """What a call for routes gives of pairs: weights, how many nodes each route has, and columns with an item for each of these."""
+        """Calls for the routes of pairs: returns their weights, how many nodes each route has, and columns with an item for each node."""
         sources, targets = library.nodes_of(pairs, self.nodes).T.copy()
         found, start = [], 0
         while start < len(sources):
@@ -271,7 +271,7 @@ class InProcess:
         return [numpy.concatenate(column) for column in parts]
 
     def walks_of(self, weights: Integers, counts: Integers, nodes: NDArray[Any], *_: object) -> Walks:
-        """The walks over some nodes from 0 on, so many of each walk."""
+        """The walks over these nodes, which count from 0; `counts` has how many belong to each walk."""
         lasts = numpy.cumsum(counts)
         is_tail, is_head = numpy.ones((2, len(nodes)), bool)
         is_tail[lasts[counts > 0] - 1] = is_head[(lasts - counts)[counts > 0]] = False
@@ -286,5 +286,5 @@ class InProcess:
         return walks
 
     def changed(self) -> ProgramFault:
-        """The fault of a graph whose arcs are not those that the library opened."""
+        """The fault of a graph file whose arcs differ from those that the library opened."""
         return ProgramFault(f"{self.setting.graph} has changed since it was opened", 1)

@@ -1,7 +1,7 @@
-"""Long calls of the library for C, which Ctrl-C breaks off.
+"""Long calls of the library for C, which Ctrl-C can interrupt.
 
-Python hears a signal between two steps of its own, and a call of C is one step. So the main thread, which signals come to, lets another thread
-make a long call, and waits for it.
+Python handles a signal between two of its own instructions, and a call of C is a single one. The main thread, which gets the signals, therefore
+lets another thread make a long call, and waits for it.
 """
 from __future__ import annotations
 
@@ -11,9 +11,9 @@ import weakref
 from collections.abc import Callable
 from typing import Any, TypeVar
 
-# Searches in a network that are worth a thread. On a country of 24 million nodes so many take less than half a second.
+# From this many searches on, a call gets a thread. On a country of 24 million nodes that many take less than half a second.
 LONG = 1 << 8
-# Seconds after which a thread is looked for that had no memory to begin or to tell of its end.
+# Seconds between two checks whether the thread is still there, because it may have had no memory to start, or to report its end.
 PATIENCE = 1.0
 
 
@@ -21,7 +21,7 @@ Value = TypeVar("Value")
 
 
 class Course:
-    """A call under way: what came of it, and a lock that is held until it ends. Without memory nothing may be made then, so all is made before."""
+    """A call under way: its result, and a lock that is held until it ends. All of it is made before the call, because memory may be short later."""
 
     def __init__(self) -> None:
         self.value: Any = None
@@ -31,7 +31,7 @@ class Course:
         self.ended.acquire()
 
     def make(self, call: Callable[..., Any], words: tuple[Any, ...], alive: Alive) -> None:
-        """Makes the call. `alive` is there as long as the thread is."""
+        """Makes the call. `alive` exists as long as the thread does."""
         try:
             self.value = call(*words)
             self.is_made = True
@@ -43,13 +43,14 @@ class Course:
 
 
 class Alive:
-    """What a thread keeps until it ends."""
+    """An object that a thread keeps until it ends."""
 
 
 def interruptible(searches: int, call: Callable[..., Value], *words: Any) -> Value:
-    """The value of a call that makes so many searches. If a signal breaks off the wait, the call ends by itself later, and its value is dropped.
+    """Returns the value of a call that makes that many searches. If a signal breaks off the wait, the call ends by itself later, and its value is
+    dropped.
 
-    A thread of `threading` isn't used, because its beginning waits for ever where there is no memory.
+    This doesn't use `threading.Thread`, because its `start` waits for ever if there is no memory.
     """
     if searches < LONG or threading.current_thread() is not threading.main_thread():
         return call(*words)
@@ -58,7 +59,7 @@ def interruptible(searches: int, call: Callable[..., Value], *words: Any) -> Val
     try:
         _thread.start_new_thread(course.make, (call, words, alive))
     except RuntimeError:
-        # No thread can be begun, or the interpreter ends.
+        # No thread can be started, or the interpreter is ending.
         return call(*words)
     del alive
     while not course.ended.acquire(timeout=PATIENCE) and seen() is not None:

@@ -11,7 +11,7 @@ import shutil
 import subprocess
 import sys
 import tempfile
-from collections.abc import Iterator
+from collections.abc import Iterator, Sequence
 from typing import IO, TYPE_CHECKING, Any
 
 import numpy
@@ -30,7 +30,7 @@ if TYPE_CHECKING:
 
 # The files of a network in its folder.
 GRAPH, SAVED, COORDINATES, BENDS, LABELS = "network.gr", "network.ch", "network.co", "network.bends", "network.json"
-NAMES, STREETS = "network.nodes", "network.names"
+NAMES, STREETS, WAYS = "network.nodes", "network.names", "network.ways"
 # Seconds between two looks at the progress of building, and its lines: how many steps of a stage are done, and of how many.
 LOOK = 0.2
 PROGRESS = re.compile(r"chtab: [^,]+, ([\d,]*\d) of ([\d,]*\d) ")
@@ -120,15 +120,16 @@ def labelling_of(arcs: Arcs, digest: str) -> files.Labelling:
     """What the file of labels has of arcs, whose graph has this SHA-256."""
     labels = arcs.labels.values.tolist() if isinstance(arcs.labels, Labels) else None
     rows = None if arcs.arcs is None else arcs.arcs.tolist()
-    return files.Labelling(labels, arcs.scale, arcs.rounding, digest, arcs.unit, arcs.rows, rows, arcs.keys)
+    return files.Labelling(labels, arcs.scale, arcs.rounding, digest, arcs.unit, arcs.rows, rows, arcs.keys, arcs.ways)
 
 
 class Beside:
-    """The files of a network that another one has too: the places of its nodes, what these are called on the map, and the streets of its arcs."""
+    """The files of a network that another one has too: the places of its nodes, what these are called on the map, and the streets and ways of its
+    arcs."""
 
-    def __init__(self, layers: Any, streets: files.Streets | None = None) -> None:
+    def __init__(self, layers: Any, streets: files.Streets | None = None, ways: Sequence[int] | None = None) -> None:
         base = os.path.splitext(layers.path)[0]
-        self.stamps, self.streets = layers.stamps, streets
+        self.stamps, self.streets, self.ways = layers.stamps, streets, ways
         self.paths = {COORDINATES: layers.paths["coordinates"], NAMES: base + ".nodes"}
 
     def copy_to(self, folder: str) -> None:
@@ -139,6 +140,8 @@ class Beside:
                 shutil.copyfile(path, os.path.join(folder, name))
         if self.streets is not None:
             files.write_streets(os.path.join(folder, STREETS), self.streets)
+        if self.ways is not None:
+            files.write_ways(os.path.join(folder, WAYS), self.ways)
         self.stamps.see_that_same()
 
 

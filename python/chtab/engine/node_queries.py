@@ -1,4 +1,4 @@
-"""Distances, tables and routes between nodes by their numbers, in arrays, over the runs of one engine."""
+"""Distances, tables and routes between nodes by their numbers, in arrays, by the runs of one engine."""
 from __future__ import annotations
 
 from collections.abc import Iterator, Sequence
@@ -21,8 +21,8 @@ SHARE = 2 / 3
 
 
 class NodeQueries:
-    """What is asked of an engine between nodes from 1 on. Questions of any size are cut into those that a run takes at once. `near` are the
-    runs of `chtab near` on the same network, and `progress` is what `progress_of` takes: nothing is reported where nobody asks for it."""
+    """Asks an engine about nodes, which count from 1. Questions of any size are cut into parts that a run takes. `near` has the runs of `chtab near` on
+    the same network. `progress` is what `progress_of` takes; without it nothing is reported."""
 
     def __init__(self, runs: asking.Engine | InProcess, near: Any) -> None:
         self.runs, self.near = runs, near
@@ -35,14 +35,14 @@ class NodeQueries:
         return found
 
     def parts(self, pairs: Integers, size: int, name: str, progress: Progress) -> Iterator[slice]:
-        """The parts of pairs that are asked for together, each of which is counted when the next one is asked for."""
+        """Yields the parts of pairs that are asked for together, and counts each when the next one is asked for."""
         with progress_of(progress, name, len(pairs), "pairs", False) as counted:
             for start in range(0, len(pairs), size):
                 yield slice(start, start + size)
                 counted.step(min(size, len(pairs) - start))
 
     def table(self, sources: Integers, targets: Integers, within: int | None = None, progress: Progress = None) -> Integers:
-        """The weights from each node of one array to each of another, int64 (k, l), -1 where there is no walk, or none of at most `within`."""
+        """The weights from each node of one array to each of another, int64 (k, l); -1 where there is no walk, or none of at most `within`."""
         table, parts = numpy.empty((len(sources), len(targets)), numpy.int64), list(blocks.cut(sources, targets))
         with progress_of(progress, "table", len(parts), "blocks", False) as counted:
             for block in counted.each(parts):
@@ -51,8 +51,8 @@ class NodeQueries:
         return table
 
     def is_near_best(self, count: int) -> bool:
-        """Whether near rows of all nodes are told sooner than a row of a table with so many targets. Their run reads the network, and a table
-        searches from each target."""
+        """Whether near rows of all nodes take less time than a row of a table with that many targets. The run for near rows has to read the network,
+        and a table searches from each target."""
         setting = self.runs.setting
         if not self.near.has_command():
             return False

@@ -1,4 +1,4 @@
-"""Where the program chtab is found."""
+"""Finds the program chtab."""
 from __future__ import annotations
 
 import os
@@ -13,7 +13,7 @@ from chtab.errors import ChtabError
 if TYPE_CHECKING:
     from chtab.typing import Path
 
-# The package, and the folder that it stands in: `python` of a checkout or of what `install` put there, or a folder of Python's packages.
+# The package, and the folder that it is in: `python` of a checkout or of an installation by `install`, or a folder of Python's packages.
 PACKAGE = pathlib.Path(__file__).parent.parent
 ABOVE = PACKAGE.resolve().parent
 LACKING = "the program chtab is neither beside this package nor beside the script that runs nor on the path; " \
@@ -23,13 +23,13 @@ LACKING = "the program chtab is neither beside this package nor beside the scrip
 def program_of(path: Path | None = None) -> str:
     """The path of the program.
 
-    It is looked for in this order: the one that was named; that of the checkout or of the installation that the package is in; the one
-    that was installed along with the package, by pip or by Debian; the one beside the script that runs; `chtab` on the path.
+    These are tried in order: the one that the caller names; that of the checkout or installation that the package is in; the one that pip or Debian's
+    package installed along with the package; the one beside the running script; `chtab` on the path.
 
     Parameters
     ----------
     path : str or path, optional
-        The program, where the caller names it.
+        The program, if the caller names it.
 
     Raises
     ------

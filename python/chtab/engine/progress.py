@@ -1,4 +1,4 @@
-"""Signs of life on standard error: a bar where it is a terminal (by tqdm, where that is there), and else a line now and then."""
+"""Progress of long calls on standard error: a bar of tqdm if that is a terminal and tqdm is installed, and otherwise a line now and then."""
 from __future__ import annotations
 
 import sys
@@ -6,7 +6,7 @@ import time
 from collections.abc import Callable, Iterable, Iterator
 from typing import Any, TypeAlias, TypeVar
 
-# What a caller says of progress.
+# What callers give as `progress`.
 Asked: TypeAlias = bool | Callable[[int, int], Any] | None
 
 # Seconds from one line to the next.
@@ -15,14 +15,14 @@ SECONDS = 10.0
 MANY = 100_000
 
 
-# What hears how far a call is: how many things are done, and of how many.
+# A function that gets how many things are done, and of how many.
 Told: TypeAlias = Callable[[int, int], Any]
 # Seconds from one line to the next where a caller asks for them.
 ASKED_SECONDS = 1.0
 
 
 def progress_of(asked: Asked, name: str, total: int | None, things: str, is_told: bool = True) -> Progress:
-    """What counts for a call of a network, whose `progress` says how: None as `is_told` has it, True or False, or a call."""
+    """The progress of a call of a network, by its argument `progress`: None means `is_told`, and a callable gets the counts."""
     if callable(asked):
         return Progress(name, total, things, is_told=False, call=asked)
     if asked is not None and not isinstance(asked, bool):
@@ -34,8 +34,8 @@ Item = TypeVar("Item")
 
 
 class Progress:
-    """Counts what is done of `total` things (None: nobody knows how many). Nothing is told of what ends within `seconds` (`SECONDS`), and
-    nothing at all where `is_told` is false. A `call` is told instead, by how many are done and the total, at each step.
+    """Counts what is done of `total` things (None if their number isn't known). Nothing is reported of what ends within `seconds` (`SECONDS`), nor if
+    `is_told` is false. A `call`, if there is one, gets the count and the total at each step instead.
 
         with Progress("blocks", 49, "blocks") as progress:
             progress.step()
@@ -59,7 +59,7 @@ class Progress:
         return tqdm.tqdm(desc=self.name, total=self.total, unit=f" {self.things}", unit_scale=is_scaled, delay=1, leave=False)
 
     def step(self, count: int = 1) -> None:
-        """So many more are done."""
+        """Counts that many more as done."""
         self.done += count
         if self.call is not None:
             self.call(self.done, self.total or 0)
@@ -70,7 +70,7 @@ class Progress:
             print(self.line(), file=sys.stderr, flush=True)
 
     def each(self, items: Iterable[Item]) -> Iterator[Item]:
-        """The items, each of which is counted once the next one is asked for."""
+        """Yields the items, and counts each one when the next one is asked for."""
         for item in items:
             yield item
             self.step()

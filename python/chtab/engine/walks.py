@@ -1,4 +1,4 @@
-"""Routes of many queries in flat arrays, for callers that need sums over their arcs and not each route by itself."""
+"""Routes of many queries in flat arrays, for callers that need sums over their arcs rather than each route by itself."""
 from __future__ import annotations
 
 from collections.abc import Sequence
@@ -14,14 +14,14 @@ if TYPE_CHECKING:
     from chtab import files
     from chtab.typing import Integers
 
-# The letters that lines of the program begin with.
+# The first letters of the program's lines.
 DISTANCE, ROUTE, ARC = b"dra"
 
 
 @dataclass(frozen=True)
 class Walks:
-    """Walks of a graph. Walk k weighs `weights[k]`, -1 where there is none. Its arcs are those from `firsts[k]` to before `firsts[k + 1]` of
-    the columns `tails`, `heads` and `arc_weights`."""
+    """Walks of a graph. Walk k has the weight `weights[k]`, -1 if there is no walk. Its arcs are `firsts[k]` to `firsts[k + 1] - 1` of the columns
+    `tails`, `heads` and `arc_weights`."""
 
     weights: Integers
     firsts: Integers
@@ -33,11 +33,11 @@ class Walks:
         return len(self.weights)
 
     def counts(self) -> Integers:
-        """How many arcs each has."""
+        """How many arcs each walk has."""
         return numpy.diff(self.firsts)
 
     def sums(self, column: Integers) -> Integers:
-        """For each walk the sum of what a column has for its arcs."""
+        """For each walk the sum of a column over its arcs."""
         return numpy.diff(numpy.append(0, numpy.cumsum(column))[self.firsts])
 
     def chosen(self, which: Integers) -> Walks:
@@ -69,7 +69,8 @@ class WalkQuestion(answers.Question):
 
 
 def read(text: bytes) -> tuple[Integers, Walks]:
-    """The queries (n, 2) that a text of the right lines answers, and their walks. A route has to have as many arcs as it says."""
+    """The queries (n, 2) that a text of routes answers, and their walks. The lines have to be of the right form. Each route has to have the number of
+    arcs that it states."""
     kinds = numpy.frombuffer(text.translate(None, b"0123456789 -\n"), numpy.uint8)
     words = answers.numbers(text, 1)[:, 0]
     counts = numpy.where(kinds == ROUTE, 1, 3)
@@ -88,7 +89,8 @@ def read(text: bytes) -> tuple[Integers, Walks]:
 
 
 def matched(found: tuple[Integers, Walks], pairs: Integers) -> Walks:
-    """The walks, where they are those of these pairs: each leads from its source to its target over arcs that weigh what it says."""
+    """The walks, if they answer these pairs: each leads from its source to its target, and its weight is the sum of its arcs. Otherwise raises a
+    `ProgramFault`."""
     queries, walks = found
     if queries.shape != pairs.shape or (queries != pairs).any():
         raise unasked()
@@ -109,13 +111,13 @@ def matched(found: tuple[Integers, Walks], pairs: Integers) -> Walks:
 
 
 def ranges(firsts: Integers, counts: Integers) -> Integers:
-    """The numbers from each of the firsts on, so many of each, in one array."""
+    """For each pair the `count` numbers from `first` on, all in one array."""
     ends = numpy.cumsum(counts)
     return numpy.arange(ends[-1] if len(ends) else 0) + numpy.repeat(firsts - (ends - counts), counts)
 
 
 class ArcIndex:
-    """Finds the arcs of a graph by their ends. Of several arcs between two nodes it is the one of least weight, and of these the first.
+    """Finds the arcs of a graph by their ends: of several arcs between two nodes the one of least weight, and of equal ones the first.
 
     Parameters
     ----------
@@ -132,18 +134,18 @@ class ArcIndex:
         keys = keys[order]
         is_first = numpy.append(True, keys[1:] != keys[:-1])[:len(keys)]
         self.lines, self.weights = order[is_first], weights[order][is_first]
-        # Behind the keys is one that no pair has, so that each key that is looked for has a place.
+        # The last key belongs to no pair, so that each search ends at a place in the array.
         self.keys = numpy.append(keys[is_first], numpy.iinfo(numpy.int64).max)
 
     def of(self, tails: Integers, heads: Integers) -> Integers:
-        """The arcs between nodes from 1 on, as numbers from 0 on. One that is not there is a `ProgramFault`."""
+        """The numbers of the arcs between nodes; nodes count from 1, arcs from 0. Raises a `ProgramFault` if one of them doesn't exist."""
         places = self.found(tails, heads)
         if places is None:
             raise unasked()
         return self.lines[places]
 
     def found(self, tails: Integers, heads: Integers) -> Integers | None:
-        """The places of arcs between nodes from 1 on, among all pairs of ends; None where one of them is not there."""
+        """The places of arcs between nodes among all pairs of ends; None if one of them doesn't exist."""
         wanted = (tails.astype(numpy.int64) - 1) * self.count + heads - 1
         places = self.keys.searchsorted(wanted)
         return places if (self.keys[places] == wanted).all() else None

@@ -9,6 +9,7 @@
 | `.p2p` | queries: pairs of nodes | `read_queries` | `write_queries` |
 | `.ss` | a list of nodes: sources or targets | `read_list` | `write_list` |
 | `.names` | what arcs are called: a street for each, and the side of the road that is driven on | `read_streets` | `write_streets` |
+| `.ways` | OpenStreetMap's number of the way that each arc is a part of | `read_ways` | `write_ways` |
 | places | longitude, latitude and a name a line | `read_places` | |
 | text of `dist` | distances and routes | `read_answers` | |
 | `.json` | what the nodes of a network are called by its owner | `read_labels` | `write_labels` |
@@ -32,11 +33,12 @@ from chtab.files.streets import SIDES, Street, Streets, read_streets, write_stre
 from chtab.files.texts import (
     Answer, read_answers, read_near, read_routes, read_row_texts, read_rows, write_csv, write_csv_of_texts, write_npy_of_texts,
 )
+from chtab.files.way_numbers import read_ways, write_ways
 
 __all__ = [
     "SIDES", "UNITS", "Answer", "Coordinates", "FileFault", "Graph", "Labelling", "Place", "Street", "Streets", "count_arcs", "count_nodes",
     "read_answers", "read_bends", "read_coordinates", "read_graph", "read_labels", "read_list", "read_names", "read_near", "read_places", "read_queries",
-    "read_routes", "read_row_texts", "read_rows", "read_streets", "read_unit", "scale_comment", "whole", "write_bends", "write_coordinate_columns",
+    "read_routes", "read_row_texts", "read_rows", "read_streets", "read_unit", "read_ways", "scale_comment", "whole", "write_bends", "write_coordinate_columns",
     "write_coordinates", "write_csv", "write_csv_of_texts", "write_graph", "write_graph_columns", "write_labels", "write_list", "write_list_column",
-    "write_names", "write_npy_of_texts", "write_queries", "write_streets",
+    "write_names", "write_npy_of_texts", "write_queries", "write_streets", "write_ways",
 ]

@@ -38,6 +38,7 @@ class Columns:
     geometry: object = None
     names: tuple[str, ...] = NAMES
     keys: list[Any] | None = None
+    ways: list[list[int]] | None = None
 
 
 @dataclass(frozen=True)
@@ -47,7 +48,8 @@ class Arcs:
     Weights are those of the caller times `scale`, rounded by at most `rounding`. `unit` is what the caller's are measured in, None where nobody
     told it. `places` are the longitudes and latitudes of the nodes in degrees, or None. `bends` has the points of arcs between their ends, as
     `files.read_bends` gives them. `rows` is how many rows the caller gave; arc k is of row `arcs[k]`, or of row k modulo `rows`. `keys` has the
-    keys of rows, `base` what the weights of the graph are, and `beside` the files of places that are taken along, or None.
+    keys of rows and `ways` their ways of OpenStreetMap, `base` is what the weights of the graph are, and `beside` has the files of places that are
+    taken along, or is None.
     """
 
     labels: Labels | Numbers
@@ -62,6 +64,7 @@ class Arcs:
     rows: int
     arcs: Integers | None = None
     keys: list[Any] | None = None
+    ways: list[list[int]] | None = None
     base: str = ""
     beside: Any = None
 
@@ -84,7 +87,7 @@ def arcs_of(given: Columns) -> Arcs:
         bends |= {arc + rows: points[::-1] for arc, points in bends.items()}
         tails, heads, weights = numpy.concatenate([tails, heads]), numpy.concatenate([heads, tails]), numpy.tile(weights, 2)
     base = measures.base_of(unit, scale)
-    return Arcs(labels, tails, heads, weights, scale, rounding, unit, places, bends, rows, None, given.keys, base)
+    return Arcs(labels, tails, heads, weights, scale, rounding, unit, places, bends, rows, None, given.keys, given.ways, base)
 
 
 def weights_in(given: Columns) -> tuple[NDArray[Any], float | None, float | None, str | None]:

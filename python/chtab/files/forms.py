@@ -51,7 +51,7 @@ def columns(source: Source, letter: bytes, count: int) -> tuple[list[array.array
             words = line.split()
             if words[:1] == [letter]:
                 if len(words) != count + 1:
-                    raise FileFault(f"{name_of(source)} line {number}: not `{letter.decode()}` and {count} numbers")
+                    raise FileFault(f"{name_of(source)} line {number}: not `{letter.decode()}` and {count} number{'s' * (count > 1)}")
                 yield from words[1:]
             elif line[:1] in (b"c", b"p"):
                 heads.append(line)

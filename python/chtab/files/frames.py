@@ -2,9 +2,11 @@
 calls."""
 from __future__ import annotations
 
-from collections.abc import Mapping, Sequence
+from collections.abc import Iterable, Mapping, Sequence
 from dataclasses import fields
 from typing import Any
+
+import numpy
 
 from chtab.errors import DataFault
 from chtab.files import arc_columns, columns, measures
@@ -12,6 +14,17 @@ from chtab.files.columns import told
 
 # What `from_frame` passes on to `from_arrays`.
 FURTHER = {field.name for field in fields(arc_columns.Columns)} & {"nodes", "x", "y", "scale", "unit", "both_ways"}
+
+# What osmnx calls the ways of OpenStreetMap that an edge is made of: one number, or a list.
+WAYS = "osmid"
+
+
+def ways_in(column: Iterable[Any]) -> list[list[int]] | None:
+    """The numbers of the ways of each edge; None where not each edge has a number or a list of them."""
+    ways = [list(way) if isinstance(way, list | tuple | set | numpy.ndarray) else [way] for way in column]
+    if not all(columns.is_integer(kind) for kind in {type(number) for way in ways for number in way}):
+        return None
+    return [list(map(int, way)) for way in ways]
 
 
 def column_of(frame: Any, name: str) -> Any:
@@ -46,7 +59,8 @@ def arcs_of_networkx(
     names = "from", "to", str(weight)
     known = [key for *_, key in graph.edges(keys=True)] if graph.is_multigraph() else []
     keys = known if known and all(type(key) in (int, str) for key in known) else None
-    given = arc_columns.Columns(sources, targets, weights, nodes, x, y, scale, unit, not graph.is_directed(), lines, names, keys)
+    ways = ways_in(way for _, _, way in graph.edges(data=WAYS))
+    given = arc_columns.Columns(sources, targets, weights, nodes, x, y, scale, unit, not graph.is_directed(), lines, names, keys, ways)
     try:
         return arc_columns.arcs_of(given)
     except DataFault as fault:

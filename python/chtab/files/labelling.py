@@ -20,7 +20,8 @@ class Labelling(NamedTuple):
     graph's file, in hexadecimal. `unit` is what the caller's weights are measured in, None where nobody told it.
 
     Labels that are None are the numbers of nodes. `rows` is how many rows of arcs the caller gave, `arcs` has the row of each arc where that is not
-    its number modulo `rows`, and `keys` the key of each row, of a graph with several edges between two nodes.
+    its number modulo `rows`, and `keys` the key of each row, of a graph with several edges between two nodes. `ways` has the numbers of the ways of
+    OpenStreetMap that each row is made of.
     """
 
     labels: Any
@@ -31,6 +32,7 @@ class Labelling(NamedTuple):
     rows: int | None = None
     arcs: list[int] | None = None
     keys: list[Any] | None = None
+    ways: list[list[int]] | None = None
 
 
 def write_labels(target: Target, labelling: Labelling) -> None:
@@ -94,5 +96,6 @@ def is_right(found: Labelling) -> bool:
     is_scaled = found.scale is None or type(found.scale) in (int, float) and math.isfinite(found.scale) and found.scale > 0
     is_rounded = type(found.rounding) in (int, float) and found.rounding >= 0
     is_named = isinstance(found.graph, str) and isinstance(found.unit, str | None) and type(found.rows) in (int, type(None))
-    is_named &= all(each is None or isinstance(each, list) for each in (found.arcs, found.keys)) and set(map(type, found.arcs or ())) <= {int}
+    is_named &= all(each is None or isinstance(each, list) for each in (found.arcs, found.keys, found.ways)) and set(map(type, found.arcs or ())) <= {int}
+    is_named &= set(map(type, found.ways or ())) <= {list} and {type(number) for way in found.ways or () for number in way} <= {int}
     return is_scaled and is_rounded and is_named and len(set(found.labels)) == len(found.labels)

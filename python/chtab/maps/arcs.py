@@ -22,6 +22,8 @@ if TYPE_CHECKING:
 HALF_DEGREE, DEGREE = radians(0.5), 2 * radians(0.5)
 QUARTER_TURN = math.pi / 2
 DIAMETER = 2 * RADIUS
+# The piece of an arc that is no road, and the way of such an arc.
+NO_PIECE, NO_WAY = -1, 0
 
 
 class Network:
@@ -76,8 +78,9 @@ class Network:
             self.add_arc(head, tail, against, piece, bends and bends[::-1], streets[1])
 
     def way_of(self, arc: int) -> int:
-        """The map's number of the way on which an arc lies."""
-        return self.ways[self.pieces[arc]]
+        """The map's number of the way that an arc is a part of, `NO_WAY` of an arc that is no road."""
+        piece = self.pieces[arc]
+        return NO_WAY if piece == NO_PIECE else self.ways[piece]
 
 
 def crossings(survey: Survey) -> set[int]:

@@ -42,7 +42,7 @@ class Choices(NamedTuple):
 
 class Numbered(NamedTuple):
     """A network as its files have it: the nodes' names and places, arcs between nodes from 1 on, their bends, the ends of trips, the
-    copies of nodes, and what arcs are called, None where nobody asked for it."""
+    copies of nodes, what arcs are called, None where nobody asked for it, and the number of each arc's way."""
 
     names: list[int]
     places: list[Point]
@@ -51,6 +51,7 @@ class Numbered(NamedTuple):
     ends: list[tuple[int, int]]
     copies: list[tuple[int, int]]
     streets: files.Streets | None
+    ways: list[int]
 
 
 @contextlib.contextmanager
@@ -116,7 +117,8 @@ def numbered(made: arcs.Network, kept: bytearray, streets: Streets | None = None
     ends = sorted((numbers[node], numbers[end]) for end, node in made.ends.items() if kept[end])
     copies = sorted((numbers[copy], numbers[node]) for copy, node in made.copies.items() if kept[copy] and kept[node])
     called = None if streets is None else files.Streets(*streets.chosen(itertools.compress(made.streets or (), is_kept)), side)
-    return Numbered([made.names[node] for node in nodes], [made.places[node] for node in nodes], arcs, bends, ends, copies, called)
+    ways = [made.way_of(arc) for arc in itertools.compress(range(len(made.tails)), is_kept)]
+    return Numbered([made.names[node] for node in nodes], [made.places[node] for node in nodes], arcs, bends, ends, copies, called, ways)
 
 
 def name_of(path: str) -> str:
@@ -138,6 +140,7 @@ def write(out: str, made: Numbered, comments: Sequence[str], unit: str) -> list[
         "gr": lambda part: files.write_graph(part, len(made.names), made.arcs, [*comments, f"Weights are {unit}."]),
         "co": lambda part: files.write_coordinates(part, made.places, comments, made.ends, made.copies),
         "nodes": lambda part: files.write_names(part, made.names),
+        "ways": lambda part: files.write_ways(part, made.ways, comments),
         "bends": (lambda part: files.write_bends(part, made.bends, comments)) if made.bends else None,
         "names": None if streets is None else functools.partial(files.write_streets, found=streets, comments=comments),
     }

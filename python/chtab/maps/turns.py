@@ -11,10 +11,7 @@ import collections
 from collections.abc import Mapping
 
 from chtab.maps import restrictions
-from chtab.maps.arcs import Network
-
-# The piece of an arc that is no road.
-NO_PIECE = -1
+from chtab.maps.arcs import NO_PIECE, Network
 
 
 class Copies:

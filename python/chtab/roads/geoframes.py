@@ -8,7 +8,7 @@ import numpy
 
 from chtab.errors import DataFault
 from chtab.files import arc_columns, edge_lines
-from chtab.files.frames import FURTHER, column_of
+from chtab.files.frames import FURTHER, WAYS, column_of, ways_in
 from chtab.files.showing import DEGREES
 from chtab.roads.lines import metres_between
 
@@ -50,7 +50,8 @@ def columns_of_geodataframe(edges: Any, nodes: Any, names: tuple[str, str, str |
         of_arcs = {"unit": "metres"} | {name: value for name, value in of_arcs.items() if value is not None}
     named = (str(source), str(target), "length" if weight is None else str(weight))
     keys = column_of(edges, "key").tolist() if "key" in edges.index.names else None
-    given = arc_columns.Columns(sources, targets, weights, geometry=lines, names=named, keys=keys, **of_arcs)
+    ways = ways_in(edges[WAYS]) if WAYS in edges.columns else None
+    given = arc_columns.Columns(sources, targets, weights, geometry=lines, names=named, keys=keys, ways=ways, **of_arcs)
     return given, {name: value for name, value in more.items() if name not in FURTHER}
 
 

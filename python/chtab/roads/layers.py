@@ -47,7 +47,7 @@ class Layers:
         base = os.path.splitext(path)[0]
         self.path, self.asked = path, asked
         self.paths = {"coordinates": coordinates or beside(base + ".co"), "bends": bends or beside(base + ".bends"), "labelling": labelling}
-        self.paths["streets"] = beside(base + ".names")
+        self.paths |= {"streets": beside(base + ".names"), "ways": beside(base + ".ways")}
         self.kept: dict[str, Any] = {}
         self.stamps = Stamps(path, *self.paths.values())
         self.leave_parent()
@@ -92,6 +92,28 @@ class Layers:
         if path is None:
             return None
         return self.read_file("streets", functools.partial(files.read_streets, path, files.count_arcs(self.path)))
+
+    @property
+    def ways(self) -> Integers | None:
+        """The way of OpenStreetMap that each arc is a part of, as `files.read_ways` gives it; None where the graph has no file of ways beside it."""
+        path = self.paths["ways"]
+        if path is None:
+            return None
+        return numpy.asarray(self.read_file("ways", functools.partial(files.read_ways, path, files.count_arcs(self.path))), numpy.int64)
+
+    def arcs_of_way(self, number: int) -> Integers | None:
+        """The arcs that are parts of a way of OpenStreetMap, by the file of ways or by the ways of the caller's rows; None where there are neither."""
+        labelling, ways = self.labelling, self.ways
+        if ways is not None:
+            return numpy.flatnonzero(ways == number)
+        if labelling is None or labelling.ways is None:
+            return None
+        return numpy.flatnonzero(numpy.isin(self.rows, [row for row, own in enumerate(labelling.ways) if number in own]))
+
+    @property
+    def copies(self) -> dict[int, int]:
+        """The nodes that stand for another one where turns are restricted, as `files.Coordinates.copies` gives them."""
+        return self.read("copies", lambda: {} if self.paths["coordinates"] is None else self.coordinates.copies())
 
     @property
     def rows(self) -> Integers:

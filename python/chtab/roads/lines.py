@@ -19,6 +19,8 @@ if TYPE_CHECKING:
 
 # Degrees beyond which the projection has no end.
 STEEPEST = 89.9
+# Up to this distance in the plane, 6 mm at the equator, a place lies on a line.
+ON_LINE = 1e-9
 
 
 def mercator(longitudes: ArrayLike, latitudes: ArrayLike) -> Floats:
@@ -120,6 +122,17 @@ class Lines:
             self.pieces = Pieces(self)
         steps, shares, at = self.pieces.nearest_fitting(mercator([longitude], [latitude]), fits)
         return steps, shares, degrees(*at.T)
+
+    def are_on(self, lines: Integers, longitudes: Floats, latitudes: Floats) -> Marks:
+        """Whether each place lies on its line, as the points do that `nearest` finds."""
+        if self.pieces is None:
+            self.pieces = Pieces(self)
+        counts = self.firsts[lines + 1] - self.firsts[lines] - 1
+        owner = numpy.repeat(numpy.arange(len(lines)), counts)
+        _, squares, _ = self.pieces.feet(ranges(self.firsts[lines], counts), mercator(longitudes, latitudes)[owner])
+        least = numpy.full(len(lines), numpy.inf)
+        numpy.fmin.at(least, owner, squares)
+        return least <= ON_LINE**2
 
     def bearings(self, steps: Integers) -> Floats:
         """The directions in which steps lead, in degrees clockwise from north."""

@@ -3,6 +3,7 @@ from __future__ import annotations
 
 import functools
 import os
+import re
 from collections.abc import Iterable, Mapping
 from typing import TYPE_CHECKING, Any, NamedTuple, Self
 
@@ -16,12 +17,17 @@ from chtab.files import arc_columns, columns, edge_lines, measures
 from chtab.files.columns import told
 from chtab.files.frames import column_of
 from chtab.roads.from_arcs import FromArcs
+from chtab.roads.snapping import Spots
 
 if TYPE_CHECKING:
     from numpy.typing import NDArray
     import pandas
     from chtab.roads.layers import Layers
     from chtab.typing import Integers, Marks, Point
+
+# A way of OpenStreetMap, as the addresses of its pages have it.
+WAY = re.compile(r"way/(-?\d+)", re.ASCII)
+NAMES = "a row, (source, target), (source, target, key), (node,), spots of `snap`, 'way/NUMBER' or a street"
 
 
 class Scenarios(FromArcs):
@@ -39,17 +45,23 @@ class Scenarios(FromArcs):
     ) -> Self:
         """Makes a network with the same nodes, labels, places and bends, and other arcs. This one goes on answering as it did.
 
-        There are four ways to name arcs: by the row of the columns or of the frame that the network was made of, from 0 on (of files, the arc's
-        place in the graph); by the pair of nodes, which is all arcs from the one to the other; by a triple of nodes and the key of the edge, if a
-        graph of networkx or osmnx has several edges between two nodes; or by the name or the number of a street, which is all of its arcs, if the
-        graph of a map has a file of names beside it (`osm_to_gr.py --names`). A row that leads both ways is both arcs.
+        Names of arcs are:
+
+        - a row of the columns or of the frame that the network was made of, from 0 on, or of files the arc's place in the graph;
+        - `(source, target)`, all arcs from one node to another; `(source, target, key)`, the edge of a graph of networkx or osmnx with this key;
+          `(node,)`, all arcs to and from a node;
+        - spots of `snap`: at each place the road, in both directions, or the crossing if it is less than a metre away;
+        - `"way/23456"`, a way of OpenStreetMap: of a map, or of edges with `osmid`;
+        - the name or the number of a street, of a map that was imported with `--names`.
+
+        A row that leads both ways is both arcs. Where turns are restricted, a node is all nodes of its crossing.
 
         Parameters
         ----------
         weights : array, Series or dict, optional
             New weights in the network's `unit`: one for each row, or of some arcs, by a dict or a Series whose index names them.
-        closed : list of arcs, or array of bool, optional
-            The arcs that are no longer there, or for each row whether it is. Nodes stay.
+        closed : list of arcs, spots, or array of bool, optional
+            The arcs that are no longer there, or for each row whether it is closed. Nodes stay.
         added : list of (source, target, weight) or pandas.DataFrame, optional
             Arcs between nodes of the network that come to the others, with the columns source, target and weight, and geometry where there are
             lines. Each leads one way. They are the rows behind those that there were.
@@ -64,13 +76,15 @@ class Scenarios(FromArcs):
         Raises
         ------
         DataFault
-            A row or an arc is not there, a node has no such label, or a weight is refused. The text names it, and nothing was written.
+            A row, an arc, a way or a street is not there, nothing says of which ways arcs are, a node has no such label, a spot is one of another
+            network, or a weight is refused. The text names it, and nothing was written.
         FileExistsError, ProgramFault, ChtabError, OSError
             As `Network.from_arrays` raises them.
 
         Examples
         --------
         >>> without_bridge = network.changed(closed=[("inn", "mill"), ("mill", "inn")])      # doctest: +SKIP
+        >>> without_road = network.changed(closed=network.snap(9.52, 47.14))                 # doctest: +SKIP
         >>> at_eight = network.changed(weights=frame["minutes at 8:00"])                     # doctest: +SKIP
         >>> with_tunnel = network.changed(added=[("farm", "school", 2.5)])                   # doctest: +SKIP
         """
@@ -123,7 +137,9 @@ class Given(NamedTuple):
         is_marked = numpy.zeros(len(self.rows), bool)
         if arcs is None:
             return is_marked
-        if isinstance(arcs, tuple) and len(arcs) in (2, 3) and not any(isinstance(part, tuple | list) for part in arcs):
+        if isinstance(arcs, str):
+            raise DataFault(f"{name} is a list: [{arcs!r}] is one way or street", name)
+        if isinstance(arcs, tuple) and len(arcs) in (1, 2, 3) and not any(isinstance(part, tuple | list | Spots) for part in arcs):
             raise DataFault(f"{name} is a list: [{arcs!r}] is one arc, and {[*arcs]!r} are rows", name)
         column = numpy.asarray(columns.in_rows(arcs, self.row_count)) if hasattr(arcs, "__array__") else None
         if column is not None and column.dtype == bool:
@@ -144,12 +160,17 @@ class Given(NamedTuple):
             if not 0 <= arc < self.row_count:
                 raise columns.refused(name, place, f"there is no row {arc} of arcs; they are from 0 to {self.row_count - 1:,}")
             return found
-        if isinstance(arc, str) and self.layers.streets is not None:
-            return self.of_street(name, place, arc, self.layers.streets)
-        if not isinstance(arc, tuple | list) or len(arc) not in (2, 3):
-            raise columns.refused(name, place, f"{told(arc)} is neither a row, nor (source, target), nor (source, target, key)")
-        tail, head = self.layers.labels.nodes_of(name, [tuple(arc[:2])])[0].tolist()
-        found = self.between(tail, head)
+        if isinstance(arc, Spots):
+            return self.of_spots(name, place, arc)
+        if isinstance(arc, str):
+            way = WAY.fullmatch(arc)
+            return self.of_street(name, place, arc) if way is None else self.of_way(name, place, int(way[1]))
+        if not isinstance(arc, tuple | list) or len(arc) not in (1, 2, 3):
+            raise columns.refused(name, place, f"{told(arc)} names no arc; names are {NAMES}")
+        ends = [self.crossing(self.node(name, place, label)) for label in arc[:2]]
+        if len(ends) == 1:
+            return numpy.flatnonzero(self.are_at(ends[0]))
+        found = numpy.concatenate([self.between(tail, head) for tail in ends[0] for head in ends[1]])
         if len(arc) == 3:
             if self.keys is None:
                 raise columns.refused(name, place, f"{told(arc)} has a key, and the arcs of the network have none")
@@ -158,8 +179,49 @@ class Given(NamedTuple):
             raise columns.refused(name, place, f"there is no arc {told(tuple(arc))}")
         return found
 
-    def of_street(self, name: str, place: int, word: str, streets: files.Streets) -> Integers:
+    def node(self, name: str, place: int, label: Any) -> int:
+        """The node of a label."""
+        try:
+            return int(self.layers.labels.nodes_of(name, [label])[0])
+        except ValueError as fault:
+            raise columns.refused(name, place, str(fault).removeprefix(f"{name}[0]: ")) from None
+
+    def crossing(self, node: int) -> list[int]:
+        """A node, or where turns are restricted all nodes of its crossing."""
+        copies = self.layers.copies
+        first = copies.get(node, node)
+        return [first, *(copy for copy, other in copies.items() if other == first)] if copies else [node]
+
+    def are_at(self, nodes: list[int]) -> Marks:
+        """Which arcs come to one of some nodes, or leave it."""
+        return numpy.isin(self.tails, nodes) | numpy.isin(self.heads, nodes)
+
+    def of_spots(self, name: str, place: int, spots: Spots) -> Integers:
+        """The arcs along the roads of spots, in the directions in which these are left; of a spot at a crossing all arcs of the crossing."""
+        roads = self.layers.roads
+        for index in numpy.flatnonzero(~roads.are_here(spots))[:1]:
+            raise columns.refused(name, place, f"spot {index} lies on no road of this network: `snap` of this one gives its own")
+        is_marked = numpy.zeros(len(self.rows), bool)
+        for road, part, sides in zip(spots.roads.tolist(), spots.parts.tolist(), spots.sides.tolist()):
+            ends = {0.0: roads.firsts, 1.0: roads.lasts}.get(part)
+            is_marked |= roads.arcs_along(road, sides) if ends is None else self.are_at(self.crossing(int(ends[road])))
+        return numpy.flatnonzero(is_marked)
+
+    def of_way(self, name: str, place: int, number: int) -> Integers:
+        """The arcs that are parts of a way of OpenStreetMap."""
+        found = self.layers.arcs_of_way(number)
+        if found is None:
+            why = "`osm_to_gr.py` writes a file of ways beside its graph, and edges of osmnx have `osmid`"
+            raise columns.refused(name, place, f"nothing says which arcs are parts of way {number} of OpenStreetMap: {why}")
+        if not len(found):
+            raise columns.refused(name, place, f"no arc is a part of way {number} of OpenStreetMap")
+        return found
+
+    def of_street(self, name: str, place: int, word: str) -> Integers:
         """The arcs of all streets that have this name, or this number."""
+        streets = self.layers.streets
+        if streets is None:
+            raise columns.refused(name, place, f"{told(word)} names no arc, as streets have no names here; names are {NAMES}")
         which = [number for number, street in enumerate(streets.streets, 1) if word and word in (street.name, *street.ref.split(", "))]
         found = numpy.flatnonzero(numpy.isin(numpy.array(streets.of_arcs, numpy.int64), which))
         if not len(found):
@@ -224,16 +286,20 @@ class Given(NamedTuple):
         scale, unit = (None, None) if labelling is None else (labelling.scale, labelling.unit)
         most = 0.0 if labelling is None else max(labelling.rounding, rounding, new.rounding)
         keys = None if self.keys is None else [*self.keys, *[0] * count]
-        streets = layers.streets
+        streets, ways = layers.streets, layers.ways
         if streets is not None:
             of_arcs = numpy.array(streets.of_arcs, numpy.int64)[kept]
             streets = streets._replace(of_arcs=[*of_arcs.tolist(), *[0] * count])
+        if ways is not None:
+            ways = numpy.append(ways[kept], numpy.zeros(count, numpy.int64))
         tails, heads, weights = (
             numpy.append(column[kept], more) for column, more in ((self.tails, new.tails), (self.heads, new.heads), (self.weights, new.weights))
         )
+        no_way: list[int] = []
+        of_rows = None if labelling is None or labelling.ways is None else [*labelling.ways, *[no_way] * count]
         return arc_columns.Arcs(
-            layers.labels, tails, heads, weights, scale, most, unit, None, self.bends(kept, new), self.row_count + count, rows, keys, layers.graph.unit,
-            making.Beside(layers, streets),
+            layers.labels, tails, heads, weights, scale, most, unit, None, self.bends(kept, new), self.row_count + count, rows, keys, of_rows,
+            layers.graph.unit, making.Beside(layers, streets, None if ways is None else ways.tolist()),
         )
 
     def bends(self, kept: Marks, new: New) -> dict[int, list[Point]]:

@@ -19,7 +19,7 @@ from chtab.roads.lines import Lines, metres_between
 
 if TYPE_CHECKING:
     from chtab import files
-    from chtab.typing import Column, Floats, Integers, Point
+    from chtab.typing import Column, Floats, Integers, Marks, Point
 
 # No arc leads along a road in this direction; a place doesn't leave or arrive by this end.
 NONE = -1
@@ -81,7 +81,9 @@ class Spots:
         return len(self.roads)
 
     def __getitem__(self, which: Any) -> Spots:
-        """Some of them: a slice or an array of places."""
+        """Some of them: by a slice, by an array of places, or the one of a place."""
+        if isinstance(which, int | numpy.integer):
+            which = [range(len(self))[which]]
         return Spots(*(column[which] for column in vars(self).values()))
 
 
@@ -281,6 +283,19 @@ class Roads:
         may = starts.sides & ends.sides & numpy.where(parts >= 0, FORWARD, BACKWARD)
         is_there = (starts.roads == ends.roads) & ((weights != NONE) & (may > 0) | (parts == 0))
         return numpy.where(is_there, numpy.round(abs(parts) * numpy.maximum(weights, 0)), NONE).astype(numpy.int64)
+
+    # Which arcs lead along roads.
+
+    def are_here(self, spots: Spots) -> Marks:
+        """Whether each spot lies on its road. One of another network may have the number of a road that lies elsewhere, or that isn't there."""
+        is_here = (spots.roads >= 0) & (spots.roads < len(self))
+        some = numpy.flatnonzero(is_here)
+        is_here[some] = self.lines.are_on(spots.roads[some], spots.longitudes[some], spots.latitudes[some])
+        return is_here
+
+    def arcs_along(self, road: int, sides: int) -> Marks:
+        """Which arcs lead along a road in some directions of it, `FORWARD`, `BACKWARD` or both."""
+        return (self.road_of == road) & (numpy.where(self.is_back, BACKWARD, FORWARD) & sides > 0)
 
     # How roads lie.
 

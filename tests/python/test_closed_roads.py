@@ -1,0 +1,198 @@
+"""Tests roads that are closed at places, at crossings, and by the numbers of their ways in OpenStreetMap, against other searches on what is left."""
+import os
+import pathlib
+
+import pytest
+
+from helpers import columns, maps
+from helpers.commands import raises
+from helpers.marks import each_way, needs
+from helpers.running import PROGRAM
+from oracles import dijkstra
+import chtab
+from chtab import files
+
+pytestmark = [needs("python3-numpy"), pytest.mark.usefixtures("program")]
+
+
+def ladder(draw):
+    """Six nodes in a line, and between each two of them a straight road, one over the north and one over the south: ends, weights and lines."""
+    ends, lines = [], []
+    for place in range(5):
+        start, end = (round(9.5 + 0.01 * place, 6), 47.1), (round(9.51 + 0.01 * place, 6), 47.1)
+        for bend in None, 47.104, 47.096:
+            ends.append((place, place + 1))
+            lines.append([start, *[(round(start[0] + 0.005, 6), bend)] * (bend is not None), end])
+    return ends, draw.integers(1, 60, len(ends)).tolist(), lines
+
+
+def least_of(arcs):
+    """All distances between the six nodes by scipy, -1 where no path leads."""
+    return columns.least_of(*(zip(*arcs) if arcs else ((), (), ())), 6)
+
+
+def on_line(line):
+    """A place on the first piece of a line, at a third of it."""
+    (x, y), (u, v) = line[:2]
+    return x + (u - x) / 3, y + (v - y) / 3
+
+
+@each_way
+@needs("python3-scipy", "python3-shapely")
+def test_roads_are_closed_at_places():
+    """Just the road at a place is closed, in both directions, and none that is parallel to it; against scipy on the roads that are left."""
+    import numpy
+
+    for seed in range(6):
+        draw, is_both = numpy.random.default_rng(seed), bool(seed % 2)
+        ends, weights, lines = ladder(draw)
+        names = [f"node {place}" for place in range(6)]
+        roads = [names[tail] for tail, _ in ends], [names[head] for _, head in ends], weights
+        places = {"nodes": names, "x": 9.5 + 0.01 * numpy.arange(6), "y": [47.1] * 6}
+        with chtab.Network.from_arrays(*roads, geometry=lines, both_ways=is_both, program=PROGRAM, **places) as network:
+            before = network.table(names, names)
+            rows = draw.choice(len(ends), 4, replace=False).tolist()
+            spots = network.snap(*zip(*(on_line(lines[row]) for row in rows)))
+            left = [(*ends[row], weights[row]) for row in range(len(ends)) if row not in rows]
+            wanted = least_of([*left, *[(head, tail, weight) for tail, head, weight in left] * is_both])
+            for closed in spots, [spots[0], *rows[1:3], spots[3:]], [spots]:
+                with network.changed(closed=closed) as other:
+                    assert numpy.array_equal(other.table(names, names), wanted), (seed, rows)
+                    assert other.labels.tolist() == names and other.coordinates == network.coordinates
+                    pairs = [(names[place], names[place + 1]) for place in range(5)]
+                    for found, own in zip(other.routes(pairs).to_geojson()["features"], other.routes(pairs).rows()):
+                        assert own is None or own[0] not in rows and found["geometry"]["coordinates"] == lines[own[0]], (seed, rows, found)
+            assert numpy.array_equal(network.table(names, names), before)
+
+
+@each_way
+@needs("python3-scipy", "python3-shapely")
+def test_a_crossing_is_closed():
+    """A place less than a metre from a crossing closes all of its roads, and so does the node; a spot that one leaves in one direction closes that."""
+    import numpy
+
+    ends, weights, lines = ladder(numpy.random.default_rng(3))
+    weights[0] = 1
+    places = {"nodes": range(6), "x": 9.5 + 0.01 * numpy.arange(6), "y": [47.1] * 6}
+    with chtab.Network.from_arrays(*zip(*ends), weights, geometry=lines, both_ways=True, program=PROGRAM, **places) as network:
+        def both(arcs):
+            return least_of([arc for tail, head, weight in arcs for arc in ((tail, head, weight), (head, tail, weight))])
+
+        arcs = [(*pair, weight) for pair, weight in zip(ends, weights)]
+        for closed in network.snap(9.520005, 47.1), [(2,)]:
+            with network.changed(closed=closed) as other:
+                assert numpy.array_equal(other.table(range(6), range(6)), both([arc for arc in arcs if 2 not in arc[:2]]))
+        x, y = on_line(lines[0])
+        with network.changed(closed=network.roads.find_facing(x, y, 90, 30)) as other:
+            apart = other.distances([(0, 1), (1, 0)]).tolist()
+            assert apart == [min(weights[1:3]), 1], (apart, weights)
+
+
+@needs("python3-scipy", "python3-shapely")
+def test_spots_of_another_network_are_refused():
+    """Roads have other numbers after a change: a spot closes no road on which it doesn't lie."""
+    import numpy
+
+    ends, weights, lines = ladder(numpy.random.default_rng(5))
+    places = {"nodes": range(6), "x": 9.5 + 0.01 * numpy.arange(6), "y": [47.1] * 6}
+    with chtab.Network.from_arrays(*zip(*ends), weights, geometry=lines, program=PROGRAM, **places) as network, network.changed(closed=[0]) as other:
+        for row, place in (6, 1), (14, 0):
+            spots = network.snap(*zip(*(on_line(lines[each]) for each in (6, 14))))
+            kept = spots if place else spots[1]
+            fault = raises(chtab.DataFault, other.changed, None, [5, kept], told="lies on no road of this network")
+            assert fault.row == 1 and "closed[1]" in str(fault)
+        with network.changed(closed=network.snap(*on_line(lines[6]))) as again:
+            assert again.distances([(2, 3)])[0] == min(weights[7:9])
+    with chtab.Network.from_arrays([0], [1], [5], nodes=[0, 1], x=[9.5, 9.51], y=[47.1, 47.1], program=PROGRAM) as network:
+        assert [len(spots) for spots in network.snap([9.5, 9.51], [47.1, 47.1])] == [1, 1]
+        raises(IndexError, lambda: network.snap(9.5, 47.1)[1])
+        assert len(network.snap([9.5, 9.51], [47.1, 47.1])[-1]) == 1
+
+
+@each_way
+@needs("python3-scipy", "python3-shapely")
+def test_ways_of_maps_are_closed():
+    """All arcs of a way are closed, of whichever copies of its crossings, and so are those of a road at a place or between two nodes; against Dijkstra's
+    algorithm on the arcs that are left. What was changed keeps the numbers of ways."""
+    nodes = {1 + 4 * y + x: (x, y) for y in range(4) for x in range(4)}
+    ways = [([1 + 4 * y + x, 2 + 4 * y + x], maps.ROAD) for y in range(4) for x in range(3)] + [([1 + 4 * y + x, 5 + 4 * y + x], maps.ROAD) for y in range(3) for x in range(4)]
+    number = {tuple(refs): place for place, (refs, _) in enumerate(ways, 1)}
+    turns = [
+        ([("way", number[one], "from"), ("node", via, "via"), ("way", number[other], "to")], {"type": "restriction", "restriction": word})
+        for one, via, other, word in (((1, 2), 2, (2, 6), "no_left_turn"), ((2, 6), 6, (6, 7), "no_right_turn"), ((10, 11), 11, (7, 11), "only_right_turn"))
+    ]
+    pathlib.Path("grid.osm").write_text(maps.osm(nodes, ways, turns))
+    maps.tool("osm_to_gr", "--quiet", "--turns", "--bends", "grid.osm", "grid")
+    with chtab.Network.open("grid.gr", program=PROGRAM) as network:
+        graph, names = network.graph, [int(name) for name in files.read_names("grid.nodes").values()]
+        arcs = list(zip(graph.tails, graph.heads, graph.weights))
+        assert len(names) > 16 and 0 in graph.weights
+
+        def ends(arc):
+            return names[arc[0] - 1], names[arc[1] - 1]
+
+        def without(is_closed):
+            ahead = dijkstra.arcs_ahead([arc for arc in arcs if not is_closed(*ends(arc))])
+            rows = [dijkstra.distances_from(source, ahead) for source in range(1, graph.nodes + 1)]
+            return [[row.get(target, -1) for target in range(1, graph.nodes + 1)] for row in rows]
+
+        every = range(1, graph.nodes + 1)
+        before = network.table(every, every).tolist()
+        assert before == without(lambda tail, head: False)
+        for pair in number:
+            node = {name: place for place, name in reversed([*enumerate(names, 1)])}
+            (x, y), (u, v) = nodes[pair[0]], nodes[pair[1]]
+            spots = network.snap((x + 0.4 * (u - x)) / 1_000, (y + 0.4 * (v - y)) / 1_000)
+            for closed, is_closed in (
+                ([f"way/{number[pair]}"], lambda *ends: sorted(ends) == [*pair]), (spots, lambda *ends: sorted(ends) == [*pair]),
+                ([(node[pair[0]], node[pair[1]])], lambda *ends: ends == pair), ([(node[pair[1]],)], lambda *ends: pair[1] in ends),
+            ):
+                with network.changed(closed=closed) as other:
+                    assert other.table(every, every).tolist() == without(is_closed), (pair, closed)
+        with network.changed({"way/1": 7}, ["way/2"], [(1, 16, 3)], folder="own") as other, other.changed(closed=["way/3"]) as again:
+            arcs = [(*arc[:2], 7 if set(ends(arc)) == {1, 2} else arc[2]) for arc in arcs] + [(1, 16, 3)]
+            assert other.table(every, every).tolist() == without(lambda *ends: set(ends) == {2, 3})
+            assert again.table(every, every).tolist() == without(lambda *ends: set(ends) in ({2, 3}, {3, 4}))
+            raises(chtab.DataFault, again.changed, None, ["way/2"], told="closed[0]: no arc is a part of way 2 of OpenStreetMap")
+        assert network.table(every, every).tolist() == before
+    with chtab.Network.open("own", program=PROGRAM) as network, network.changed(closed=["way/3"]) as again:
+        assert again.table(every, every).tolist() == without(lambda *ends: set(ends) in ({2, 3}, {3, 4}))
+    os.remove("grid.ways")
+    with chtab.Network.open("grid.gr", program=PROGRAM) as network:
+        raises(chtab.DataFault, network.changed, None, [0, "way/3"], told="closed[1]: nothing says which arcs are parts of way 3 of OpenStreetMap: `osm_to_gr.py`")
+
+
+@needs("python3-scipy", "python3-networkx", "python3-shapely")
+def test_ways_of_osmnx_are_closed():
+    """Edges of a graph have the numbers of their ways, one or several each; those that lack one have none."""
+    import networkx
+
+    graph = networkx.MultiDiGraph()
+    for tail, head, length, osmid in ((1, 2, 5, 70), (1, 2, 7, [70, 71]), (1, 2, 11, 72), (2, 3, 1, [72, 71]), (3, 1, 2, 73)):
+        graph.add_edge(tail, head, length=length, osmid=osmid)
+    wanted = {70: [11, 1], 71: [5, -1], 72: [5, -1], 73: [5, 1]}
+    with chtab.Network.from_networkx(graph, "length", unit="metres", folder="own", program=PROGRAM) as network:
+        for way, apart in wanted.items():
+            with network.changed(closed=[f"way/{way}"]) as other:
+                assert other.distances([(1, 2), (2, 3)], missing=-1).tolist() == apart, way
+        raises(chtab.DataFault, network.changed, None, ["way/7"], told="no arc is a part of way 7")
+    with chtab.Network.open("own", program=PROGRAM) as network, network.changed({"way/73": 4}, ["way/70"], [(2, 1, 3)]) as other, other.changed(closed=["way/71"]) as again:
+        assert other.distances([(1, 2), (2, 3), (3, 1), (2, 1)]).tolist() == [11, 1, 4, 3]
+        assert again.distances([(1, 2), (2, 3), (2, 1)], missing=-1).tolist() == [11, -1, 3]
+    graph.add_edge(3, 2, length=1)
+    with chtab.Network.from_networkx(graph, "length", unit="metres", program=PROGRAM) as network:
+        raises(chtab.DataFault, network.changed, None, ["way/70"], told="nothing says which arcs are parts of way 70")
+
+
+@needs("python3-scipy", "python3-geopandas")
+def test_ways_of_geodataframes_are_closed():
+    """A column `osmid` of a GeoDataFrame has the numbers of ways, with both directions of a row."""
+    import geopandas
+    from shapely.geometry import LineString
+
+    lines = [LineString([(9.50, 47.10), (9.52, 47.10)]), LineString([(9.50, 47.10), (9.51, 47.12), (9.52, 47.10)])]
+    edges = geopandas.GeoDataFrame({"minutes": [4.0, 9.0], "osmid": [11, [12, 13]]}, geometry=lines, crs="EPSG:4326")
+    with chtab.Network.from_geodataframe(edges, weight="minutes", unit="minutes", both_ways=True, program=PROGRAM) as network:
+        for way, apart in (11, [9, 9]), (12, [4, 4]), (13, [4, 4]):
+            with network.changed(closed=[f"way/{way}"]) as other:
+                assert other.distances([(1, 2), (2, 1)]).tolist() == apart, way
