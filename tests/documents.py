@@ -14,6 +14,7 @@ from pathlib import Path
 
 import believe
 from helpers import layers
+from helpers.planting import pairs_of
 from helpers.prose import CODE, check_prose, check_sentence, prose
 from helpers.running import ROOT, Count
 
@@ -314,19 +315,6 @@ def check_statuses(tally):
 # Planted bugs, figures, and what no file has.
 
 
-def pairs_of(edit):
-    """The pairs of an edit: file, text to be replaced, and its replacement."""
-    file = old = None
-    for line in edit.read_text().splitlines():
-        key, _, value = line.partition(": ") if ": " in line else (line.rstrip(":"), "", "")
-        if key == "file":
-            file = value.strip()
-        elif key == "old":
-            old = value
-        elif key == "new":
-            yield file, old, value
-
-
 def check_edit(tally, edit):
     """The text that each pair replaces stands once in its file, as the pairs before have left it."""
     texts = {}
@@ -433,7 +421,7 @@ def main():
     for path in sorted(COMMANDS.glob("*.py")):
         check_help(tally, path)
     check_proved(tally)
-    for edit in sorted([*ROOT.glob("crates/*/must-fail/*.edit"), *ROOT.glob("crates/*/planted/*.edit")]):
+    for edit in sorted([*ROOT.glob("crates/*/must-fail/*.edit"), *ROOT.glob("crates/*/planted/*.edit"), *ROOT.glob("python/planted/*.edit")]):
         check_edit(tally, edit)
     check_limits(tally)
     check_options(tally)

@@ -157,7 +157,7 @@ def too_many_connections():
                     with contextlib.suppress(OSError):
                         client.sendall(b"GET / HT")
                 if place % 60 == 0:
-                    assert ask(address, "/health")[0] == 200 and ask(address, ROUTE)[0] == 200, place
+                    assert ask(address, "/health", seconds=10)[0] == 200 and ask(address, ROUTE, seconds=10)[0] == 200, place
             for _ in range(5):
                 begun = time.monotonic()
                 assert ask(address, ROUTE)[0] == 200 and time.monotonic() - begun < 3
@@ -168,6 +168,30 @@ def too_many_connections():
     with running_service(limit=(64, 4_096)) as (child, _):
         limits = pathlib.Path(f"/proc/{child.pid}/limits").read_text()
         assert re.search(r"Max open files +4096 +4096", limits), limits
+
+
+def the_longest_idle_makes_way():
+    """Of idle connections the one that did nothing for longest is closed, also where an older one asked meanwhile."""
+    with running_service("--max-connections-of-address", 5) as (_, address), contextlib.ExitStack() as stack:
+        clients = [stack.enter_context(socket.create_connection((address.hostname, address.port), timeout=5)) for _ in range(5)]
+        time.sleep(0.2)
+        clients[0].sendall(b"GET /health HTTP/1.1\r\nHost: x\r\n\r\n")
+        assert clients[0].recv(1 << 16).startswith(b"HTTP/1.1 200")
+        for _ in range(3):
+            clients.append(stack.enter_context(socket.create_connection((address.hostname, address.port), timeout=5)))
+            time.sleep(0.1)
+        assert [is_open(client) for client in clients] == [True] + [False] * 3 + [True] * 4
+
+
+def is_open(client):
+    """Whether the service has left a connection open on which it sends nothing."""
+    client.settimeout(0.2)
+    try:
+        return client.recv(1) != b""
+    except TimeoutError:
+        return True
+    except ConnectionError:
+        return False
 
 
 def a_busy_connection_is_kept():
@@ -194,12 +218,13 @@ def addresses_that_proxies_name():
         for number, (lines, _) in enumerate(cases):
             head = "".join(f"X-Forwarded-For: {line}\r\n" for line in lines)
             assert raw(address, f'GET /health?{number}"quoted" HTTP/1.1\r\nHost: x\r\nConnection: close\r\n{head}\r\n').startswith(b"HTTP/1.1 200")
-    with running_service("--log", "direct.log") as (_, address):
-        raw(address, "GET /health HTTP/1.1\r\nHost: x\r\nConnection: close\r\nX-Forwarded-For: 1.2.3.4\r\n\r\n")
+    for words in (), ("--proxy", "127.0.0.9"):
+        with running_service(*words, "--log", "direct.log") as (_, address):
+            raw(address, "GET /health HTTP/1.1\r\nHost: x\r\nConnection: close\r\nX-Forwarded-For: 1.2.3.4\r\n\r\n")
     lines = open("access.log").read().splitlines()
     for number, (line, (_, wanted)) in enumerate(zip(lines, cases, strict=True)):
         assert line.split(" ", 1)[1].startswith(f'{wanted} "GET /health?{number}\\x22quoted\\x22" 200 '), (line, wanted)
-    assert open("direct.log").read().split()[1] == "127.0.0.1", "without a proxy the header says nothing"
+    assert [line.split()[1] for line in open("direct.log")] == ["127.0.0.1"] * 2, "the header of one that is not the proxy says nothing"
 
 
 def raw(address, text):
@@ -372,7 +397,7 @@ def the_log_says_why():
 
 GROUPS = (
     (SERVICE, [
-        files_that_are_changed, health_is_no_better_than_answers, too_many_connections, a_busy_connection_is_kept, addresses_that_proxies_name,
+        files_that_are_changed, health_is_no_better_than_answers, too_many_connections, the_longest_idle_makes_way, a_busy_connection_is_kept, addresses_that_proxies_name,
         requests_that_once_failed, a_second_service_on_the_port, it_says_that_connections_close, systemd_is_notified, the_log_says_why,
         *by_both(files_that_are_replaced, a_new_network_without_a_lost_request),
     ]),

@@ -174,23 +174,40 @@ def ports_that_are_none():
 
 
 def many_clients_get_their_own_answers():
-    """Fifty clients at once, each of whose answers is compared; a kept connection serves many requests."""
+    """Fifty clients at once, each of whose answers is compared, in both forms; a kept connection serves many requests."""
     draw = random.Random("clients")
     with chtab.Network.open(f"{COUNTRY}.gr", program=PROGRAM) as network:
         known = network.coordinates.known()
         ends = [network.coordinates.of(draw.choice(known)) for _ in range(30)]
         spots = network.snap(*zip(*ends))
         wanted = network.trip_table(spots, spots).tolist()
+        at = [[round(x, 6), round(y, 6)] for x, y in zip(spots.longitudes.tolist(), spots.latitudes.tolist())]
+
+    def asked(draw, k, l):
+        """A request, and what the value of its answer has to be like."""
+        weight, kind = wanted[k][l] if wanted[k][l] >= 0 else None, draw.randrange(4)
+        text = ";".join("{:.6f},{:.6f}".format(*ends[place]) for place in (k, l))
+        if kind == 0:
+            return ("POST", "/api/route", json.dumps({"from": ends[k], "to": ends[l]})), lambda value: value["properties"]["weight"] == weight
+        if kind == 1:
+            query = f"overview={draw.choice(['false', 'full'])}&steps={draw.choice(['true', 'false'])}"
+            return ("GET", f"/route/v1/car/{text}?{query}"), lambda value: (
+                value["code"] == "NoRoute" if weight is None
+                else (value["routes"][0]["duration"], [each["location"] for each in value["waypoints"]]) == (weight / 1000, [at[k], at[l]])
+            )
+        if kind == 2:
+            return ("GET", f"/nearest/v1/car/{text.split(';')[0]}"), lambda value: [each["location"] for each in value["waypoints"]] == [at[k]]
+        return ("GET", f"/table/v1/car/{text}?sources=0"), lambda value: value["durations"] == [[0, None if weight is None else weight / 1000]]
+
     with service() as address:
         def work(seed):
             draw, wrong = random.Random(seed), 0
             connection = http.client.HTTPConnection(address.hostname, address.port, timeout=60)
             with contextlib.closing(connection):
                 for _ in range(20):
-                    k, l = draw.randrange(30), draw.randrange(30)
-                    connection.request("POST", "/api/route", json.dumps({"from": ends[k], "to": ends[l]}))
-                    found = json.loads(connection.getresponse().read())
-                    wrong += found["properties"]["weight"] != (wanted[k][l] if wanted[k][l] >= 0 else None)
+                    request, fits = asked(draw, draw.randrange(30), draw.randrange(30))
+                    connection.request(*request)
+                    wrong += not fits(json.loads(connection.getresponse().read()))
             return wrong
 
         with concurrent.futures.ThreadPoolExecutor(50) as clients:

@@ -1,4 +1,4 @@
-"""What `rt` says of planted bugs: whether the proofs refuse each of them, and how."""
+"""Planted bugs: what their edits change, and what `rt` says of those of crates: whether the proofs refuse each of them, and how."""
 import re
 from collections import Counter
 from enum import Enum
@@ -21,6 +21,19 @@ class Outcome(Enum):
     LITTLE = "refused for a name or by a limit alone"
     OTHER = "refused without a goal"
     MISSED = "not refused"
+
+
+def pairs_of(edit):
+    """The pairs of an edit: file, text to be replaced, and its replacement."""
+    file = old = None
+    for line in edit.read_text().splitlines():
+        key, _, value = line.partition(": ") if ": " in line else (line.rstrip(":"), "", "")
+        if key == "file":
+            file = value.strip()
+        elif key == "old":
+            old = value
+        elif key == "new":
+            yield file, old, value
 
 
 def outcome_of(answer):

@@ -78,9 +78,9 @@ def faulty_service(words, *more):
         yield found
 
 
-def send(address, path, body=None, method=None):
-    """Status, headers and text of an answer. `body` is sent as it is, or as JSON."""
-    connection = http.client.HTTPConnection(address.hostname, address.port, timeout=60)
+def send(address, path, body=None, method=None, seconds=60):
+    """Status, headers and text of an answer, which comes within some seconds. `body` is sent as it is, or as JSON."""
+    connection = http.client.HTTPConnection(address.hostname, address.port, timeout=seconds)
     try:
         data = body if body is None or isinstance(body, bytes) else json.dumps(body).encode()
         connection.request(method or ("GET" if body is None else "POST"), path, data)
@@ -90,9 +90,9 @@ def send(address, path, body=None, method=None):
         connection.close()
 
 
-def ask(address, path, body=None, method=None):
+def ask(address, path, body=None, method=None, seconds=60):
     """Status and value of an answer of JSON."""
-    status, _, text = send(address, path, body, method)
+    status, _, text = send(address, path, body, method, seconds)
     return status, json.loads(text)
 
 

@@ -164,7 +164,6 @@ def test_nodes_are_those_of_the_network():
             raises(ValueError, call, numpy.array([[1, 2**32 + 1]]), told="not from 1 to 3")
         raises(ValueError, network._engine.routes, [(0, 1)], told="not from 1 to 3")
         raises(ValueError, network._engine.cells, [1], [4], told="not from 1 to 3")
-        raises(ValueError, network._engine.tables, [([1], [4])], told="not from 1 to 3")
 
 
 def test_a_hierarchy_is_built_where_none_is_saved():

@@ -107,7 +107,7 @@ def add_engines(parser: argparse.ArgumentParser) -> None:
     engines.add_argument(
         "--library", nargs="?", const="", metavar="FILE",
         help="answer by the library for C in each process (FILE, or libchtab.so.1 beside the program), or end with the reason why it can't; "
-             "without this and --pipe it is taken if it is there and --saved is given",
+             "without this and --pipe it is taken if it is there, each network has a saved hierarchy (--saved, or OUT.ch of --network) and W is 1",
     )
     engines.add_argument("--pipe", action="store_true", help="answer by a run of the program beside each process, which can be ended at any time")
 
@@ -116,7 +116,7 @@ def add_limits(parser: argparse.ArgumentParser) -> None:
     """The limits of requests and of connections."""
     size: dict[str, Any] = {"type": number_of(1, MOST, "number"), "metavar": "N"}
     parser.add_argument("--max-viaroute-size", **size, help="the most coordinates of route (500)")
-    parser.add_argument("--max-table-size", **size, help="the most coordinates of table (1,000); each table of that size is answered, with distances too")
+    parser.add_argument("--max-table-size", **size, help="the most coordinates of table (1,000); if you give N, each table of that size is answered, with distances too")
     parser.add_argument("--max-trip-size", **size, help="the most coordinates of trip (100)")
     parser.add_argument("--max-matching-size", **size, help="the most coordinates of match (500)")
     parser.add_argument("--max-nearest-size", **size, help="the most roads that nearest may be asked for (100)")
@@ -154,13 +154,14 @@ def chosen(words: argparse.Namespace, networks: Sequence[Named]) -> bool | str:
     """Whether the library answers, or its file; without words about it, whether it fits."""
     from chtab.engine import choosing
 
-    saved = [each.saved for each in networks]
     if words.library is not None:
         # The library would build one, but no time limit ends that.
-        if None in saved:
-            raise ChtabError("--library needs a saved hierarchy: give --saved, the file of `chtab save`")
+        for each in networks:
+            if each.saved is None:
+                lacks = f"{each.out}.ch" if each.name else "--saved"
+                raise ChtabError(f"--library needs a saved hierarchy, the file of `chtab save`: {lacks} is missing")
         return words.library or True
-    return not words.pipe and all(choosing.fits(words.program, each, words.workers) for each in saved)
+    return not words.pipe and all(choosing.fits(words.program, each.saved, words.workers) for each in networks)
 
 
 def sizes_of(words: argparse.Namespace) -> answering.Limits:

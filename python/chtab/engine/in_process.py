@@ -228,11 +228,6 @@ class InProcess:
             table[:, start:start + WIDTH] = self.call(len(rows) + len(some), self.handle().table, rows, some, limit)
         return table
 
-    def tables(self, parts: Sequence[tuple[Sequence[int], Sequence[int]]]) -> Integers:
-        """The cells of several small tables, pairs of lists of nodes, in one column."""
-        pairs = [(source, target) for sources, targets in parts for source in sources for target in targets]
-        return self.distances(numpy.array(pairs, numpy.int64).reshape(-1, 2))
-
     def routes(self, pairs: Sequence[Sequence[int]]) -> list[files.Answer]:
         """The routes of pairs of nodes, as a list of `files.Answer`."""
         found = self.walks(numpy.array(pairs, numpy.int64).reshape(-1, 2))

@@ -1,7 +1,7 @@
 """Distances, tables and routes between nodes by their numbers, in arrays, by the runs of one engine."""
 from __future__ import annotations
 
-from collections.abc import Iterator, Sequence
+from collections.abc import Callable, Iterator
 from typing import TYPE_CHECKING, Any
 
 import numpy
@@ -69,7 +69,20 @@ class NodeQueries:
         """The same in flat arrays, as `walks.Walks`."""
         return together([self.runs.walks(pairs[start:start + asking.FEW]) for start in range(0, max(1, len(pairs)), asking.FEW)])
 
-    def small_tables(self, parts: Sequence[tuple[Sequence[int], Sequence[int]]]) -> Integers:
-        """The cells of several small tables in one column, int64, -1 where there is no walk. Each part is a list of sources and one of targets."""
+    def lines(self, pairs: Integers, arcs_of: Callable[[Integers, Integers, Integers], Integers]) -> tuple[Integers, Integers, Integers]:
+        """The weights of the routes of pairs, -1 where there is no walk, how many arcs each has, and the lines of all arcs in the graph, from 0
+        on. `arcs_of` finds arcs by their tails, heads and weights, where the engine tells these alone."""
+        if isinstance(self.runs, asking.Engine):
+            walks = self.walks(pairs)
+            return walks.weights, walks.counts(), arcs_of(walks.tails, walks.heads, walks.arc_weights)
+        return self.runs.lines(pairs)
+
+    def small_tables(self, outs: Integers, ins: Integers, pairs: Integers) -> Integers:
+        """The cells of several small tables in one column, int64, -1 where there is no walk. Table k leads from the nodes of `outs[k]` to those of
+        `ins[k]`, which are above 0, and `pairs` has their pairs, one table after the other."""
+        if not isinstance(self.runs, asking.Engine):
+            return self.distances(pairs)
+        rows = [([node for node in out if node > 0], [node for node in into if node > 0]) for out, into in zip(outs.tolist(), ins.tolist())]
+        parts = [part for part in rows if all(part)]
         cells = [self.runs.tables(parts[start:start + asking.FEW]) for start in range(0, len(parts), asking.FEW)]
         return numpy.concatenate([numpy.zeros(0, numpy.int64), *cells])

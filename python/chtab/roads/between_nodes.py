@@ -219,10 +219,7 @@ class BetweenNodes:
 
     def _lines(self, pairs: NDArray[numpy.int64]) -> tuple[NDArray[Any], NDArray[Any], NDArray[Any]]:
         """The weights of the routes of pairs, how many arcs each has, and the lines of all arcs in the graph."""
-        if hasattr(self._engine, "lines"):
-            return self._engine.lines(pairs)
-        walks = self._queries.walks(pairs)
-        return walks.weights, walks.counts(), self._layers.arcs.of(walks.tails, walks.heads)
+        return self._queries.lines(pairs, lambda tails, heads, _: self._layers.arcs.of(tails, heads))
 
     matrix = table
 

@@ -13,9 +13,8 @@ from typing import TYPE_CHECKING, Any, NamedTuple
 import numpy
 
 from chtab.engine.answers import NO_WALK
-from chtab.engine.walks import Walks
+from chtab.engine.walks import Walks, ranges
 from chtab.errors import unasked
-from chtab.roads.lines import metres_between
 from chtab.roads.snapping import NONE, Roads, Spots
 
 if TYPE_CHECKING:
@@ -23,6 +22,8 @@ if TYPE_CHECKING:
     from chtab.typing import Floats, Integers, Marks
 
 FAR = numpy.iinfo(numpy.int64).max
+# More than any way weighs, and less than half of what a number holds.
+NOWHERE = 1 << 61
 
 
 def ways_between(starts: Spots, ends: Spots) -> tuple[Integers, Integers]:
@@ -51,6 +52,41 @@ class Trace(NamedTuple):
     weights: Integers
     metres: Floats
     stops: Integers
+
+
+class Traces(NamedTuple):
+    """The traces of several legs, one after the other: trace k has the places from `firsts[k]` to before `firsts[k + 1]`, and the stops from
+    `pieces[k]` to before `pieces[k + 1]`."""
+
+    places: Floats
+    weights: Integers
+    metres: Floats
+    stops: Integers
+    firsts: Integers
+    pieces: Integers
+
+    def of(self, leg: int) -> Trace:
+        """The trace of one of them."""
+        own, stops = slice(*self.firsts[leg:leg + 2]), slice(*self.pieces[leg:leg + 2])
+        return Trace(self.places[own], self.weights[own], self.metres[own], self.stops[stops])
+
+    def chosen(self, which: Integers) -> Traces:
+        """Some of them, by an array of their numbers."""
+        counts, stops = numpy.diff(self.firsts)[which], numpy.diff(self.pieces)[which]
+        own, kept = ranges(self.firsts[which], counts), self.stops[ranges(self.pieces[which], stops)]
+        firsts, pieces = numpy.append(0, numpy.cumsum(counts)), numpy.append(0, numpy.cumsum(stops))
+        return Traces(self.places[own], self.weights[own], self.metres[own], kept, firsts, pieces)
+
+
+class Pieces(NamedTuple):
+    """What legs lead along, one leg after the other: roads from one part to another, and their weights. An arc that leads along no road has
+    the road `NONE`. Those of leg k are from `firsts[k]` to before `firsts[k + 1]`."""
+
+    roads: Integers
+    starts: Floats
+    ends: Floats
+    weights: Integers
+    firsts: Integers
 
 
 @dataclass(frozen=True)
@@ -84,144 +120,171 @@ class Legs:
             return []
         return [int(self.first_nodes[leg]), *self.walks.heads[self.walks.firsts[leg]:self.walks.firsts[leg + 1]].tolist()]
 
-    def traces(self, which: Sequence[int]) -> list[Trace]:
+    def pieces(self, which: Integers) -> Pieces:
+        """What some legs lead along, each of which is a way."""
+        is_walk, arc_counts = self.is_walk[which], numpy.diff(self.walks.firsts)[which]
+        counts = 1 + arc_counts + is_walk
+        firsts = numpy.cumsum(counts) - counts
+        lasts, walked = (firsts + counts - 1)[is_walk], which[is_walk]
+        roads, weights = numpy.empty((2, counts.sum()), numpy.int64)
+        starts, ends = numpy.empty((2, len(roads)))
+        roads[firsts], starts[firsts] = self.starts.roads[which], self.starts.parts[which]
+        ends[firsts] = numpy.where(is_walk, self.leaves[which], self.ends.parts[which])
+        weights[firsts] = numpy.where(is_walk, self.out_weights[which], self.weights[which])
+        roads[lasts], starts[lasts], ends[lasts] = self.ends.roads[walked], self.arrives[walked], self.ends.parts[walked]
+        weights[lasts] = self.in_weights[walked]
+        between, along = ranges(firsts + 1, arc_counts), ranges(self.walks.firsts[which], arc_counts)
+        arcs = self.arcs[along]
+        roads[between], weights[between] = self.roads.road_of[arcs], self.walks.arc_weights[along]
+        starts[between] = self.roads.is_back[arcs]
+        ends[between] = ~self.roads.is_back[arcs]
+        return Pieces(roads, starts, ends, weights, numpy.append(firsts, len(roads)))
+
+    def traces(self, which: Sequence[int]) -> Traces:
         """How some legs lie, each of which is a way."""
         if not len(which):
-            return []
-        arcs_before, places = self.walks.firsts, []
-        arcs = numpy.concatenate([numpy.arange(arcs_before[leg], arcs_before[leg + 1]) for leg in which])
-        roads = self.roads.road_of[self.arcs[arcs]]
-        has_road = roads != NONE
-        lines = self.roads.lines
-        joined = lines.joined(roads[has_road], self.roads.is_back[self.arcs[arcs]][has_road])
-        arc_places = numpy.zeros(len(arcs), numpy.int64)
-        arc_places[has_road] = lines.firsts[roads[has_road] + 1] - lines.firsts[roads[has_road]]
-        arc_weights = self.walks.arc_weights[arcs]
-        counts: list[Any] = []
-        weights: list[Any] = []
-        pieces_of, arc, place = [], 0, 0
-        for leg in which:
-            pieces = self.stretches(leg)
-            count = int(arcs_before[leg + 1] - arcs_before[leg])
-            until = place + int(arc_places[arc:arc + count].sum())
-            (first, first_weight), *last = pieces
-            places += [first, joined[place:until], *(each for each, _ in last)]
-            counts += [[len(first)], arc_places[arc:arc + count], *([len(each)] for each, _ in last)]
-            weights += [[first_weight], arc_weights[arc:arc + count], *([weight] for _, weight in last)]
-            pieces_of.append(count + len(pieces))
-            arc, place = arc + count, until
-        owners = numpy.repeat(numpy.arange(len(which)), pieces_of)
-        return traced(numpy.concatenate(places), owners, numpy.concatenate(counts), numpy.concatenate(weights), self.weights[which])
-
-    def stretches(self, leg: int) -> list[tuple[Floats, int]]:
-        """The places of the first and the last road as far as a leg leads along them, with the weights; or of the one road that it stays on."""
-        start, end = self.starts.parts[leg], self.ends.parts[leg]
-        first, last = self.starts.roads[leg], self.ends.roads[leg]
-        if not self.is_walk[leg]:
-            return [(self.roads.stretch(first, start, end), self.weights[leg])]
-        return [
-            (self.roads.stretch(first, start, float(self.leaves[leg])), self.out_weights[leg]),
-            (self.roads.stretch(last, float(self.arrives[leg]), end), self.in_weights[leg]),
-        ]
+            return Traces(numpy.zeros((0, 2)), *numpy.zeros((3, 0), numpy.int64), *numpy.zeros((2, 1), numpy.int64))
+        numbers = numpy.asarray(which)
+        return traced(self.roads, self.pieces(numbers), self.weights[numbers])
 
 
-def traced(places: Floats, owners: Integers, counts: Integers, weights: Integers, totals: Integers) -> list[Trace]:
-    """The traces of legs. All their places stand one after the other, in pieces of so many places and weights, each of a leg."""
+def traced(roads: Roads, pieces: Pieces, totals: Integers) -> Traces:
+    """The traces of legs over some pieces, which weigh `totals`."""
+    is_road, counts = pieces.roads != NONE, numpy.zeros(len(pieces.roads), numpy.int64)
+    along = pieces.roads[is_road]
+    found = roads.lines.stretches(along, pieces.starts[is_road], pieces.ends[is_road])
+    counts[is_road] = found.counts
+    stops = numpy.cumsum(counts) - 1
     piece = numpy.repeat(numpy.arange(len(counts)), counts)
-    leg = owners[piece]
-    steps = numpy.zeros(len(places))
-    steps[1:] = numpy.nan_to_num(metres_between(*places[:-1].T, *places[1:].T)) * (leg[1:] == leg[:-1])
-    along = numpy.cumsum(steps)
-    begins = (numpy.cumsum(counts) - counts)[piece]
-    stops = (numpy.cumsum(counts) - 1)[piece]
-    lengths = along[stops] - along[begins]
-    parts = numpy.where(lengths > 0, (along - along[begins]) / numpy.where(lengths > 0, lengths, 1), numpy.arange(len(places)) == stops)
-    before = numpy.cumsum(weights) - weights
-    of_legs = numpy.arange(len(totals))
-    leg_firsts, leg_lasts = numpy.searchsorted(leg, of_legs, "left"), numpy.searchsorted(leg, of_legs, "right")
-    passed = before[piece] + numpy.round(parts * weights[piece]).astype(numpy.int64)
-    passed -= before[numpy.searchsorted(owners, numpy.arange(len(totals)))][leg]
-    passed[leg_firsts], passed[leg_lasts - 1] = 0, totals
+    lengths = numpy.zeros(len(counts))
+    lengths[is_road] = abs(pieces.ends - pieces.starts)[is_road] * roads.lines.metres[along]
+    metres = sums_before(lengths, pieces.firsts)[piece] + found.shares * lengths[piece]
+    weights = sums_before(pieces.weights, pieces.firsts)[piece] + numpy.round(found.shares * pieces.weights[piece]).astype(numpy.int64)
+    cuts = numpy.append(0, stops + 1)[pieces.firsts]
+    weights[cuts[:-1]], weights[cuts[1:] - 1] = 0, totals
     # Of places that follow on themselves the last is kept, which has the weight of whatever stands still there.
-    is_kept = numpy.ones(len(places), bool)
-    is_kept[:-1] = (leg[1:] != leg[:-1]) | (places[1:] != places[:-1]).any(axis=1)
-    cuts = numpy.append(0, numpy.cumsum(is_kept))
-    rounded, passed, metres = places[is_kept].round(6), passed[is_kept], (along - along[leg_firsts][leg])[is_kept]
+    is_kept = numpy.ones(len(piece), bool)
+    is_kept[:-1] = (found.places[1:] != found.places[:-1]).any(axis=1)
+    is_kept[cuts[1:] - 1] = True
+    kept_before = numpy.append(0, numpy.cumsum(is_kept))
+    firsts = kept_before[cuts]
     # Where a piece stops is the place that was kept of those that are the same.
-    piece_stops = cuts[numpy.cumsum(counts) - 1] - numpy.repeat(cuts[leg_firsts], numpy.bincount(owners, minlength=len(totals)))
-    piece_cuts = numpy.searchsorted(owners, numpy.arange(len(totals) + 1))
-    found = []
-    for place, (first, last) in enumerate(zip(cuts[leg_firsts].tolist(), cuts[leg_lasts].tolist())):
-        own_stops = piece_stops[piece_cuts[place]:piece_cuts[place + 1]]
-        found.append(Trace(rounded[first:last], passed[first:last], metres[first:last], own_stops))
-    return found
+    kept_stops = kept_before[stops] - numpy.repeat(firsts[:-1], numpy.diff(pieces.firsts))
+    return Traces(found.places[is_kept].round(6), weights[is_kept], metres[is_kept], kept_stops, firsts, pieces.firsts)
 
 
-def best_ways(trips: Trips, starts: Spots, ends: Spots) -> tuple[Integers, Integers, Integers, Integers]:
-    """The least weights of the ways from spot k to spot k, `FAR` where there is none, and which way has it; with all pairs of nodes and what is
-    added to each."""
+def sums_before(column: Any, firsts: Integers) -> Any:
+    """For each item the sum of those before it, from the first of its group on; groups begin at `firsts`, but for the last of these, which is
+    their end."""
+    sums = numpy.cumsum(column) - column
+    return sums - numpy.repeat(sums[firsts[:-1]], numpy.diff(firsts))
+
+
+def best_ways(trips: Trips, starts: Spots, ends: Spots) -> tuple[Integers, Integers]:
+    """The least weights of the ways from spot k to spot k, `FAR` where there is none, and which way has it."""
     pairs, added = ways_between(starts, ends)
     is_there = (pairs > 0).all(axis=2)
-    outs, ins = starts.out_nodes.tolist(), ends.in_nodes.tolist()
-    parts = [([node for node in row if node > 0], [node for node in column if node > 0]) for row, column in zip(outs, ins)]
-    between = trips.queries.small_tables([part for part in parts if all(part)])
+    between = trips.queries.small_tables(starts.out_nodes, ends.in_nodes, pairs[is_there])
     weights = totals(added, is_there, between, trips.roads.along(starts, ends))
-    return weights.min(axis=1, initial=FAR), weights.argmin(axis=1), pairs, added
+    return weights.min(axis=1, initial=FAR), weights.argmin(axis=1)
 
 
 def table_ways(trips: Trips, starts: Spots, ends: Spots, within: int | None = None) -> tuple[Integers, Integers]:
     """The least weights of the ways from each spot to each (k, l), `FAR` where there is none (of at most `within`), and which way has it."""
-    outs, out_place = numpy.unique(starts.out_nodes, return_inverse=True)
-    ins, in_place = numpy.unique(ends.in_nodes, return_inverse=True)
-    nodes = numpy.full((len(outs), len(ins)), NO_WALK)
-    nodes[numpy.ix_(outs > 0, ins > 0)] = trips.queries.table(outs[outs > 0], ins[ins > 0], within)
+    (outs, out_place), (ins, in_place) = (numpy.unique(nodes, return_inverse=True) for nodes in (starts.out_nodes, ends.in_nodes))
+    is_out, is_in = outs > 0, ins > 0
+    found = trips.queries.table(outs[is_out], ins[is_in], within)
+    nodes = numpy.full((len(outs), len(ins)), NOWHERE)
+    nodes[numpy.ix_(is_out, is_in)] = numpy.where(found >= 0, found, NOWHERE)
     out_place, in_place = out_place.reshape(starts.out_nodes.shape), in_place.reshape(ends.in_nodes.shape)
     best, ways = numpy.full((2, len(starts), len(ends)), FAR)
-    along = trips.roads.along(starts[:, None], ends[None, :])
     choices = list(itertools.product(range(out_place.shape[1]), range(in_place.shape[1])))
     for way, (out, into) in enumerate(choices):
-        between = nodes[numpy.ix_(out_place[:, out], in_place[:, into])]
-        total = numpy.where(between >= 0, between + starts.out_weights[:, None, out] + ends.in_weights[None, :, into], FAR)
-        ways[total < best] = way
-        best = numpy.minimum(best, total)
-    along = numpy.where(along >= 0, along, FAR)
-    ways[along < best] = len(choices)
-    best = numpy.minimum(best, along)
-    return numpy.where(best <= (FAR - 1 if within is None else within), best, FAR), ways
+        # Where turns are restricted few roads have nodes beside the first one of each end.
+        if (starts.out_nodes[:, out] > 0).any() and (ends.in_nodes[:, into] > 0).any():
+            total = nodes[out_place[:, out]][:, in_place[:, into]]
+            total += starts.out_weights[:, out, None]
+            total += ends.in_weights[:, into]
+            improve(best, ways, total, way)
+    rows, columns = numpy.nonzero(starts.roads[:, None] == ends.roads)
+    along, on_road = trips.roads.along(starts[rows], ends[columns]), (rows, columns)
+    some = best[on_road], ways[on_road]
+    improve(*some, numpy.where(along >= 0, along, FAR), len(choices))
+    best[on_road], ways[on_road] = some
+    return numpy.where(best <= (NOWHERE // 2 if within is None else within), best, FAR), ways
+
+
+def improve(best: Integers, ways: Integers, weights: Integers, way: int) -> None:
+    """Puts the weights of a way where they are less than the best ones, and the way beside them."""
+    is_less = weights < best
+    numpy.copyto(best, weights, where=is_less)
+    numpy.copyto(ways, way, where=is_less)
 
 
 def legs_between(trips: Trips, starts: Spots, ends: Spots) -> Legs:
     """The legs from spot k of `starts` to spot k of `ends`. Distances say which way is the best, and then its route alone is asked for."""
-    best, ways, pairs, _ = best_ways(trips, starts, ends)
-    return legs_by(trips, starts, ends, best, ways, pairs)
+    best, ways = best_ways(trips, starts, ends)
+    return legs_by(trips, starts, ends, best, ways)
 
 
-def legs_by(trips: Trips, starts: Spots, ends: Spots, best: Integers, ways: Integers, pairs: Integers) -> Legs:
-    """The legs by these ways, of these weights. A route that weighs something else is no answer to what was asked."""
-    roads, legs = trips.roads, numpy.arange(len(best))
-    is_there = best < FAR
-    is_walk = is_there & (ways < pairs.shape[1])
-    outs, intos = numpy.divmod(numpy.where(is_walk, ways, 0), ends.in_nodes.shape[1])
+class Walked(NamedTuple):
+    """The walks between the nodes of ways: which ways have one, the end of the first road that each leaves by (0 at its first place, 1 at its
+    last) and the end of the last road that it arrives by, the first node, what is added before and behind it, how many arcs it has, and all
+    arcs."""
+
+    is_walk: Marks
+    leaves: Integers
+    arrives: Integers
+    first_nodes: Integers
+    out_weights: Integers
+    in_weights: Integers
+    counts: Integers
+    arcs: Integers
+
+    def sums(self, column: Any) -> Any:
+        """For each way the sum of what a column has for its arcs."""
+        return numpy.diff(numpy.append(0, numpy.cumsum(column))[numpy.append(0, numpy.cumsum(self.counts))])
+
+
+def walked(trips: Trips, starts: Spots, ends: Spots, best: Integers, ways: Integers) -> Walked:
+    """The walks of these ways from spot to spot, of these weights. A route that weighs something else is no answer to what was asked."""
+    legs, half, width = numpy.arange(len(best)), starts.out_nodes.shape[1] // 2, ends.in_nodes.shape[1]
+    is_walk = (best < FAR) & (ways < starts.out_nodes.shape[1] * width)
+    outs, intos = numpy.divmod(numpy.where(is_walk, ways, 0), width)
     out_weights, in_weights = starts.out_weights[legs, outs], ends.in_weights[legs, intos]
-    asked = pairs[legs, numpy.where(is_walk, ways, 0)]
-    found = trips.queries.walks(asked[is_walk])
-    if (found.weights + out_weights[is_walk] + in_weights[is_walk] != best[is_walk]).any():
+    pairs = numpy.column_stack([starts.out_nodes[legs, outs], ends.in_nodes[legs, intos]])
+    counts, arcs = numpy.zeros(len(best), numpy.int64), numpy.zeros(0, numpy.int64)
+    between = numpy.zeros(len(best), numpy.int64)
+    if is_walk.any():
+        between[is_walk], counts[is_walk], arcs = trips.queries.lines(pairs[is_walk], trips.roads.arcs_of)
+    found = Walked(is_walk, (outs >= half).astype(int), (2 * intos >= width).astype(int), pairs[:, 0], out_weights, in_weights, counts, arcs)
+    is_right = (found.sums(trips.roads.weights[arcs]) == between) & (between + out_weights + in_weights == best)
+    if not is_right[is_walk].all():
         raise unasked()
-    counts = numpy.zeros(len(best), numpy.int64)
-    counts[is_walk] = found.counts()
-    weights = numpy.where(is_there, best, NO_WALK)
-    walks = Walks(weights, numpy.append(0, numpy.cumsum(counts)), found.tails, found.heads, found.arc_weights)
-    arcs = roads.arcs_of(found.tails, found.heads, found.arc_weights)
-    leaves, arrives = (2 * outs >= starts.out_nodes.shape[1]).astype(int), (2 * intos >= ends.in_nodes.shape[1]).astype(int)
-    metres = metres_of(roads, starts, ends, walks, arcs, is_walk, leaves, arrives)
-    return Legs(roads, starts, ends, weights, is_walk, asked[:, 0], walks, arcs, leaves, arrives, out_weights, in_weights, metres)
+    return found
 
 
-def metres_of(roads: Roads, starts: Spots, ends: Spots, walks: Walks, arcs: Integers, is_walk: Marks, leaves: Integers, arrives: Integers) -> Floats:
+def legs_by(trips: Trips, starts: Spots, ends: Spots, best: Integers, ways: Integers) -> Legs:
+    """The legs by these ways, of these weights."""
+    roads, found = trips.roads, walked(trips, starts, ends, best, ways)
+    weights, arcs = numpy.where(best < FAR, best, NO_WALK), found.arcs
+    walks = Walks(weights, numpy.append(0, numpy.cumsum(found.counts)), roads.tails[arcs], roads.heads[arcs], roads.weights[arcs])
+    metres = metres_of(roads, starts, ends, found)
+    return Legs(
+        roads, starts, ends, weights, found.is_walk, found.first_nodes, walks, arcs, found.leaves, found.arrives, found.out_weights, found.in_weights, metres
+    )
+
+
+def metres_by(trips: Trips, starts: Spots, ends: Spots, best: Integers, ways: Integers) -> Floats:
+    """How long these ways are."""
+    return metres_of(trips.roads, starts, ends, walked(trips, starts, ends, best, ways))
+
+
+def metres_of(roads: Roads, starts: Spots, ends: Spots, found: Walked) -> Floats:
     """How long legs are; what has no way is as long as the stretch between the parts of its roads, which says nothing."""
     of_road = roads.lines.metres
-    along = roads.road_of[arcs]
-    middle = walks.sums(numpy.where(along != NONE, of_road[along], 0)) if len(arcs) else 0
-    first = abs(leaves - starts.parts) * of_road[starts.roads]
-    last = abs(arrives - ends.parts) * of_road[ends.roads]
-    return numpy.where(is_walk, first + middle + last, abs(ends.parts - starts.parts) * of_road[starts.roads])
+    along = roads.road_of[found.arcs]
+    middle = found.sums(numpy.where(along != NONE, of_road[along], 0))
+    first = abs(found.leaves - starts.parts) * of_road[starts.roads]
+    last = abs(found.arrives - ends.parts) * of_road[ends.roads]
+    return numpy.where(found.is_walk, first + middle + last, abs(ends.parts - starts.parts) * of_road[starts.roads])

@@ -5,7 +5,7 @@ Points are compared in Mercator's projection, which keeps angles, so that what i
 from __future__ import annotations
 
 from collections.abc import Callable, Sequence
-from typing import TYPE_CHECKING, Any
+from typing import TYPE_CHECKING, Any, NamedTuple
 
 import numpy
 
@@ -21,12 +21,14 @@ if TYPE_CHECKING:
 STEEPEST = 89.9
 # Up to this distance in the plane, 6 mm at the equator, a place lies on a line.
 ON_LINE = 1e-9
+# Pieces of lines whose middles are nearest to a place, among which its nearest step is looked for first.
+NEIGHBOURS = 12
 
 
 def mercator(longitudes: ArrayLike, latitudes: ArrayLike) -> Floats:
     """Degrees to the plane."""
-    latitudes = numpy.clip(latitudes, -STEEPEST, STEEPEST)
-    return numpy.column_stack([numpy.radians(longitudes), numpy.arcsinh(numpy.tan(numpy.radians(latitudes)))])
+    latitudes = numpy.minimum(numpy.maximum(latitudes, -STEEPEST), STEEPEST)
+    return numpy.array([numpy.radians(longitudes), numpy.arcsinh(numpy.tan(numpy.radians(latitudes)))]).T
 
 
 def degrees(x: Floats, y: Floats) -> tuple[Floats, Floats]:
@@ -53,6 +55,15 @@ def tidied(lines: Sequence[Floats]) -> list[tuple[list[Point], float]]:
     rounded = list(zip(*places.round(6).T.tolist()))
     cuts = numpy.searchsorted(owner, numpy.arange(len(lines) + 1)).tolist()
     return [(rounded[start:end], each) for start, end, each in zip(cuts, cuts[1:], metres)]
+
+
+class Stretches(NamedTuple):
+    """Parts of lines, one after the other: their places in degrees (n, 2), how many each part has, and how far along its part each place
+    lies, from 0 to 1."""
+
+    places: Floats
+    counts: Integers
+    shares: Floats
 
 
 class Lines:
@@ -92,6 +103,38 @@ class Lines:
             found[[0, -1], axis] = numpy.interp([low, high], parts, places[:, axis])
         return found if start <= end else found[::-1]
 
+    def stretches(self, lines: Integers, starts: Floats, ends: Floats) -> Stretches:
+        """The same of many lines, each from one part of it to another."""
+        low, high = numpy.minimum(starts, ends), numpy.maximum(starts, ends)
+        sizes = self.firsts[lines + 1] - self.firsts[lines]
+        which, owners = ranges(self.firsts[lines], sizes), numpy.repeat(numpy.arange(len(lines)), sizes)
+        parts = self.parts[which]
+        is_above, is_below = parts > low[owners], parts < high[owners]
+        is_inside = is_above & is_below
+        counts = 2 + numpy.bincount(owners[is_inside], minlength=len(lines))
+        lasts = numpy.cumsum(counts) - 1
+        firsts, is_end = lasts + 1 - counts, numpy.zeros(counts.sum(), bool)
+        is_end[firsts] = is_end[lasts] = True
+        places, along = numpy.empty((len(is_end), 2)), numpy.empty(len(is_end))
+        places[~is_end], along[~is_end] = self.places[which[is_inside]], parts[is_inside]
+        for at, part, passed in (firsts, low, ~is_above), (lasts, high, (parts <= high[owners])):
+            before = self.firsts[lines] + numpy.bincount(owners[passed], minlength=len(lines)) - 1
+            places[at], along[at] = self.between(before, self.firsts[lines + 1] - 1, part), part
+        owners = numpy.repeat(numpy.arange(len(lines)), counts)
+        order = numpy.arange(len(is_end))
+        order = numpy.where((starts > ends)[owners], (firsts + lasts)[owners] - order, order)
+        lengths = high - low
+        shares = abs(along[order] - starts[owners]) / numpy.where(lengths > 0, lengths, 1)[owners]
+        # A part without length ends with its last place.
+        return Stretches(places[order], counts, numpy.where(lengths[owners] > 0, shares, order == lasts[owners]))
+
+    def between(self, before: Integers, lasts: Integers, parts: Floats) -> Floats:
+        """The points at parts of lines, each between the place `before` it and the next one, or at the last place of its line."""
+        after = numpy.minimum(before + 1, lasts)
+        wide = self.parts[after] - self.parts[before]
+        shares = (parts - self.parts[before]) / numpy.where(wide > 0, wide, 1)
+        return self.places[before] + shares[:, None] * (self.places[after] - self.places[before])
+
     def joined(self, lines: Integers, is_back: Marks) -> Floats:
         """The places of some lines one after the other (n, 2), of some of them back."""
         counts = self.firsts[lines + 1] - self.firsts[lines]
@@ -129,7 +172,7 @@ class Lines:
             self.pieces = Pieces(self)
         counts = self.firsts[lines + 1] - self.firsts[lines] - 1
         owner = numpy.repeat(numpy.arange(len(lines)), counts)
-        _, squares, _ = self.pieces.feet(ranges(self.firsts[lines], counts), mercator(longitudes, latitudes)[owner])
+        _, squares = self.pieces.feet(ranges(self.firsts[lines], counts), mercator(longitudes, latitudes)[owner])
         least = numpy.full(len(lines), numpy.inf)
         numpy.fmin.at(least, owner, squares)
         return least <= ON_LINE**2
@@ -138,11 +181,14 @@ class Lines:
         """The directions in which steps lead, in degrees clockwise from north."""
         if self.pieces is None:
             self.pieces = Pieces(self)
-        return numpy.degrees(numpy.arctan2(*self.pieces.ways[steps].T)) % 360
+        return numpy.degrees(numpy.arctan2(self.pieces.east[steps], self.pieces.north[steps])) % 360
 
 
 class Pieces:
-    """The steps of lines, to be looked for: cut into pieces of at most a length, whose middles stand in a k-d tree."""
+    """The steps of lines, to be looked for: cut into pieces of at most a length, whose middles stand in a k-d tree.
+
+    In the plane step k leads from `x[k]`, `y[k]` by `east[k]` and `north[k]`, and `squares[k]` is the square of its length, 1 where it has none.
+    """
 
     def __init__(self, lines: Lines) -> None:
         from scipy.spatial import cKDTree
@@ -152,60 +198,77 @@ class Pieces:
         is_step[lines.firsts[1:] - 1] = False
         steps = numpy.flatnonzero(is_step)
         steps = steps[numpy.isfinite(plane[steps]).all(axis=1) & numpy.isfinite(plane[steps + 1]).all(axis=1)]
-        self.starts, self.ways = plane, numpy.zeros_like(plane)
-        self.ways[steps] = plane[steps + 1] - plane[steps]
-        lengths = numpy.hypot(*self.ways[steps].T)
+        ways = numpy.zeros_like(plane)
+        ways[steps] = plane[steps + 1] - plane[steps]
+        self.x, self.y, self.east, self.north = (column.copy() for column in (plane[:, 0], plane[:, 1], ways[:, 0], ways[:, 1]))
+        squares = self.east * self.east + self.north * self.north
+        self.squares = numpy.where(squares > 0, squares, 1)
+        lengths = numpy.sqrt(squares[steps])
         most = lengths.mean() or 1.0
         counts = numpy.maximum(numpy.ceil(lengths / most), 1).astype(int)
         self.steps = numpy.repeat(steps, counts)
         shares = (ranges(numpy.zeros(len(steps), int), counts) + 0.5) / numpy.repeat(counts, counts)
-        self.tree = cKDTree(self.starts[self.steps] + self.ways[self.steps] * shares[:, None])
+        self.tree = cKDTree(plane[self.steps] + ways[self.steps] * shares[:, None])
         # No point of a piece is farther from its middle.
         self.reach = (lengths / counts).max() / 2
 
     def nearest(self, places: Floats) -> tuple[Integers, Floats, Floats]:
         """The nearest step to each point of the plane, how far along it its nearest point stands, from 0 to 1, and that point."""
-        if not len(places):
-            return numpy.zeros(0, int), numpy.zeros(0), numpy.zeros((0, 2))
-        near = self.within(places, self.tree.query(places)[0])
-        owner = numpy.repeat(numpy.arange(len(places)), list(map(len, near)))
-        steps = self.steps[numpy.concatenate([numpy.asarray(each, int) for each in near])]
-        shares, apart, at = self.feet(steps, places[owner])
-        order = numpy.lexsort([steps, apart, owner])
-        best = order[numpy.searchsorted(owner, numpy.arange(len(places)))]
-        return steps[best], shares[best], at[best]
+        steps, shares, left, count = numpy.zeros(len(places), numpy.int64), numpy.zeros(len(places)), numpy.arange(len(places)), NEIGHBOURS
+        while len(left):
+            count = min(count, len(self.steps))
+            distances, near = (column.reshape(len(left), count) for column in self.tree.query(places[left], count))
+            among = self.steps[near]
+            along, apart = self.feet(among, places[left, None])
+            least = apart.min(axis=1)
+            # Of equally near steps the first.
+            best = numpy.where(apart == least[:, None], among, len(self.x)).argmin(axis=1) + count * numpy.arange(len(left))
+            steps[left], shares[left] = among.reshape(-1)[best], along.reshape(-1)[best]
+            # No point of a piece whose middle is farther away than all of these is nearer than this, nor as near.
+            is_unsure = numpy.sqrt(least) * (1 + 1e-9) + self.reach + 1e-12 >= distances[:, -1]
+            left = left[is_unsure & (count < len(self.steps))]
+            count *= 4
+        return steps, shares, self.at(steps, shares)
 
     def within(self, places: Floats, distances: Floats) -> Any:
         """The pieces of which a point is so near to each place, and some more: no point of a piece is farther from its middle than `reach`."""
         return self.tree.query_ball_point(places, distances * (1 + 1e-9) + self.reach + 1e-12)
 
-    def feet(self, steps: Integers, places: Floats) -> tuple[Floats, Floats, Floats]:
-        """The nearest points of steps to places, one each: how far along the step, from 0 to 1, the square of the distance, and the point."""
-        ways, off = self.ways[steps], places - self.starts[steps]
-        squares = (ways * ways).sum(axis=1)
-        shares = numpy.clip((ways * off).sum(axis=1) / numpy.where(squares > 0, squares, 1), 0, 1)
-        return shares, ((off - ways * shares[:, None]) ** 2).sum(axis=1), self.starts[steps] + ways * shares[:, None]
+    def feet(self, steps: Integers, places: Floats) -> tuple[Floats, Floats]:
+        """The nearest points of steps to places, one each or one for each row of steps: how far along the step, from 0 to 1, and the square of the
+        distance."""
+        east, north = self.east.take(steps), self.north.take(steps)
+        x, y = places[..., 0] - self.x.take(steps), places[..., 1] - self.y.take(steps)
+        shares = numpy.minimum(numpy.maximum((east * x + north * y) / self.squares.take(steps), 0), 1)
+        x, y = x - east * shares, y - north * shares
+        apart: Any = x * x + y * y
+        return shares, apart
+
+    def at(self, steps: Integers, shares: Floats) -> Floats:
+        """The points of the plane so far along steps."""
+        return numpy.array([self.x[steps] + self.east[steps] * shares, self.y[steps] + self.north[steps] * shares]).T
 
     def nearest_some(self, place: Floats, most: int, firsts: Integers) -> tuple[Integers, Floats, Floats]:
         """The same of one place and at most so many lines, which begin at `firsts`: of each line its nearest step, the nearest first."""
-        def best_of(steps: Integers) -> tuple[Integers, Floats, Floats, Floats]:
+        def best_of(steps: Integers) -> tuple[Integers, Floats, Floats]:
             """The nearest step of each line, in order; of equally near ones the first."""
-            shares, apart, at = self.feet(steps, place)
+            shares, apart = self.feet(steps, place)
             lines = numpy.searchsorted(firsts, steps, "right")
             order = numpy.lexsort([steps, apart])
             order = order[numpy.sort(numpy.unique(lines[order], return_index=True)[1])][:most]
-            return steps[order], shares[order], at[order], apart[order]
+            return steps[order], shares[order], apart[order]
 
         count, found = 4 * most, numpy.zeros(0, numpy.int64)
         while len(found) < most:
             distances, near = self.tree.query(place[0], min(count, len(self.steps)))
-            found, *_, apart = best_of(self.steps[numpy.atleast_1d(near)])
+            found, _, apart = best_of(self.steps[numpy.atleast_1d(near)])
             if count >= len(self.steps):
                 break
             count *= 2
         # What is as near as the last of these may lie on a piece whose middle is farther away.
         [near] = self.within(place, numpy.sqrt(apart[-1:]))
-        return best_of(self.steps[numpy.asarray(near, int)])[:3]
+        steps, shares, _ = best_of(self.steps[numpy.asarray(near, int)])
+        return steps, shares, self.at(steps, shares)
 
     def nearest_fitting(self, place: Floats, fits: Callable[[Integers], Marks]) -> tuple[Integers, Floats, Floats]:
         """The same of one place and the nearest step for which `fits`, which judges an array of steps, holds."""
@@ -214,7 +277,7 @@ class Pieces:
             distances, near = self.tree.query(place[0], min(count, len(self.steps)))
             distances, steps = numpy.atleast_1d(distances), numpy.unique(self.steps[numpy.atleast_1d(near)])
             steps = steps[fits(steps)]
-            shares, apart, at = self.feet(steps, place)
+            shares, apart = self.feet(steps, place)
             # No point of a step that was not looked at is nearer than this.
             least = numpy.inf if count >= len(self.steps) else distances[-1] - self.reach
             found = numpy.lexsort([steps, apart])[:1]
@@ -222,4 +285,4 @@ class Pieces:
             if count >= len(self.steps):
                 break
             count *= 4
-        return steps[found], shares[found], at[found]
+        return steps[found], shares[found], self.at(steps[found], shares[found])

@@ -69,12 +69,12 @@ class Trips:
         """The same of so many trips that they are asked for together."""
         found = legs_between(self, starts, ends)
         there = numpy.flatnonzero(found.weights >= 0).tolist()
-        traces, listed = dict(zip(there, found.traces(there))), self.layers.labels.listed
-        return [
-            Trip(int(found.weights[leg]), float(found.metres[leg]), [(x, y) for x, y in traces[leg].places.tolist()], listed(found.nodes(leg)))
-            if leg in traces else Trip(None, None, None, [])
-            for leg in range(len(found))
-        ]
+        traces, listed = found.traces(there), self.layers.labels.listed
+        places, firsts = list(map(tuple, traces.places.tolist())), traces.firsts.tolist()
+        trips = [Trip(None, None, None, []) for _ in range(len(found))]
+        for leg, first, last in zip(there, firsts, firsts[1:]):
+            trips[leg] = Trip(int(found.weights[leg]), float(found.metres[leg]), places[first:last], listed(found.nodes(leg)))
+        return trips
 
     def reach(self, spot: Spots, within: int | None = None) -> Integers:
         """What `Network.reach` answers, with a limit of the graph."""

@@ -1,13 +1,15 @@
 """Whose turn it is: requests wait in a line for each address, and the addresses take turns, so that none keeps the others waiting.
 
 A few requests are answered at once, in threads, and never all of them for one address. Questions that can be answered together are taken
-together, from all addresses in turn.
+together, from all addresses in turn. Those whose answers take a moment are answered in the loop itself, once all are there that came at the same
+time: to hand them to a thread would take longer.
 """
 from __future__ import annotations
 
 import asyncio
 import collections
 import concurrent.futures
+import time
 from collections.abc import Callable, Sequence
 from dataclasses import dataclass, field
 from typing import Any, TypeAlias
@@ -17,6 +19,9 @@ from chtab.errors import ProgramFault
 
 # A call that answers a list of questions.
 Call: TypeAlias = Callable[[list[Any]], Sequence[Any]]
+# The CPU seconds in which the loop may answer questions itself, while it does nothing else; and the share by which the last answers change what
+# is reckoned for the next ones.
+MOMENT, LATEST = 0.005, 0.25
 
 
 class Busy(Exception):
@@ -30,7 +35,7 @@ class Gone(Exception):
 @dataclass(eq=False)
 class Job:
     """A question that waits. `call` answers a list of questions by a list, in which a fault is the answer to its question; questions of one
-    call that `is_shared` may be answered together, as far as their sizes go."""
+    call that `is_shared` may be answered together, as far as their sizes go. The loop may answer one that `is_quick` itself."""
 
     address: str
     call: Call
@@ -38,7 +43,8 @@ class Job:
     is_gone: Callable[[], bool]
     is_shared: bool = False
     size: int = 1
-    answer: asyncio.Future[Any] = field(default_factory=lambda: asyncio.get_running_loop().create_future())
+    is_quick: bool = False
+    answer: asyncio.Future = field(default_factory=lambda: asyncio.get_running_loop().create_future())
 
     def end(self, found: Any) -> None:
         """Gives the answer, or the fault, to the client that waits for it."""
@@ -50,12 +56,14 @@ class Job:
             self.answer.set_result(found)
 
 
-def answers_to(call: Call, questions: list[Any]) -> Sequence[Any]:
-    """The answers to questions. A run that ended is begun anew, and asked once more."""
+def answers_to(call: Call, questions: list[Any]) -> tuple[Sequence[Any], float]:
+    """The answers to questions, and the CPU seconds that this thread took for them. A run that ended is begun anew, and asked once more."""
+    begun = time.thread_time()
     try:
-        return call(questions)
+        found = call(questions)
     except ProgramFault:
-        return call(questions)
+        found = call(questions)
+    return found, time.thread_time() - begun
 
 
 class Turns:
@@ -78,6 +86,9 @@ class Turns:
         self.lines: collections.OrderedDict[str, collections.deque[Job]] = collections.OrderedDict()
         self.underway: collections.Counter[str] = collections.Counter()
         self.unanswered = 0
+        # The CPU seconds that a question of size 1 takes, by its call; and whether it will soon be looked whose turn it is.
+        self.paces: dict[Call, float] = {}
+        self.is_due = False
 
     @property
     def is_full(self) -> bool:
@@ -93,7 +104,7 @@ class Turns:
         self.unanswered += 1
         self.lines.setdefault(job.address, collections.deque()).append(job)
         try:
-            self.begin()
+            self.begin_soon()
             return await job.answer
         finally:
             self.unanswered -= 1
@@ -119,30 +130,67 @@ class Turns:
         if not self.lines[address]:
             del self.lines[address]
 
+    def is_moment(self, address: str) -> bool:
+        """Whether the first job of an address takes a moment."""
+        job = self.lines[address][0]
+        return job.is_quick and job.size * self.paces.get(job.call, MOMENT) < MOMENT
+
     def may_begin(self, address: str) -> bool:
         """One thread is kept for others than any address."""
-        return self.underway[address] < max(1, self.at_once - 1)
+        return self.underway[address] < max(1, self.at_once - 1) and not self.is_moment(address)
+
+    def begin_soon(self) -> None:
+        """Begins what can begin, once the requests are there that came together with this one."""
+        if not self.is_due:
+            self.is_due = True
+            asyncio.get_running_loop().call_soon(self.begin)
 
     def begin(self) -> None:
         """Begins what can begin."""
+        self.is_due = False
         while self.underway.total() < self.at_once:
             address = next(filter(self.may_begin, self.lines), None)
             if address is None:
-                return
+                break
             jobs = self.taken(address)
             if jobs:
                 self.underway[address] += 1
                 asyncio.get_running_loop().create_task(self.run(address, jobs))
+        quick = next(filter(self.is_moment, self.lines), None)
+        if quick is not None:
+            self.answer_now(self.taken(quick))
+            self.begin_soon()
+
+    def answer_now(self, jobs: list[Job]) -> None:
+        """Answers jobs that take a moment."""
+        if not jobs:
+            return
+        try:
+            found = self.noted(jobs, *answers_to(jobs[0].call, [job.question for job in jobs]))
+        except Exception as fault:
+            found = [fault] * len(jobs)
+        for job, each in zip(jobs, found):
+            job.end(each)
+
+    def noted(self, jobs: list[Job], found: Sequence[Any], seconds: float) -> Sequence[Any]:
+        """The answers to jobs. It is noted how long they took."""
+        pace, call = seconds / sum(job.size for job in jobs), jobs[0].call
+        self.paces[call] = pace + (1 - LATEST) * (self.paces.get(call, pace) - pace)
+        return found
 
     def taken(self, address: str) -> list[Job]:
-        """The next job of an address, and those that are answered together with it; none where the clients went away."""
+        """The next job of an address, and those that are answered together with it; none where the clients went away. What the loop answers takes
+        a moment together."""
+        most = self.together
+        if self.is_moment(address):
+            most = min(most, int(MOMENT / max(self.paces[self.lines[address][0].call], MOMENT / most)))
         first = self.next_of(address)
         if first is None:
             return []
         jobs, size = [first], first.size
-        while first.is_shared and size < self.together:
+        while first.is_shared and size < most:
             other = next((name for name, line in self.lines.items() if line[0].is_shared and line[0].call == first.call), None)
-            if other is None or size + self.lines[other][0].size > self.together:
+            if other is None or size + self.lines[other][0].size > most:
                 break
             job = self.next_of(other)
             if job is not None:
@@ -164,7 +212,8 @@ class Turns:
         """Answers jobs in a thread."""
         loop = asyncio.get_running_loop()
         try:
-            found = await loop.run_in_executor(self.threads, answers_to, jobs[0].call, [job.question for job in jobs])
+            told = await loop.run_in_executor(self.threads, answers_to, jobs[0].call, [job.question for job in jobs])
+            found = self.noted(jobs, *told) if jobs[0].is_quick else told[0]
         except BaseException as fault:
             found = [fault] * len(jobs)
         finally:
@@ -172,4 +221,4 @@ class Turns:
             self.underway += collections.Counter()
         for job, each in zip(jobs, found):
             job.end(each)
-        self.begin()
+        self.begin_soon()

@@ -16,7 +16,8 @@ from dataclasses import dataclass
 from typing import TYPE_CHECKING, Any
 
 import numpy
-from aiohttp import web
+from aiohttp import hdrs, web
+from multidict import CIMultiDict
 
 from chtab.errors import ChtabError
 from chtab.roads.snapping import length_text
@@ -48,6 +49,8 @@ LEAFLET = pathlib.Path("/usr/share/javascript/leaflet")
 ENDS = "A", "B"
 # The least and the most characters of an address, and of a header, that are read; the service refuses shorter ones with a line.
 LONGEST, LONGEST_OF_ALL = 1 << 16, 1 << 24
+# The headers of an answer in JSON.
+JSON = CIMultiDict({hdrs.CONTENT_TYPE: "application/json; charset=utf-8"})
 # A pair of nodes whose distance is asked for to see whether something answers.
 PROBE = numpy.array([[1, 1]])
 
@@ -89,14 +92,14 @@ class Service:
         for each in networks:
             each.network.roads.find_any([0.0], [0.0])
         self.turns = Turns(self.limits.at_once, self.limits.waiting, self.limits.together)
-        self.headers = web_policy.headers(choices.tiles)
+        self.headers, self.longest_address = web_policy.headers(choices.tiles), choices.osrm.address
         # Whether what answers failed, since when it has to be looked at; and whether the service ends.
         self.is_failing, self.doubt, self.is_ending = False, asyncio.Event(), False
 
     @property
     def longest(self) -> int:
         """The characters of an address, and of a header, that are read."""
-        return min(max(LONGEST, 2 * self.choices.osrm.address), LONGEST_OF_ALL)
+        return min(max(LONGEST, 2 * self.longest_address), LONGEST_OF_ALL)
 
     def application(self, connections: Connections, recorder: Recorder) -> web.Application:
         """The application of aiohttp, whose requests come by some connections and are recorded."""
@@ -151,9 +154,11 @@ class Service:
     async def close(self, app: web.Application) -> None:
         self.turns.close()
 
-    async def answer(self, request: web.Request, call: Call, question: Any, is_shared: bool = False, size: int = 1) -> Any:
+    async def answer(
+        self, request: web.Request, call: Call, question: Any, is_shared: bool = False, size: int = 1, is_quick: bool = False,
+    ) -> Any:
         """The answer to a question of a client, once it is its turn: `call` answers a list of questions."""
-        job = Job(client_of(request, self.proxy), call, question, lambda: is_gone(request), is_shared, size)
+        job = Job(client_of(request, self.proxy), call, question, lambda: is_gone(request), is_shared, size, is_quick)
         return await self.turns.answer(job)
 
     async def answer_alone(self, request: web.Request, call: Callable[..., Any], *words: Any) -> Any:
@@ -182,15 +187,19 @@ class Service:
         places = [place_in(fields[name], name) for name in ("from", "to")]
         return json_of(await self.answer(request, self.route_texts, places, is_shared=True))
 
-    async def answer_osrm(self, request: web.Request) -> web.Response:
-        """Answers a request of OSRM's interface; routes, and the nearest roads, together with those that wait beside them."""
-        words = url.words_of(request.raw_path, self.choices.osrm.address)
+    async def answer_osrm(self, request: web.Request) -> web.StreamResponse:
+        """Answers a request of OSRM's interface; routes, and the nearest roads, together with those that wait beside them. What the library in this
+        process answers may be answered in the loop."""
+        words = url.words_of(request.raw_path, self.longest_address)
         answers = self.answers_for(words.profile)
         question = answers.question(words)
+        is_quick = answers.network.answers_by == "library"
         if question.service == "route":
-            return json_of(await self.answer(request, answers.routes, question, True, len(question.coordinates) - 1))
+            return json_of(await self.answer(request, answers.routes, question, True, len(question.coordinates) - 1, is_quick))
         if question.service == "nearest" and question.own == 1:
-            return json_of(await self.answer(request, answers.nearest_ones, question, True))
+            return json_of(await self.answer(request, answers.nearest_ones, question, True, 1, is_quick))
+        if question.service == "table":
+            return json_of(await self.answer(request, answers.tables, question, False, question.own.size, is_quick))
         return json_of(await self.answer_alone(request, getattr(answers, question.service), question))
 
     def answers_for(self, profile: str) -> Answers:
@@ -320,7 +329,7 @@ def spot_of(spots: Spots, place: int) -> dict[str, Any]:
 
 
 def json_of(text: str) -> web.Response:
-    return web.Response(text=text, content_type="application/json")
+    return web.Response(body=text.encode(), headers=CIMultiDict(JSON))
 
 
 def resident_bytes() -> int:

@@ -2,15 +2,15 @@
 from __future__ import annotations
 
 import json
-from collections.abc import Iterable, Mapping, Sequence
+from collections.abc import Sequence
 from typing import TYPE_CHECKING, Any, NamedTuple
 
 import numpy
 
 from chtab.maps import profiles
-from chtab.roads.legs import FAR, legs_between, legs_by, table_ways, ways_between
-from chtab.roads.snapping import Spots, length_text
-from chtab.server.osrm import matching, options, telling, tours, url
+from chtab.roads.legs import FAR, legs_between, metres_by, table_ways
+from chtab.roads.snapping import length_text
+from chtab.server.osrm import cells, matching, options, telling, tours, url
 from chtab.server.osrm.crossings import Crossings
 from chtab.server.osrm.options import Refusal
 from chtab.server.osrm.steps import Steps
@@ -19,13 +19,15 @@ if TYPE_CHECKING:
     from chtab import files
     from chtab.network import Network
     from chtab.roads.legs import Legs
-    from chtab.roads.snapping import Roads
-    from chtab.typing import Floats, Integers, Point
+    from chtab.roads.snapping import Roads, Spots
+    from chtab.typing import Floats, Integers, Marks, Point
 
 # OSRM's words for ways of travelling.
 MODES = {"car": "driving", "bicycle": "cycling", "foot": "walking"}
 # Cells of a table whose routes are asked for together.
-BATCH = 1_024
+BATCH = 2_048
+# What metres are multiplied by to have the one digit behind the point that is told.
+TENTHS = 10
 # Characters of a coordinate with seven digits behind the point, and of what else stands in an address.
 OF_COORDINATE, OF_ADDRESS = 28, 4_096
 
@@ -88,7 +90,7 @@ class Answers:
         if self.profiles and words.profile not in self.profiles:
             raise Refusal("InvalidValue", f"the profile of this network is {' or '.join(self.profiles)}")
         coordinates = url.coordinates_of(words.coordinates, self.limits.coordinates(words.service))
-        general, own = options.read(words.service, words.options, len(coordinates))
+        general, own = options.read(words.service, words.query, len(coordinates))
         question = Question(words.service, coordinates, general, own)
         self.see_to_limits(question)
         return question
@@ -111,16 +113,14 @@ class Answers:
     def spots_of(self, questions: Sequence[Question]) -> tuple[Spots, dict[int, Refusal]]:
         """The spots of questions, one after the other, and the faults of those that have a coordinate without a road: {place: fault}."""
         roads = self.network.roads
-        spots = roads.find_any(*zip(*(place for question in questions for place in question.coordinates)))
-        faults: dict[int, Refusal] = {}
-        first = 0
+        spots = roads.find_any(*numpy.array([place for question in questions for place in question.coordinates]).T)
+        faults, first = {}, 0
         for place, question in enumerate(questions):
-            facing = [(index, bearing) for index, bearing in enumerate(question.general.bearings) if bearing]
-            if facing:
-                spots, fault = facing_spots(roads, spots, question, first, facing)
-            else:
-                fault = None
-            fault = fault or far_fault(spots.metres[first:first + len(question.coordinates)], question.general.radiuses)
+            general, fault = question.general, None
+            if general.has_bearings:
+                spots, fault = facing_spots(roads, spots, question, first)
+            if general.has_radiuses:
+                fault = fault or far_fault(spots.metres[first:first + len(question.coordinates)], general.radiuses)
             if fault:
                 faults[place] = fault
             first += len(question.coordinates)
@@ -133,43 +133,38 @@ class Answers:
             raise fault
         return spots
 
-    def waypoints(self, spots: Spots, has_hints: bool) -> list[dict[str, Any]]:
-        """OSRM's waypoints of spots. Hints are empty."""
+    def waypoints(self, spots: Spots) -> list[str]:
+        """OSRM's waypoints of spots, as the insides of objects of JSON, without hints."""
         columns = (spots.longitudes.round(6).tolist(), spots.latitudes.round(6).tolist(), spots.metres.round(1).tolist())
-        steps, hint = self.voice.steps, {"hint": ""} if has_hints else {}
-        names = [steps.streets[street].name for street in steps.known.street_of[2 * spots.roads].tolist()]
-        return [{"location": [x, y], "name": name, "distance": metres, **hint} for x, y, metres, name in zip(*columns, names)]
+        steps = self.voice.steps
+        names = [steps.names[street] for street in steps.known.street_of[2 * spots.roads].tolist()]
+        return [f'"location": [{x}, {y}], "name": {name}, "distance": {metres}' for x, y, metres, name in zip(*columns, names)]
 
     # Routes.
 
     def routes(self, questions: Sequence[Question]) -> list[str | Refusal]:
         """The answers to questions for routes, as texts or faults, found together."""
         spots, faults = self.spots_of(questions)
+        waypoints = self.waypoints(spots)
         cuts = numpy.cumsum([0, *(len(question.coordinates) for question in questions)]).tolist()
         # A leg leads from each spot to the next one, but from the last of a question.
         firsts = numpy.delete(numpy.arange(len(spots)), numpy.array(cuts[1:]) - 1)
         legs = legs_between(self.network._trips, spots[firsts], spots[firsts + 1])
         which = [list(range(first - place, last - place - 1)) for place, (first, last) in enumerate(zip(cuts, cuts[1:]))]
-        for place, some in enumerate(which):
-            if place not in faults and (legs.weights[some] < 0).any():
-                faults[place] = Refusal("NoRoute", "no way leads over the coordinates in this order")
+        if legs.weights.min(initial=0) < 0:
+            for place, some in enumerate(which):
+                if place not in faults and (legs.weights[some] < 0).any():
+                    faults[place] = Refusal("NoRoute", "no way leads over the coordinates in this order")
         told = [place for place in range(len(questions)) if place not in faults]
-        texts = self.route_texts(legs, [which[place] for place in told], [questions[place].own for place in told])
-        found = dict(zip(told, texts))
+        texts = dict(zip(told, self.route_texts(legs, [which[place] for place in told], [questions[place].own for place in told])))
         return [
-            faults.get(place) or self.route_answer(question, found[place], spots[cuts[place]:cuts[place + 1]])
+            faults.get(place) or answer_of("routes", texts[place], "waypoints", objects(waypoints[cuts[place]:cuts[place + 1]], question.general))
             for place, question in enumerate(questions)
         ]
 
     def route_texts(self, legs: Legs, parts: Sequence[list[int]], own: Sequence[options.Route]) -> list[str]:
         """The texts of routes, each over a part of the legs, and told with its own options."""
-        wanted = [leg for part, each in zip(parts, own) if each.has_lines for leg in part]
-        return telling.routes(self.voice, legs, parts, dict(zip(wanted, legs.traces(wanted))), own)
-
-    def route_answer(self, question: Question, text: str, spots: Spots) -> str:
-        general = question.general
-        more = f', "waypoints": {json.dumps(self.waypoints(spots, general.has_hints))}' if general.has_waypoints else ""
-        return f'{{"code": "Ok", "routes": [{text}]{more}}}'
+        return telling.routes(self.voice, legs, parts, own)
 
     # Round trips and tracks.
 
@@ -184,12 +179,9 @@ class Answers:
         if (legs.weights < 0).any():
             raise Refusal("NoTrips", "no way leads over all coordinates")
         [text] = self.route_texts(legs, [list(range(len(legs)))], [own.route])
-        more = ""
-        if general.has_waypoints:
-            ranks = numpy.argsort(order).tolist()
-            told = [{**each, "trips_index": 0, "waypoint_index": rank} for each, rank in zip(self.waypoints(spots, general.has_hints), ranks)]
-            more = f', "waypoints": {json.dumps(told)}'
-        return f'{{"code": "Ok", "trips": [{text}]{more}}}'
+        ranks = numpy.argsort(order).tolist()
+        told = [f'{each}, "trips_index": 0, "waypoint_index": {rank}' for each, rank in zip(self.waypoints(spots), ranks)]
+        return answer_of("trips", text, "waypoints", objects(told, general))
 
     def match(self, question: Question) -> str:
         """The likeliest roads of a track."""
@@ -203,19 +195,27 @@ class Answers:
         cuts = numpy.cumsum([0, *(len(part.places) - 1 for part in parts)]).tolist()
         texts = self.route_texts(legs, [list(range(*pair)) for pair in zip(cuts, cuts[1:])], [own.route] * len(parts))
         matchings = ", ".join(f'{text[:-1]}, "confidence": {part.confidence}}}' for text, part in zip(texts, parts))
-        more = f', "tracepoints": {json.dumps(self.tracepoints(question, parts))}' if general.has_waypoints else ""
-        return f'{{"code": "Ok", "matchings": [{matchings}]{more}}}'
+        return answer_of("matchings", matchings, "tracepoints", objects(self.tracepoints(question, parts), general))
 
-    def tracepoints(self, question: Question, parts: Sequence[matching.Part]) -> list[dict[str, Any] | None]:
-        """Where each coordinate was taken to; null for one that was left out."""
-        found: list[dict[str, Any] | None] = [None] * len(question.coordinates)
+    def tracepoints(self, question: Question, parts: Sequence[matching.Part]) -> list[str | None]:
+        """Where each coordinate was taken to, as the inside of an object of JSON; None for one that was left out."""
+        found: list[str | None] = [None] * len(question.coordinates)
         for number, part in enumerate(parts):
-            told = self.waypoints(part.spots, question.general.has_hints)
-            for index, (place, each, others) in enumerate(zip(part.places, told, part.others)):
-                found[place] = {**each, "matchings_index": number, "waypoint_index": index, "alternatives_count": others}
+            for index, (place, each, others) in enumerate(zip(part.places, self.waypoints(part.spots), part.others)):
+                found[place] = f'{each}, "matchings_index": {number}, "waypoint_index": {index}, "alternatives_count": {others}'
         return found
 
     # Tables.
+
+    def tables(self, questions: Sequence[Question]) -> list[str | Refusal]:
+        """The answers to questions for tables, as texts or faults."""
+        found: list[str | Refusal] = []
+        for question in questions:
+            try:
+                found.append(self.table(question))
+            except Refusal as fault:
+                found.append(fault)
+        return found
 
     def table(self, question: Question) -> str:
         """The durations of a table, the metres of the routes that these are of, or both."""
@@ -223,15 +223,16 @@ class Answers:
         spots = self.own_spots(question)
         starts, ends = spots[own.sources], spots[own.destinations]
         best, ways = table_ways(self.network._trips, starts, ends)
-        found: dict[str, Any] = {"code": "Ok"}
+        is_there, parts = best < FAR, []
         if own.has_durations:
-            durations = (best / telling.MILLISECONDS * own.scale).round(3)
-            found["durations"] = with_nulls(durations, best)
+            parts.append(f'"durations": {rows_of(best * own.scale if own.scale != 1 else best, 3, is_there)}')
         if own.has_distances:
-            found["distances"] = with_nulls(self.metres(starts, ends, best, ways), best)
+            parts.append(f'"distances": {rows_of(self.metres(starts, ends, best, ways) * TENTHS, 1, is_there)}')
         if general.has_waypoints:
-            found["sources"], found["destinations"] = (self.waypoints(some, general.has_hints) for some in (starts, ends))
-        return json.dumps(found)
+            told = self.waypoints(spots)
+            for name, some in ("sources", own.sources), ("destinations", own.destinations):
+                parts.append(f'"{name}": {objects([told[place] for place in some], general)}')
+        return f'{{"code": "Ok", {", ".join(parts)}}}'
 
     def metres(self, starts: Spots, ends: Spots, best: Integers, ways: Integers) -> Floats:
         """The metres of the route of each cell that has one."""
@@ -239,10 +240,8 @@ class Answers:
         metres = numpy.zeros(best.shape)
         for first in range(0, len(rows), BATCH):
             row, column = rows[first:first + BATCH], columns[first:first + BATCH]
-            some, others = starts[row], ends[column]
-            legs = legs_by(self.network._trips, some, others, best[row, column], ways[row, column], ways_between(some, others)[0])
-            metres[row, column] = legs.metres
-        return metres.round(1)
+            metres[row, column] = metres_by(self.network._trips, starts[row], ends[column], best[row, column], ways[row, column])
+        return metres
 
     # The nearest roads.
 
@@ -252,33 +251,51 @@ class Answers:
         spots = self.network.roads.find_some(longitude, latitude, question.own)
         see_that_near(spots[:1], question.general.radiuses)
         spots = spots[numpy.argsort(spots.metres, kind="stable")]
-        return self.nearest_answer(question, spots[spots.metres <= question.general.radiuses[0]])
+        spots = spots[spots.metres <= question.general.radiuses[0]]
+        return nearest_answer(self.waypoints_with_nodes(spots), question.general)
 
     def nearest_ones(self, questions: Sequence[Question]) -> list[str | Refusal]:
         """The answers to questions for the one nearest road, as texts or faults, found together."""
         spots, faults = self.spots_of(questions)
-        return [faults.get(place) or self.nearest_answer(question, spots[place:place + 1]) for place, question in enumerate(questions)]
+        told = self.waypoints_with_nodes(spots)
+        return [faults.get(place) or nearest_answer([told[place]], question.general) for place, question in enumerate(questions)]
 
-    def nearest_answer(self, question: Question, spots: Spots) -> str:
-        found: dict[str, Any] = {"code": "Ok"}
-        if question.general.has_waypoints:
-            waypoints = self.waypoints(spots, question.general.has_hints)
-            found["waypoints"] = [{"nodes": self.ends_of(spots, place), **waypoint} for place, waypoint in enumerate(waypoints)]
-        return json.dumps(found)
-
-    def ends_of(self, spots: Spots, place: int) -> list[int]:
-        """The numbers of the nodes at both ends of a spot's road."""
+    def waypoints_with_nodes(self, spots: Spots) -> list[str]:
+        """The same as `waypoints`, with the numbers of the nodes at both ends of each road."""
         roads, numbers = self.network.roads, self.voice.numbers
-        nodes = [int(column[spots.roads[place]]) for column in (roads.firsts, roads.lasts)]
-        return nodes if numbers is None else numbers[numpy.array(nodes) - 1].tolist()
+        nodes = numpy.column_stack([roads.firsts[spots.roads], roads.lasts[spots.roads]])
+        called = nodes if numbers is None else numbers[nodes - 1]
+        return [f'"nodes": {pair}, {each}' for pair, each in zip(called.tolist(), self.waypoints(spots))]
 
 
-def with_nulls(cells: Floats, best: Integers) -> list[list[float | None]]:
-    """The rows of a table, with null where there is no way."""
-    rows = cells.tolist()
-    for row, column in zip(*map(numpy.ndarray.tolist, numpy.nonzero(best == FAR))):
-        rows[row][column] = None
-    return rows
+# Texts of JSON.
+
+
+def answer_of(name: str, texts: str, more: str, listed: str | None) -> str:
+    """The text of an answer: the objects of its main list, and another list, None where it has none."""
+    return f'{{"code": "Ok", "{name}": [{texts}]{"" if listed is None else f", {chr(34)}{more}{chr(34)}: {listed}"}}}'
+
+
+def objects(insides: Sequence[str | None], general: options.General) -> str | None:
+    """The text of a list of waypoints, null for None; None where none are asked for."""
+    if not general.has_waypoints:
+        return None
+    end = ', "hint": ""}' if general.has_hints else "}"
+    return f'[{", ".join(["null" if inside is None else f"{{{inside}{end}" for inside in insides])}]'
+
+
+def nearest_answer(insides: Sequence[str], general: options.General) -> str:
+    """The text of an answer with waypoints alone."""
+    listed = objects(insides, general)
+    return '{"code": "Ok"}' if listed is None else f'{{"code": "Ok", "waypoints": {listed}}}'
+
+
+def rows_of(numbers: Any, digits: int, is_there: Marks) -> str:
+    """The rows of a table as a text of JSON: numbers of which so many digits lie behind the point, null where there is no way."""
+    if numbers.max(initial=0, where=is_there) < cells.MOST:
+        return cells.rows(numpy.rint(numbers).astype(numpy.int64) if numbers.dtype.kind == "f" else numbers, digits, is_there)
+    told = (numbers / 10**digits).round(digits)
+    return json.dumps([[cell if is_way else None for cell, is_way in zip(*row)] for row in zip(told.tolist(), is_there.tolist())])
 
 
 # Where coordinates were taken to.
@@ -295,12 +312,10 @@ def numbers_in(path: str, count: int) -> Integers | None:
     return numpy.array(numbers, numpy.int64) if fits else None
 
 
-def facing_spots(
-    roads: Roads, spots: Spots, question: Question, first: int, facing: Sequence[tuple[int, tuple[int, int]]],
-) -> tuple[Spots, Refusal | None]:
+def facing_spots(roads: Roads, spots: Spots, question: Question, first: int) -> tuple[Spots, Refusal | None]:
     """The spots with those of some coordinates of a question in their place, which face the direction that is asked for, and the fault where one has
     none. The spots of the question begin at `first`."""
-    found = []
+    found, facing = [], [(index, bearing) for index, bearing in enumerate(question.general.bearings) if bearing]
     for index, bearing in facing:
         one = roads.find_facing(*question.coordinates[index], *bearing)
         if not len(one):

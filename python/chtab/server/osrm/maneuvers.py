@@ -4,7 +4,6 @@ A leg is cut into pieces, each a road or a part of one that is driven along in o
 """
 from __future__ import annotations
 
-from collections.abc import Sequence
 from typing import TYPE_CHECKING, Any, NamedTuple
 
 import numpy
@@ -14,7 +13,7 @@ from chtab.server.osrm.crossings import turned
 from chtab.roads.snapping import NONE
 
 if TYPE_CHECKING:
-    from chtab.roads.legs import Legs, Trace
+    from chtab.roads.legs import Legs, Traces
     from chtab.server.osrm.crossings import Crossings
     from chtab.typing import Integers, Marks
 
@@ -39,14 +38,14 @@ class Pieces(NamedTuple):
         return Pieces(*(column[which] for column in self))
 
 
-def pieces_of(crossings: Crossings, legs: Legs, which: Integers, traces: Sequence[Trace]) -> Pieces:
+def pieces_of(crossings: Crossings, legs: Legs, which: Integers, traces: Traces) -> Pieces:
     """The pieces of some legs, `which` an array of their numbers. What leads along no road is none, nor is a stretch without length."""
     is_walk, walks = legs.is_walk[which], legs.walks
     arc_counts = walks.firsts[which + 1] - walks.firsts[which]
     counts = 1 + arc_counts + is_walk
     firsts = numpy.cumsum(counts) - counts
     every = Pieces(numpy.repeat(numpy.arange(len(which)), counts), *numpy.zeros((4, counts.sum()), numpy.int64))
-    every.stops[:] = numpy.concatenate([trace.stops for trace in traces])
+    every.stops[:] = traces.stops
     starts, ends = legs.starts, legs.ends
     # Who leaves by the end 0 of a road, or arrives by the end 1, drives back.
     goes_back = numpy.where(is_walk, legs.leaves[which] == 0, ends.parts[which] < starts.parts[which])

@@ -36,7 +36,7 @@ class Track(NamedTuple):
     seconds of each, or None."""
 
     places: Floats
-    radiuses: list[float]
+    radiuses: Sequence[float]
     timestamps: list[int] | None
 
 

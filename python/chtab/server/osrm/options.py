@@ -1,11 +1,15 @@
 """The options of each service. One that would change the answer, and that this service doesn't have, is refused by its name."""
 from __future__ import annotations
 
+import functools
 import math
 import re
+import urllib.parse
 from collections.abc import Callable, Mapping
 from typing import Any, NamedTuple
 
+# A percent sign that begins no escape.
+BROKEN = re.compile("%(?![0-9A-Fa-f]{2})")
 NUMBER = re.compile(r"\d+(?:\.\d*)?|\.\d+", re.ASCII)
 INDEX = re.compile(r"\d{1,9}", re.ASCII)
 # By greater factors durations might be no numbers of JSON.
@@ -14,6 +18,10 @@ ANNOTATIONS = "duration", "distance", "nodes", "weight", "speed", "datasources"
 ALTERNATIVES = re.compile(r"true|false|\d{1,9}", re.ASCII)
 BEARING = re.compile(r"(\d{1,3}),(\d{1,3})", re.ASCII)
 TIMESTAMP = re.compile(r"\d{1,18}", re.ASCII)
+# How many cells take as long as the distance of one.
+DISTANCE = 8
+# Queries that were read last are kept, of so many characters and for so many coordinates at most.
+QUERIES_KEPT, LONGEST_KEPT, MOST_KEPT = 1_024, 256, 64
 
 
 class Refusal(Exception):
@@ -29,18 +37,43 @@ def unsupported(name: str) -> Refusal:
     return Refusal("InvalidOptions", f"{name}: not supported")
 
 
+def text_of(part: str) -> str:
+    """A part of an address with its escapes read. The words of this interface are ASCII."""
+    text = part
+    if "%" in part:
+        if BROKEN.search(part):
+            raise Refusal("InvalidUrl", "a percent sign is followed by two hexadecimal digits")
+        text = urllib.parse.unquote(part, "ascii", "replace")
+    if not (text.isascii() and text.isprintable()):
+        raise Refusal("InvalidUrl", "an address has printable characters of ASCII alone")
+    return text
+
+
+def values_in(query: str) -> dict[str, str]:
+    """The values of options by their names, each given once."""
+    options: dict[str, str] = {}
+    for part in query.split("&") if query else ():
+        name, mark, value = part.partition("=")
+        name = text_of(name)
+        if not name or not mark:
+            raise Refusal("InvalidQuery", "an option has the form NAME=VALUE")
+        if name in options:
+            raise Refusal("InvalidQuery", f"{name[:40]}: given twice")
+        options[name] = text_of(value)
+    return options
+
+
 class General(NamedTuple):
     """What all services take: for each coordinate the metres within which a road has to lie, and the direction in which it has to be driven along
-    with how many degrees off it are taken, or None; whether waypoints have hints, which are empty, and whether there are waypoints."""
+    with how many degrees off it are taken, or None; whether waypoints have hints, which are empty, and whether there are waypoints; and whether any
+    radius is not infinite, and any direction asked for."""
 
-    radiuses: list[float]
-    bearings: list[tuple[int, int] | None]
+    radiuses: tuple[float, ...]
+    bearings: tuple[tuple[int, int] | None, ...]
     has_hints: bool
     has_waypoints: bool
-
-    @property
-    def has_bearings(self) -> bool:
-        return any(self.bearings)
+    has_radiuses: bool
+    has_bearings: bool
 
 
 class Route(NamedTuple):
@@ -85,6 +118,11 @@ class Table(NamedTuple):
     has_durations: bool
     has_distances: bool
     scale: float
+
+    @property
+    def size(self) -> int:
+        """How much is asked for, in cells; one with a distance takes as long as some others."""
+        return len(self.sources) * len(self.destinations) * (1 + DISTANCE * self.has_distances)
 
 
 class Reader:
@@ -157,15 +195,16 @@ class Reader:
 def general(reader: Reader) -> General:
     """What all services take."""
     texts = reader.elements("radiuses")
-    radiuses = [math.inf if text in ("", "unlimited") else reader.number("radiuses", text) for text in texts]
-    bearings = [bearing_in(text) for text in reader.elements("bearings")]
+    radiuses = tuple(math.inf if text in ("", "unlimited") else reader.number("radiuses", text) for text in texts)
+    bearings = tuple(bearing_in(text) for text in reader.elements("bearings"))
     # Hints, which other servers give, would only make the search for a road shorter.
     reader.take("hints", "")
     reader.only("approaches", "unrestricted")
     # A trip may begin on each road of a graph, so that these are the same.
     reader.choice("snapping", "default", "any")
     reader.refuse("exclude")
-    return General(radiuses, bearings, reader.boolean("generate_hints", True), not reader.boolean("skip_waypoints", False))
+    hints, waypoints = reader.boolean("generate_hints", True), not reader.boolean("skip_waypoints", False)
+    return General(radiuses, bearings, hints, waypoints, any(map(math.isfinite, radiuses)), any(bearings))
 
 
 def bearing_in(text: str) -> tuple[int, int] | None:
@@ -262,10 +301,19 @@ def nearest(reader: Reader) -> int:
 OF_SERVICE: dict[str, Callable[[Reader], Any]] = {"route": route, "table": table, "nearest": nearest, "trip": trip, "match": match}
 
 
-def read(service: str, given: Mapping[str, str], count: int) -> tuple[General, Any]:
-    """The general options and those of the service, for so many coordinates."""
-    reader = Reader(service, given, count)
+def read(service: str, query: str, count: int) -> tuple[General, Any]:
+    """The general options and those of the service, by the query of an address with so many coordinates. Clients send the same query again and
+    again, so that what short ones say is kept."""
+    return known(service, query, count) if len(query) <= LONGEST_KEPT and count <= MOST_KEPT else read_anew(service, query, count)
+
+
+def read_anew(service: str, query: str, count: int) -> tuple[General, Any]:
+    """The same, of a query that is not kept."""
+    reader = Reader(service, values_in(query), count)
     own = OF_SERVICE[service](reader)
     found = general(reader), own
     reader.finish()
     return found
+
+
+known = functools.lru_cache(QUERIES_KEPT)(read_anew)

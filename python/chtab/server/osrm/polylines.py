@@ -1,6 +1,7 @@
 """Lines of places as text (Google's encoded polyline): each number is a difference, in groups of five bits, the least first."""
 from __future__ import annotations
 
+import json
 from typing import TYPE_CHECKING
 
 import numpy
@@ -14,6 +15,17 @@ if TYPE_CHECKING:
 # Groups of five bits of one difference: those of 360 degrees in millionths have 30 bits and a sign.
 MOST_GROUPS = 7
 SHIFTS = 5 * numpy.arange(MOST_GROUPS, dtype=numpy.int32)
+# The digits behind the point of each form of lines that is a polyline.
+DIGITS = {"polyline": 5, "polyline6": 6}
+
+
+def texts(places: Floats, firsts: Integers, form: str) -> list[str]:
+    """Several lines of at least two places each, which follow on each other and begin at `firsts`, as texts of JSON in this form."""
+    if form in DIGITS:
+        # The letters of a polyline are no quotes.
+        return ['"' + text.replace("\\", "\\\\") + '"' for text in encoded_each(places, firsts, DIGITS[form])]
+    listed, cuts = places.tolist(), [*numpy.asarray(firsts).tolist(), len(places)]
+    return [f'{{"type": "LineString", "coordinates": {json.dumps(listed[first:last])}}}' for first, last in zip(cuts, cuts[1:])]
 
 
 def encoded(places: Floats, precision: int) -> str:

@@ -17,14 +17,13 @@ from chtab.server.osrm.maneuvers import ENTER, EXIT, SILENT, TYPES, passages_of,
 if TYPE_CHECKING:
     from numpy.typing import ArrayLike
     from chtab.files import Street
-    from chtab.roads.legs import Legs, Trace
+    from chtab.roads.legs import Legs, Traces
     from chtab.server.osrm.crossings import Crossings
     from chtab.server.osrm.maneuvers import Passages
-    from chtab.typing import Floats, Integers
+    from chtab.typing import Integers
 
 # Texts of crossings that are kept, some 200 bytes each.
 MOST_TEXTS = 1 << 18
-DIGITS = {"polyline": 5, "polyline6": 6}
 # A passage of a crossing, as `rows_of` gives it.
 Row: TypeAlias = tuple[Any, ...]
 # What rings are called that have names of their own.
@@ -59,9 +58,10 @@ class Steps:
         self.around: dict[int, tuple[list[float], list[int], list[int], list[bool]]] = {}
         self.streets = crossings.streets
         self.called = [called(street) for street in crossings.streets]
+        self.names = [json.dumps(street.name) for street in crossings.streets]
         self.side = f', "driving_side": "{crossings.side}"' if crossings.side else ""
 
-    def of(self, legs: Legs, which: ArrayLike, traces: Sequence[Trace], mode: str, geometries: str) -> list[Told]:
+    def of(self, legs: Legs, which: ArrayLike, traces: Traces, mode: str, geometries: str) -> list[Told]:
         """The steps of some legs, each of which is a way, for those who travel by `mode`; lines have the form `geometries`."""
         which = numpy.asarray(which)
         if not len(which):
@@ -188,12 +188,9 @@ def rows_of(passages: Passages, places: Integers, lines: Lines) -> list[Row]:
 class Lines:
     """How legs lie, one after the other: their places, and the metres and weights up to there. Leg k lies from place `firsts[k]` to `lasts[k]`."""
 
-    def __init__(self, traces: Sequence[Trace]) -> None:
-        self.places, self.metres, self.weights = (
-            numpy.concatenate([getattr(trace, name) for trace in traces]) for name in ("places", "metres", "weights")
-        )
-        counts = numpy.array([len(trace.places) for trace in traces])
-        self.firsts, self.lasts = numpy.cumsum(counts) - counts, numpy.cumsum(counts) - 1
+    def __init__(self, traces: Traces) -> None:
+        self.places, self.metres, self.weights = traces.places, traces.metres, traces.weights
+        self.firsts, self.lasts = traces.firsts[:-1], traces.firsts[1:] - 1
 
     def departures(self) -> Iterator[tuple[int, list[float], int]]:
         """Of each leg its first place, where that is, and the direction there."""
@@ -215,8 +212,4 @@ class Lines:
         firsts = numpy.cumsum(counts) - counts
         which = numpy.arange(counts.sum()) - numpy.repeat(firsts - starts, counts)
         line = self.places[numpy.minimum(which, numpy.repeat(ends, counts))]
-        if geometries in DIGITS:
-            # The letters of a polyline are no quotes.
-            return ['"' + text.replace("\\", "\\\\") + '"' for text in polylines.encoded_each(line, firsts, DIGITS[geometries])]
-        listed, cuts = line.tolist(), [*firsts.tolist(), len(line)]
-        return [json.dumps({"type": "LineString", "coordinates": listed[first:last]}) for first, last in zip(cuts, cuts[1:])]
+        return polylines.texts(line, firsts, geometries)

@@ -2,19 +2,18 @@
 from __future__ import annotations
 
 import json
-import math
 from collections.abc import Mapping, Sequence
 from typing import TYPE_CHECKING, Any, NamedTuple
 
 import numpy
 
+from chtab.roads.legs import Traces
 from chtab.server.osrm import polylines
-from chtab.server.osrm.steps import DIGITS, Steps
+from chtab.server.osrm.steps import Steps, Told
 
 if TYPE_CHECKING:
     from chtab.roads.legs import Legs, Trace
     from chtab.server.osrm.options import Route
-    from chtab.server.osrm.steps import Told
     from chtab.typing import Floats, Integers
 
 # A point of a simplified line is left out where it lies off the line by less than so much of the longer side of the route.
@@ -33,43 +32,57 @@ class Voice(NamedTuple):
     mode: str
 
 
-def seconds(milliseconds: int) -> float:
-    return int(milliseconds) / MILLISECONDS
+class OfLegs(NamedTuple):
+    """What is told of legs, by their numbers: milliseconds, metres, the steps of those that have some, and the traces of those that have lines,
+    with their places among these."""
+
+    weights: list[int]
+    metres: list[float]
+    steps: Mapping[int, Told]
+    traces: Traces
+    places: Mapping[int, int]
 
 
-def routes(voice: Voice, legs: Legs, parts: Sequence[list[int]], traces: Mapping[int, Trace], options: Sequence[Route]) -> list[str]:
-    """The texts of routes, each over some legs, one after the other: `parts` has the numbers of each. `traces` says how legs lie, where that is
-    asked for, and `options` what each route is told with."""
+def routes(voice: Voice, legs: Legs, parts: Sequence[list[int]], options: Sequence[Route]) -> list[str]:
+    """The texts of routes, each over some legs, one after the other: `parts` has the numbers of each, and `options` what it is told with."""
+    wanted = [leg for part, option in zip(parts, options) if option.has_lines for leg in part]
+    traces, places = legs.traces(wanted), {leg: place for place, leg in enumerate(wanted)}
+    told = OfLegs(legs.weights.tolist(), legs.metres.tolist(), steps_of(voice, legs, parts, options, traces, places), traces, places)
+    lines = geometries(parts, options, traces, places)
+    return [route(voice, legs, part, option, told, lines.get(number)) for number, (part, option) in enumerate(zip(parts, options))]
+
+
+def steps_of(
+    voice: Voice, legs: Legs, parts: Sequence[list[int]], options: Sequence[Route], traces: Traces, places: Mapping[int, int],
+) -> dict[int, Told]:
+    """The steps of legs of routes that are told with steps, by the numbers of the legs."""
     stepping: dict[str, list[int]] = {}
+    found: dict[int, Told] = {}
     for part, option in zip(parts, options):
         if option.has_steps:
             stepping.setdefault(option.geometries, []).extend(part)
-    told = {
-        leg: each for form, some in stepping.items()
-        for leg, each in zip(some, voice.steps.of(legs, some, [traces[leg] for leg in some], voice.mode, form))
-    }
-    return [route(voice, legs, part, traces, option, told) for part, option in zip(parts, options)]
+    for form, some in stepping.items():
+        own = traces if len(some) == len(places) else traces.chosen(numpy.array([places[leg] for leg in some]))
+        found |= zip(some, voice.steps.of(legs, some, own, voice.mode, form))
+    return found
 
 
-def route(voice: Voice, legs: Legs, which: list[int], traces: Mapping[int, Trace], options: Route, told: Mapping[int, Told]) -> str:
+def route(voice: Voice, legs: Legs, which: list[int], options: Route, told: OfLegs, line: str | None) -> str:
     """The text of the route over some legs, one after the other."""
-    duration = seconds(legs.weights[which].sum())
-    whole: dict[str, Any] = {"distance": round(float(legs.metres[which].sum()), 1), "duration": duration, "weight": duration, "weight_name": "duration"}
-    if options.overview != "false":
-        lines = [traces[leg].places for leg in which]
-        if options.overview == "simplified":
-            lines = simplified(lines)
-        whole["geometry"] = geometry(joined(lines), options.geometries)
-    texts = ", ".join(leg_text(voice, legs, leg, traces, options, told.get(leg)) for leg in which)
-    return f'{json.dumps(whole)[:-1]}, "legs": [{texts}]}}'
+    duration = sum(told.weights[leg] for leg in which) / MILLISECONDS
+    metres = round(sum(told.metres[leg] for leg in which), 1)
+    texts = ", ".join([leg_text(voice, legs, leg, options, told) for leg in which])
+    drawn = "" if line is None else f' "geometry": {line},'
+    return f'{{"distance": {metres}, "duration": {duration}, "weight": {duration}, "weight_name": "duration",{drawn} "legs": [{texts}]}}'
 
 
-def leg_text(voice: Voice, legs: Legs, leg: int, traces: Mapping[int, Trace], options: Route, told: Told | None) -> str:
-    weight = seconds(legs.weights[leg])
-    found: dict[str, Any] = {"distance": round(float(legs.metres[leg]), 1), "duration": weight, "weight": weight, "summary": told.summary if told else ""}
+def leg_text(voice: Voice, legs: Legs, leg: int, options: Route, told: OfLegs) -> str:
+    weight, steps, more = told.weights[leg] / MILLISECONDS, told.steps.get(leg), ""
     if options.annotations:
-        found["annotation"] = annotation(legs, leg, traces.get(leg), options.annotations, voice.numbers)
-    return f'{json.dumps(found)[:-1]}, "steps": {told.steps if told else "[]"}}}'
+        trace = told.traces.of(told.places[leg]) if leg in told.places else None
+        more = f' "annotation": {json.dumps(annotation(legs, leg, trace, options.annotations, voice.numbers))},'
+    summary, listed = (json.dumps(steps.summary), steps.steps) if steps else ('""', "[]")
+    return f'{{"distance": {round(told.metres[leg], 1)}, "duration": {weight}, "weight": {weight}, "summary": {summary},{more} "steps": {listed}}}'
 
 
 def annotation(legs: Legs, leg: int, trace: Trace | None, wanted: Sequence[str], numbers: Integers | None) -> dict[str, Any]:
@@ -97,30 +110,55 @@ def between(column: Any) -> list[Any]:
     return (numpy.diff(column) if len(column) > 1 else column).tolist()
 
 
-def joined(lines: Sequence[Floats]) -> Floats:
-    """Lines of which each begins where the one before ends, as one of at least two places."""
-    line = numpy.concatenate([lines[0], *(each[1:] if (each[0] == before[-1]).all() else each for before, each in zip(lines, lines[1:]))])
-    return line if len(line) > 1 else line[[0, 0]]
+# How routes lie.
 
 
-def geometry(line: Floats, form: str) -> Any:
-    if form in DIGITS:
-        return polylines.encoded(line, DIGITS[form])
-    return {"type": "LineString", "coordinates": line.tolist()}
+def geometries(parts: Sequence[list[int]], options: Sequence[Route], traces: Traces, places: Mapping[int, int]) -> dict[int, str]:
+    """The lines of routes that are told with one, as texts of JSON, by the numbers of the routes."""
+    groups: dict[tuple[str, str], list[int]] = {}
+    found: dict[int, str] = {}
+    for number, option in enumerate(options):
+        if option.overview != "false":
+            groups.setdefault((option.overview, option.geometries), []).append(number)
+    for (overview, form), some in groups.items():
+        counts = numpy.array([len(parts[number]) for number in some])
+        own = traces.chosen(numpy.array([places[leg] for number in some for leg in parts[number]]))
+        lines = own.places, own.firsts
+        if overview == "simplified":
+            lines = simplified(*lines, counts)
+        line, cuts = joined(*lines, counts)
+        found |= zip(some, polylines.texts(line, cuts[:-1], form))
+    return found
 
 
-def simplified(lines: Sequence[Floats]) -> list[Floats]:
-    """The lines with fewer places (Douglas and Peucker 1973): the first and last of each, and those that show on a picture of the whole."""
+def joined(places: Floats, firsts: Integers, counts: Integers) -> tuple[Floats, Integers]:
+    """The lines of routes, each over so many legs: their places, one line after the other, and where each begins and the last one ends. The legs
+    begin at `firsts`. Where a leg begins at the end of the one before, the place is told once. A line has at least two places."""
+    copies = numpy.ones(len(places), numpy.int64)
+    begins = numpy.cumsum(counts) - counts
+    inner = numpy.delete(firsts[:-1], begins)
+    copies[inner[(places[inner] == places[inner - 1]).all(axis=1)]] = 0
+    cuts = numpy.append(0, numpy.cumsum(copies))[firsts[numpy.append(begins, counts.sum())]]
+    is_alone = numpy.diff(cuts) == 1
+    copies[firsts[begins[is_alone]]] = 2
+    cuts[1:] += numpy.cumsum(is_alone)
+    return numpy.repeat(places, copies, axis=0), cuts
+
+
+def simplified(places: Floats, firsts: Integers, counts: Integers) -> tuple[Floats, Integers]:
+    """The lines of legs with fewer places (Douglas and Peucker 1973): the first and last of each, and those that show on a picture of the whole
+    route. Legs begin at `firsts`, and each route has so many; the same of what is left."""
     from shapely.geometry import LineString
 
-    everything = numpy.concatenate(lines)
-    scale = numpy.array([math.cos(math.radians(float(everything[:, 1].mean()))), 1.0])
-    most = float(numpy.ptp(everything * scale, axis=0).max()) * COARSE
-    found = []
-    for line in lines:
-        if len(line) > 2:
-            # The third part of a place is its number, which says of those that are kept which they are.
-            numbered = numpy.column_stack([line * scale, numpy.arange(len(line))])
-            line = line[numpy.array(LineString(numbered).simplify(most, False).coords)[:, 2].astype(int)]
-        found.append(line)
-    return found
+    begins = firsts[numpy.cumsum(counts) - counts]
+    lengths = numpy.diff(numpy.append(begins, len(places)))
+    narrow = numpy.cos(numpy.radians(numpy.add.reduceat(places[:, 1], begins) / lengths))
+    # The third part of a place is its number, which says of those that are kept which they are.
+    numbered = numpy.column_stack([places[:, 0] * numpy.repeat(narrow, lengths), places[:, 1], numpy.arange(len(places))])
+    wide = (numpy.maximum.reduceat(numbered[:, :2], begins) - numpy.minimum.reduceat(numbered[:, :2], begins)).max(axis=1)
+    kept = []
+    for first, last, most in zip(firsts.tolist(), firsts[1:].tolist(), numpy.repeat(COARSE * wide, counts).tolist()):
+        line = numbered[first:last]
+        kept.append((numpy.array(LineString(line).simplify(most, False).coords) if len(line) > 2 else line)[:, 2])
+    which = numpy.concatenate(kept).astype(numpy.int64)
+    return places[which], numpy.searchsorted(which, firsts)

@@ -1,11 +1,10 @@
-"""The words of an address: `/SERVICE/VERSION/PROFILE/COORDINATES?NAME=VALUE&..`, decoded after they were taken apart."""
+"""The words of an address: `/SERVICE/VERSION/PROFILE/COORDINATES?NAME=VALUE&..`, decoded after they were taken apart. `options` reads the query."""
 from __future__ import annotations
 
 import re
-import urllib.parse
 from typing import TYPE_CHECKING, NamedTuple
 
-from chtab.server.osrm.options import Refusal, unsupported
+from chtab.server.osrm.options import Refusal, text_of, unsupported
 from chtab.server.osrm.polylines import decoded
 
 if TYPE_CHECKING:
@@ -15,20 +14,20 @@ SERVICES = "route", "table", "nearest", "trip", "match"
 # A service that OSRM has besides.
 OTHERS = ("tile",)
 VERSION = "v1"
-BROKEN = re.compile("%(?![0-9A-Fa-f]{2})")
 # No exponent, no NaN and no infinity, as OSRM reads numbers.
 NUMBER = r"[+-]?(?:\d+(?:\.\d*)?|\.\d+)"
 COORDINATE = re.compile(f"({NUMBER}),({NUMBER})", re.ASCII)
+COORDINATES = re.compile(f"{NUMBER},{NUMBER}(?:;{NUMBER},{NUMBER})*", re.ASCII)
 POLYLINE = re.compile(r"polyline(6?)\((.*)\)", re.DOTALL)
 
 
 class Words(NamedTuple):
-    """The words of an address: the profile, the coordinates as text, and the values of the options by their names."""
+    """The words of an address: the service, the profile, and the coordinates and the options as texts."""
 
     service: str
     profile: str
     coordinates: str
-    options: dict[str, str]
+    query: str
 
 
 def words_of(target: str, most: int) -> Words:
@@ -49,31 +48,7 @@ def words_of(target: str, most: int) -> Words:
     coordinates = text_of(parts[3])
     if coordinates.endswith(".flatbuffers"):
         raise unsupported("flatbuffers")
-    return Words(service, text_of(parts[2]), coordinates.removesuffix(".json"), options_of(query))
-
-
-def text_of(part: str) -> str:
-    """A part of an address with its escapes read. The words of this interface are ASCII."""
-    if BROKEN.search(part):
-        raise Refusal("InvalidUrl", "a percent sign is followed by two hexadecimal digits")
-    text = urllib.parse.unquote(part, "ascii", "replace")
-    if not (text.isascii() and text.isprintable()):
-        raise Refusal("InvalidUrl", "an address has printable characters of ASCII alone")
-    return text
-
-
-def options_of(query: str) -> dict[str, str]:
-    """The values of options by their names, each given once."""
-    options: dict[str, str] = {}
-    for part in query.split("&") if query else ():
-        name, mark, value = part.partition("=")
-        name = text_of(name)
-        if not name or not mark:
-            raise Refusal("InvalidQuery", "an option has the form NAME=VALUE")
-        if name in options:
-            raise Refusal("InvalidQuery", f"{name[:40]}: given twice")
-        options[name] = text_of(value)
-    return options
+    return Words(service, text_of(parts[2]), coordinates.removesuffix(".json"), query)
 
 
 def coordinates_of(text: str, most: int) -> list[Point]:
@@ -81,7 +56,7 @@ def coordinates_of(text: str, most: int) -> list[Point]:
     line = POLYLINE.fullmatch(text)
     found = decoded(line[2], 6 if line[1] else 5, most) if line else listed(text, most)
     for index, (longitude, latitude) in enumerate(found):
-        if not (abs(longitude) <= 180 and abs(latitude) <= 90):
+        if not (-180 <= longitude <= 180 and -90 <= latitude <= 90):
             raise Refusal("InvalidValue", f"coordinate {index} is not a longitude from -180 to 180 and a latitude from -90 to 90")
     return found
 
@@ -89,10 +64,8 @@ def coordinates_of(text: str, most: int) -> list[Point]:
 def listed(text: str, most: int) -> list[Point]:
     if text.count(";") >= most:
         raise Refusal("TooBig", f"at most {most:,} coordinates")
-    found = []
-    for index, part in enumerate(text.split(";")):
-        numbers = COORDINATE.fullmatch(part)
-        if not numbers:
-            raise Refusal("InvalidQuery", f"coordinate {index} is not a longitude and a latitude, as 9.52,47.14")
-        found.append((float(numbers[1]), float(numbers[2])))
-    return found
+    if not COORDINATES.fullmatch(text):
+        index = next(index for index, part in enumerate(text.split(";")) if not COORDINATE.fullmatch(part))
+        raise Refusal("InvalidQuery", f"coordinate {index} is not a longitude and a latitude, as 9.52,47.14")
+    numbers = iter(map(float, text.replace(";", ",").split(",")))
+    return list(zip(numbers, numbers))
