@@ -3,6 +3,7 @@ mod Filled
 mod FirstLines
 mod LineOfPair
 mod Bounds
+mod BuiltLike
 mod RouteLines
 mod Rows
 mod SeenLines

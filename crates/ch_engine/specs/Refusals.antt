@@ -17,6 +17,18 @@ IsOpenError graph saved OpenError.NoMemory = ⊤
 IsOpenError graph saved (OpenError.BadGraph f) = IsFault Graph graph f.line f.kind
 IsOpenError graph saved (OpenError.BadSaved f) = (saved ≢ []) × ((g : Network) × NamesGraph graph g × IsFault (Saved g.nodes) saved f.line f.kind)
 IsOpenError graph saved (OpenError.WrongSaved f) = (g : Network) × (s : OrderAndLegs) × NamesGraph graph g × NamesSaved saved g.nodes s × IsFirstFault g s f
+IsOpenError graph saved OpenError.OtherNodes = ⊥
+IsOpenError graph saved OpenError.FreshRange = ⊥
+
+-- the error is true of the bytes of a graph, which is built in the order of a hierarchy of n nodes with so many per cent
+-- afresh. Faults come before numbers of nodes, and these before per cents
+abbrev pub IsLikeError : List ℕ → ℕ → ℕ → OpenError → Type 0
+IsLikeError graph n fresh OpenError.NoMemory = ⊤
+IsLikeError graph n fresh (OpenError.BadGraph f) = IsFault Graph graph f.line f.kind
+IsLikeError graph n fresh (OpenError.BadSaved f) = ⊥
+IsLikeError graph n fresh (OpenError.WrongSaved f) = ⊥
+IsLikeError graph n fresh OpenError.OtherNodes = (g : Network) × NamesGraph graph g × (g.nodes ≢ n)
+IsLikeError graph n fresh OpenError.FreshRange = (g : Network) × NamesGraph graph g × (g.nodes ≡ n) × (100 < fresh)
 
 -- the numbers are nodes of a network of n nodes
 abbrev pub AreNodes : ℕ → List ℕ → Type 0

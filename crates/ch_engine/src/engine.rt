@@ -1,18 +1,18 @@
 //! Engines: a network, with room for the questions of one thread.
-ghost use Rattle.std.specs.Prelude.{◌≡◌, ◌<◌, length, All, IfErr, IfOk, None, OnOk, MatchOption, ⊤};
+ghost use Rattle.std.specs.Prelude.{◌≡◌, ◌<◌, [], length, All, IfErr, IfOk, None, OnOk, MatchOption, ⊤};
 ghost use Rattle.ch_graph.specs.Graph.{HasEnds};
 ghost use Rattle.ch_hierarchy.specs.Hierarchy.{nodes_of};
 ghost use Rattle.ch_engine.specs.Lines.{IsOfSome};
 ghost use Rattle.ch_text.specs.SaveText.{IsHierarchyText};
 ghost use Rattle.ch_engine.specs.Held.{only};
-ghost use Rattle.ch_engine.specs.Opened.{IsOpened};
+ghost use Rattle.ch_engine.specs.Opened.{IsOpened, IsOpenedLike};
 ghost use Rattle.ch_engine.specs.Cells.{ArePairCells, AreTableCells, IsCell};
 ghost use Rattle.ch_engine.specs.Routes.{IsFound};
-ghost use Rattle.ch_engine.specs.Refusals.{AreNodes, ArePairs, AreTableLists, IsNodePair, IsOpenError, IsRefusalOfPairs, IsRefusalOfRoute, IsRefusalOfTable};
+ghost use Rattle.ch_engine.specs.Refusals.{AreNodes, ArePairs, AreTableLists, IsLikeError, IsNodePair, IsOpenError, IsRefusalOfPairs, IsRefusalOfRoute, IsRefusalOfTable};
 
 use crate::fault::{OpenError, Refusal};
 use crate::network::Network;
-use crate::opening::opened;
+use crate::opening::{opened, opened_like};
 use crate::words::{are_both_nodes, word_of, write_table};
 use ch_graph::limits::MOST_LISTED;
 use ch_near::KeptTargets;
@@ -63,6 +63,24 @@ impl Engine {
         ensures error { IfErr result (IsOpenError graph.now saved.now) }
     {
         let network = opened(alloc, graph, saved)?;
+        Ok(Engine::of(alloc, network)?)
+    }
+
+    /// Opens an engine for a graph with as many nodes, such as the same roads with new weights. Arcs may differ in any way.
+    /// The hierarchy is built in the order of this engine's hierarchy, and only the last `fresh` per cent of the nodes are
+    /// ordered afresh, by depth. The answers are as exact as those of [`Engine::open`], whatever changed. With 5 per cent
+    /// this takes about half the time of building by depth, and questions take at most a tenth longer. With 100 per cent
+    /// the hierarchy is the one by depth.
+    ///
+    /// # Errors
+    /// The first fault of the graph's bytes, otherwise `OtherNodes` if the graph has another number of nodes, otherwise
+    /// `FreshRange` if `fresh` is above 100; or `NoMemory`.
+    pub fn open_like(&self, alloc: Global, graph: &[u8], fresh: u32) -> Result<Engine, OpenError>
+        ensures value { IfOk result (λ held. (held.near ≡ None) × IsOpenedLike graph.now self.now.hierarchy fresh held.hierarchy held.lines) }
+        ensures afresh { fresh ≡ 100 → IfOk result (λ held. IsOpened graph.now [] held.hierarchy held.lines) }
+        ensures error { IfErr result (IsLikeError graph.now (nodes_of self.now.hierarchy) fresh) }
+    {
+        let network = opened_like(alloc, graph, self.network.hierarchy(), fresh)?;
         Ok(Engine::of(alloc, network)?)
     }
 

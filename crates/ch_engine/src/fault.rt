@@ -18,6 +18,10 @@ pub enum OpenError {
     BadSaved(ReadFault),
     /// This is the first fault of the saved hierarchy for the graph.
     WrongSaved(CheckFault),
+    /// The graph has another number of nodes than the network in whose order it is built.
+    OtherNodes,
+    /// More than 100 per cent of the nodes would be ordered afresh.
+    FreshRange,
 }
 
 /// The reason why a question is not answered.

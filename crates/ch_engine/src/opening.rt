@@ -1,12 +1,13 @@
 //! Opens a network from bytes, without workers.
 ghost use Rattle.std.specs.Prelude.{IfErr, IfOk};
-ghost use Rattle.ch_engine.specs.Opened.{IsOpened};
-ghost use Rattle.ch_engine.specs.Refusals.{IsOpenError};
+ghost use Rattle.ch_hierarchy.specs.Hierarchy.{nodes_of};
+ghost use Rattle.ch_engine.specs.Opened.{IsOpened, IsOpenedLike};
+ghost use Rattle.ch_engine.specs.Refusals.{IsLikeError, IsOpenError};
 
 use crate::fault::OpenError;
 use crate::network::Network;
-use ch_hierarchy::CheckError;
-use ch_order::build_alone;
+use ch_hierarchy::{CheckError, Hierarchy};
+use ch_order::{OrderError, build_alone, build_like_alone};
 use ch_query::check_alone;
 use ch_read::{ReadError, read_graph, read_saved};
 use std::alloc::Global;
@@ -47,5 +48,41 @@ pub(crate) fn opened(alloc: Global, graph: &[u8], saved: &[u8]) -> Result<Networ
         Err(CheckError::NoMemory) => return Err(OpenError::NoMemory),
     };
     let lined = Network::of(alloc, &roads, right)?;
+    Ok(lined)
+}
+
+/// Returns the network of the graph that the bytes name. Its hierarchy is built in the order of another one, and the last
+/// `fresh` per cent of the nodes are ordered afresh by depth.
+///
+/// # Errors
+/// The first fault of the bytes, otherwise `OtherNodes` if the other hierarchy has another number of nodes, otherwise
+/// `FreshRange` if `fresh` is above 100; or `NoMemory`.
+pub(crate) fn opened_like(
+    alloc: Global,
+    graph: &[u8],
+    other: &Hierarchy,
+    fresh: u32,
+) -> Result<Network, OpenError>
+    ensures value { IfOk result (λ network. IsOpenedLike graph.now other.now fresh network.0 network.1) }
+    ensures error { IfErr result (IsLikeError graph.now (nodes_of other.now) fresh) }
+{
+    let roads = match read_graph(alloc, graph) {
+        Ok(roads) => roads,
+        Err(ReadError::Fault(fault)) => return Err(OpenError::BadGraph(fault)),
+        Err(ReadError::NoMemory) => return Err(OpenError::NoMemory),
+    };
+    if roads.nodes() != other.nodes() {
+        return Err(OpenError::OtherNodes);
+    }
+    if fresh > 100 {
+        return Err(OpenError::FreshRange);
+    }
+    let order = other.order(alloc)?;
+    let built = match build_like_alone(alloc, &roads, order.as_slice(), fresh, BUILT_HOPS) {
+        Ok(built) => built,
+        Err(OrderError::Order) => unreachable!(),
+        Err(OrderError::NoMemory) => return Err(OpenError::NoMemory),
+    };
+    let lined = Network::of(alloc, &roads, built)?;
     Ok(lined)
 }

@@ -1,0 +1,50 @@
+use Rattle.std.proofs.Common.{◌≡◌, ℕ, ◌<◌, ◌≤◌, List, Err, refl, sym, ap, subst, arith}
+use Rattle.ch_hierarchy.specs.Hierarchy.{nodes_of}
+use Rattle.ch_hierarchy.specs.Kept.{IsKept}
+use Rattle.ch_contract.specs.Like.{IsHierarchyLike}
+use Rattle.ch_read.specs.Checks.{IsFault}
+use Rattle.ch_read.specs.declared.form.Form.TheVariants.{Graph}
+use Rattle.ch_engine.specs.Opened.{IsBuiltLike}
+use Rattle.ch_engine.proofs.opening.opened_like.Goals as goal
+
+pub returns-in-Err-Fault-clause-error : goal.returns-in-Err-Fault-clause-error
+returns-in-Err-Fault-clause-error c =
+    subst (λ f. IsFault Graph c.args.graph.now f.line f.kind) (sym c.in-Err-Fault.fault-is)
+    ((c.in-Err-Fault.ensures.fault c.in-Err-Fault.fault).0 (ap Err c.in-Err-Fault.field-0-is))
+
+pub returns-then-nodes-clause-error : goal.returns-then-nodes-clause-error
+returns-then-nodes-clause-error c =
+    let roads = c.in-Ok.roads in
+    (roads, (c.in-Ok.ensures.value roads).0 refl, λ same. omega (arith, same, c.nodes.ensures, c.nodes-2.ensures.nodes, c.if-nodes.true))
+
+pub returns-then-fresh-gt100-clause-error : goal.returns-then-fresh-gt100-clause-error
+returns-then-fresh-gt100-clause-error c =
+    let roads = c.in-Ok.roads in
+    let size : roads.nodes ≡ nodes_of c.args.other.now = omega (arith, c.nodes.ensures, c.nodes-2.ensures.nodes, c.if-nodes.false) in
+    let above : 100 < c.args.fresh = omega (arith, c.if-fresh-gt100.true) in
+    (roads, (c.in-Ok.ensures.value roads).0 refl, size, above)
+
+pub returns-clause-value : goal.returns-clause-value
+returns-clause-value c =
+    let roads = c.in-Ok.roads in
+    let built = c.in-Ok-build_like_alone.built in
+    let by = c.in-Ok-build_like_alone.ensures in
+    let order = c.in_ok-order.order.items in
+    let given : c.as_slice.result.now ≡ order = c.as_slice.ensures.value in
+    let same : c.in_ok-lined.lined.0 ≡ built = c.in_ok-lined.ensures.hierarchy in
+    let size : roads.nodes ≡ nodes_of c.args.other.now = omega (arith, c.nodes.ensures, c.nodes-2.ensures.nodes, c.if-nodes.false) in
+    let most : c.args.fresh ≤ 100 = omega (arith, c.if-fresh-gt100.false) in
+    let like : IsBuiltLike roads c.args.other.now c.args.fresh built = (
+      order,
+      record { nodes = c.in_ok-order.ensures.order; levels = c.in_ok-order.ensures.levels },
+      subst (λ (l : List ℕ). IsHierarchyLike roads 5 l c.args.fresh built) given by.hierarchy,
+    ) in (
+      roads,
+      (c.in-Ok.ensures.value roads).0 refl,
+      by.limits,
+      subst (IsKept roads) (sym same) by.kept,
+      size,
+      most,
+      subst (IsBuiltLike roads c.args.other.now c.args.fresh) (sym same) like,
+      c.in_ok-lined.ensures.lines,
+    )
