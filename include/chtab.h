@@ -24,7 +24,8 @@
  *
  * Your duties. The library cannot test these:
  *   - A pointer is not NULL, even if its length is 0, and points to as many elements as its length says.
- *   - The memory that a call writes overlaps no other argument. The two handles of chtab_share are different.
+ *   - The memory that a call writes overlaps no other argument. The two handles of chtab_share and chtab_open_like are
+ *     different.
  *   - A handle is CHTAB_CLOSED_HANDLE, all zeros, before its first call. After that only this library changes it, and you
  *     do not copy it. Close it before you free its memory.
  */
@@ -48,6 +49,9 @@
 
 /* The number of places of a near row that leaves out no place. */
 #define CHTAB_ALL ((uint32_t)-1)
+
+/* The per cent of nodes that chtab_open_like orders afresh if nothing speaks for another number. */
+#define CHTAB_FRESH 5
 
 /* A closed handle. */
 #define CHTAB_CLOSED_HANDLE { 0, 0 }
@@ -78,7 +82,9 @@ typedef enum chtab_status {
     CHTAB_BAD_SAVED = 9,    /* the hierarchy's bytes are faulty: see the fault's line and kind */
     CHTAB_WRONG_SAVED = 10, /* the hierarchy is not right for the graph: see the fault's kind and place */
     CHTAB_NO_PLACES = 11,   /* the handle keeps no near places: give it some with chtab_near_places */
-    CHTAB_SUM_TOO_LARGE = 12 /* a sum is 2^64 or more */
+    CHTAB_SUM_TOO_LARGE = 12, /* a sum is 2^64 or more */
+    CHTAB_OTHER_NODES = 13, /* the graph has another number of nodes than the network in whose order it is built */
+    CHTAB_FRESH_RANGE = 14  /* more than 100 per cent of the nodes would be ordered afresh */
 } chtab_status;
 
 /* The kind of a fault. The first ten are faults of a line or of the end of a file, the others of a hierarchy for its graph.
@@ -135,6 +141,18 @@ uint32_t chtab_version(void);
  * first write `fault`; it is all 0 for CHTAB_NO_MEMORY. Otherwise `fault` stays. */
 uint32_t chtab_open(chtab *handle, const uint8_t *graph, size_t graph_len, const uint8_t *saved, size_t saved_len,
                     chtab_fault *fault);
+
+/* Opens the closed handle `handle` with a graph, as chtab_open does without a saved hierarchy, but in about half the time. It
+ * serves new weights on known roads: the hierarchy is built in the order of the nodes that the network of the open handle
+ * `other` has, and only the last `fresh` per cent of them are ordered afresh, by depth (CHTAB_FRESH is mostly right). The
+ * graph has as many nodes as that network. Its arcs and weights may differ in any way: answers are exact in each order, and
+ * only times depend on it. With 100 per cent the hierarchy is that of chtab_open. `other` keeps its network, its weights
+ * and its places. Another thread may ask that network meanwhile with a handle of its own, but not with one of these two.
+ * Errors: CHTAB_IS_OPEN for `handle`, CHTAB_CLOSED for `other`; then CHTAB_BAD_GRAPH, CHTAB_OTHER_NODES, CHTAB_FRESH_RANGE,
+ * in this order, and CHTAB_NO_MEMORY. All of these except the first two write `fault`; it is all 0 except for
+ * CHTAB_BAD_GRAPH. Otherwise `fault` stays. */
+uint32_t chtab_open_like(chtab *handle, const uint8_t *graph, size_t graph_len, chtab *other, uint32_t fresh,
+                         chtab_fault *fault);
 
 /* Opens the closed handle `other` in the network of the open handle `handle`, for another thread. No other call may use one
  * of the two handles meanwhile. The network is freed with the last handle that shares it. Near places are not shared.
@@ -242,6 +260,8 @@ CHTAB_INLINE const char *chtab_strerror(uint32_t status) {
     case CHTAB_WRONG_SAVED: return "the hierarchy is not right for the graph";
     case CHTAB_NO_PLACES: return "no near places are kept";
     case CHTAB_SUM_TOO_LARGE: return "a sum is too large";
+    case CHTAB_OTHER_NODES: return "another number of nodes";
+    case CHTAB_FRESH_RANGE: return "more than 100 per cent afresh";
     }
     return "unknown status";
 }

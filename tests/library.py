@@ -19,11 +19,13 @@ import tempfile
 import threading
 from pathlib import Path
 
+from helpers.cases import Case
 from helpers.in_process import ALL, HEADER, MADE, NO_DISTANCE, SHARED, Handle, Library, declared, statuses
 from helpers.running import ROOT, Count, build, run
 from helpers.writing import write_list, write_queries
 from oracles.dijkstra import arcs_ahead, distances_from
 from oracles.reading import graph_of
+from oracles.rules import text_like
 
 WARNINGS = "-Wall", "-Wextra", "-Wconversion", "-pedantic", "-Werror"
 STANDARDS = ("gcc", "c89", "c"), ("gcc", "c99", "c"), ("gcc", "c17", "c"), ("g++", "c++98", "c++"), ("g++", "c++20", "c++")
@@ -265,6 +267,77 @@ def compare_built(tally, library, graph):
     library.close(handle)
 
 
+def compare_like(tally, library, graph):
+    """In the order of another network: the answers are those of Dijkstra's algorithm by the new arcs, the other network answers as it did, and with
+    100 per cent afresh the hierarchy is the one that is built."""
+    count, arcs = graph_of(graph)
+    draw = random.Random(f"library like {graph.name}")
+    status, handle, _ = library.open(graph.read_bytes(), b"")
+    pairs = [[draw.randrange(count) for _ in range(40)] for _ in range(2)]
+    before = library.distances(handle, *pairs)
+    for name, weight_of in WEIGHTS.items():
+        new = [(start, end, weight_of(draw, weight)) for start, end, weight in arcs if draw.random() < 0.98]
+        new += [(draw.randint(1, count), draw.randint(1, count), draw.randint(0, 9_000)) for _ in range(3)]
+        text, ahead = graph_text(count, new), arcs_ahead(new)
+        away = {source: distances_from(source + 1, ahead) for source in set(pairs[0])}
+        owed = [away[source].get(target + 1, NO_DISTANCE) for source, target in zip(*pairs)]
+        built = library.open(text, b"")[1]
+        whole = library.save(built, library.save(built, 0)[1])
+        for fresh in 0, 5, 50, 100:
+            status, other, _ = library.open_like(text, handle, fresh)
+            tally.expect(status == 0 and library.distances(other, *pairs) == (0, owed), f"{graph.name}: {name} in the order of another network, {fresh} per cent afresh")
+            tally.expect(fresh < 100 or library.save(other, whole[1]) == whole, f"{graph.name}: {name}, all afresh")
+            library.close(other)
+        library.close(built)
+    tally.expect(library.distances(handle, *pairs) == before, f"{graph.name}: the network that gave its order")
+    library.close(handle)
+
+
+# New weights: by a factor of each arc, a jam on some, and all equal.
+WEIGHTS = {
+    "weights times 0.5 to 3": lambda draw, weight: int(weight * draw.uniform(0.5, 3)),
+    "some arcs ten times as slow": lambda draw, weight: weight * (10 if draw.random() < 0.05 else 1),
+    "all weights 1": lambda draw, weight: 1,
+}
+
+
+def graph_text(nodes, arcs):
+    """The bytes of a graph."""
+    return "".join([f"p sp {nodes} {len(arcs)}\n", *(f"a {start} {end} {weight}\n" for start, end, weight in arcs)]).encode()
+
+
+def compare_orders(tally, library):
+    """Of random graphs, in the order of another one with as many nodes: the hierarchy is that of an independent program."""
+    for seed in range(60):
+        case, draw = Case(f"library orders {seed}"), random.Random(f"library orders {seed}")
+        arcs = [(draw.randint(1, case.nodes), draw.randint(1, case.nodes), draw.randrange(99)) for _ in range(2 * case.nodes)]
+        status, handle, _ = library.open(graph_text(case.nodes, arcs), b"")
+        text = library.save(handle, library.save(handle, 0)[1])[2].decode()
+        given = [int(node) for node in re.findall(r"^o (\d+)$", text, re.MULTILINE)]
+        for fresh in 0, 5, draw.randrange(101), 100:
+            owed = text_like(case.nodes, case.arcs, 5, given, fresh).encode()
+            status, other, _ = library.open_like(graph_text(case.nodes, case.arcs), handle, fresh)
+            tally.expect((status, *library.save(other, len(owed))) == (0, 0, len(owed), owed), f"the hierarchy of graph {seed} in another order, {fresh} per cent afresh")
+            library.close(other)
+        library.close(handle)
+
+
+def refuse_likes(tally, library):
+    """What is wrong is told in the order that the header says, and both handles stay."""
+    status, handle, _ = library.open(LINE, OF_LINE)
+    wide = LINE.replace(b"p sp 3", b"p sp 4")
+    for graph, fresh, name, told in (
+        (b"", 101, "BAD_GRAPH", (1, 0, 4)), (LINE + b"a 1 2 3\n", 5, "BAD_GRAPH", (4, 0, 9)), (wide, 101, "OTHER_NODES", (0, 0, 0)),
+        (wide, 5, "OTHER_NODES", (0, 0, 0)), (LINE, 101, "FRESH_RANGE", (0, 0, 0)), (LINE, 2**32 - 1, "FRESH_RANGE", (0, 0, 0)),
+    ):
+        status, other, fault = library.open_like(graph, handle, fresh)
+        tally.expect((status, fault.told(), other.is_open) == (STATUS[name], told, 0), f"{graph} {fresh}: {status} {fault.told()}, not {name} {told}")
+    tally.expect(library.open_like(b"", Handle(), 101)[0] == STATUS["CLOSED"], "the order of a closed handle")
+    tally.expect(library.open_like(b"", Handle(), 101, handle)[0] == STATUS["IS_OPEN"], "an open handle that is to be opened")
+    tally.expect(library.distances(handle, [0], [2]) == (0, [9]), "the handle whose order was asked for")
+    library.close(handle)
+
+
 def near_of_program(folder, graph, hierarchy, options, sources, places):
     """The program's near rows: the pairs of a weight and a node of each source."""
     write_list(folder / "from.ss", [node + 1 for node in sources or []])
@@ -379,6 +452,8 @@ def main():
         ask_too_much(tally, library)
         tell_faults(tally, library)
         refuse_large_sums(tally, library)
+        refuse_likes(tally, library)
+        compare_orders(tally, library)
         tell_lines(tally, library)
         for graph in GRAPHS:
             compare_answers(tally, folder, library, graph, saved[graph])
@@ -386,6 +461,7 @@ def main():
             compare_many_routes(tally, library, graph, saved[graph])
             compare_sums(tally, library, graph, saved[graph])
             compare_built(tally, library, graph)
+            compare_like(tally, library, graph)
         ask_in_threads(tally, library, GRAPHS[1], saved[GRAPHS[1]])
     fuzzed = done(sys.executable, ROOT / "tests/library/fuzz.py", calls, 1)
     passed, failed = map(int, (re.search(r"(\d+) passed, (\d+) failed$", fuzzed.stdout.strip()) or re.match("(0) (1)", "0 1")).groups())

@@ -71,6 +71,12 @@ class Library:
         status = self.calls.chtab_open(ctypes.byref(handle), graph, ctypes.c_size_t(len(graph)), saved, ctypes.c_size_t(len(saved)), ctypes.byref(fault))
         return status, handle, fault
 
+    def open_like(self, graph, other, fresh=5, handle=None):
+        """The status, the handle and the fault."""
+        handle, fault = handle or Handle(), Fault()
+        given = ctypes.byref(handle), graph, ctypes.c_size_t(len(graph)), ctypes.byref(other), ctypes.c_uint32(fresh), ctypes.byref(fault)
+        return self.calls.chtab_open_like(*given), handle, fault
+
     def close(self, handle):
         return self.calls.chtab_close(ctypes.byref(handle))
 

@@ -127,6 +127,22 @@ static void save(chtab *network, const uint8_t *saved, size_t saved_len) {
     free(text);
 }
 
+/* The same graph in the order of its own network answers the same. */
+static void open_like(chtab *network, const uint8_t *graph, size_t graph_len) {
+    chtab like = CHTAB_CLOSED_HANDLE, closed = CHTAB_CLOSED_HANDLE;
+    chtab_fault fault = {9, 9, 9};
+    uint32_t source = 0, target = 1;
+    uint64_t one = 5, other = 7;
+    expect(chtab_open_like(&like, graph, graph_len, &closed, CHTAB_FRESH, &fault) == CHTAB_CLOSED && fault.line == 9, "the order of a closed handle");
+    expect(chtab_open_like(&like, graph, 0, network, CHTAB_FRESH, &fault) == CHTAB_BAD_GRAPH && fault.line == 1, "no graph in an order");
+    expect(chtab_open_like(&like, graph, graph_len, network, 101, &fault) == CHTAB_FRESH_RANGE && fault.line == 0, "more than all afresh");
+    expect(chtab_open_like(&like, graph, graph_len, network, CHTAB_FRESH, &fault) == CHTAB_OK, "open in an order");
+    expect(chtab_open_like(&like, graph, graph_len, network, CHTAB_FRESH, &fault) == CHTAB_IS_OPEN, "open in an order again");
+    expect(chtab_distances(network, &source, 1, &target, 1, &one, 1) == CHTAB_OK, "a distance of the network");
+    expect(chtab_distances(&like, &source, 1, &target, 1, &other, 1) == CHTAB_OK && one == other, "the distance in its order");
+    expect(chtab_close(&like) == CHTAB_OK, "close what was opened in an order");
+}
+
 static void ask_wrongly(chtab *network) {
     uint32_t node = 0, past = 0, nodes[1] = {7};
     uint64_t out[2] = {5, 5};
@@ -167,6 +183,7 @@ int main(int count, char **words) {
     expect(chtab_open(&network, graph, graph_len, saved, saved_len, &fault) == CHTAB_OK, "open");
     expect(chtab_open(&network, graph, graph_len, saved, saved_len, &fault) == CHTAB_IS_OPEN, "open again");
     save(&network, saved, saved_len);
+    open_like(&network, graph, graph_len);
     free(graph);
     free(saved);
     expect(chtab_share(&network, &other) == CHTAB_OK, "share");

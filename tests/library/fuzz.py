@@ -17,6 +17,7 @@ sys.path.insert(0, str(Path(__file__).resolve().parent.parent))
 from helpers.cases import Case  # noqa: E402
 from helpers.in_process import ALL, NO_DISTANCE, Handle, Library, statuses  # noqa: E402
 from helpers.running import Count  # noqa: E402
+from oracles.dijkstra import arcs_ahead, distances_from  # noqa: E402
 from oracles.rules import hierarchy_text  # noqa: E402
 
 STATUS = statuses()
@@ -75,6 +76,33 @@ class Caller:
         is_told = fault.told() != (0, 0, 0)
         self.expect(is_told == (status != 0) and bool(handle.is_open) == (status == 0), "what is told of changed files", status, fault.told())
         self.expect(self.library.close(handle) == (STATUS["OK"] if status == 0 else STATUS["CLOSED"]), "closed changed files", status)
+
+    def open_like(self):
+        """A network in the order of a handle, of the graph with other arcs and weights, which answers for these; the handle goes on as it did."""
+        handle, other = self.handles if self.draw.random() < 0.5 else self.handles[::-1]
+        fresh, count = self.draw.choice((0, 5, 50, 100, 101, 2**32 - 1)), self.count if self.draw.random() < 0.9 else self.count + 1
+        arcs = [(start, end, self.draw.randrange(99)) for start, end, _ in self.arcs if self.draw.random() < 0.9]
+        graph = "".join([f"p sp {count} {len(arcs)}\n", *(f"a {start} {end} {weight}\n" for start, end, weight in arcs)]).encode()
+        is_open, given = handle.is_open, graph if self.draw.random() < 0.8 else changed(self.draw, graph)
+        status, _, fault = self.library.open_like(given, other, fresh, handle)
+        last = "FRESH_RANGE" if fresh > 100 else "OK"
+        if is_open or not other.is_open:
+            names = {"IS_OPEN" if is_open else "CLOSED"}
+        elif given == graph:
+            names = {last if count == self.count else "OTHER_NODES"}
+        else:
+            names = {"BAD_GRAPH", "OTHER_NODES", last}
+        self.expect(status in [STATUS[name] for name in names], "opened like", fresh, count, given, status, names)
+        self.expect((fault.told() != (0, 0, 0)) == (status == STATUS["BAD_GRAPH"]), "what is told of it", status, fault.told())
+        if is_open or status != STATUS["OK"]:
+            self.expect(bool(handle.is_open) == bool(is_open), "a handle that is not opened stays", status)
+            return
+        if given == graph:
+            ahead, source = arcs_ahead(arcs), self.draw.randrange(count)
+            away = distances_from(source + 1, ahead)
+            owed = [away.get(target + 1, NO_DISTANCE) for target in range(count)]
+            self.expect(self.library.table(handle, [source], range(count)) == (STATUS["OK"], owed), "a table by new weights", source, fresh, graph)
+        self.expect(self.library.close(handle) == STATUS["OK"], "closed what was opened like")
 
     def open_or_close(self):
         handle = self.draw.choice(self.handles)
@@ -273,9 +301,9 @@ class Caller:
     def call(self):
         calls = (
             self.open_changed, self.open_or_close, self.share, self.ask_nodes, self.ask_distances, self.ask_table, self.ask_route,
-            self.keep_places, self.sweep, self.ask_near, self.save, self.ask_routes, self.ask_sums,
+            self.keep_places, self.sweep, self.ask_near, self.save, self.ask_routes, self.ask_sums, self.open_like,
         )
-        self.draw.choices(calls, (20, 5, 3, 2, 20, 15, 15, 10, 3, 20, 5, 20, 15))[0]()
+        self.draw.choices(calls, (20, 5, 3, 2, 20, 15, 15, 10, 3, 20, 5, 20, 15, 10))[0]()
 
 
 def memory():

@@ -2,7 +2,7 @@
  *
  *   refusals GRAPH [SAVED]
  *
- * Without SAVED the hierarchy is built, and only opening is tried.
+ * Without SAVED the hierarchy is built, and only opening is tried: the graph alone, and then in the order of the network that it gives.
  *
  * Each call answers what it answers with ample memory, or CHTAB_NO_MEMORY; then its handle and its outputs are as before, and the same call
  * made again is answered. Link it with the archive and `-Wl,--wrap=malloc,--wrap=realloc`. It prints how many requests it refused. */
@@ -46,17 +46,23 @@ static void expect(int holds, const char *told) {
     }
 }
 
+/* The values of places. */
+static const uint64_t VALUES[8] = {1, 2, 3, 4, 5, 6, 7, 8};
+
 /* What the calls are given, and what they write. */
 static struct {
     uint8_t *graph, *saved, *text;
     size_t graph_len, saved_len;
     chtab network, other;
     chtab_found found;
-    uint32_t ends[8];
+    uint32_t ends[8], targets[8];
     uint32_t nodes[MOST_NODES];
+    uint32_t lines[MOST_NODES];
     uint64_t cells[64];
     uint64_t row_ends[8];
     uint32_t places[64];
+    /* What the weights of all routes, or all sums, add up to. */
+    uint64_t whole;
 } g;
 
 static uint32_t open_network(void) {
@@ -70,6 +76,15 @@ static uint32_t share_network(void) {
     uint32_t status = chtab_share(&g.network, &g.other), count;
     expect(chtab_nodes(&g.network, &count) == CHTAB_OK, "the shared handle stays open");
     if (status) expect(chtab_nodes(&g.other, &count) == CHTAB_CLOSED, "the other handle stays closed");
+    return status;
+}
+
+/* In the order of the network that is open, which stays as it is. */
+static uint32_t open_like(void) {
+    chtab_fault fault = {9, 9, 9};
+    uint32_t status = chtab_open_like(&g.other, g.graph, g.graph_len, &g.network, CHTAB_FRESH, &fault), count;
+    expect(chtab_nodes(&g.network, &count) == CHTAB_OK, "the handle that gives its order stays open");
+    if (status) expect(!fault.line && !fault.place && !fault.kind && chtab_nodes(&g.other, &count) == CHTAB_CLOSED, "a handle stays closed");
     return status;
 }
 
@@ -151,6 +166,53 @@ static uint32_t write_rows(void) {
     return status;
 }
 
+/* Takes no memory. */
+static uint64_t distance_of(uint32_t source, uint32_t target) {
+    uint64_t weight = 0;
+    expect(chtab_distances(&g.network, &source, 1, &target, 1, &weight, 1) == CHTAB_OK, "a distance");
+    return weight;
+}
+
+/* Where a route is refused memory, those before it are written, and the next call gives the others. */
+static uint32_t write_routes(void) {
+    uint64_t routes = 9, weight = 0;
+    uint32_t status, k;
+    status = chtab_routes(&g.network, g.ends, 8, g.targets, 8, &routes, g.cells, 8, g.row_ends, 8, g.nodes, MOST_NODES, g.lines, MOST_NODES);
+    granted = -1;
+    expect((status == CHTAB_OK) == (routes == 8) && routes <= 8, "routes before the one that is refused");
+    for (k = 0; k < routes; k++) weight += g.cells[k];
+    if (routes < 8) {
+        uint32_t from = (uint32_t)routes, left = 8 - from;
+        expect(chtab_routes(&g.network, g.ends + from, left, g.targets + from, left, &routes, g.cells, left, g.row_ends, left, g.nodes, MOST_NODES,
+                            g.lines, 0) == CHTAB_OK && routes == left, "other routes");
+        for (k = 0; k < left; k++) weight += g.cells[k];
+    }
+    expect(weight == g.whole, "all routes");
+    return status;
+}
+
+/* Where the row of a source is refused memory, the sums of those before it are written, and the next call gives the others. */
+static uint32_t write_sums(void) {
+    static const uint64_t limit = CHTAB_NO_LIMIT - 1;
+    uint64_t rows = 9, sum = 0;
+    uint32_t status, k;
+    long kept = granted;
+    granted = -1;
+    keep_all_places();
+    granted = kept;
+    status = chtab_near_sums(&g.network, g.ends, 8, VALUES, 8, &limit, 1, &rows, g.cells, 8);
+    granted = -1;
+    expect((status == CHTAB_OK) == (rows == 8) && rows <= 8, "sums before the one that is refused");
+    for (k = 0; k < rows; k++) sum += g.cells[k];
+    if (rows < 8) {
+        uint32_t from = (uint32_t)rows, left = 8 - from;
+        expect(chtab_near_sums(&g.network, g.ends + from, left, VALUES, 8, &limit, 1, &rows, g.cells, left) == CHTAB_OK && rows == left, "other sums");
+        for (k = 0; k < left; k++) sum += g.cells[k];
+    }
+    expect(sum == g.whole, "all sums");
+    return status;
+}
+
 /* Whether the call goes on without some of its memory, if that request alone is refused. Building does so: it packs its lists of legs, and
  * asks again. */
 static int goes_on = 0;
@@ -185,7 +247,7 @@ static uint8_t *bytes_of(const char *path, size_t *len) {
 }
 
 static void refuse_questions(void) {
-    uint32_t nodes = 0, k;
+    uint32_t nodes = 0, k, place;
     expect(open_network() == CHTAB_OK && chtab_nodes(&g.network, &nodes) == CHTAB_OK, "open");
     for (k = 0; k < 8; k++) g.ends[k] = k * (nodes - 1) / 7;
     refuse_each(share_network, close_other, "share");
@@ -199,6 +261,24 @@ static void refuse_questions(void) {
     keep_all_places();
     refuse_each(sweep_rows, keep_all_places, "sweep");
     refuse_each(write_rows, NULL, "near rows");
+    g.whole = 0;
+    for (k = 0; k < 8; k++) {
+        g.targets[k] = g.ends[(k + 3) % 8];
+        g.whole += distance_of(g.ends[k], g.targets[k]);
+    }
+    refuse_each(write_routes, NULL, "routes");
+    g.whole = 0;
+    for (k = 0; k < 64; k++) {
+        place = k % 8;
+        if (distance_of(g.ends[k / 8], g.ends[place]) != CHTAB_NO_DISTANCE) g.whole += VALUES[place];
+    }
+    refuse_each(write_sums, NULL, "sums");
+    close_network();
+}
+
+static void refuse_likes(void) {
+    expect(open_network() == CHTAB_OK, "open");
+    refuse_each(open_like, close_other, "open in the order of another network");
     close_network();
 }
 
@@ -208,7 +288,11 @@ int main(int count, char **words) {
     g.saved = count == 3 ? bytes_of(words[2], &g.saved_len) : (uint8_t *)malloc(1);
     goes_on = count == 2;
     refuse_each(open_network, close_network, "open");
-    if (count == 3) refuse_questions();
+    if (count == 3) {
+        refuse_questions();
+    } else {
+        refuse_likes();
+    }
     free(g.graph);
     free(g.saved);
     printf("%ld requests refused\n", refused);

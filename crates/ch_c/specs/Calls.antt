@@ -19,14 +19,14 @@ use Rattle.ch_engine.specs.declared.written.Summed.{Summed}
 use Rattle.ch_engine.specs.Held.{Held, only, with_places}
 use Rattle.ch_engine.specs.Lines.{IsOfSome, Lines}
 use Rattle.ch_engine.specs.NearRows.{AreRowsWritten, StaysFrom, begin_of}
-use Rattle.ch_engine.specs.Opened.{IsOpened}
+use Rattle.ch_engine.specs.Opened.{IsOpened, IsOpenedLike}
 use Rattle.ch_engine.specs.Routes.{AreRoutesWritten, IsFound}
 use Rattle.ch_engine.specs.Sums.{AreSumsWritten}
 use Rattle.ch_engine.specs.Cells.{ArePairCells, AreTableCells, no_distance}
-use Rattle.ch_engine.specs.Refusals.{AreNodes, ArePairs, ArePlaces, AreRouteLengths, AreRowSources, AreSumSources, AreTableLists, IsNodePair, IsOpenError, IsRefusalOfPairs, IsRefusalOfPlaces, IsRefusalOfRoute, IsRefusalOfRoutes, IsRefusalOfRows, IsRefusalOfSums, IsRefusalOfSweep, IsRefusalOfTable}
+use Rattle.ch_engine.specs.Refusals.{AreNodes, ArePairs, ArePlaces, AreRouteLengths, AreRowSources, AreSumSources, AreTableLists, IsLikeError, IsNodePair, IsOpenError, IsRefusalOfPairs, IsRefusalOfPlaces, IsRefusalOfRoute, IsRefusalOfRoutes, IsRefusalOfRows, IsRefusalOfSums, IsRefusalOfSweep, IsRefusalOfTable}
 use Rattle.ch_c.specs.declared.faults.Fault.{Fault}
 use Rattle.ch_c.specs.declared.answers.Found.{Found}
-use Rattle.ch_c.specs.declared.status.TheConstants.{OK, NO_MEMORY, CLOSED, IS_OPEN, NODE_RANGE, LENGTHS, TOO_LARGE, TOO_SHORT, BAD_GRAPH, BAD_SAVED, WRONG_SAVED, NO_PLACES, SUM_TOO_LARGE}
+use Rattle.ch_c.specs.declared.status.TheConstants.{OK, NO_MEMORY, CLOSED, IS_OPEN, NODE_RANGE, LENGTHS, TOO_LARGE, TOO_SHORT, BAD_GRAPH, BAD_SAVED, WRONG_SAVED, NO_PLACES, SUM_TOO_LARGE, OTHER_NODES, FRESH_RANGE}
 
 -- the status of a refusal
 abbrev pub refusal_status : Refusal → ℕ
@@ -42,6 +42,8 @@ error_status OpenError.NoMemory = NO_MEMORY
 error_status (OpenError.BadGraph f) = BAD_GRAPH
 error_status (OpenError.BadSaved f) = BAD_SAVED
 error_status (OpenError.WrongSaved f) = WRONG_SAVED
+error_status OpenError.OtherNodes = OTHER_NODES
+error_status OpenError.FreshRange = FRESH_RANGE
 
 -- the number of a kind of fault of a file's bytes
 abbrev pub kind_number : FaultKind → ℕ
@@ -72,6 +74,8 @@ fault_of OpenError.NoMemory = record { line = 0; place = 0; kind = 0 }
 fault_of (OpenError.BadGraph f) = record { line = f.line; place = 0; kind = kind_number f.kind }
 fault_of (OpenError.BadSaved f) = record { line = f.line; place = 0; kind = kind_number f.kind }
 fault_of (OpenError.WrongSaved f) = check_fault f
+fault_of OpenError.OtherNodes = record { line = 0; place = 0; kind = 0 }
+fault_of OpenError.FreshRange = record { line = 0; place = 0; kind = 0 }
 
 -- a call with a closed handle returns CLOSED, and all else stays. With an open one, its hierarchy is right for some
 -- graph, its lines are those of this graph's arcs, and this holds of its network
@@ -128,6 +132,15 @@ IsOpening graph saved (Some held) after fault_before fault status = (status ≡ 
 IsOpening graph saved None after fault_before fault status =
     ((status ≡ OK) × ((H : LevelsAndLegs) × (lines : Lines) × (after ≡ Some (only H lines)) × IsOpened graph saved H lines) × (fault ≡ fault_before))
     ⊎ ((error : OpenError) × (status ≡ error_status error) × (after ≡ None) × (fault ≡ fault_of error) × IsOpenError graph saved error)
+
+-- an open handle stays, and so does a closed one if the other handle is closed. Otherwise it opens with a hierarchy that is
+-- right for the graph, in the order of the other handle's hierarchy, or stays closed with an error that is true of the bytes
+abbrev pub IsOpeningLike : List ℕ → ℕ → Option Held → Option Held → Option Held → Fault → Fault → ℕ → Type 0
+IsOpeningLike graph fresh other (Some held) after fault_before fault status = (status ≡ IS_OPEN) × (after ≡ Some held) × (fault ≡ fault_before)
+IsOpeningLike graph fresh None None after fault_before fault status = (status ≡ CLOSED) × (after ≡ None) × (fault ≡ fault_before)
+IsOpeningLike graph fresh (Some other) None after fault_before fault status =
+    ((status ≡ OK) × ((H : LevelsAndLegs) × (lines : Lines) × (after ≡ Some (only H lines)) × IsOpenedLike graph other.hierarchy fresh H lines) × (fault ≡ fault_before))
+    ⊎ ((error : OpenError) × (status ≡ error_status error) × (after ≡ None) × (fault ≡ fault_of error) × IsLikeError graph (nodes_of other.hierarchy) fresh error)
 
 -- an open handle is not opened again; a closed one gets the network of an open one, without its places, or there is
 -- no memory

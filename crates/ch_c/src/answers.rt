@@ -2,8 +2,9 @@
 ghost use Rattle.std.specs.Prelude.{◌≡◌, ◌+◌, ◌<◌, ℕ, length, IfErr, IfOk, Option, None, Some};
 ghost use Rattle.ch_engine.specs.Held.{only};
 ghost use Rattle.ch_engine.specs.NearRows.{StaysFrom};
-ghost use Rattle.ch_engine.specs.Opened.{IsOpened};
-ghost use Rattle.ch_engine.specs.Refusals.{IsOpenError};
+ghost use Rattle.ch_hierarchy.specs.Hierarchy.{nodes_of};
+ghost use Rattle.ch_engine.specs.Opened.{IsOpened, IsOpenedLike};
+ghost use Rattle.ch_engine.specs.Refusals.{IsLikeError, IsOpenError};
 ghost use Rattle.ch_c.specs.Calls.{ArePairsAnswered, AreRouteNodes, AreRoutesAnswered, IsRouteAnswered, IsRouteTold, IsSaved, IsTableAnswered};
 
 use crate::near::status_of_end;
@@ -36,6 +37,26 @@ pub(crate) fn opened(
     ensures error { IfErr result (IsOpenError graph.now saved.now) }
 {
     let engine = Engine::open(alloc, graph, saved)?;
+    match Box::new(alloc, engine) {
+        Ok(engine) => Ok(engine),
+        Err(_) => Err(OpenError::NoMemory),
+    }
+}
+
+/// Opens an engine on the heap, from the bytes of a graph, in the order of another engine's hierarchy.
+///
+/// # Errors
+/// The errors of [`Engine::open_like`].
+pub(crate) fn opened_like(
+    alloc: Global,
+    graph: &[u8],
+    other: &Engine,
+    fresh: u32,
+) -> Result<Box<Engine, Global>, OpenError>
+    ensures value { IfOk result (λ engine. (engine.value.near ≡ None) × IsOpenedLike graph.now other.now.hierarchy fresh engine.value.hierarchy engine.value.lines) }
+    ensures error { IfErr result (IsLikeError graph.now (nodes_of other.now.hierarchy) fresh) }
+{
+    let engine = other.open_like(alloc, graph, fresh)?;
     match Box::new(alloc, engine) {
         Ok(engine) => Ok(engine),
         Err(_) => Err(OpenError::NoMemory),

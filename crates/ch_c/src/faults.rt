@@ -2,7 +2,7 @@
 ghost use Rattle.std.specs.Prelude.{◌≡◌};
 ghost use Rattle.ch_c.specs.Calls.{error_status, fault_of as the_fault, check_fault, kind_number as the_number};
 
-use crate::status::{BAD_GRAPH, BAD_SAVED, NO_MEMORY, WRONG_SAVED};
+use crate::status::{BAD_GRAPH, BAD_SAVED, FRESH_RANGE, NO_MEMORY, OTHER_NODES, WRONG_SAVED};
 use ch_engine::OpenError;
 use ch_hierarchy::CheckFault;
 use ch_read::{FaultKind, ReadFault};
@@ -19,8 +19,17 @@ pub struct Fault {
     pub kind: u32,
 }
 
+/// Writes the fault of an error, and returns its status.
+pub(crate) fn tell(error: OpenError, fault: &mut Fault) -> u32
+    ensures status { result ≡ error_status error }
+    ensures fault { fault.new ≡ the_fault error }
+{
+    *fault = fault_of(error);
+    status_of_error(&error)
+}
+
 /// Returns the status of an error.
-pub(crate) fn status_of_error(error: &OpenError) -> u32
+fn status_of_error(error: &OpenError) -> u32
     ensures { result ≡ error_status error.now }
 {
     match error {
@@ -28,15 +37,17 @@ pub(crate) fn status_of_error(error: &OpenError) -> u32
         OpenError::BadGraph(_) => BAD_GRAPH,
         OpenError::BadSaved(_) => BAD_SAVED,
         OpenError::WrongSaved(_) => WRONG_SAVED,
+        OpenError::OtherNodes => OTHER_NODES,
+        OpenError::FreshRange => FRESH_RANGE,
     }
 }
 
 /// Returns the fault of an error.
-pub(crate) fn fault_of(error: OpenError) -> Fault
+fn fault_of(error: OpenError) -> Fault
     ensures { result ≡ the_fault error }
 {
     match error {
-        OpenError::NoMemory => at(0, 0, 0),
+        OpenError::NoMemory | OpenError::OtherNodes | OpenError::FreshRange => at(0, 0, 0),
         OpenError::BadGraph(fault) => fault_of_read(fault),
         OpenError::BadSaved(fault) => fault_of_read(fault),
         OpenError::WrongSaved(fault) => fault_of_check(fault),

@@ -2,15 +2,16 @@
 ghost use Rattle.std.specs.Prelude.{◌≡◌, ◌↔◌, IfSome, IsSome, MatchOption, None, Some, ⊤};
 ghost use Rattle.ch_hierarchy.specs.Hierarchy.{nodes_of};
 ghost use Rattle.ch_engine.specs.Lines.{IsOfSome};
-ghost use Rattle.ch_c.specs.Calls.{ArePairsAnswered, ArePlacesKept, AreRoutesAnswered, AreRowsAnswered, AreSumsAnswered, IsOpening, IsRouteAnswered, IsSaved, IsSharing, IsSwept, IsTableAnswered, OfNetwork};
+ghost use Rattle.ch_c.specs.Calls.{ArePairsAnswered, ArePlacesKept, AreRoutesAnswered, AreRowsAnswered, AreSumsAnswered, IsOpening, IsOpeningLike, IsRouteAnswered, IsSaved, IsSharing, IsSwept, IsTableAnswered, OfNetwork};
 ghost use Rattle.ch_c.specs.declared.status.TheConstants.{OK};
 
 pub use crate::answers::Found;
 use crate::answers::{
-    opened, shared, write_distances, write_route, write_routes, write_saved, write_table,
+    opened, opened_like, shared, write_distances, write_route, write_routes, write_saved,
+    write_table,
 };
 use crate::erased::ErasedEngine;
-use crate::faults::{Fault, fault_of, status_of_error};
+use crate::faults::{Fault, tell};
 use crate::near::{keep_places, sweep, write_rows, write_sums};
 use crate::raw_box::RawBox;
 use crate::status::{CLOSED, IS_OPEN, NO_MEMORY, OK};
@@ -96,10 +97,38 @@ pub extern "C" fn chtab_open(
             handle.put(engine);
             OK
         }
-        Err(error) => {
-            *fault = fault_of(error);
-            status_of_error(&error)
+        Err(error) => tell(error, fault),
+    }
+}
+
+/// Opens a closed handle with a graph, such as the roads of an open handle with new weights. The hierarchy is built in the
+/// order of that handle's hierarchy, and the last `fresh` per cent of the nodes are ordered afresh, by depth.
+#[unsafe(no_mangle)]
+pub extern "C" fn chtab_open_like(
+    alloc: Global,
+    second: &mut Handle,
+    graph: &[u8],
+    other: &mut Handle,
+    fresh: u32,
+    fault: &mut Fault,
+) -> u32
+    ensures opening { IsOpeningLike graph.now fresh other.old.engine.network second.old.engine.network second.new.engine.network fault.old fault.new result }
+    ensures same { other.new.engine.network ≡ other.old.engine.network }
+{
+    if second.is_open == 1 {
+        return IS_OPEN;
+    }
+    let Some(engine) = other.take(alloc) else {
+        return CLOSED;
+    };
+    let like = opened_like(alloc, graph, &engine, fresh);
+    other.put(engine);
+    match like {
+        Ok(engine) => {
+            second.put(engine);
+            OK
         }
+        Err(error) => tell(error, fault),
     }
 }
 

@@ -43,6 +43,12 @@ pub(crate) const NO_PLACES: u32 = 11;
 /// A sum is 2^64 or more.
 pub(crate) const SUM_TOO_LARGE: u32 = 12;
 
+/// The graph has another number of nodes than the network in whose order it is built.
+pub(crate) const OTHER_NODES: u32 = 13;
+
+/// More than 100 per cent of the nodes would be ordered afresh.
+pub(crate) const FRESH_RANGE: u32 = 14;
+
 /// Returns the status of a refusal.
 pub(crate) fn status_of(refusal: Refusal) -> u32
     ensures { result ≡ refusal_status refusal }
@@ -71,4 +77,6 @@ pub fn numbers()
     ensures wrong_saved { WRONG_SAVED ≡ 10 }
     ensures no_places { NO_PLACES ≡ 11 }
     ensures sum_too_large { SUM_TOO_LARGE ≡ 12 }
+    ensures other_nodes { OTHER_NODES ≡ 13 }
+    ensures fresh_range { FRESH_RANGE ≡ 14 }
 {}
