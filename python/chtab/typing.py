@@ -1,12 +1,15 @@
 """The types of what calls take and give, for annotations: `from chtab.typing import Integers`. It needs numpy."""
 import os
 from collections.abc import Iterable, Mapping
-from typing import IO, Any, Literal, TypeAlias, TypedDict
+from typing import IO, TYPE_CHECKING, Any, Literal, TypeAlias, TypedDict
 
 import numpy
 from numpy.typing import ArrayLike, NDArray
 
 from chtab.engine.progress import Asked as Progress
+
+if TYPE_CHECKING:
+    from chtab.network import Network
 
 # Columns as callers give them: arrays, lists, and columns of frames.
 Column: TypeAlias = ArrayLike
@@ -46,9 +49,11 @@ class OfRuns(TypedDict, total=False):
 
 
 class OfBuilding(OfRuns, total=False):
-    """The same for a network of arcs, whose building tells how far it is."""
+    """The same for a network of arcs, whose building tells how far it is, and may be in the order of another network."""
 
     progress: Progress
+    like: "Network | None"
+    fresh: int
 
 
 class OfLines(OfBuilding, total=False):

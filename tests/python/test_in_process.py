@@ -64,7 +64,7 @@ def test_numbers_are_those_of_the_header():
 
     text = HEADER.read_text()
     assert f"#define CHTAB_VERSION {library.VERSION}\n" in text
-    assert all(getattr(library, name) == number for name, number in statuses().items()) and len(statuses()) == 13
+    assert all(getattr(library, name) == number for name, number in statuses().items()) and len(statuses()) == 15
     assert len(re.findall(r"CHTAB_FAULT_\w+ = \d+", text)) == len(library.KINDS)
     assert [ctypes.sizeof(kind) for kind in (library.Block, library.Fault, library.Found)] == [16, 24, 16]
     for kind, name in (library.Block, "chtab"), (library.Fault, "chtab_fault"), (library.Found, "chtab_found"):
@@ -97,6 +97,8 @@ def test_calls_are_those_of_the_header():
 def test_what_c_would_misread_is_refused():
     """Arrays of other numbers, of other shapes, in pieces, of different lengths, and what is no array: none of them comes to C."""
     import numpy
+
+    from chtab.engine import library
 
     handle = handle_of()
     right = numpy.array([0, 1], numpy.uint32)
@@ -142,6 +144,18 @@ def test_what_c_would_misread_is_refused():
     assert [part.tolist() for part in handle.near_rows(nothing, 0)] == [[]] * 3 and [part.tolist() for part in handle.near_rows(right, 2)] == [[2], [0, 4], [0, 1]]
     for words in (None, b""), ("p sp 0 0\n", b""), (b"", bytearray()), (None, None):
         raises(TypeError, handle_of().open, *words)
+    graph, other = FIRST.read_bytes(), library.Handle(handle.calls)
+    for wrong in None, "p sp 0 0\n", bytearray(graph):
+        raises(TypeError, other.open_like, wrong, handle, 5, told="files are bytes")
+    for fresh in -1, 2**32:
+        raises(ValueError, other.open_like, graph, handle, fresh, told="from 0 to 100")
+    raises(ValueError, handle.open_like, graph, handle, 5, told="of another handle")
+    raises(ValueError, other.open_like, graph, handle, 101, told="more than 100")
+    raises(ValueError, other.open_like, graph.replace(b"p sp 3", b"p sp 4"), handle, 5, told="another number of nodes")
+    assert raises(chtab.ProgramFault, other.open_like, graph + b"a 1 2 3\n", handle, 5, told="graph line 5: too many lines").line == 5
+    other.open_like(graph.replace(b"2 3 5", b"2 3 6"), handle, 5)
+    assert other.route(0, 2)[0] == 10
+    raises(chtab.ProgramFault, other.open_like, graph, handle, 5, told="answered 3")
     assert handle.save() == FIRST_SAVED.read_bytes() and handle_of(GRAPH, ways.saved_for(GRAPH)).save() == ways.saved_for(GRAPH).read_bytes()
     assert handle.route(0, 2)[0] == 9 and handle.route(0, 2)[1].tolist() == [0, 1, 2] and handle.route(2, 0)[0] == -1
 
@@ -228,6 +242,7 @@ def test_a_closed_handle_answers_nothing():
         for call, words in (each.distances, (one, one)), (each.table, (one, one)), (each.route, (0, 1)), (each.nodes, ()), (each.share, ()), (each.save, ()), \
                 (each.keep_places, (one,)), (each.sweep, ()), (each.near_rows, (one, 1)):
             raises(chtab.ChtabError, call, *words, told="the network is closed")
+        raises(chtab.ChtabError, library.Handle(library.loaded(make())).open_like, FIRST.read_bytes(), each, 5, told="the network is closed")
     raises(chtab.ProgramFault, other.open, b"", b"", told="answered 3")
     for way in copy.copy, copy.deepcopy, pickle.dumps:
         raises(TypeError, way, other, told="neither copied nor pickled")

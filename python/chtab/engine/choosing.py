@@ -29,14 +29,18 @@ def engine_of(setting: asking.Setting, choice: bool | str, arcs: Callable[[], Ar
     arcs : callable
         Makes the `walks.ArcIndex` of the graph, when it is first needed.
     """
+    path = library_for(setting, choice)
+    return asking.Engine(setting) if path is None else InProcess(setting, library.loaded(path), arcs)
+
+
+def library_for(setting: asking.Setting, choice: bool | str) -> str | None:
+    """The path of the library that answers for a setting, None where runs of the program do: `engine_of` has the meaning of the choice."""
     if choice is False or choice == AUTO and setting.timeout is not None:
-        return asking.Engine(setting)
-    path = library.beside(setting.program) if choice is True or choice == AUTO else choice
+        return None
+    path = library.beside(setting.program) if choice is True or choice == AUTO else str(choice)
     lack = lack_of(setting, path)
-    if lack is None and path is not None:
-        return InProcess(setting, library.loaded(path), arcs)
-    if choice == AUTO:
-        return asking.Engine(setting)
+    if lack is None or choice == AUTO:
+        return path if lack is None else None
     raise ChtabError(f"the library can't answer: {lack}")
 
 

@@ -123,6 +123,21 @@ class InProcess:
             raise unasked()
         return handle
 
+    def opened_like(self, graph: bytes, fresh: int) -> library.Handle:
+        """A handle in the network of another graph with as many nodes, whose hierarchy is built in the order of this one's: only the last `fresh`
+        per cent of the nodes are ordered afresh. This network goes on answering meanwhile."""
+        giver, handle = self.first_handle().share(), library.Handle(self.calls)
+        # The giver is closed when the call ends, also where the wait for it is broken off.
+        interruptible(LONG, handle.open_like, graph, giver, fresh)
+        return handle
+
+    def begin_with(self, handle: library.Handle) -> None:
+        """Takes a handle that is open in the network of these files as the first one."""
+        with self.lock:
+            self.first = handle
+            self.handles.add(handle)
+            self.begun += 1
+
     def handle(self) -> library.Handle:
         """The handle of the current thread."""
         if self.is_closed:

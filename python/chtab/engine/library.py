@@ -27,7 +27,8 @@ if TYPE_CHECKING:
 VERSION = 1_001_000
 NAME = "libchtab.so.1"
 # What the calls answer, as `chtab_status` of the header has it.
-OK, NO_MEMORY, CLOSED, IS_OPEN, NODE_RANGE, LENGTHS, TOO_LARGE, TOO_SHORT, BAD_GRAPH, BAD_SAVED, WRONG_SAVED, NO_PLACES, SUM_TOO_LARGE = range(13)
+OK, NO_MEMORY, CLOSED, IS_OPEN, NODE_RANGE, LENGTHS, TOO_LARGE, TOO_SHORT, BAD_GRAPH, BAD_SAVED, WRONG_SAVED, NO_PLACES, SUM_TOO_LARGE, \
+    OTHER_NODES, FRESH_RANGE = range(15)
 # The limit that leaves out no distance, and the distance where there is no walk, which is -1 as a number of 64 bits with a sign.
 NO_LIMIT = NO_DISTANCE = 2**64 - 1
 # The number of places of a near row that leaves none out, and the line where no arc leads to a node.
@@ -72,6 +73,7 @@ HANDLE = ctypes.POINTER(Block)
 # What each call is given. `CDLL` lets other threads run during a call.
 CALLS = {
     "chtab_open": (HANDLE, ctypes.c_char_p, ctypes.c_size_t, ctypes.c_char_p, ctypes.c_size_t, ctypes.POINTER(Fault)),
+    "chtab_open_like": (HANDLE, ctypes.c_char_p, ctypes.c_size_t, HANDLE, ctypes.c_uint32, ctypes.POINTER(Fault)),
     "chtab_share": (HANDLE, HANDLE),
     "chtab_close": (HANDLE,),
     "chtab_nodes": (HANDLE, ctypes.POINTER(ctypes.c_uint32)),
@@ -191,6 +193,24 @@ class Handle:
             status = self.calls.chtab_open(self.at, graph, len(graph), given, len(given), ctypes.byref(fault))
         if status == BAD_SAVED and not saved:
             fault.line = 1
+        if status:
+            raise fault_of(status, fault)
+
+    def open_like(self, graph: bytes, other: Handle, fresh: int) -> None:
+        """Opens the network of a graph with as many nodes as that of another handle, whose hierarchy is built in the order of that one's. Only the
+        last `fresh` per cent of the nodes, from 0 to 100, are ordered afresh. The other handle can't be asked meanwhile, and keeps its network.
+
+        What is wrong with the graph is a `ProgramFault`, and another number of nodes a `ValueError`.
+        """
+        if type(graph) is not bytes:
+            raise TypeError("files are bytes")
+        if other is self or not 0 <= fresh < 2**32:
+            raise ValueError("a network is opened in the order of another handle, with a per cent from 0 to 100 afresh")
+        fault = Fault()
+        # In one order, so that two calls never wait for each other.
+        first, second = sorted((self.lock, other.lock), key=id)
+        with first, second:
+            status = self.calls.chtab_open_like(self.at, graph, len(graph), other.at, fresh, ctypes.byref(fault))
         if status:
             raise fault_of(status, fault)
 
@@ -373,6 +393,10 @@ def see_that_done(status: int) -> None:
         raise ValueError("no places are kept")
     if status == SUM_TOO_LARGE:
         raise ValueError("a sum is 2^64 or more")
+    if status == OTHER_NODES:
+        raise ValueError("the graph has another number of nodes")
+    if status == FRESH_RANGE:
+        raise ValueError("more than 100 per cent of the nodes would be ordered afresh")
     if status:
         raise ProgramFault(f"chtab's library answered {status}", 0)
 

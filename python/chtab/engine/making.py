@@ -17,12 +17,14 @@ from typing import IO, TYPE_CHECKING, Any
 import numpy
 
 from chtab import files
-from chtab.engine import folders
+from chtab.engine import asking, choosing, folders
 from chtab.engine.child import fault_of
 from chtab.errors import FileFault, ProgramFault
 from chtab.files.node_labels import Labels
 
 if TYPE_CHECKING:
+    from chtab.engine.in_process import InProcess
+    from chtab.engine.library import Handle
     from chtab.engine.opening import Running
     from chtab.engine.progress import Asked as Progress
     from chtab.files.arc_columns import Arcs
@@ -60,8 +62,9 @@ def see_that_free(folder: str) -> None:
         raise FileExistsError(f"{folder} is there and is not empty; Network.open opens the network of a folder")
 
 
-def write(arcs: Arcs, folder: str, program: str, running: Running) -> None:
-    """Writes the files of arcs into a folder, and builds their hierarchy. `running` says by how many workers, and whom it tells how far it is."""
+def write(arcs: Arcs, folder: str, program: str, running: Running) -> Handle | None:
+    """Writes the files of arcs into a folder, and builds their hierarchy. `running` says by how many workers, in whose order, and whom it tells how far
+    it is. A handle in the network, if it was built in this process."""
     graph, saved, coordinates, bends, labels = (os.path.join(folder, name) for name in (GRAPH, SAVED, COORDINATES, BENDS, LABELS))
     comments = [f"Weights are {arcs.base}."] * bool(arcs.base) + ([] if arcs.scale is None else [files.scale_comment(arcs.scale)])
     with told_of(graph):
@@ -76,7 +79,11 @@ def write(arcs: Arcs, folder: str, program: str, running: Running) -> None:
             files.write_bends(bends, arcs.bends)
     with told_of(labels):
         files.write_labels(labels, labelling_of(arcs, digest_of(graph)))
-    save(program, graph, saved, running)
+    giver = giver_of(program, running)
+    if giver is None:
+        save(program, graph, saved, running)
+        return None
+    return save_like(giver, graph, saved, running.fresh)
 
 
 def watch(process: subprocess.Popen[bytes], lines: IO[bytes], progress: Progress) -> None:
@@ -166,6 +173,25 @@ def save(program: str, graph: str, saved: str, running: Running) -> None:
         if process.returncode:
             fault = fault_of(faults.read(), process.returncode)
             raise ProgramFault(f"{fault} ({saved})" if "cannot write" in str(fault) else str(fault), fault.status)
+
+
+def giver_of(program: str, running: Running) -> InProcess | None:
+    """The engine in whose order a network is built in this process. There is none if the library answers for one of the two networks alone, or if
+    somebody wants to know how far the building is, because only a run of the program tells that."""
+    giver = running.giver
+    if giver is None or giver.is_closed or running.progress:
+        return None
+    setting = asking.Setting(program, "", None, running.workers, running.timeout)
+    return giver if choosing.library_for(setting, running.library) else None
+
+
+def save_like(giver: InProcess, graph: str, saved: str, fresh: int) -> Handle:
+    """Builds the hierarchy of a graph in the order of another network, and saves it. A handle in its network."""
+    with open(graph, "rb") as file:
+        handle = giver.opened_like(file.read(), fresh)
+    with told_of(saved), open(saved, "wb") as out:
+        out.write(handle.save())
+    return handle
 
 
 def layers_of(arcs: Arcs) -> dict[str, Any]:

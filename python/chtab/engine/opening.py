@@ -17,6 +17,8 @@ from chtab.engine.stamps import Stamp, stamp_of
 from chtab.files import measures
 
 if TYPE_CHECKING:
+    from chtab.engine.in_process import InProcess
+    from chtab.engine.library import Handle
     from chtab.files.arc_columns import Arcs
     from chtab.typing import Path
 
@@ -35,8 +37,17 @@ class Running:
     asked: measures.Asked = measures.Asked()
     # How far the building of a network of arcs is: what `progress_of` takes.
     progress: Progress = None
+    # The network with the same nodes in whose order one of arcs is built, and how many per cent of the nodes are ordered afresh.
+    like: Any = None
+    fresh: int = 5
+    # The engine that gives this order, if it can.
+    giver: InProcess | None = None
 
     def __post_init__(self) -> None:
+        if isinstance(self.fresh, bool) or not isinstance(self.fresh, numbers.Integral):
+            raise TypeError(f"fresh is a whole number of per cent, not {self.fresh!r}")
+        if not 0 <= self.fresh <= 100:
+            raise ValueError(f"fresh is {self.fresh!r}: it is a whole number of per cent from 0 to 100")
         if self.runs < 1:
             raise ValueError(f"runs is {self.runs!r}: there is at least one run")
         if self.timeout is not None and (isinstance(self.timeout, bool) or not isinstance(self.timeout, numbers.Real)):
@@ -54,7 +65,8 @@ class Running:
 
 def running_of(call: str, given: Mapping[str, Any], asked: measures.Asked, also: Sequence[str] = ()) -> Running:
     """How the program runs, by the further arguments of a call. One that is not known is a `TypeError`, which names the nearest that is."""
-    known = [field.name for field in fields(Running) if field.name not in ("asked", *["progress"] * (call == "open"))]
+    inner = "asked", "giver", *["progress", "like", "fresh"] * (call == "open")
+    known = [field.name for field in fields(Running) if field.name not in inner]
     for name in given:
         if name not in known:
             near = difflib.get_close_matches(name, [*known, *also, "unit", "raw"], 1, 0.5)
@@ -105,18 +117,19 @@ def see_that_readable(*paths: str | None) -> None:
         open(path, "rb").close()
 
 
-def made(arcs: Arcs, folder: Path | None, running: Running) -> tuple[Opening, folders.Folder | None]:
-    """The opening of arcs, whose files are written; and the temporary folder that keeps them, None where the caller names one."""
+def made(arcs: Arcs, folder: Path | None, running: Running) -> tuple[Opening, folders.Folder | None, Handle | None]:
+    """The opening of arcs, whose files are written; the temporary folder that keeps them, None where the caller names one; and a handle of the library
+    in the network, if it was built in this process."""
     program = program_of(running.program)
     see_to(program)
     if folder is not None:
         with making.begun(folder) as part:
-            making.write(arcs, part, program, running)
-        return of_folder(os.path.realpath(folder), running), None
+            handle = making.write(arcs, part, program, running)
+        return of_folder(os.path.realpath(folder), running), None, handle
     kept = folders.Folder()
     try:
-        making.write(arcs, kept.path, program, running)
+        handle = making.write(arcs, kept.path, program, running)
     except BaseException:
         kept.remove()
         raise
-    return of_folder(kept.path, running), kept
+    return of_folder(kept.path, running), kept, handle

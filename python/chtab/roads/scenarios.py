@@ -41,7 +41,7 @@ class Scenarios(FromArcs):
 
     def changed(
         self, weights: ArrayLike | Mapping | pandas.Series | None = None, closed: Iterable | ArrayLike | None = None,
-        added: Iterable | pandas.DataFrame | None = None, *, folder: str | os.PathLike | None = None,
+        added: Iterable | pandas.DataFrame | None = None, *, folder: str | os.PathLike | None = None, fresh: int = 5,
     ) -> Self:
         """Makes a network with the same nodes, labels, places and bends, and other arcs. This one goes on answering as it did.
 
@@ -67,11 +67,15 @@ class Scenarios(FromArcs):
             lines. Each leads one way. They are the rows behind those that there were.
         folder : str or path, optional
             As `Network.from_arrays` takes it.
+        fresh : int
+            How many per cent of the nodes are ordered afresh where the library answers, from 0 to 100. With more of them building takes longer, and
+            answers take less time if the weights differ much. Answers themselves are the same.
 
         Returns
         -------
         Network
-            It is built anew, and answers as this one does, by the library or by runs.
+            It answers as this one does, by the library or by runs. The library builds it in the order of this one, in half the time of a new
+            network. Runs build it anew.
 
         Raises
         ------
@@ -94,7 +98,9 @@ class Scenarios(FromArcs):
         kept = ~given.marked("closed", closed)
         arcs = changed.arcs(kept, given.added(added, self._measure, scale, most), rounding)
         setting, opened = self._opened.setting, self._opened
-        running = opening.Running(setting.program, setting.workers, setting.timeout, True, False, setting.runs, opened.library, opened.asked)
+        running = opening.Running(
+            setting.program, setting.workers, setting.timeout, True, False, setting.runs, opened.library, opened.asked, like=self, fresh=fresh,
+        )
         return self._made(arcs, folder, running)
 
 
