@@ -5,10 +5,9 @@
     with chtab.Network.open("roads.gr", saved="roads.ch") as network:
         weights = network.distances([(1, 3), (3, 1)])
 
-`Network` answers, and needs numpy. `Routes`, `Near` and `Spots` are what its calls give, and all errors are a `ChtabError`. `chtab.files`, which
-reads and writes each kind of file, and the commands of `tools/` need nothing. `chtab.typing` has the types of what calls take and give. All
-other modules are the package's own.
-"""
+`Network` answers questions, and needs numpy. Its calls return `Routes`, `Near` and `Spots` among others, and all errors are `ChtabError`s.
+`chtab.files` reads and writes each kind of file; it and most commands of `tools/` need no other package. `chtab.typing` has the types of arguments
+and results. All other modules are internal. """
 from __future__ import annotations
 
 import importlib
@@ -26,11 +25,11 @@ if typing.TYPE_CHECKING:
 __version__ = "1.1"
 __all__ = ["ChtabError", "DataFault", "FileFault", "Near", "Network", "ProgramFault", "Routes", "Spots", "TimedOut", "TooFar", "__version__"]
 
-# What is imported when it is first asked for, because what reads files alone doesn't need numpy.
+# Imported when they are first used, because code that only reads files doesn't need numpy.
 LATER = {"Near": "chtab.near.accessibility", "Network": "chtab.network", "Routes": "chtab.roads.routes", "Spots": "chtab.roads.snapping"}
 
 
-# Checkers of types don't see it, so that they find a name that is misspelt.
+# Hidden from type checkers, so that they find misspelt names.
 if not typing.TYPE_CHECKING:
     def __getattr__(name):
         """A class of `LATER`, or a module by the name that it had in version 1.1."""

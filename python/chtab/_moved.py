@@ -1,4 +1,4 @@
-"""Modules and classes that documents of version 1.1 named at another place. They go on for one version, with a DeprecationWarning."""
+"""The former names of modules and classes, from the documents of version 1.1. They work for one more version, with a DeprecationWarning."""
 from __future__ import annotations
 
 import importlib
@@ -14,7 +14,7 @@ MODULES = {
     "chtab.accessibility": "chtab.near.accessibility", "chtab.labels": "chtab.files.node_labels", "chtab.program": "chtab.engine.program",
     "chtab.routes": "chtab.roads.routes", "chtab.walks": "chtab.engine.walks",
 }
-# What a module had that is a package now.
+# Classes of a module that is a package now.
 CLASSES = {"chtab.roads.Roads": "chtab.roads.snapping", "chtab.roads.Spots": "chtab.roads.snapping"}
 
 
@@ -23,7 +23,7 @@ def warn(old: str, new: str, level: int) -> None:
 
 
 class Finder(importlib.abc.MetaPathFinder, importlib.abc.Loader):
-    """Finds modules by their old names. Such a module has all names of the new one."""
+    """Finds modules by their former names, with all names of the new module."""
 
     def find_spec(self, name: str, path: Sequence[str] | None = None, target: ModuleType | None = None) -> importlib.machinery.ModuleSpec | None:
         return importlib.machinery.ModuleSpec(name, self) if name in MODULES else None
@@ -36,7 +36,7 @@ class Finder(importlib.abc.MetaPathFinder, importlib.abc.Loader):
 
 
 def attribute(package: str, name: str) -> Any:
-    """What a package had by this name: one of its modules, or a class. An AttributeError where it had none."""
+    """The module or class that a package had under this name. Raises an AttributeError if there was none."""
     old = f"{package}.{name}"
     if old in MODULES:
         warn(old, MODULES[old], 4)

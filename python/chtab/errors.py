@@ -1,24 +1,25 @@
-"""What can go wrong. Each error is a `ChtabError`, and its text is one line for a user. Errors go from process to process by pickle."""
+"""The errors of this package. Each is a `ChtabError`, and its message is one line for a user. Errors can be pickled."""
 from __future__ import annotations
 
 from collections.abc import Iterable, Mapping
+
 class ChtabError(Exception):
     """An error of this package."""
 
 
 class FileFault(ChtabError, ValueError):
-    """A file or text is not what it is read as; the text names it."""
+    """A file or text is not of the expected kind; the message names it."""
 
 
 class DataFault(ChtabError, ValueError):
-    """A column has a value that is refused, or a label is no node of the network; the text names the column and the row.
+    """A value of a column is refused, or a label is no node of the network; the message names the column and the row.
 
     Attributes
     ----------
     column : str
-        The name of the column: of the argument, or of the frame's column.
+        The name of the argument, or of the column of a frame.
     row : int or None
-        The place of the value in the column, from 0 on; None where the column is refused as a whole.
+        The place of the value in the column, from 0 on; None if the column is refused as a whole.
     """
 
     def __init__(self, text: str, column: str = "", row: int | None = None) -> None:
@@ -27,7 +28,7 @@ class DataFault(ChtabError, ValueError):
 
 
 class TooFar(ChtabError, ValueError):
-    """A place lies farther from each road or node than is allowed.
+    """A place is farther from each road or node than allowed.
 
     Attributes
     ----------
@@ -41,29 +42,29 @@ class TooFar(ChtabError, ValueError):
 
 
 class ProgramFault(ChtabError, RuntimeError):
-    """The program ended before it had answered, or wrote what is no answer. The text has the program's own line, where it told one.
+    """The program ended before it had answered, or its output is no answer. The message is the program's own line, if it wrote one.
 
     Attributes
     ----------
     status : int
-        The exit status of the program, less than 0 the signal that ended it, and 0 where it wrote what is no answer. Where the library for C
-        answers in place of the program, it is the one that the program has for this.
+        The exit status of the program; below 0, the signal that ended it; 0 if its output is no answer. If the library for C answers, it is the
+        status that the program would have.
     line, place : int
-        The line of the file, from 1 on, and the leg, arc or node of the hierarchy, from 0 on, that the library refuses; 0 where there is none.
+        The line of the file, from 1 on, and the edge, arc or node of the hierarchy, from 0 on, that the library refuses; 0 if there is none.
     kind : str
-        What the library refuses there, in the program's words; empty where it refuses no file.
+        The fault there, in the program's words; empty if the library refuses no file.
     """
 
-    # The defaults are for pickle, which sets the attributes of its own.
+    # The defaults are for pickle, which makes the error from its message and sets the attributes afterwards.
     def __init__(self, text: str, status: int = 0, line: int = 0, kind: str = "", place: int = 0) -> None:
         super().__init__(text)
         self.status, self.line, self.kind, self.place = status, line, kind, place
 
 
 class TimedOut(ChtabError, TimeoutError):
-    """The program took longer than is allowed, and was ended."""
+    """The program took longer than allowed, and was ended."""
 
 
 def unasked() -> ProgramFault:
-    """The fault of a run that writes what is no answer to what it was asked."""
+    """The fault of a run whose output doesn't answer its question."""
     return ProgramFault("chtab wrote what it was not asked for", 0)

@@ -1,11 +1,11 @@
-"""A road network that answers from Python: numbers in numpy's arrays in, distances, tables, routes and reach out.
+"""A road network for Python. It takes nodes, places and limits in arrays, and returns distances, tables, routes and reach.
 
     with Network.open("roads.gr", saved="roads.ch", unit="minutes") as network:
         nodes, metres = network.nearest([9.5209, 9.6079], [47.1410, 47.1020])
         minutes = network.distances([(nodes[0], nodes[1])])
 
-Weights are whole numbers in the graph's unit, mostly milliseconds, unless a caller names another: then answers are floats. Where no path leads a
-distance is -1, because columns of int64 have no other number to say so, and among floats NaN. `missing` of a call gives another.
+Weights are whole numbers in the graph's unit, mostly milliseconds, or floats in the unit that the caller names. Where no path leads, a distance is -1
+among whole numbers, because int64 has no other mark, and NaN among floats. The argument `missing` of a call replaces both.
 """
 from __future__ import annotations
 
@@ -35,18 +35,17 @@ if TYPE_CHECKING:
 
 
 class Network(Scenarios, BetweenNodes, BetweenPlaces, Accessibility):
-    """Answers on one graph. `Network.open` opens one of files; `Network.from_arrays`, `from_frame`, `from_geodataframe`, `from_networkx` and
-    `from_sparse` make one of your own arcs.
+    """A road network. `Network.open` opens files; `Network.from_arrays`, `from_frame`, `from_geodataframe`, `from_networkx` and `from_sparse` make a
+    network of your own arcs.
 
-    Each answer is matched to its question. One that doesn't fit is a `ProgramFault`, and no number of it is returned.
+    Each answer is matched to its question. If it doesn't match, the call raises a `ProgramFault`, and returns no number of it.
 
-    Nodes of a network of files are called by their numbers, from 1 on. Those of your own arcs keep their labels, integers, strings or tuples:
-    where a call takes or gives nodes, these are labels.
+    Nodes of files are called by their numbers, from 1 on. Nodes of your own arcs keep their labels, which are integers, strings or tuples; calls take
+    and return these labels.
 
-    Calls may come from several threads, and from processes that were forked; such a process starts a run of its own. A network can be
-    pickled, as what it was opened by; where it is unpickled it starts a run of its own too. The run ends by `close`, at the end of a `with`,
-    when the network is no longer used, and when the interpreter ends. The last four networks that a process unpickled are used until then.
-    """
+    Threads and forked processes may share a network, and it can be pickled. A process that was forked, or that unpickles it, loads it once for
+    itself. The network is closed by `close`, at the end of a `with`, when it is no longer used, and at the end of the interpreter. A process keeps
+    the last four networks that it unpickled. """
 
     def __init__(self, opened: opening.Opening, folder: Folder | None = None, known: dict[str, Any] | None = None) -> None:
         if not isinstance(opened, opening.Opening):
@@ -73,42 +72,34 @@ class Network(Scenarios, BetweenNodes, BetweenPlaces, Accessibility):
         Parameters
         ----------
         graph : str or path
-            The graph (`.gr`); or the folder of a network that was made with `folder=`.
+            The graph (`.gr`), or the folder of a network that was made with `folder=`.
         saved : str or path, optional
-            A hierarchy that `chtab save` wrote for this graph. Loading then takes less than half the time.
+            A hierarchy that `chtab save` wrote for this graph.
         coordinates, bends : str or path, optional
-            The files of the nodes' places and of the points between them. Without them, those beside the graph are used (`.co`, `.bends`), if
-            they exist.
+            The files of the nodes' places and of the points between them; by default those beside the graph (`.co`, `.bends`), if they exist.
         unit : str, optional
-            What limits are taken and answers given in: `milliseconds`, `seconds`, `minutes` or `hours` where the graph has milliseconds, `metres` or
-            `kilometres` where it has metres. Without it they are in the graph's unit, or in that of the caller who made the network of a folder.
+            The unit of limits and answers: `milliseconds`, `seconds`, `minutes` or `hours` of a graph in milliseconds, `metres` or `kilometres` of
+            one in metres. By default it is the unit of the graph, or the one that the network of a folder was made with.
         scale : float, optional
-            How many of the graph's weights make one of the unit, where the graph doesn't say so.
+            How many of the graph's weights make one of the unit, if the graph doesn't say so.
         raw : bool
-            Whether limits and answers are the whole numbers of the graph, also of a folder that was made with a unit.
+            Whether limits and answers are the whole numbers of the graph, even if the folder was made with a unit.
 
         Other Parameters
         ----------------
         program : str or path, optional
-            The program chtab. Without it the program is looked for beside the package, beside the script that runs, and on the path.
-        workers : int
-            Threads of the program, from 1 to 64; 1 where it is not given.
+            The program chtab; by default the one beside the package, beside the running script, or on the path.
+        workers, runs : int
+            Threads of a run of the program, 1 to 64, and the most runs that are kept for threads that ask at a time, each with the network in memory;
+            1 by default.
         timeout : float, optional
-            The most seconds that an answer may take; without it there is no limit. Loading is not counted, except where a call runs the
-            program anew, as `near` does. A run of the program is ended at once. Where the library for C answers, the time is looked at between its calls.
-        load : bool
-            Whether to load the graph now, which is the default. With False the first question loads it.
-        routes : bool
-            This has no effect: each run answers routes. It is taken because version 1.1 had runs that did not.
-        runs : int
-            The most runs that are kept at once, from 1 on; 1 where it is not given. Each of them holds the network in memory, and answers
-            everything. A further one is started if several threads ask at a time.
+            The most seconds that a call may take, not counting the loading of the network; no limit by default.
+        load, routes : bool
+            Whether to load the graph now and not with the first question, True by default. `routes` has no effect; version 1.1 had runs without
+            routes.
         library : "auto", bool or path
-            Whether the library for C answers in this process, and no run of the program: sooner, above all one question at a time. It has one
-            worker. "auto", the default: if `libchtab.so.1` is beside the program, and `workers` and `timeout` are not given. True, or the path of
-            the library: it answers, or an error says why it can't. Without `saved` it builds the hierarchy by depth. Ctrl-C breaks off the wait for
-            a long call, which then ends by itself. False: a run of the program, in a process apart, which can be ended at any time. `answers_by`
-            says who answers.
+            True, or its path: the library for C answers, in this process. False: runs of the program answer. "auto", the default: the library, if it
+            is beside the program and neither `workers` nor `timeout` is given. `answers_by` says who answers; docs/PYTHON.md compares the two.
 
         Returns
         -------
@@ -116,18 +107,12 @@ class Network(Scenarios, BetweenNodes, BetweenPlaces, Accessibility):
 
         Raises
         ------
-        ProgramFault
-            The program refuses the graph or the hierarchy, or died. The next call runs it again.
-        TimedOut
-            The program took too long, and was ended.
-        FileFault
-            The labels of the folder are not those of its graph.
-        DataFault
-            Nothing tells how many of the graph's weights make one of the unit.
-        ChtabError
-            There is no program, or `library` asks for a library that can't answer.
-        OSError
-            A file can't be opened.
+        ProgramFault, TimedOut
+            The program refused a file, died, or took too long. The next call runs it again.
+        FileFault, DataFault
+            The labels of the folder are not those of its graph; or nothing says how many of the graph's weights make one of the unit.
+        ChtabError, OSError
+            There is no program, or `library` names a library that can't answer; or a file can't be opened.
         """
         asked = Asked(unit, scale, raw)
         settings = opening.running_of("open", running, asked, ("saved", "coordinates", "bends", "scale"))
@@ -155,8 +140,8 @@ class Network(Scenarios, BetweenNodes, BetweenPlaces, Accessibility):
         return table_text(repr(self), [told])
 
     def close(self) -> None:
-        """Ends the program, and removes a temporary folder of the network. A call that is under way in another thread fails. Where the library
-        answers, the part of it that is under way ends first."""
+        """Ends the program, and removes the temporary folder of the network if it has one. A call that is under way in another thread fails; a call
+        of the library ends first."""
         self._near.kill()
         self._engine.close()
         if self._folder is not None:
@@ -168,58 +153,58 @@ class Network(Scenarios, BetweenNodes, BetweenPlaces, Accessibility):
     def __exit__(self, *_: object) -> None:
         self.close()
 
-    # What is known of the network, and what is read of the files when it is first needed.
+    # Properties of the network. Those that need a file read it when they are first used.
 
     @property
     def labels(self) -> NDArray:
-        """What the nodes are called: int64 or objects (`str`, or `int` of more than 64 bits), shape (nodes,). Of files it is 1, 2, ..
+        """The labels of the nodes: int64 or objects (`str`, tuples, or `int` of more than 64 bits), shape (nodes,); for files 1, 2, ..
 
-        The array can't be written to.
+        The array is read-only.
         """
         return self._layers.labels.values
 
     @property
     def scale(self) -> float | None:
-        """What weights were multiplied by before they were rounded, None where they were taken as they are."""
+        """The factor that weights were multiplied by before they were rounded; None if they were taken as they are."""
         return self._layers.labelling and self._layers.labelling.scale
 
     @property
     def rounding(self) -> float | None:
-        """The largest difference of an arc's weight from the caller's weight times `scale`, at most 0.5; None of a network of files.
+        """The largest difference between an arc's weight and the caller's weight times `scale`, at most 0.5; None for a network of files.
 
-        So the weight of a walk of k arcs differs by at most k times as much.
+        The weight of a path of k arcs therefore differs by at most k times as much.
         """
         return self._layers.labelling and self._layers.labelling.rounding
 
     @property
     def graph(self) -> files.Graph:
-        """The arcs, as `files.read_graph` gives them, between nodes by number: node k is `labels[k - 1]`."""
+        """The arcs, as `files.read_graph` returns them, between nodes by their numbers: node k is `labels[k - 1]`."""
         return self._layers.graph
 
     @property
     def unit(self) -> str:
-        """What limits are taken and answers given in: the unit that was named, or else that of the graph, `milliseconds` or `metres` where its
-        first comments say so; empty where nothing says so."""
+        """The unit of limits and answers: the one that was named, or that of the graph, `milliseconds` or `metres` if its first comments say so, and
+        otherwise empty."""
         return self._measure.unit
 
     @property
     def answers_by(self) -> str:
-        """Who answers: `library`, the library for C in this process, or `runs` of the program in processes of their own."""
+        """Who answers: `library`, the library for C in this process, or `runs`, the program in other processes."""
         return "library" if isinstance(self._engine, InProcess) else "runs"
 
     @property
     def coordinates(self) -> files.Coordinates:
-        """The nodes' places, as `files.read_coordinates` gives them, of nodes by number. Without such a file that is a `ChtabError`."""
+        """The places of nodes by their numbers, as `files.read_coordinates` returns them. Raises a `ChtabError` if the network has no such file."""
         return self._layers.coordinates
 
 
-# The networks that were unpickled in this process, those of one opening once, so that a pool's tasks don't each begin a run.
+# The networks that this process unpickled, one for each opening, so that the tasks of a pool don't each start a run.
 REOPENED: dict[opening.Opening, Network] = {}
 MOST_REOPENED = 4
 
 
 def reopened(opened: opening.Opening) -> Network:
-    """The network of an opening, in a process where one was unpickled. Its run starts with the first question."""
+    """The network of an opening, in a process that unpickles it. Its run starts with the first question."""
     network = REOPENED.pop(opened, None)
     if network is None or network._engine.is_closed:
         network = Network(opened)

@@ -1,4 +1,4 @@
-"""The types of what calls take and give, for annotations: `from chtab.typing import Integers`. It needs numpy."""
+"""The types of arguments and results, for annotations: `from chtab.typing import Integers`. It needs numpy."""
 import os
 from collections.abc import Iterable, Mapping
 from typing import IO, TYPE_CHECKING, Any, Literal, TypeAlias, TypedDict
@@ -13,22 +13,22 @@ if TYPE_CHECKING:
 
 # Columns as callers give them: arrays, lists, and columns of frames.
 Column: TypeAlias = ArrayLike
-# What nodes are called, as callers give it: integers or strings, one or many.
+# Labels of nodes as callers give them: integers, strings or tuples, one or many.
 Labels: TypeAlias = ArrayLike
-# The same in answers: of int64, or objects that are all `int` or all `str`.
+# Labels in answers: int64, or objects that are all `int`, all `str` or all tuples.
 LabelArray: TypeAlias = NDArray[Any]
 Integers: TypeAlias = NDArray[numpy.int64]
 Floats: TypeAlias = NDArray[numpy.float64]
 Marks: TypeAlias = NDArray[numpy.bool_]
-# Weights as a network answers them: whole numbers of the graph, or decimal ones of the caller's unit.
+# Weights in answers: whole numbers of the graph, or floats in the caller's unit.
 Weights: TypeAlias = NDArray[Any]
-# A file by its name; what is read, by its name, open or as lines; what is written, by its name or open.
+# A path; a file to read, as a path, open or as lines; a file to write, as a path or open.
 Path: TypeAlias = str | os.PathLike[str]
 Source: TypeAlias = Path | IO[Any] | Iterable[Any]
 Target: TypeAlias = Path | IO[Any]
 # A collection or a feature of GeoJSON (RFC 7946).
 Geojson: TypeAlias = dict[str, Any]
-# Values of nodes: a column, one of each label, or one for all.
+# Values of nodes: a column, a value for each label, or one for all.
 Values: TypeAlias = ArrayLike | Mapping[Any, float]
 # Longitude and latitude in degrees.
 Point: TypeAlias = tuple[float, float]
@@ -37,7 +37,7 @@ Direction: TypeAlias = Literal["to", "from"]
 
 
 class OfRuns(TypedDict, total=False):
-    """How the program runs for a network: `Network.open` has the meaning of each."""
+    """How the program runs for a network; `Network.open` explains each."""
 
     program: Path | None
     workers: int
@@ -49,7 +49,7 @@ class OfRuns(TypedDict, total=False):
 
 
 class OfBuilding(OfRuns, total=False):
-    """The same for a network of arcs, whose building tells how far it is, and may be in the order of another network."""
+    """The same for a network of arcs, whose building can report its progress, and can use the order of another network."""
 
     progress: Progress
     like: "Network | None"
@@ -57,7 +57,7 @@ class OfBuilding(OfRuns, total=False):
 
 
 class OfLines(OfBuilding, total=False):
-    """What else a GeoDataFrame is taken with: `Network.from_arrays` has the meaning."""
+    """The further arguments for a GeoDataFrame; `Network.from_arrays` explains each."""
 
     scale: float | None
     unit: str | None
@@ -65,7 +65,7 @@ class OfLines(OfBuilding, total=False):
 
 
 class OfRows(OfLines, total=False):
-    """What else a frame is taken with: `Network.from_arrays` has the meaning."""
+    """The further arguments for a frame; `Network.from_arrays` explains each."""
 
     nodes: ArrayLike | None
     x: ArrayLike | None

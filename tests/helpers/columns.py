@@ -87,8 +87,8 @@ def refusals():
     yield ([1, 2], ["1", "2"], weights, {}), "targets", 0, "'1' is not one of integers"
     yield ([], [], [], {}), "nodes", None, "there is no node"
     for more, column, row, told in (
-        ({"nodes": [1, 2, 3, 2]}, "nodes", 3, "2 stands in row 1 already"), ({"nodes": [1, 3]}, "sources", 1, "no node has the label 2"),
-        ({"nodes": ["1", "2", "1"]}, "nodes", 2, "'1' stands in row 0"), ({"nodes": ["1", "2", "3"]}, "sources", 0, "labels are strings"),
+        ({"nodes": [1, 2, 3, 2]}, "nodes", 3, "2 is in row 1 already"), ({"nodes": [1, 3]}, "sources", 1, "no node has the label 2"),
+        ({"nodes": ["1", "2", "1"]}, "nodes", 2, "'1' is in row 0"), ({"nodes": ["1", "2", "3"]}, "sources", 0, "labels are strings"),
         ({"nodes": [1.5, 2.0, 3.0]}, "nodes", 0, "1.5 is no label"), ({"nodes": []}, "sources", 0, "no node has the label 1"),
         ({"x": [1, 2, 3], "y": [1, 2, 3]}, "nodes", None, "go together"), ({**three, "x": [1, 2, 3]}, "y", None, "go together"),
         ({**three, "x": [1, 2], "y": [1, 2, 3]}, "x", 2, "row 2 of x"), ({**three, "x": [1, 2, nan], "y": [1, 2, 3]}, "x", 2, "nan is not from -180"),

@@ -285,7 +285,7 @@ def test_files_of_all_forms():
     pathlib.Path("spoilt").write_bytes(spoilt)
     refused("spoilt", "none")
     faults = {
-        "": "no element found", "<osm/>": "the map has no road for cars", "<gpx/>": "it begins with gpx", "roads": "not a map in XML",
+        "": "no element found", "<osm/>": "the map has no road for cars", "<gpx/>": "its first element is gpx", "roads": "not a map in XML",
         "<osm><way><nd/></way></osm>": "line 1: an element has no attribute ref", "<osm>\n<node id='x' lon='0' lat='0'/></osm>": "line 2: ",
         text.decode().replace("lon='0.002'", "lon='200'"): "line 3: ", text.decode().replace("lat='0.0'", "lat='nan'"): "line 2: ",
         in_line(2, {"highway": "footway"}): "the map has no road for cars", text.decode().replace("<nd ref='1'", "<nd ref='1e99'"): "line 5: ",

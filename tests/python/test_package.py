@@ -133,7 +133,7 @@ def parts_of(text):
 # Calls that can't fail, because what they give is there.
 NEVER_FAIL = "files.scale_comment", "Network.close", "Routes.rows", "Routes.edges", "Near.owners", "Nearest.labels", "TripRoutes.to_geojson", "Isochrones.to_geojson"
 # The most lines of a text, which is to fit on a screen.
-SCREEN = 62
+SCREEN = 50
 
 
 @needs("python3-numpy", "python3-scipy", "python3-shapely")

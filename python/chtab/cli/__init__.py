@@ -1,7 +1,7 @@
 """The commands of `tools/`, each in a module of its own with `main(words)`, and how a command ends.
 
-A fault is one line on standard error and status 1. Ctrl-C, SIGTERM and a closed pipe end a command as they end any other, by the
-signal and without a message. What the command had started (children, files that are not whole) is cleared away first.
+A fault is one line on standard error and status 1. Ctrl-C, SIGTERM and a closed pipe end a command as they end any other, by the signal and without a
+message, after it has ended its children and removed incomplete files.
 """
 from __future__ import annotations
 
@@ -21,14 +21,14 @@ if TYPE_CHECKING:
     from chtab.network import Network
 
 
-# The names of the commands, which are those of the modules beside this one.
+# The names of the commands, which are those of the modules in this folder.
 NAMES = sorted(path.stem for path in pathlib.Path(__file__).parent.glob("[!_]*.py"))
 SAVED = "read the hierarchy of the graph from FILE, as `chtab save` writes it, and check it; that of another graph is refused, often by " \
     "`chtab: saved line 1: size too large`"
 
 
 class Terminated(BaseException):
-    """SIGTERM came. It is raised in the main thread, so that all that was opened is closed."""
+    """SIGTERM arrived. It is raised in the main thread, so that everything is closed in order."""
 
 
 def raise_terminated(number: int, frame: Any) -> NoReturn:
@@ -37,13 +37,13 @@ def raise_terminated(number: int, frame: Any) -> NoReturn:
 
 
 def end_by(number: int) -> None:
-    """Ends this process by a signal, as its caller expects of a process that a signal ended."""
+    """Ends this process by a signal, so that its caller sees which signal ended it."""
     signal.signal(number, signal.SIG_DFL)
     os.kill(os.getpid(), number)
 
 
 def as_called(text: str) -> str:
-    """A help text as it reads where the commands are installed: there they and the documents have other names."""
+    """A help text with the names that commands and documents have where they are installed."""
     text = re.sub(rf"(?:tools/)?\b({'|'.join(NAMES)})\.py\b", lambda found: "chtab-" + found[1].replace("_", "-"), text)
     return text.replace("./chtab ", "chtab ").replace("docs/", documents())
 
@@ -58,19 +58,18 @@ class Parser(argparse.ArgumentParser):
 
 
 class Formatter(argparse.RawDescriptionHelpFormatter):
-    """Help as a text has it, with headings as the program chtab has them, from which manual pages are made."""
+    """Formats help with the layout of its text, and with the headings of the program chtab, from which manual pages are made."""
 
     def add_usage(self, usage: Any, actions: Any, groups: Any, prefix: str | None = None) -> None:
-        """The forms of the words, below the heading Usage."""
+        """Adds the forms of the command line, below the heading Usage."""
         super().add_usage(usage, actions, groups, "Usage: ")
 
 
 def parser_of(name: str, about: str | None) -> Parser:
     """The parser of a command.
 
-    Its help is made of a text: a line on what the command does, lines with the forms of its words, and what there is to know besides. It uses
-    the name that the command was called by: NAME.py in tools/, or chtab-NAME once it is installed. Then the documents are installed too.
-    """
+    Its help is made from a text: a line on what the command does, lines with the forms of the command line, and further paragraphs. It uses the name
+    that the command was called by: NAME.py in tools/, or chtab-NAME where it is installed, together with the documents. """
     called = os.path.basename(sys.argv[0])
     if not called.startswith("chtab-"):
         called = f"{name}.py"
@@ -85,42 +84,42 @@ def parser_of(name: str, about: str | None) -> Parser:
 
 
 def documents() -> str:
-    """What comes before the name of a document: the folder where it was installed along with the package, and else its folder of a checkout."""
+    """The folder of the documents: the one that was installed along with the package, or the one of a checkout."""
     package = os.path.dirname(os.path.dirname(os.path.realpath(__file__)))
     folder = os.path.abspath(os.path.join(package, "../../../../share/doc/chtab/docs"))
     return f"{folder}/" if os.path.isdir(folder) else "docs/"
 
 
 def add_network(parser: argparse.ArgumentParser) -> None:
-    """The words of a command that opens a network and takes places to its roads."""
+    """Adds the arguments of a command that opens a network and takes places to its roads."""
     add_max_metres(parser, "road")
     add_runs(parser)
     parser.add_argument("out", metavar="OUT", help="the network: OUT.gr, OUT.co and, if it exists, OUT.bends")
 
 
 def add_max_metres(parser: argparse.ArgumentParser, what: str) -> None:
-    """The option of a command that refuses places which lie too far from each road, or each node."""
+    """Adds the option to refuse places that are too far from each road, or each node."""
     parser.add_argument(
         "--max-metres", type=float, default=1_000, metavar="M", help=f"refuse a place that is more than M metres from each {what} (1,000)"
     )
 
 
 def add_runs(parser: argparse.ArgumentParser) -> None:
-    """The words of a command that runs the program."""
+    """Adds the options of a command that runs the program."""
     parser.add_argument("--saved", metavar="FILE", help=SAVED)
     parser.add_argument("--workers", type=int, default=1, metavar="W", help="threads of the program, 1 to 64 (1)")
     parser.add_argument("--program", metavar="FILE", help="the program chtab, if it is neither beside this command nor on the path")
 
 
 def open_network(words: argparse.Namespace) -> Network:
-    """The network of such words, of which one kind of question is asked."""
+    """Opens the network of such arguments."""
     from chtab.network import Network
 
     return Network.open(words.out + ".gr", words.saved, program=words.program, workers=words.workers, load=False)
 
 
 def ask_for(needs: Iterable[str]) -> None:
-    """Ends the command where one of these modules is missing."""
+    """Ends the command if one of these modules is missing."""
     for module in needs:
         try:
             importlib.import_module(module)
@@ -129,8 +128,7 @@ def ask_for(needs: Iterable[str]) -> None:
 
 
 def run(name: str, main: Callable[[Sequence[str]], object], needs: Iterable[str] = ()) -> None:
-    """Runs a command on its arguments, and ends the process where it doesn't end well. `needs` are the modules without
-    which it can do nothing but tell of itself."""
+    """Runs a command on its arguments, and ends the process if the command fails. `needs` are the modules without which it can only print help."""
     signal.signal(signal.SIGTERM, raise_terminated)
     words = sys.argv[1:]
     try:

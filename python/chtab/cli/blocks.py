@@ -26,7 +26,7 @@ from chtab.engine.program import program_of
 
 
 def words_of(arguments: Sequence[str]) -> argparse.Namespace:
-    """Reads the arguments. Those that are refused end the process with status 2."""
+    """Reads the arguments. Invalid ones end the process with status 2."""
     parser = cli.parser_of("blocks", __doc__)
     parser.add_argument("--side", type=int, metavar="K", help="make blocks of K by K cells, 1 to 2,048 (as large as a table may be)")
     parser.add_argument("--processes", type=int, default=os.cpu_count(), metavar="P", help="how many blocks are made at a time (the number of processors)")
@@ -45,12 +45,12 @@ def words_of(arguments: Sequence[str]) -> argparse.Namespace:
 
 
 def main(arguments: Sequence[str]) -> None:
-    """Makes the table that the words ask for, and prints how large it is."""
+    """Makes the table that the arguments ask for, and prints its size."""
     words = words_of(arguments)
     saved = os.path.abspath(words.saved) if words.saved else None
     setting = asking.Setting(program_of(words.program), os.path.abspath(words.graph), saved, words.workers, within=words.within)
     if words.scheduler:
-        # A client of Dask that is closed may leave a future of its own behind, of which asyncio would tell.
+        # A closed client of Dask may leave a future behind, about which asyncio would write a message.
         logging.getLogger("asyncio").setLevel(logging.CRITICAL)
     sources, targets = files.read_list(words.sources).tolist(), files.read_list(words.targets).tolist()
     count = blocks.make(setting, sources, targets, words.out, words.side, words.processes, words.scheduler)
@@ -58,5 +58,5 @@ def main(arguments: Sequence[str]) -> None:
 
 
 def command() -> None:
-    """Runs this command on the words that the process was called with."""
+    """Runs this command on the arguments of the process."""
     cli.run("blocks", main)

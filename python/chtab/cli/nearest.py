@@ -25,12 +25,12 @@ from chtab.engine.progress import Progress
 from chtab.errors import TooFar
 from chtab.roads import nearest
 
-# Places that are looked for before the next sign of life.
+# How many places are looked for between two reports of progress.
 MANY = 1_000
 
 
 def words_of(arguments: Sequence[str]) -> argparse.Namespace:
-    """Reads the arguments. Those that are refused end the process with status 2."""
+    """Reads the arguments. Invalid ones end the process with status 2."""
     parser = cli.parser_of("nearest", __doc__)
     kinds = parser.add_mutually_exclusive_group()
     kinds.add_argument("--queries", action="store_true", help="write queries: the first and second place make one, the third and fourth, and so on")
@@ -44,7 +44,7 @@ def words_of(arguments: Sequence[str]) -> argparse.Namespace:
 
 
 def found_at(places: Sequence[files.Place], coordinates: files.Coordinates, words: argparse.Namespace) -> tuple[list[int], list[str]]:
-    """The node of each place and the comment that tells of it. Targets of queries, and of --targets, are the nodes where trips end."""
+    """The node of each place and the comment about it. Targets of queries, and of --targets, are the nodes where trips end."""
     index = nearest.index_of(coordinates, words.plain)
     nodes: list[int] = []
     notes, ends = [], coordinates.ends() if words.queries or words.targets else {}
@@ -65,7 +65,7 @@ def found_at(places: Sequence[files.Place], coordinates: files.Coordinates, word
 
 
 def main(arguments: Sequence[str]) -> None:
-    """Writes the list or the queries that the words ask for to standard output."""
+    """Writes the list or the queries that the arguments ask for to standard output."""
     words = words_of(arguments)
     coordinates = files.read_coordinates(words.coordinates)
     if words.all:
@@ -81,5 +81,5 @@ def main(arguments: Sequence[str]) -> None:
 
 
 def command() -> None:
-    """Runs this command on the words that the process was called with."""
+    """Runs this command on the arguments of the process."""
     cli.run("nearest", main)

@@ -38,7 +38,7 @@ def part_of(word: str) -> str | int:
 
 
 def words_of(arguments: Sequence[str]) -> argparse.Namespace:
-    """Reads the arguments. Those that are refused end the process with status 2."""
+    """Reads the arguments. Invalid ones end the process with status 2."""
     parser = cli.parser_of("osm_to_gr", __doc__)
     parser.add_argument("--profile", choices=profiles.NAMES, default="car", help="who travels, which decides on ways, access, barriers and speeds (car)")
     parser.add_argument("--metric", choices=UNITS, default="time", help="weights are milliseconds of travel, or metres (time)")
@@ -66,7 +66,7 @@ def words_of(arguments: Sequence[str]) -> argparse.Namespace:
 
 
 def main(arguments: Sequence[str]) -> None:
-    """Makes the graph that the words ask for, and reports what was left out of the map."""
+    """Makes the graph that the arguments ask for, and reports what was left out of the map."""
     words = words_of(arguments)
     choices = converting.Choices(**{name: getattr(words, name) for name in converting.Choices._fields})
     made, report = converting.convert(words.map, choices, not words.quiet, words.log is not None)
@@ -80,5 +80,5 @@ def main(arguments: Sequence[str]) -> None:
 
 
 def command() -> None:
-    """Runs this command on the words that the process was called with."""
+    """Runs this command on the arguments of the process."""
     cli.run("osm_to_gr", main)

@@ -128,7 +128,7 @@ def add_limits(parser: argparse.ArgumentParser) -> None:
 
 
 def words_of(words: Sequence[str]) -> argparse.Namespace:
-    """The choices that the words of the command line make. Words that are refused end the process with status 2."""
+    """Reads the arguments. Invalid ones end the process with status 2."""
     parser = parser_of()
     found = parser.parse_args(words)
     names = [name for name, _ in found.network]
@@ -188,7 +188,7 @@ def choices_of(words: argparse.Namespace) -> Choices:
 
 
 def main(words: Sequence[str]) -> None:
-    """Serves what the words ask for, until a signal ends it."""
+    """Serves what the arguments ask for, until a signal ends it."""
     # Help needs none of the modules below.
     found = words_of(words)
     from chtab.server import web_policy
@@ -243,5 +243,5 @@ def serve_all(words: argparse.Namespace, networks: Networks, choices: Choices, p
 
 
 def command() -> None:
-    """Runs this command on the words that the process was called with."""
+    """Runs this command on the arguments of the process."""
     cli.run("chtab-page", main, needs=("aiohttp", "numpy", "scipy", "shapely"))

@@ -28,12 +28,12 @@ from collections.abc import Sequence
 from chtab import cli, files
 from chtab.roads import picture
 
-# The files of each kind after OUT, of which the last may be left out.
+# The files of each kind after OUT, the last of which is optional.
 FILES = {"network": (), "routes": ("TEXT",), "reach": ("TARGETS.ss", "TEXT"), "near": ("TEXT",)}
 
 
 def words_of(arguments: Sequence[str]) -> argparse.Namespace:
-    """Reads the arguments. Those that are refused end the process with status 2."""
+    """Reads the arguments. Invalid ones end the process with status 2."""
     parser = cli.parser_of("picture", __doc__)
     parser.add_argument("--size", type=int, default=800, metavar="P", help="pixels of the longer side of the map (800)")
     parser.add_argument("--title", default="", metavar="T", help="the title of the picture")
@@ -65,7 +65,7 @@ def reach_of(words: argparse.Namespace) -> tuple[int, dict[int, int]]:
 
 
 def main(arguments: Sequence[str]) -> None:
-    """Writes the picture that the words ask for to standard output."""
+    """Writes the picture that the arguments ask for to standard output."""
     words = words_of(arguments)
     network = picture.Network(files.read_graph(words.out + ".gr"), files.read_coordinates(words.out + ".co"), words.size)
     names = files.read_names(words.names) if words.names else {}
@@ -83,5 +83,5 @@ def main(arguments: Sequence[str]) -> None:
 
 
 def command() -> None:
-    """Runs this command on the words that the process was called with."""
+    """Runs this command on the arguments of the process."""
     cli.run("picture", main)

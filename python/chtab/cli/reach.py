@@ -33,7 +33,7 @@ def limits_of(word: str) -> list[int]:
 
 
 def words_of(arguments: Sequence[str]) -> argparse.Namespace:
-    """Reads the arguments. Those that are refused end the process with status 2."""
+    """Reads the arguments. Invalid ones end the process with status 2."""
     parser = cli.parser_of("reach", __doc__)
     parser.add_argument("--limits", type=limits_of, required=True, metavar="R,R..", help="limits in the graph's unit, from 1 to 2^60")
     cli.add_network(parser)
@@ -46,7 +46,7 @@ def main(arguments: Sequence[str]) -> None:
     words = words_of(arguments)
     places = list(itertools.islice(files.read_places(words.place or sys.stdin), 1))
     if not places:
-        raise files.FileFault("there is no place to begin at")
+        raise files.FileFault("there is no place to start at")
     with cli.open_network(words) as network:
         spot = network.snap(places[0].longitude, places[0].latitude, words.max_metres)
         found = network.isochrones(spot, words.limits)
@@ -57,5 +57,5 @@ def main(arguments: Sequence[str]) -> None:
 
 
 def command() -> None:
-    """Runs this command on the words that the process was called with."""
+    """Runs this command on the arguments of the process."""
     cli.run("reach", main, needs=("numpy", "scipy", "shapely"))

@@ -26,7 +26,7 @@ if TYPE_CHECKING:
 
 
 def words_of(arguments: Sequence[str]) -> argparse.Namespace:
-    """Reads the arguments. Those that are refused end the process with status 2."""
+    """Reads the arguments. Invalid ones end the process with status 2."""
     parser = cli.parser_of("to_geojson", __doc__)
     parser.add_argument(
         "--names", metavar="FILE", help="name nodes by a list or queries that nearest.py wrote, or by a file whose line k names node k, such as OUT.nodes"
@@ -59,5 +59,5 @@ def main(arguments: Sequence[str]) -> None:
 
 
 def command() -> None:
-    """Runs this command on the words that the process was called with."""
+    """Runs this command on the arguments of the process."""
     cli.run("to_geojson", main)

@@ -32,7 +32,7 @@ if TYPE_CHECKING:
 
 
 def words_of(arguments: Sequence[str]) -> argparse.Namespace:
-    """Reads the arguments. Those that are refused end the process with status 2."""
+    """Reads the arguments. Invalid ones end the process with status 2."""
     parser = cli.parser_of("trips", __doc__)
     kinds = parser.add_mutually_exclusive_group()
     kinds.add_argument("--table", action="store_true", help="write CSV with a row and a column for each place")
@@ -83,5 +83,5 @@ def main(arguments: Sequence[str]) -> None:
 
 
 def command() -> None:
-    """Runs this command on the words that the process was called with."""
+    """Runs this command on the arguments of the process."""
     cli.run("trips", main, needs=("numpy", "scipy"))

@@ -260,7 +260,8 @@ class InProcess:
 
     @timed
     def lines(self, pairs: Integers) -> tuple[Integers, Integers, Integers]:
-        """The weights of the routes of pairs, -1 where there is no walk, how many arcs each has, and the lines of all arcs in the graph, from 0 on."""
+        """The weights of the routes of pairs, -1 where there is no walk, how many arcs each has, and the lines of all arcs in the graph, from 0
+        on."""
         weights, counts, _, lines = self.found(pairs, library.Handle.routes_with_lines)
         return weights, numpy.maximum(counts - 1, 0), lines[lines != library.NO_LINE].astype(numpy.int64)
 

@@ -1,7 +1,7 @@
 """The library for C in this process, by ctypes: `include/chtab.h` describes its calls.
 
-C trusts its caller. So nothing is handed to it here that was not checked before: each array is one of numpy, of the right kind of numbers, in one
-piece, at an address for such numbers, and as long as the call is told; what is written to may be written to; and nodes are numbers of 32 bits.
+C trusts its caller. Everything is therefore checked here before a call: each array is one of numpy, with the right type of numbers, contiguous, aligned
+for these numbers, and as long as the call assumes; outputs are writable; and nodes are numbers of 32 bits.
 """
 from __future__ import annotations
 
@@ -26,32 +26,32 @@ if TYPE_CHECKING:
 # The version of the library that this package calls, as `CHTAB_VERSION` of the header has it.
 VERSION = 1_001_000
 NAME = "libchtab.so.1"
-# What the calls answer, as `chtab_status` of the header has it.
+# The statuses of calls, as in `chtab_status` of the header.
 OK, NO_MEMORY, CLOSED, IS_OPEN, NODE_RANGE, LENGTHS, TOO_LARGE, TOO_SHORT, BAD_GRAPH, BAD_SAVED, WRONG_SAVED, NO_PLACES, SUM_TOO_LARGE, \
     OTHER_NODES, FRESH_RANGE = range(15)
-# The limit that leaves out no distance, and the distance where there is no walk, which is -1 as a number of 64 bits with a sign.
+# The limit that excludes no distance, and the distance where there is no walk, which is -1 as a signed number of 64 bits.
 NO_LIMIT = NO_DISTANCE = 2**64 - 1
-# The number of places of a near row that leaves none out, and the line where no arc leads to a node.
+# The number of places of a near row that excludes none, and the line for a node that no arc leads to.
 ALL = NO_LINE = 2**32 - 1
-# What is wrong with a file, by the number of `chtab_fault_kind`, in the words of the program.
+# The faults of files, by the number of `chtab_fault_kind`, in the words of the program.
 KINDS = (
     "", "unknown line", "bad problem line", "second problem line", "no problem line", "bad line", "node out of range", "weight too large",
     "size too large", "too many lines", "too few lines", "order", "pair", "bound", "base", "middle", "arc", "lower",
 )
 GONE = "the network is closed"
-# Nodes of a route for which there is room at first.
+# How many nodes of a route have room at first.
 ROOM = 1_024
-# Pairs whose distances are asked for without arrays.
+# Up to this many pairs are asked for without arrays.
 FEW = 16
 
 
-# Nodes as the library counts them, from 0 on; and numbers without a sign.
+# Nodes as the library counts them, from 0 on; and unsigned numbers.
 Nodes: TypeAlias = "NDArray[numpy.uint32]"
 Unsigned: TypeAlias = "NDArray[numpy.uint64]"
 
 
 class Block(ctypes.Structure):
-    """`struct chtab`: 16 bytes, of which the library alone knows the meaning."""
+    """`struct chtab`: 16 bytes, whose meaning only the library knows."""
 
     _fields_ = [("is_open", ctypes.c_uint64), ("engine", ctypes.c_void_p)]
 
@@ -70,7 +70,7 @@ class Found(ctypes.Structure):
 
 ARRAY = ctypes.c_void_p, ctypes.c_size_t
 HANDLE = ctypes.POINTER(Block)
-# What each call is given. `CDLL` lets other threads run during a call.
+# The arguments of each call. `CDLL` lets other threads run during a call.
 CALLS = {
     "chtab_open": (HANDLE, ctypes.c_char_p, ctypes.c_size_t, ctypes.c_char_p, ctypes.c_size_t, ctypes.POINTER(Fault)),
     "chtab_open_like": (HANDLE, ctypes.c_char_p, ctypes.c_size_t, HANDLE, ctypes.c_uint32, ctypes.POINTER(Fault)),
@@ -90,10 +90,10 @@ CALLS = {
 
 
 def beside(program: str) -> str | None:
-    """The library beside a program, None where there is none.
+    """The library beside a program; None if there is none.
 
-    It stands in the folder of the program (that of a wheel), where `packaging/library` puts it in a checkout, unless sources of the crates are newer,
-    or where `./install` puts it: in the folder `lib` whose folder `chtab` has the program.
+    It is in the folder of the program (in a wheel); where `packaging/library` puts it in a checkout, unless sources of the crates are newer; or where
+    `./install` puts it, in the folder `lib` whose folder `chtab` has the program.
     """
     folder = os.path.dirname(os.path.realpath(program))
     places = [folder] if os.path.basename(folder) != "chtab" else [folder, os.path.dirname(folder)]
@@ -103,7 +103,7 @@ def beside(program: str) -> str | None:
 
 
 def is_up_to_date(made: str, checkout: str) -> bool:
-    """Whether the library that was made in a checkout is there, and no source of its crates is newer."""
+    """Whether the library of a checkout exists, and no source of its crates is newer."""
     if not os.path.isfile(made):
         return False
     sources = glob.iglob(os.path.join(glob.escape(checkout), "crates", "*", "src", "**", "*.rt"), recursive=True)
@@ -112,7 +112,7 @@ def is_up_to_date(made: str, checkout: str) -> bool:
 
 @functools.cache
 def loaded(path: str) -> ctypes.CDLL:
-    """The calls of the library of this path. One that can't be loaded, or is of another version, is a `ChtabError`."""
+    """The calls of the library at a path. Raises a `ChtabError` if it can't be loaded, or has another version."""
     try:
         with forks.STEADY:
             calls = ctypes.CDLL(path)
@@ -129,7 +129,7 @@ def loaded(path: str) -> ctypes.CDLL:
 
 
 def address(array: NDArray[Any], kind: DTypeLike, is_written: bool = False) -> int:
-    """Where the numbers of an array stand. One that C would not read as is meant is refused."""
+    """The address of the numbers of an array. An array that C would misread is refused."""
     if type(array) is not numpy.ndarray or array.dtype != kind or array.ndim != 1 or not (array.flags.c_contiguous and array.flags.aligned):
         what = f"{array.dtype} of shape {array.shape}" if isinstance(array, numpy.ndarray) else type(array).__name__
         raise TypeError(f"the library takes a column of {numpy.dtype(kind)} in one piece, not {what}")
@@ -142,52 +142,53 @@ def address(array: NDArray[Any], kind: DTypeLike, is_written: bool = False) -> i
 
 
 def nodes_of(numbers: ArrayLike, count: int) -> Nodes:
-    """The nodes of numbers from 1 to `count`, as the library counts them: uint32, from 0 on, in one piece. Any other number is refused."""
+    """The nodes of numbers from 1 to `count`, as the library counts them from 0 on: uint32, contiguous. Any other number is refused."""
     numbers = numpy.asarray(numbers)
     if numbers.dtype != numpy.int64:
         if numbers.size and numbers.dtype.kind not in "iu":
             raise TypeError(f"nodes are whole numbers, not {numbers.dtype}")
         numbers = numbers.astype(numpy.int64)
     lowered = numbers - 1
-    # As numbers without a sign those below 0 are the greatest.
+    # As unsigned numbers, those below 0 are the largest.
     if lowered.size and lowered.view(numpy.uint64).max() >= count:
         raise ValueError(f"a node is not from 1 to {count:,}")
     return lowered.astype(numpy.uint32, order="C")
 
 
 def close(call: Callable[[Any], int], block: Block, owner: int) -> None:
-    """Closes what is open. In a process that was forked from its owner it is left alone."""
+    """Closes an open handle, unless this process was forked from its owner."""
     if os.getpid() == owner:
         call(ctypes.byref(block))
 
 
 class Handle:
-    """A network in this process, and room for one question at a time: calls of several threads wait for one another.
+    """A network in this process, with scratch space for one question at a time; calls of several threads wait for one another.
 
-    It is closed by `close`, and when it is no longer used. It isn't copied, and it doesn't go to another process.
+    It is closed by `close`, and when it is no longer used. It can't be copied or pickled.
     """
 
     def __init__(self, calls: ctypes.CDLL) -> None:
         self.calls, self.block, self.lock = calls, Block(), threading.RLock()
         self.at, self.room = ctypes.byref(self.block), ROOM
-        # Room for few distances, which one question at a time has.
+        # Scratch space for few distances, for one question at a time.
         self.sources, self.targets, self.weights = (ctypes.c_uint32 * FEW)(), (ctypes.c_uint32 * FEW)(), (ctypes.c_int64 * FEW)()
         self.rooms = ctypes.addressof(self.sources), ctypes.addressof(self.targets), ctypes.addressof(self.weights)
         self.is_asked = False
-        # What is opened from here on is closed, whatever breaks this off. At the end of the interpreter threads may still be in a call.
+        # From here on the handle is closed, whatever breaks this off, but not at the end of the interpreter, when threads may still be in a call.
         weakref.finalize(self, close, calls.chtab_close, self.block, os.getpid()).atexit = False
 
     def __reduce__(self) -> NoReturn:
         raise TypeError("a handle is neither copied nor pickled")
 
     def open(self, graph: bytes, saved: bytes | None = None) -> None:
-        """Opens the network of a graph and its saved hierarchy, the bytes of both files. Without `saved` the library builds a hierarchy by depth.
+        """Opens the network of a graph and its saved hierarchy, given as the bytes of both files. Without `saved` the library builds a hierarchy by
+        depth.
 
-        What is wrong with the files is a `ProgramFault`.
+        Raises a `ProgramFault` if a file is refused.
         """
         if type(graph) is not bytes or saved is not None and type(saved) is not bytes:
             raise TypeError("files are bytes")
-        # The library builds a hierarchy if it gets no bytes. A file without bytes is a fault, so the library gets an empty line in its place.
+        # Without any bytes the library would build a hierarchy. An empty file has to be a fault, so the library gets an empty line in its place.
         given, fault = b"" if saved is None else saved or b"\n", Fault()
         with self.lock:
             status = self.calls.chtab_open(self.at, graph, len(graph), given, len(given), ctypes.byref(fault))
@@ -215,7 +216,7 @@ class Handle:
             raise fault_of(status, fault)
 
     def share(self) -> Handle:
-        """Another handle in the same network, for another thread."""
+        """Makes another handle on the same network, for another thread."""
         other = Handle(self.calls)
         with self.lock:
             status = self.calls.chtab_share(self.at, other.at)
@@ -223,7 +224,7 @@ class Handle:
         return other
 
     def close(self) -> None:
-        """Closes the handle, once the call that is under way has ended. Then each further call is refused."""
+        """Closes the handle, once the call that is under way has ended. Further calls are refused."""
         with self.lock:
             self.calls.chtab_close(self.at)
 
@@ -258,8 +259,8 @@ class Handle:
         return out
 
     def few_distances(self, sources: Sequence[int], targets: Sequence[int]) -> list[int] | None:
-        """The same of at most `FEW` pairs, as lists of numbers from 0 to below 2^32. In a tenth of the time, because no array is made or looked at.
-        The handler of a signal that asks in the middle of such a question has to use arrays: then this is None."""
+        """The same for at most `FEW` pairs, in lists of numbers from 0 to 2^32 - 1, in a tenth of the time, because it makes and checks no array.
+        Returns None to the handler of a signal that asks in the middle of such a question, which has to use arrays."""
         count = len(sources)
         with self.lock:
             if self.is_asked:
@@ -290,7 +291,7 @@ class Handle:
         """The weight of a route between two nodes, from 0 on, and its nodes, uint32; -1 and no nodes where there is no walk."""
         if not (0 <= source < 2**32 and 0 <= target < 2**32):
             raise ValueError("a node is a number of 32 bits")
-        # What is written to is this call's own, because the handler of a signal may ask before it is read.
+        # The output belongs to this call, because the handler of a signal may ask before it is read.
         found, nodes = Found(), numpy.empty(self.room, numpy.uint32)
         with self.lock:
             status = self.find(source, target, found, nodes)
@@ -302,13 +303,13 @@ class Handle:
         return -1 if found.weight == NO_DISTANCE else found.weight, nodes[:found.nodes].copy()
 
     def find(self, source: int, target: int, found: Found, nodes: Nodes) -> int:
-        """Writes the route, where there is room for its nodes."""
+        """Writes the route, if its nodes fit."""
         at = address(nodes, numpy.uint32, True)
         return self.calls.chtab_route(self.at, source, target, ctypes.byref(found), at, len(nodes))
 
     def routes(self, sources: Nodes, targets: Nodes, room: int) -> tuple[Integers, Integers, Nodes]:
-        """The routes from each source to the target beside it, columns of uint32, nodes from 0 on: of as many of the first pairs as there is room for
-        with so many nodes. Their weights, int64, -1 where there is no walk; where the nodes of each end, int64; and the nodes, uint32."""
+        """The routes from each source to the target beside it, columns of uint32, nodes from 0 on: of as many of the first pairs as fit into `room` nodes.
+        Returns their weights, int64, -1 where there is no walk; the ends of their nodes, int64; and the nodes, uint32."""
         return self.find_many(sources, targets, numpy.empty(room, numpy.uint32), numpy.empty(0, numpy.uint32))[:3]
 
     def routes_with_lines(self, sources: Nodes, targets: Nodes, room: int) -> tuple[Integers, Integers, Nodes, Nodes]:
@@ -317,7 +318,7 @@ class Handle:
         return self.find_many(sources, targets, numpy.empty(room, numpy.uint32), numpy.empty(room, numpy.uint32))
 
     def find_many(self, sources: Nodes, targets: Nodes, nodes: Nodes, lines: Nodes) -> tuple[Integers, Integers, Nodes, Nodes]:
-        """Writes the routes of the first pairs, as far as there is room."""
+        """Writes the routes of the first pairs, as many as fit."""
         count = ctypes.c_uint64()
         weights, ends = numpy.empty(len(sources), numpy.int64), numpy.empty(len(sources), numpy.int64)
         given: list[Any] = [address(sources, numpy.uint32), len(sources), address(targets, numpy.uint32), len(targets), ctypes.byref(count)]
@@ -332,8 +333,8 @@ class Handle:
         return weights[:count.value], ends, nodes[:end], lines[:end]
 
     def keep_places(self, places: Nodes, limit: int = NO_LIMIT, count: int = ALL, is_from: bool = False) -> None:
-        """Searches from places, a column of uint32, nodes from 0 on, and keeps what is found in place of what was kept: for rows of at most
-        `count` of them, of at most `limit`, by the distances to the places or from them."""
+        """Searches from places, a column of uint32, nodes from 0 on, and keeps the result in place of an earlier one: for rows of at most `count` places,
+        within `limit`, by the distances to the places or from them."""
         if not (0 <= limit <= NO_LIMIT and 0 <= count <= ALL):
             raise ValueError("a limit is a number of 64 bits, and a count one of 32")
         at = address(places, numpy.uint32)
@@ -342,14 +343,14 @@ class Handle:
         see_that_done(status)
 
     def sweep(self) -> None:
-        """Makes the rows of all nodes to the kept places, and keeps them with these."""
+        """Makes the rows of all nodes to the kept places, and keeps these rows too."""
         with self.lock:
             status = self.calls.chtab_near_sweep(self.at)
         see_that_done(status)
 
     def near_rows(self, sources: Nodes, pairs: int) -> tuple[Integers, Integers, Integers]:
-        """The rows of the first sources, a column of uint32, nodes from 0 on, to the kept places: of as many sources as there is room for with so
-        many pairs. Where each row ends, its weights and its places, int64."""
+        """The rows of the first sources, a column of uint32, nodes from 0 on, to the kept places: of as many sources as fit into this many pairs. Returns
+        the end of each row, its weights and its places, int64."""
         rows, ends = ctypes.c_uint64(), numpy.empty(len(sources), numpy.int64)
         weights, places = numpy.empty(pairs, numpy.int64), numpy.empty(pairs, numpy.uint32)
         given: list[Any] = [address(sources, numpy.uint32), len(sources), ctypes.byref(rows)]
@@ -364,8 +365,8 @@ class Handle:
         return ends, weights[:end], places[:end].astype(numpy.int64)
 
     def near_sums(self, sources: Nodes, values: Unsigned, limits: Unsigned) -> Unsigned:
-        """The sums over the rows of sources, a column of uint32, nodes from 0 on, to the kept places: for each source and each limit, columns of
-        uint64, of the values of the places that are at most as far, uint64 (n, m). A sum of 2^64 or more is a `ValueError`."""
+        """The sums over the rows of sources, a column of uint32, nodes from 0 on, to the kept places: for each source and each limit the sum of the values
+        of the places within the limit, uint64 (n, m). Raises a `ValueError` if a sum is 2^64 or more."""
         count, sums = ctypes.c_uint64(), numpy.empty(len(sources) * len(limits), numpy.uint64)
         given: list[int] = []
         columns: list[tuple[NDArray[Any], type]] = [(sources, numpy.uint32), (values, numpy.uint64), (limits, numpy.uint64)]
@@ -378,7 +379,7 @@ class Handle:
 
 
 def see_that_done(status: int) -> None:
-    """Tells why a call did nothing."""
+    """Raises the error of a call that did nothing."""
     if status == CLOSED:
         raise ChtabError(GONE)
     if status == NO_MEMORY:
@@ -402,7 +403,7 @@ def see_that_done(status: int) -> None:
 
 
 def fault_of(status: int, fault: Fault) -> ProgramFault:
-    """The fault of files that are not opened, in the words of the program."""
+    """The fault of files that the library refuses, in the words of the program."""
     kind = KINDS[fault.kind] if fault.kind < len(KINDS) else str(fault.kind)
     if status not in (BAD_GRAPH, BAD_SAVED, WRONG_SAVED):
         see_that_done(status)

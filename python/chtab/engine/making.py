@@ -1,4 +1,4 @@
-"""The files of a network that is made of arcs: its graph, and its hierarchy, which is built once and saved."""
+"""Writes the files of a network that is made of arcs: its graph, and its hierarchy, which is built once and saved."""
 from __future__ import annotations
 
 import array
@@ -33,21 +33,21 @@ if TYPE_CHECKING:
 # The files of a network in its folder.
 GRAPH, SAVED, COORDINATES, BENDS, LABELS = "network.gr", "network.ch", "network.co", "network.bends", "network.json"
 NAMES, STREETS, WAYS = "network.nodes", "network.names", "network.ways"
-# Seconds between two looks at the progress of building, and its lines: how many steps of a stage are done, and of how many.
+# Seconds between two checks of the progress of building; and its lines, with how many steps of a stage are done, and their total.
 LOOK = 0.2
 PROGRESS = re.compile(r"chtab: [^,]+, ([\d,]*\d) of ([\d,]*\d) ")
 
 
 @contextlib.contextmanager
 def begun(folder: Path) -> Iterator[str]:
-    """A folder beside the one that is wanted, which takes its name when all was written without a fault, and else is gone."""
+    """Lends a folder beside the wanted one, which gets its name if all was written without an error, and is removed otherwise."""
     folder = os.path.realpath(folder)
     see_that_free(folder)
     part = f"{folder}.part-{secrets.token_hex(8)}"
     try:
         kept = folders.Folder(part)
     except OSError as fault:
-        # The caller knows the folder by this name alone.
+        # The caller knows only this name of the folder.
         raise type(fault)(fault.errno, fault.strerror, folder) from None
     try:
         yield part
@@ -63,8 +63,8 @@ def see_that_free(folder: str) -> None:
 
 
 def write(arcs: Arcs, folder: str, program: str, running: Running) -> Handle | None:
-    """Writes the files of arcs into a folder, and builds their hierarchy. `running` says by how many workers, in whose order, and whom it tells how far
-    it is. A handle in the network, if it was built in this process."""
+    """Writes the files of arcs into a folder, and builds their hierarchy. `running` has the number of workers, the network in whose order it is built, and
+    where progress is reported. Returns a handle of the network if it was built in this process."""
     graph, saved, coordinates, bends, labels = (os.path.join(folder, name) for name in (GRAPH, SAVED, COORDINATES, BENDS, LABELS))
     comments = [f"Weights are {arcs.base}."] * bool(arcs.base) + ([] if arcs.scale is None else [files.scale_comment(arcs.scale)])
     with told_of(graph):
@@ -87,7 +87,7 @@ def write(arcs: Arcs, folder: str, program: str, running: Running) -> Handle | N
 
 
 def watch(process: subprocess.Popen[bytes], lines: IO[bytes], progress: Progress) -> None:
-    """Waits for the end of a process that builds. Meanwhile its lines of progress go to a caller: to standard error, or to a call as numbers."""
+    """Waits for the end of a process that builds. Meanwhile its lines of progress are reported on standard error, or as numbers to a callable."""
     if not progress:
         process.wait()
         return
@@ -95,7 +95,7 @@ def watch(process: subprocess.Popen[bytes], lines: IO[bytes], progress: Progress
     while not is_over:
         with contextlib.suppress(subprocess.TimeoutExpired):
             is_over = process.wait(LOOK) is not None
-        # Read at its place, because the process writes behind it by the same description.
+        # Read by `pread`, because the process writes to the same open file, and shares its position.
         some = os.pread(lines.fileno(), 1 << 20, read)
         whole = some[:some.rfind(b"\n") + 1]
         read += len(whole)
@@ -104,7 +104,7 @@ def watch(process: subprocess.Popen[bytes], lines: IO[bytes], progress: Progress
 
 
 def tell(line: str, progress: Progress) -> None:
-    """Tells a caller of a line of progress."""
+    """Reports a line of progress to the caller."""
     found = PROGRESS.match(line)
     if found and callable(progress):
         progress(*(int(number.replace(",", "")) for number in found.groups()))
@@ -114,7 +114,7 @@ def tell(line: str, progress: Progress) -> None:
 
 @contextlib.contextmanager
 def told_of(path: str) -> Iterator[None]:
-    """A fault of the system names the file that is written within, such as on a disk that is full."""
+    """Names the file in faults of the system while it is written, such as on a full disk."""
     try:
         yield
     except OSError as fault:
@@ -124,15 +124,14 @@ def told_of(path: str) -> Iterator[None]:
 
 
 def labelling_of(arcs: Arcs, digest: str) -> files.Labelling:
-    """What the file of labels has of arcs, whose graph has this SHA-256."""
+    """The content of the file of labels for arcs whose graph has this SHA-256."""
     labels = arcs.labels.values.tolist() if isinstance(arcs.labels, Labels) else None
     rows = None if arcs.arcs is None else arcs.arcs.tolist()
     return files.Labelling(labels, arcs.scale, arcs.rounding, digest, arcs.unit, arcs.rows, rows, arcs.keys, arcs.ways)
 
 
 class Beside:
-    """The files of a network that another one has too: the places of its nodes, what these are called on the map, and the streets and ways of its
-    arcs."""
+    """The files of a network that a scenario copies: the places of its nodes, their names on the map, and the streets and ways of its arcs."""
 
     def __init__(self, layers: Any, streets: files.Streets | None = None, ways: Sequence[int] | None = None) -> None:
         base = os.path.splitext(layers.path)[0]
@@ -140,8 +139,8 @@ class Beside:
         self.paths = {COORDINATES: layers.paths["coordinates"], NAMES: base + ".nodes"}
 
     def copy_to(self, folder: str) -> None:
-        """Copies them into a folder, as long as they are those of the beginning. Their comments say where trips end, so that they are not written
-        anew."""
+        """Copies them into a folder, and refuses files that were changed since the network was opened. They are copied as they are, because their
+        comments say where trips end."""
         for name, path in self.paths.items():
             if path is not None and os.path.exists(path):
                 shutil.copyfile(path, os.path.join(folder, name))
@@ -153,15 +152,15 @@ class Beside:
 
 
 def digest_of(path: str) -> str:
-    """The SHA-256 of a file. It tells whether labels are those of a graph."""
+    """The SHA-256 of a file, by which labels are matched to their graph."""
     with open(path, "rb") as file:
         return hashlib.file_digest(file, "sha256").hexdigest()
 
 
 def save(program: str, graph: str, saved: str, running: Running) -> None:
-    """Builds the hierarchy of a graph, and saves it. A fault of the program is a `ProgramFault`."""
+    """Builds the hierarchy of a graph, and saves it. Raises a `ProgramFault` if the program fails."""
     command = [program, "save", "--deep", *["--progress"] * bool(running.progress), "--workers", str(running.workers), graph]
-    # Faults come by a file and not by a pipe, which a process that is forked meanwhile would keep open.
+    # Errors go to a file, because a process that is forked meanwhile would keep a pipe open.
     with open(saved, "wb") as out, tempfile.TemporaryFile() as faults:
         with subprocess.Popen(command, stdin=subprocess.DEVNULL, stdout=out, stderr=faults) as process:
             try:
@@ -176,8 +175,8 @@ def save(program: str, graph: str, saved: str, running: Running) -> None:
 
 
 def giver_of(program: str, running: Running) -> InProcess | None:
-    """The engine in whose order a network is built in this process. There is none if the library answers for one of the two networks alone, or if
-    somebody wants to know how far the building is, because only a run of the program tells that."""
+    """The engine in whose order a network is built in this process; None unless the library answers for both networks, or if progress is wanted, because
+    only a run of the program reports it."""
     giver = running.giver
     if giver is None or giver.is_closed or running.progress:
         return None
@@ -186,7 +185,7 @@ def giver_of(program: str, running: Running) -> InProcess | None:
 
 
 def save_like(giver: InProcess, graph: str, saved: str, fresh: int) -> Handle:
-    """Builds the hierarchy of a graph in the order of another network, and saves it. A handle in its network."""
+    """Builds the hierarchy of a graph in the order of another network, and saves it. Returns a handle of its network."""
     with open(graph, "rb") as file:
         handle = giver.opened_like(file.read(), fresh)
     with told_of(saved), open(saved, "wb") as out:
@@ -195,7 +194,7 @@ def save_like(giver: InProcess, graph: str, saved: str, fresh: int) -> Handle:
 
 
 def layers_of(arcs: Arcs) -> dict[str, Any]:
-    """What the files of arcs hold, as the layers of a network have it: its labels, and the places of its nodes."""
+    """The layers of a network that are known from its arcs without reading files: the labels and places of its nodes."""
     layers: dict[str, Any] = {"labels": arcs.labels, "labelling": labelling_of(arcs, "")}
     if arcs.places is not None:
         x, y = (array.array("d", (numpy.rint(part * 1e6) / 1e6).tobytes()) for part in arcs.places)
@@ -204,7 +203,7 @@ def layers_of(arcs: Arcs) -> dict[str, Any]:
 
 
 def read_labelling(path: str, graph: str) -> files.Labelling:
-    """What `network.labels` and its neighbours answer by: the labels, and the file's other entries. They have to be those of the graph."""
+    """Reads the labels of a network and the other entries of their file, which have to belong to the graph."""
     found = files.read_labels(path)
     if found.labels is not None and len(found.labels) != files.count_nodes(graph) or found.graph != digest_of(graph):
         raise FileFault(f"{path}: not the labels of {graph}")

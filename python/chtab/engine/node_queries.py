@@ -21,8 +21,8 @@ SHARE = 2 / 3
 
 
 class NodeQueries:
-    """Asks an engine about nodes, which count from 1. Questions of any size are cut into parts that a run takes. `near` has the runs of `chtab near` on
-    the same network. `progress` is what `progress_of` takes; without it nothing is reported."""
+    """Asks an engine about nodes, which count from 1. Questions of any size are cut into parts that a run takes. `near` has the runs of `chtab near`
+    on the same network. `progress` is what `progress_of` takes; without it nothing is reported."""
 
     def __init__(self, runs: asking.Engine | InProcess, near: Any) -> None:
         self.runs, self.near = runs, near

@@ -1,4 +1,4 @@
-"""What a network is opened by: the files, and how the program runs. Another process opens it anew by the same."""
+"""What it takes to open a network: its files, and how the program runs. Another process can open it anew by the same."""
 from __future__ import annotations
 
 import difflib
@@ -25,7 +25,7 @@ if TYPE_CHECKING:
 
 @dataclass(frozen=True)
 class Running:
-    """How the program runs for a network: `Network.open` has the meaning of each."""
+    """How the program runs for a network; `Network.open` explains each."""
 
     program: str | None = None
     workers: int = 1
@@ -35,7 +35,7 @@ class Running:
     runs: int = 1
     library: bool | str = AUTO
     asked: measures.Asked = measures.Asked()
-    # How far the building of a network of arcs is: what `progress_of` takes.
+    # Where the building of a network of arcs reports its progress, as `progress_of` takes it.
     progress: Progress = None
     # The network with the same nodes in whose order one of arcs is built, and how many per cent of the nodes are ordered afresh.
     like: Any = None
@@ -54,17 +54,17 @@ class Running:
             raise TypeError(f"timeout is a number of seconds, not {self.timeout!r}")
         if self.timeout is not None and not self.timeout >= 0:
             raise ValueError(f"timeout is {self.timeout!r}: it is a number of seconds from 0 on")
-        # No other value is one of these, though 1 and `numpy.True_` are equal to True.
+        # Any other value is a path, even 1 and `numpy.True_`, which are equal to True.
         if not isinstance(self.library, bool) and self.library != AUTO:
             object.__setattr__(self, "library", os.path.abspath(self.library))
 
     def setting(self, graph: str, saved: str | None) -> asking.Setting:
-        """The same for an engine, of these files."""
+        """The setting of an engine for these files."""
         return asking.Setting(program_of(self.program), graph, saved, self.workers, self.timeout, self.runs)
 
 
 def running_of(call: str, given: Mapping[str, Any], asked: measures.Asked, also: Sequence[str] = ()) -> Running:
-    """How the program runs, by the further arguments of a call. One that is not known is a `TypeError`, which names the nearest that is."""
+    """How the program runs, from the further arguments of a call. An unknown argument is a `TypeError`, which names the nearest known one."""
     inner = "asked", "giver", *["progress", "like", "fresh"] * (call == "open")
     known = [field.name for field in fields(Running) if field.name not in inner]
     for name in given:
@@ -82,15 +82,15 @@ class Opening:
     coordinates: str | None = None
     bends: str | None = None
     labelling: str | None = None
-    # What tells the graph from another one: a network of another one at its place is another network.
+    # The stamp of the graph: with another graph at this path, it is another network.
     stamp: Stamp | None = None
-    # Whether the library for C answers, and what the caller says of units: `Network.open` has the meaning.
+    # Whether the library for C answers, and what the caller says about units; `Network.open` explains both.
     library: bool | str = AUTO
     asked: measures.Asked = measures.Asked()
 
 
 def opening_of(graph: Path, saved: Path | None, coordinates: Path | None, bends: Path | None, running: Running) -> Opening:
-    """The opening of files, each of which can be read, or of a folder."""
+    """The opening of files, after a check that each can be read, or of a folder."""
     if os.path.isdir(graph):
         return of_folder(os.path.abspath(graph), running, saved, coordinates, bends)
     graph, (saved, coordinates, bends) = os.path.abspath(graph), paths_of(saved, coordinates, bends)
@@ -99,7 +99,7 @@ def opening_of(graph: Path, saved: Path | None, coordinates: Path | None, bends:
 
 
 def of_folder(folder: str, running: Running, saved: Path | None = None, coordinates: Path | None = None, bends: Path | None = None) -> Opening:
-    """The opening of a network that was made in a folder, with other files than those of the folder where they are given."""
+    """The opening of a network that was made in a folder. Given files replace those of the folder."""
     graph, own, labelling = (os.path.join(folder, name) for name in (making.GRAPH, making.SAVED, making.LABELS))
     saved, coordinates, bends = paths_of(saved or own, coordinates, bends)
     see_that_readable(graph, saved, labelling, coordinates, bends)
@@ -107,12 +107,12 @@ def of_folder(folder: str, running: Running, saved: Path | None = None, coordina
 
 
 def paths_of(*paths: Path | None) -> list[str | None]:
-    """The whole paths of files, None where there is none."""
+    """The absolute paths of files; None for None."""
     return [None if path is None else os.path.abspath(path) for path in paths]
 
 
 def see_that_readable(*paths: str | None) -> None:
-    """Opens each file once, so that one that can't be opened is told now."""
+    """Opens each file once, so that a file that can't be opened is an error now."""
     for path in filter(None, paths):
         open(path, "rb").close()
 

@@ -1,4 +1,4 @@
-"""The files of chtab: each kind is read and written here, and nowhere else. Nothing but Python's own library is needed.
+"""The files of chtab. Each kind is read and written here alone, with no more than Python's own library.
 
 | file | what it holds | read | write |
 |---|---|---|---|
@@ -8,16 +8,16 @@
 | `.nodes` | a line for each node: its name, in OpenStreetMap or elsewhere | `read_names` | `write_names` |
 | `.p2p` | queries: pairs of nodes | `read_queries` | `write_queries` |
 | `.ss` | a list of nodes: sources or targets | `read_list` | `write_list` |
-| `.names` | what arcs are called: a street for each, and the side of the road that is driven on | `read_streets` | `write_streets` |
+| `.names` | the street of each arc, and the side of the road that is driven on | `read_streets` | `write_streets` |
 | `.ways` | OpenStreetMap's number of the way that each arc is a part of | `read_ways` | `write_ways` |
-| places | longitude, latitude and a name a line | `read_places` | |
+| places | a longitude, a latitude and a name in each line | `read_places` | |
 | text of `dist` | distances and routes | `read_answers` | |
-| `.json` | what the nodes of a network are called by its owner | `read_labels` | `write_labels` |
+| `.json` | the owner's labels of the nodes of a network | `read_labels` | `write_labels` |
 | text of `near` | the targets near each source | `read_near` | |
 | text of `table` | a row for each source | `read_rows`, `read_row_texts` | `write_csv`, `write_csv_of_texts`, `write_npy_of_texts` |
 
-Nodes are numbered from 1, arcs by their order from 0. Columns of numbers are `array.array`s, which numpy takes without a copy.
-What is read may be a path, an open file or lines; what is written a path or an open file. A `FileFault` names the file.
+Nodes are numbered from 1, and arcs from 0, in their order. Columns of numbers are `array.array`s, which numpy takes without a copy. Readers take a
+path, an open file or lines, and writers a path or an open file. A `FileFault` names the file.
 """
 from chtab.errors import FileFault
 from chtab.files.forms import whole

@@ -1,4 +1,4 @@
-"""Arcs of columns: labels at both ends and weights become the arcs of a graph. Whatever the program would refuse is refused here."""
+"""Makes the arcs of a graph from columns of labels and weights. Whatever the program would refuse is refused here."""
 from __future__ import annotations
 
 import math
@@ -24,7 +24,7 @@ NAMES = "sources", "targets", "weights"
 
 @dataclass(frozen=True)
 class Columns:
-    """What a network is made of, as callers give it: `Network.from_arrays` has the meaning of each. `names` are those of the first three."""
+    """The columns of a network, as callers give them; `Network.from_arrays` explains each. `names` are the names of the first three."""
 
     sources: Column
     targets: Column
@@ -43,14 +43,13 @@ class Columns:
 
 @dataclass(frozen=True)
 class Arcs:
-    """The arcs of a graph: arc k leads from node `tails[k]` to node `heads[k]` and weighs `weights[k]`, all int64.
+    """The arcs of a graph: arc k leads from node `tails[k]` to node `heads[k]` and has the weight `weights[k]`, all int64.
 
-    Weights are those of the caller times `scale`, rounded by at most `rounding`. `unit` is what the caller's are measured in, None where nobody
-    told it. `places` are the longitudes and latitudes of the nodes in degrees, or None. `bends` has the points of arcs between their ends, as
-    `files.read_bends` gives them. `rows` is how many rows the caller gave; arc k is of row `arcs[k]`, or of row k modulo `rows`. `keys` has the
-    keys of rows and `ways` their ways of OpenStreetMap, `base` is what the weights of the graph are, and `beside` has the files of places that are
-    taken along, or is None.
-    """
+    The weights are those of the caller times `scale`, rounded by at most `rounding`, and `unit` is the unit of the caller's weights, or None.
+    `places` are the longitudes and latitudes of the nodes in degrees, or None. `bends` has the points of arcs between their ends, as
+    `files.read_bends` gives them. `rows` is the number of the caller's rows; arc k belongs to row `arcs[k]`, or to row k modulo `rows`. `keys` has
+    the keys of rows, and `ways` their ways of OpenStreetMap. `base` is the unit of the graph's weights, and `beside` has further files of the network
+    that are copied, or is None. """
 
     labels: Labels | Numbers
     tails: Integers
@@ -70,7 +69,7 @@ class Arcs:
 
 
 def arcs_of(given: Columns) -> Arcs:
-    """The arcs of columns. Whatever the program would refuse is refused here, with its row."""
+    """Makes arcs from columns. Whatever the program would refuse is refused here, with its row."""
     sources, targets = (columns.column_labels_in(name, column) for name, column in zip(given.names, (given.sources, given.targets)))
     weights, factor, scale, unit = weights_in(given)
     columns.see_that_long(given.names, [sources, targets, weights])
@@ -91,9 +90,9 @@ def arcs_of(given: Columns) -> Arcs:
 
 
 def weights_in(given: Columns) -> tuple[NDArray[Any], float | None, float | None, str | None]:
-    """The weights as they are given, what they are multiplied by, how many of the graph's make one of the caller's unit, and that unit.
+    """The given weights, the factor that makes them whole, how many of the graph's weights make one of the caller's unit, and that unit.
 
-    Durations are milliseconds here, whatever the unit of answers is.
+    Durations become milliseconds here, whatever the unit of answers is.
     """
     scale, unit = scale_in(given.scale), measures.unit_in(given.unit)
     durations = columns.durations_in(given.names[2], given.weights)
@@ -131,7 +130,7 @@ def scale_in(scale: float | None) -> float | None:
 
 
 def whole_weights(name: str, weights: NDArray[Any], scale: float | None, most: int) -> tuple[Integers, float]:
-    """The weights of a graph, int64, none above `most`; and the largest difference of one of them from what was given times the scale."""
+    """The weights of a graph, int64, none above `most`, and the largest difference between one of them and the given weight times the scale."""
     see_that_weights(name, weights)
     if weights.dtype == numpy.int64 and isinstance(scale, int | None):
         factor = 1 if scale is None else scale
@@ -148,21 +147,21 @@ def whole_weights(name: str, weights: NDArray[Any], scale: float | None, most: i
 
 
 def see_that_weights(name: str, weights: NDArray[Any]) -> None:
-    """Refuses the first weight that is below 0, or no finite number."""
+    """Refuses the first weight that is below 0 or not finite."""
     place = columns.first_of(~((weights >= 0) & (weights < numpy.inf)))
     if place is not None:
         raise refused(name, place, f"{weights[place]} is {'below 0' if -numpy.inf < weights[place] < 0 else 'no weight'}")
 
 
 def see_that_small(name: str, weights: NDArray[Any], is_small: Marks) -> None:
-    """Refuses the first weight that is not small enough."""
+    """Refuses the first weight that is too large."""
     place = columns.first_of(~is_small)
     if place is not None:
         raise refused(name, place, f"{weights[place]} is too large: as in the graph, times the number of nodes, it is more than 2^60")
 
 
 def places_in(given: Columns, count: int) -> tuple[Floats, Floats] | None:
-    """Longitudes and latitudes of so many nodes, or None where the caller gives none."""
+    """Longitudes and latitudes of `count` nodes, or None if the caller gives none."""
     if given.x is None and given.y is None:
         return None
     for name, column in ("nodes", given.nodes), ("x", given.x), ("y", given.y):

@@ -1,7 +1,7 @@
-"""Columns as callers give them: arrays, lists, and columns of frames. A value that is refused is a `DataFault`, which names its row.
+"""Columns as callers give them: arrays, lists, and columns of frames. A refused value raises a `DataFault`, which names its row.
 
-Nothing is guessed. A missing or masked value is refused, and so is a column of several kinds: numpy alone would take the label 1 beside the
-label "a" for the label "1".
+Nothing is guessed. Missing and masked values are refused, and so are columns of several kinds: numpy alone would turn the label 1 beside the label
+"a" into the label "1".
 """
 from __future__ import annotations
 
@@ -19,34 +19,34 @@ if TYPE_CHECKING:
     from numpy.typing import ArrayLike, NDArray
     from chtab.typing import Column, Floats, LabelArray, Marks
 
-# The whole numbers of 64 bits, and the most bits of a label. Python itself does not write integers of many thousand digits.
+# The whole numbers of 64 bits, and the most bits of a label, because Python itself does not write integers of many thousand digits.
 LEAST, GREATEST = -(2**63), 2**63 - 1
 MOST_BITS = 4_096
-# Up to here each whole number is a float of its own.
+# Up to this number each whole number is a float of its own.
 EXACT = 2**53
 INTEGERS, STRINGS, TUPLES = "integers", "strings", "tuples"
 
 
 def told(value: object) -> str:
-    """A value as a message has it, cut short."""
+    """A value as text for a message, shortened."""
     bits = value.bit_length() if isinstance(value, int) else 0
     return f"an integer of {bits:,} bits" if bits > MOST_BITS else reprlib.repr(value)
 
 
 def refused(name: str, row: int, text: str) -> DataFault:
-    """The fault of the value in a row of a column."""
+    """The fault of a value in a row of a column."""
     return DataFault(f"{name}[{row}]: {text}", name, row)
 
 
 def first_of(marks: ArrayLike) -> int | None:
-    """The first place where an array is true, None where it is nowhere."""
+    """The first place where an array is true; None if there is none."""
     marks = numpy.reshape(marks, -1)
     place = int(marks.argmax()) if marks.size else 0
     return place if marks.size and marks[place] else None
 
 
 def array_of(name: str, column: Column) -> NDArray[Any]:
-    """The array of a column. A list becomes an array of objects, so that no value of it is made another."""
+    """The array of a column. A list becomes an array of objects, so that numpy converts no value of it."""
     if isinstance(column, numpy.ma.MaskedArray):
         see_that_there(name, numpy.ma.getmaskarray(column), "is masked")
         column = column.data
@@ -68,7 +68,7 @@ def width_of(array: NDArray[Any]) -> int:
 
 
 def row_of(array: NDArray[Any], place: int) -> int:
-    """The row of an array that has its value of a place, in the order of its values."""
+    """The row of the value at a place of an array, in the order of its values."""
     return place // width_of(array)
 
 
@@ -88,7 +88,8 @@ def see_that_long(names: Sequence[str], columns: Sequence[Sized]) -> None:
 
 
 def in_rows(column: Any, count: int) -> Any:
-    """A column with a value for each of so many rows, in their order: one of pandas whose index has these rows in another order is put in theirs."""
+    """A column with a value for each of `count` rows. A column of pandas is put in the order of the rows if its index has their numbers in another
+    order."""
     if not hasattr(column, "iloc"):
         return column
     order = numpy.asarray(column.index)
@@ -104,12 +105,12 @@ def is_integer(kind: type) -> bool:
 
 
 def kind_of(kind: type) -> str | None:
-    """The kind of labels that a type of values makes, None where it makes none."""
+    """The kind of labels that values of a type are; None if they are no labels."""
     return STRINGS if issubclass(kind, str) else TUPLES if issubclass(kind, tuple) else INTEGERS if is_integer(kind) else None
 
 
 def are_whole(column: NDArray[Any]) -> Marks:
-    """Which numbers of a column of floats are whole numbers that no other float stands for."""
+    """Which numbers of a column of floats are whole, and small enough that each whole number has its own float."""
     return (column == numpy.floor(column)) & (abs(column) <= EXACT)
 
 
@@ -119,17 +120,17 @@ def labels_in(name: str, column: Column) -> LabelArray:
     Returns
     -------
     array of int64 or object
-        Integers, as objects where one of them has more than 64 bits; or objects of `str`, or of `tuple`.
+        Integers, as objects if one of them has more than 64 bits; or objects of `str`, or of `tuple`.
 
     Raises
     ------
     DataFault
-        A value is no label, such as 1.5 or NaN; or there are several kinds of labels. The first one is named.
+        A value is no label, such as 1.5 or NaN, or there are several kinds of labels. The message names the first such value.
     """
     array = array_of(name, column)
     if array.size == 0:
         return array.astype(numpy.int64)
-    # numpy compares its own numbers of 64 bits with Python's as decimal ones.
+    # numpy would compare unsigned numbers of 64 bits with Python's as floats.
     if array.dtype.kind == "i" or array.dtype.kind == "u" and int(array.max()) <= GREATEST:
         return array.astype(numpy.int64)
     if array.dtype.kind == "u":
@@ -153,7 +154,7 @@ def labels_in(name: str, column: Column) -> LabelArray:
 
 
 def column_labels_in(name: str, column: Column) -> LabelArray:
-    """The same of one column, whose labels may be tuples. A list of tuples is one column, and not several."""
+    """The labels of a single column, which may be tuples: a list of tuples is one column here, not several."""
     if isinstance(column, list | tuple) and isinstance(next(iter(column), None), tuple):
         return tuples_in(name, column)
     labels = labels_in(name, column)
@@ -172,13 +173,13 @@ def tuples_in(name: str, column: Iterable[Any]) -> LabelArray:
 
 
 def whole_as_integer(value: Any) -> Any:
-    """A whole float as the integer that it is, and any other value as it is: ids are floats where a column lacked some of them once."""
+    """A whole float as an integer, and any other value unchanged. Ids become floats in pandas if a column ever lacked some of them."""
     is_float = isinstance(value, float | numpy.floating)
     return int(value) if is_float and float(value).is_integer() and abs(value) <= EXACT else value
 
 
 def no_label(name: str, array: NDArray[Any]) -> DataFault:
-    """The fault of an array of another kind: of its first NaN, or of its first value that is not whole, or else of its first value."""
+    """The fault of an array that has no labels, about its first NaN, its first value that is not whole, or its first value."""
     place = None
     if array.dtype.kind == "f":
         place = first_of(numpy.isnan(array))
@@ -188,7 +189,7 @@ def no_label(name: str, array: NDArray[Any]) -> DataFault:
 
 
 def see_that_labels(name: str, values: Sequence[object], width: int = 1) -> set[type]:
-    """The types of a list of labels, of which so many are in a row. The first one that is no label, or of another kind, is a fault."""
+    """The types of a list of labels, `width` of which are in a row. Refuses the first value that is no label, or of another kind."""
     types = set(map(type, values))
     kinds = set(map(kind_of, types))
     if len(kinds) < 2 and None not in kinds:
@@ -206,7 +207,7 @@ def objects_like(array: NDArray[Any], values: Iterable[object]) -> LabelArray:
 
 
 def objects_of(values: Sequence[Any]) -> LabelArray:
-    """A column of objects, of a list. Tuples stay what they are."""
+    """A column of objects from a list, in which tuples stay tuples."""
     made = numpy.empty(len(values), object)
     if values and isinstance(values[0], tuple):
         for place, value in enumerate(values):
@@ -217,8 +218,8 @@ def objects_of(values: Sequence[Any]) -> LabelArray:
 
 
 def integers_like(name: str, array: NDArray[Any], values: Iterable[Any]) -> LabelArray:
-    """Integers in the shape of an array: of int64 where all of them are. One of too many bits is a fault."""
-    # Numbers of numpy are made Python's, because numpy would take one past 2^63 for another.
+    """Integers in the shape of an array, as int64 if all of them fit. Refuses integers of too many bits."""
+    # Converted to Python's integers, because numpy would convert numbers past 2^63 to others.
     values = list(map(int, values))
     with contextlib.suppress(OverflowError):
         return numpy.array(values, numpy.int64).reshape(array.shape)
@@ -232,7 +233,7 @@ def integers_like(name: str, array: NDArray[Any], values: Iterable[Any]) -> Labe
 
 
 def durations_in(name: str, column: Column) -> Any:
-    """The milliseconds of a column of durations, in the widest decimal numbers that the machine has; None of another column."""
+    """The milliseconds of a column of durations, as `numpy.longdouble`; None for any other column."""
     array = array_of(name, column)
     if array.dtype == object and array.ndim == 1 and array.size and isinstance(array[0], datetime.timedelta | numpy.timedelta64):
         for row, value in enumerate(array.tolist()):
@@ -247,9 +248,9 @@ def durations_in(name: str, column: Column) -> Any:
 
 
 def numbers_in(name: str, column: Column, with_booleans: bool = False) -> NDArray[Any]:
-    """The numbers of a column: int64, or of the widest decimal numbers that the machine has. True and False may be 1 and 0.
+    """The numbers of a column: int64 or `numpy.longdouble`. `with_booleans` takes True and False as 1 and 0.
 
-    Those of most machines hold each whole number of 64 bits, and the product of most decimal numbers and a thousand.
+    On most machines a `longdouble` holds each whole number of 64 bits, and the product of a float and a thousand.
     """
     array = array_of(name, column)
     see_that_flat(name, array)
@@ -270,7 +271,7 @@ def numbers_in(name: str, column: Column, with_booleans: bool = False) -> NDArra
 
 
 def numbers_of_objects(name: str, values: Sequence[Any]) -> NDArray[Any]:
-    """The same of a list."""
+    """The numbers of a list."""
     kinds = set(map(type, values))
     if not all(map(is_number, kinds)):
         place = next(place for place, value in enumerate(values) if not is_number(type(value)))
@@ -291,7 +292,7 @@ def is_number(kind: type) -> bool:
 
 
 def degrees_in(name: str, column: Column, most: int) -> Floats:
-    """Degrees from -`most` to `most`, float64."""
+    """The degrees of a column, from -`most` to `most`, float64."""
     degrees = numbers_in(name, column).astype(float)
     place = first_of(~(abs(degrees) <= most))
     if place is not None:

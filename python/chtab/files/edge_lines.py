@@ -1,4 +1,4 @@
-"""How arcs lie: lines as callers give them, such as those of shapely, and the points between their ends."""
+"""The lines of arcs as callers give them, such as those of shapely, and the points between their ends."""
 from __future__ import annotations
 
 from collections.abc import Sequence
@@ -19,9 +19,9 @@ Line: TypeAlias = "Floats"
 
 
 def lines_in(name: str, column: Any, rows: int) -> list[Line | None] | None:
-    """The lines of a column, each as an array of longitudes and latitudes (n, 2) with n from 2 on, or None; None where there is no column.
+    """The lines of a column, each as an array of at least two longitudes and latitudes (n, 2), or None; None if there is no column.
 
-    A line is one of shapely, or a list of pairs. Numbers behind the first two of a point, such as heights, are passed over.
+    A line is one of shapely, or a list of pairs. Further numbers of a point, such as heights, are ignored.
     """
     if column is None:
         return None
@@ -33,7 +33,7 @@ def lines_in(name: str, column: Any, rows: int) -> list[Line | None] | None:
 
 
 def line_in(name: str, row: int, line: Any) -> Line | None:
-    """One of them."""
+    """The line of one value of such a column."""
     if line is None or isinstance(line, float) and line != line:
         return None
     kind = getattr(line, "geom_type", "LineString")
@@ -49,7 +49,7 @@ def line_in(name: str, row: int, line: Any) -> Line | None:
 
 
 def ends_of(lines: Sequence[Line | None], tails: Integers, heads: Integers, labels: Labels) -> tuple[Floats, Floats]:
-    """The longitudes and latitudes of all nodes, by the ends of the lines that lead from them and to them."""
+    """The longitudes and latitudes of all nodes, from the ends of the lines at them."""
     places = numpy.full((len(labels.values), 2), numpy.nan)
     for line, tail, head in zip(lines, tails.tolist(), heads.tolist()):
         if line is not None:
@@ -62,8 +62,8 @@ def ends_of(lines: Sequence[Line | None], tails: Integers, heads: Integers, labe
 
 
 def bends_of(lines: Sequence[Line | None], tails: Integers, heads: Integers, places: tuple[Floats, Floats] | None) -> dict[int, list[Point]]:
-    """The points between the ends of each arc whose line has some: {arc: [(longitude, latitude), ..]}. A line that leads from the head of its arc
-    to the tail is turned round."""
+    """The points between the ends of each arc, if its line has some: {arc: [(longitude, latitude), ..]}. A line that leads from the head of its arc
+    to the tail is reversed."""
     if places is None:
         raise DataFault("geometry is given and places are not: `nodes`, `x` and `y` are needed too", "geometry")
     bends = {}
@@ -76,6 +76,6 @@ def bends_of(lines: Sequence[Line | None], tails: Integers, heads: Integers, pla
 
 
 def is_turned(line: Line, tail: Sequence[float], head: Sequence[float]) -> bool:
-    """Whether the ends of a line are nearer to the arc's ends the other way round."""
+    """Whether the ends of a line are nearer to the arc's ends in the opposite direction."""
     straight, turned = (abs(line[[0, -1]] - ends).sum() for ends in ((tail, head), (head, tail)))
     return turned < straight

@@ -1,4 +1,4 @@
-"""What the files of each kind have in common: paths and open files, columns of numbers, comments, and lines written many at once."""
+"""Parts of files of all kinds: paths and open files, columns of numbers, comments, and lines that are written many at a time."""
 from __future__ import annotations
 
 import array
@@ -13,15 +13,15 @@ from chtab.errors import FileFault
 if TYPE_CHECKING:
     from chtab.typing import Path, Source, Target
 
-# Lines that are formatted at once.
+# How many lines are formatted at a time.
 ROWS_AT_ONCE = 1_000
-# Rows of columns that are made lists at once.
+# How many rows of columns become lists at a time.
 COLUMNS_AT_ONCE = 1 << 16
 
 
 @contextlib.contextmanager
 def reading(source: Source, mode: str = "r") -> Iterator[Any]:
-    """The file of a path, opened, or an open file or lines as they are. Bytes that are no text are a fault of the file."""
+    """Opens the file of a path, or takes an open file or lines as they are. Bytes that are no text are a fault of the file."""
     opened: Any = open(source, mode) if isinstance(source, (str, os.PathLike)) else contextlib.nullcontext(source)
     with opened as file:
         try:
@@ -32,7 +32,7 @@ def reading(source: Source, mode: str = "r") -> Iterator[Any]:
 
 @contextlib.contextmanager
 def writing(target: Target, mode: str = "w") -> Iterator[IO[Any]]:
-    """An open file as it is, or the file of a path, made new."""
+    """Takes an open file as it is, or makes the file of a path anew."""
     opened: Any = contextlib.nullcontext(target) if hasattr(target, "write") else open(cast("Path", target), mode)
     with opened as file:
         yield file
@@ -43,7 +43,7 @@ def name_of(source: Source) -> str:
 
 
 def columns(source: Source, letter: bytes, count: int) -> tuple[list[array.array[int]], list[bytes]]:
-    """The numbers of all lines of a letter, in as many columns; and the comments and problem lines, as words of bytes."""
+    """The `count` columns of numbers in all lines that start with a letter; and the comments and problem lines, as bytes."""
     heads: list[bytes] = []
 
     def items(file: Iterable[bytes]) -> Iterator[bytes]:
@@ -75,26 +75,26 @@ def write_comments(file: IO[str], comments: Iterable[str]) -> None:
 
 
 def write_rows(file: IO[str], form: str, rows: Iterable[Iterable[Any]]) -> None:
-    """A line of this form for each row of numbers; many are formatted at once, which takes half of the time."""
+    """Writes a line of this form for each row of numbers. Formatting many lines at a time takes half as long."""
     rows = iter(rows)
     while some := list(itertools.islice(rows, ROWS_AT_ONCE)):
         file.write(form * len(some) % tuple(itertools.chain.from_iterable(some)))
 
 
 def write_columns(file: IO[str], form: str, numbers: Sequence[Any]) -> None:
-    """A line of this form for each row of columns, which are arrays of whole numbers. Parts of them become lists, one after the other."""
+    """Writes a line of this form for each row of columns, which are arrays of whole numbers. They become lists part by part."""
     for start in range(0, len(numbers[0]), COLUMNS_AT_ONCE):
         write_rows(file, form, zip(*(column[start:start + COLUMNS_AT_ONCE].tolist() for column in numbers)))
 
 
 @contextlib.contextmanager
 def whole(path: str) -> Iterator[str]:
-    """Gives a path beside this one, which takes its name once it was written without a fault, and else is gone.
+    """Lends a path beside this one. The file there gets the final name if it was written without an error, and is removed otherwise.
 
     Parameters
     ----------
     path : str
-        The name that the file gets.
+        The final name of the file.
 
     Yields
     ------
@@ -104,7 +104,7 @@ def whole(path: str) -> Iterator[str]:
     Raises
     ------
     OSError
-        The file can't take its name.
+        The file can't get its name.
     """
     part = f"{path}.part-{os.getpid()}"
     try:

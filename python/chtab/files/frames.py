@@ -1,5 +1,5 @@
-"""Columns of arcs from frames, graphs of networkx and sparse matrices. Neither pandas nor networkx is imported: what they give is asked by its own
-calls."""
+"""Columns of arcs from frames, graphs of networkx and sparse matrices. Neither pandas nor networkx is imported: only the methods of their objects are
+called."""
 from __future__ import annotations
 
 from collections.abc import Iterable, Mapping, Sequence
@@ -12,15 +12,15 @@ from chtab.errors import DataFault
 from chtab.files import arc_columns, columns, measures
 from chtab.files.columns import told
 
-# What `from_frame` passes on to `from_arrays`.
+# The arguments of `from_arrays` that `from_frame` takes too.
 FURTHER = {field.name for field in fields(arc_columns.Columns)} & {"nodes", "x", "y", "scale", "unit", "both_ways"}
 
-# What osmnx calls the ways of OpenStreetMap that an edge is made of: one number, or a list.
+# The attribute in which osmnx has the ways of an edge: one number, or a list of them.
 WAYS = "osmid"
 
 
 def ways_in(column: Iterable[Any]) -> list[list[int]] | None:
-    """The numbers of the ways of each edge; None where not each edge has a number or a list of them."""
+    """The numbers of the ways of each edge; None unless each edge has a number or a list of numbers."""
     ways = [list(way) if isinstance(way, list | tuple | set | numpy.ndarray) else [way] for way in column]
     if not all(columns.is_integer(kind) for kind in {type(number) for way in ways for number in way}):
         return None
@@ -28,7 +28,7 @@ def ways_in(column: Iterable[Any]) -> list[list[int]] | None:
 
 
 def column_of(frame: Any, name: str) -> Any:
-    """The column of a frame, or the level of its index, of a name."""
+    """The column of a frame, or the level of its index, with a name."""
     if name in frame.columns:
         return frame[name]
     if name in getattr(getattr(frame, "index", None), "names", ()):
@@ -38,7 +38,7 @@ def column_of(frame: Any, name: str) -> Any:
 
 
 def columns_of_frame(frame: Any, names: Sequence[str], geometry: str | None, more: Mapping[str, Any]) -> tuple[arc_columns.Columns, dict[str, Any]]:
-    """The columns of these names, with those of `more` that tell of arcs; and the others of `more`."""
+    """The columns with these names, together with the items of `more` about arcs; and the other items of `more`."""
     of_arcs = {name: value for name, value in more.items() if name in FURTHER}
     lines = None if geometry is None else column_of(frame, geometry)
     sources, targets, weights = (column_of(frame, name) for name in names)
@@ -49,7 +49,7 @@ def columns_of_frame(frame: Any, names: Sequence[str], geometry: str | None, mor
 def arcs_of_networkx(
     graph: Any, weight: str, scale: float | None, unit: str | None, places: tuple[str | None, str | None], geometry: str | None,
 ) -> arc_columns.Arcs:
-    """The arcs of a graph by an attribute of its edges, with the places by two attributes of its nodes, and lines, where these are there."""
+    """The arcs of a graph, with the weights of an attribute of its edges, and with places and lines if its nodes and edges have them."""
     nodes, edges = list(graph.nodes), list(graph.edges(data=weight))
     columns.see_that_labels("nodes", list(map(columns.whole_as_integer, nodes)))
     sources, targets, weights = (list(column) for column in zip(*edges)) if edges else ([], [], [])
@@ -68,7 +68,7 @@ def arcs_of_networkx(
 
 
 def places_of(graph: Any, nodes: Sequence[Any], names: tuple[str | None, str | None]) -> Sequence[list[Any] | None]:
-    """Two attributes of all nodes, None each where no node has one of them."""
+    """Two attributes of all nodes; None for both if no node has either."""
     if None in names:
         return None, None
     found = [[place for _, place in graph.nodes(data=name)] for name in names]
@@ -77,7 +77,7 @@ def places_of(graph: Any, nodes: Sequence[Any], names: tuple[str | None, str | N
 
 
 def told_of(fault: DataFault, graph: Any, nodes: Sequence[Any], edges: Sequence[Any]) -> DataFault:
-    """The fault of a column, with the node or the edge that its row is."""
+    """The fault of a column, with the node or edge of its row."""
     if fault.row is None:
         return fault
     if fault.column in ("nodes", "x", "y"):

@@ -14,26 +14,26 @@ from chtab.files.forms import ROWS_AT_ONCE, columns, comments_of, name_of, write
 if TYPE_CHECKING:
     from chtab.typing import Path, Point, Source, Target
 
-# The weights' units that a graph's comment may name, each with its short name and how many of the weight make one.
+# The units of weights that a comment of a graph may name, each with the unit for people and how many of the first make one of it.
 UNITS = {"milliseconds": ("min", 60_000), "metres": ("km", 1_000)}
-# Comments of coordinates, since turns are restricted there (docs/MAPS.md): where trips to a node end, and which node is another one too.
+# Comments about nodes where turns are restricted (docs/MAPS.md): the node where trips to a node end, and copies of a node.
 END = re.compile(r"Trips to node (\d+) end at node (\d+)\.")
 COPY = re.compile(r"Node (\d+) is node (\d+), as some turns come to it\.")
 
 
 class Graph(NamedTuple):
-    """A graph: arc k leads from `tails[k]` to `heads[k]` and weighs `weights[k]`; columns of 64-bit numbers."""
+    """A graph: arc k leads from `tails[k]` to `heads[k]` and has the weight `weights[k]`; columns of 64-bit numbers."""
 
     nodes: int
     tails: array.array[int]
     heads: array.array[int]
     weights: array.array[int]
-    # `milliseconds` or `metres` where a comment says `Weights are ..`, and else empty.
+    # `milliseconds` or `metres` if a comment says `Weights are ..`, and otherwise empty.
     unit: str
 
 
 class Coordinates(NamedTuple):
-    """Where nodes lie: node k at `longitudes[k - 1]`, `latitudes[k - 1]`, in degrees; NaN where the file has no line for it."""
+    """The places of nodes: node k is at `longitudes[k - 1]`, `latitudes[k - 1]`, in degrees; NaN if the file has no line for it."""
 
     longitudes: array.array[float]
     latitudes: array.array[float]
@@ -46,11 +46,11 @@ class Coordinates(NamedTuple):
         raise FileFault(f"the coordinate file has no node {node}")
 
     def ends(self) -> dict[int, int]:
-        """Where trips end whose target is a node at which turns are restricted: {node: node}. All others end at their target."""
+        """The nodes where trips end whose target is a node with restricted turns: {target: node}. All other trips end at their target."""
         return {int(found[1]): int(found[2]) for found in map(END.fullmatch, self.comments) if found}
 
     def copies(self) -> dict[int, int]:
-        """The nodes that stand for another one, where turns are restricted: {node: that one}. Those where trips end are among them."""
+        """The copies of nodes with restricted turns, those where trips end among them: {copy: node}."""
         found = {int(found[1]): int(found[2]) for found in map(COPY.fullmatch, self.comments) if found}
         return found | {end: node for node, end in self.ends().items()}
 
@@ -60,12 +60,12 @@ class Coordinates(NamedTuple):
 
 
 def read_graph(source: Source) -> Graph:
-    """Reads a graph (`.gr`). Its limits are not judged: that the program does.
+    """Reads a graph (`.gr`), without checking its limits, which the program does.
 
     Parameters
     ----------
     source : path, open file or lines
-        What is read.
+        The file to read.
 
     Returns
     -------
@@ -75,7 +75,7 @@ def read_graph(source: Source) -> Graph:
     Raises
     ------
     FileFault
-        The file isn't of this kind; the text names it, and the line where there is one.
+        The file isn't of this kind; the message names it, and the line if there is one.
 
     Examples
     --------
@@ -93,7 +93,7 @@ def read_graph(source: Source) -> Graph:
 
 
 def read_unit(path: Path) -> str:
-    """Reads what a graph's comments say that its weights are, without its arcs: comments behind the first arc are not looked at.
+    """Reads the unit of a graph's weights from the comments before its first arc.
 
     Parameters
     ----------
@@ -103,7 +103,7 @@ def read_unit(path: Path) -> str:
     Returns
     -------
     str
-        `milliseconds` or `metres`, and else empty.
+        `milliseconds` or `metres`, or empty if no comment names a unit.
 
     Raises
     ------
@@ -115,7 +115,7 @@ def read_unit(path: Path) -> str:
 
 
 def unit_of(lines: Iterable[bytes]) -> str:
-    """The unit that comments among some lines name, empty where none does."""
+    """The unit that comments among some lines name; empty if none does."""
     told = [comment.split()[-1].strip(".") for comment in comments_of(lines) if comment.startswith("Weights are ")]
     return told[0] if told and told[0] in UNITS else ""
 
@@ -136,7 +136,7 @@ def count_arcs(path: Path) -> int:
     Raises
     ------
     FileFault
-        The file isn't of this kind; the text names it.
+        The file isn't of this kind; the message names it.
     """
     return counts_in(path)[1]
 
@@ -157,7 +157,7 @@ def count_nodes(path: Path) -> int:
     Raises
     ------
     FileFault
-        The file isn't of this kind; the text names it, and the line where there is one.
+        The file isn't of this kind; the message names it, and the line if there is one.
     """
     return counts_in(path)[0]
 
@@ -178,7 +178,7 @@ def write_graph(target: Target, nodes: int, arcs: Sequence[tuple[int, int, float
     Parameters
     ----------
     target : path or open file
-        Where it goes to. Nothing is written where an arc is refused.
+        The file to write. Nothing is written if an arc is refused.
     nodes : int
         How many nodes there are.
     arcs : list of (from, to, weight)
@@ -204,7 +204,7 @@ def write_graph(target: Target, nodes: int, arcs: Sequence[tuple[int, int, float
 
 
 def scale_comment(scale: float) -> str:
-    """Gives the comment of a graph whose weights were multiplied by a scale and rounded.
+    """Returns the comment of a graph whose weights were multiplied by a scale and rounded.
 
     Parameters
     ----------
@@ -214,18 +214,18 @@ def scale_comment(scale: float) -> str:
     Returns
     -------
     str
-        A line without its `c`.
+        The comment, without its `c`.
     """
     return f"Weights were multiplied by {scale} and rounded to whole numbers."
 
 
 def write_graph_columns(target: Target, nodes: int, columns_of_arcs: Sequence[Any], comments: Iterable[str] = ()) -> None:
-    """Writes the same graph as `write_graph`, from columns. Nothing is judged.
+    """Writes the same graph as `write_graph`, from columns. Nothing is checked.
 
     Parameters
     ----------
     target : path or open file
-        Where it goes to.
+        The file to write.
     nodes : int
         How many nodes there are.
     columns_of_arcs : three arrays of int64, shape (m,)
@@ -250,7 +250,7 @@ def read_coordinates(source: Source) -> Coordinates:
     Parameters
     ----------
     source : path, open file or lines
-        What is read.
+        The file to read.
 
     Returns
     -------
@@ -260,7 +260,7 @@ def read_coordinates(source: Source) -> Coordinates:
     Raises
     ------
     FileFault
-        The file isn't of this kind; the text names it, and the line where there is one.
+        The file isn't of this kind; the message names it, and the line if there is one.
     """
     (nodes, xs, ys), lines = columns(source, b"v", 3)
     if not nodes:
@@ -285,7 +285,7 @@ def see_that_whole(arcs: Sequence[tuple[int, int, float]]) -> None:
     """Refuses the first arc that has a number which is not whole."""
     for start in range(0, len(arcs), ROWS_AT_ONCE):
         some = arcs[start:start + ROWS_AT_ONCE]
-        # Nearly always all are of this type, which is known sooner than each value is looked at.
+        # Nearly always all are of this type, and this check is faster than one of each value.
         if set(map(type, itertools.chain.from_iterable(some))) == {int}:
             continue
         for place, arc in enumerate(some, start):
@@ -310,7 +310,7 @@ def write_coordinates(
     Parameters
     ----------
     target : path or open file
-        Where it goes to.
+        The file to write.
     places : list of (float, float), n of them
         Longitudes and latitudes of nodes 1, 2, .. in degrees; they are rounded to millionths.
     comments : list of str
@@ -339,7 +339,7 @@ def write_coordinate_columns(target: Target, columns_of_places: Sequence[Any], c
     Parameters
     ----------
     target : path or open file
-        Where it goes to.
+        The file to write.
     columns_of_places : two arrays of int64, shape (n,)
         Longitudes and latitudes of nodes 1, 2, .. in millionths of a degree.
     comments : list of str
@@ -363,17 +363,17 @@ def read_bends(source: Source) -> dict[int, list[Point]]:
     Parameters
     ----------
     source : path, open file or lines
-        What is read.
+        The file to read.
 
     Returns
     -------
     dict of int to list of (float, float)
-        The longitudes and latitudes in degrees of each arc that has some; arcs are numbered by their order in the graph, from 0.
+        The longitudes and latitudes in degrees of the arcs that have such points; arcs are numbered by their order in the graph, from 0.
 
     Raises
     ------
     FileFault
-        The file isn't of this kind; the text names it, and the line where there is one.
+        The file isn't of this kind; the message names it, and the line if there is one.
     """
     (arcs, xs, ys), _ = columns(source, b"b", 3)
     bends: dict[int, list[Point]] = {}
@@ -388,7 +388,7 @@ def write_bends(target: Target, bends: Mapping[int, Sequence[Point]], comments: 
     Parameters
     ----------
     target : path or open file
-        Where it goes to.
+        The file to write.
     bends : dict of int to list of (float, float)
         As `read_bends` gives them.
     comments : list of str

@@ -1,4 +1,4 @@
-"""What the nodes of a network are called by its owner, and how its weights were rounded: a file of JSON (RFC 8259)."""
+"""The labels that the owner of a network gave its nodes, and how its weights were rounded: a file of JSON (RFC 8259)."""
 from __future__ import annotations
 
 import itertools
@@ -14,15 +14,14 @@ if TYPE_CHECKING:
 
 
 class Labelling(NamedTuple):
-    """The labels of nodes 1, 2, ..: a list of `int`, of `str` or of tuples, no two equal; and how the weights of the graph were made.
+    """The labels of nodes 1, 2, ..: a list of `int`, of `str` or of tuples, no two equal; and where the weights of the graph are from.
 
-    The caller's weights were multiplied by `scale` (None: they were whole), and rounded by at most `rounding`. `graph` is the SHA-256 of the
-    graph's file, in hexadecimal. `unit` is what the caller's weights are measured in, None where nobody told it.
+    The caller's weights were multiplied by `scale` (None: they were whole), and rounded by at most `rounding`. `graph` is the SHA-256 of the graph's
+    file, in hexadecimal. `unit` is the unit of the caller's weights, or None.
 
-    Labels that are None are the numbers of nodes. `rows` is how many rows of arcs the caller gave, `arcs` has the row of each arc where that is not
-    its number modulo `rows`, and `keys` the key of each row, of a graph with several edges between two nodes. `ways` has the numbers of the ways of
-    OpenStreetMap that each row is made of.
-    """
+    If the labels are None, nodes are called by their numbers. `rows` is the number of the caller's rows. `arcs` has the row of each arc, unless that
+    is its number modulo `rows`. `keys` has the key of each row, for a graph with several edges between two nodes, and `ways` the numbers of the ways
+    of OpenStreetMap that each row is part of. """
 
     labels: Any
     scale: float | None
@@ -41,7 +40,7 @@ def write_labels(target: Target, labelling: Labelling) -> None:
     Parameters
     ----------
     target : path or open file
-        Where it goes to.
+        The file to write.
     labelling : Labelling
         The labels.
 
@@ -51,7 +50,7 @@ def write_labels(target: Target, labelling: Labelling) -> None:
         The file can't be written.
     """
     with writing(target) as file:
-        # In one piece, as the encoder in C makes it.
+        # In one piece, because only then the encoder in C makes it.
         file.write(json.dumps(labelling._asdict()))
 
 
@@ -61,7 +60,7 @@ def read_labels(source: Source) -> Labelling:
     Parameters
     ----------
     source : path, open file or lines
-        What is read.
+        The file to read.
 
     Returns
     -------
@@ -89,7 +88,7 @@ def read_labels(source: Source) -> Labelling:
 
 
 def is_right(found: Labelling) -> bool:
-    """Whether each part is of its kind, and no two labels are equal."""
+    """Whether each part has the right type, and no two labels are equal."""
     kinds = set(map(type, found.labels))
     if kinds not in ({int}, {str}, {tuple}) or kinds == {tuple} and not set(map(type, itertools.chain(*found.labels))) <= {int, str, float}:
         return False

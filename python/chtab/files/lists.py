@@ -13,12 +13,12 @@ from chtab.files.forms import columns, reading, write_columns, write_comments, w
 if TYPE_CHECKING:
     from chtab.typing import Source, Target
 
-# What stands before each node that the command `nearest` finds.
+# The comment before each node that the command `nearest` finds.
 NOTE = re.compile(r"c (.*): node (\d+), [\d,]+ m away")
 
 
 class Place(NamedTuple):
-    """A place on the earth, in degrees, with a name or an empty one."""
+    """A place on the earth, in degrees, with a name, which may be empty."""
 
     longitude: float
     latitude: float
@@ -30,15 +30,15 @@ class Place(NamedTuple):
 
 
 def read_names(source: Source) -> dict[int, str]:
-    """Reads what nodes are called.
+    """Reads the names of nodes.
 
-    Of a `.nodes` file the name of node k is line k. Of what `nearest` wrote, a list or a query file, it is the place's; a node of several
-    places has all of their names.
+    In a `.nodes` file, line k is the name of node k. In a list or a query file of the command `nearest`, the name is that of the place; a node of
+    several places has all of their names.
 
     Parameters
     ----------
     source : path, open file or lines
-        What is read.
+        The file to read.
 
     Returns
     -------
@@ -61,14 +61,14 @@ def read_names(source: Source) -> dict[int, str]:
 
 
 def write_names(target: Target, names: Iterable[object]) -> None:
-    """Writes a name a line (`.nodes`).
+    """Writes the names of nodes, one in each line (`.nodes`).
 
     Parameters
     ----------
     target : path or open file
-        Where it goes to.
+        The file to write.
     names : list of str
-        Those of nodes 1, 2, ..
+        The names of nodes 1, 2, ..
 
     Raises
     ------
@@ -85,7 +85,7 @@ def read_queries(source: Source) -> list[array.array[int]]:
     Parameters
     ----------
     source : path, open file or lines
-        What is read.
+        The file to read.
 
     Returns
     -------
@@ -95,7 +95,7 @@ def read_queries(source: Source) -> list[array.array[int]]:
     Raises
     ------
     FileFault
-        The file isn't of this kind; the text names it, and the line where there is one.
+        The file isn't of this kind; the message names it, and the line if there is one.
     """
     return columns(source, b"q", 2)[0]
 
@@ -106,7 +106,7 @@ def write_queries(target: Target, pairs: Sequence[tuple[int, int]], notes: Itera
     Parameters
     ----------
     target : path or open file
-        Where it goes to.
+        The file to write.
     pairs : list of (int, int)
         Pairs of nodes from 1 on.
     notes : list of list of str, optional
@@ -130,7 +130,7 @@ def read_list(source: Source) -> array.array[int]:
     Parameters
     ----------
     source : path, open file or lines
-        What is read.
+        The file to read.
 
     Returns
     -------
@@ -140,7 +140,7 @@ def read_list(source: Source) -> array.array[int]:
     Raises
     ------
     FileFault
-        The file isn't of this kind; the text names it, and the line where there is one.
+        The file isn't of this kind; the message names it, and the line if there is one.
     """
     return columns(source, b"s", 1)[0][0]
 
@@ -151,7 +151,7 @@ def write_list(target: Target, nodes: Sequence[int], notes: Iterable[str | None]
     Parameters
     ----------
     target : path or open file
-        Where it goes to.
+        The file to write.
     nodes : list of int
         Nodes from 1 on.
     notes : list of str, optional
@@ -170,12 +170,12 @@ def write_list(target: Target, nodes: Sequence[int], notes: Iterable[str | None]
 
 
 def write_list_column(target: Target, nodes: Any) -> None:
-    """Writes the same list as `write_list`, from a column. Nothing is judged.
+    """Writes the same list as `write_list`, from a column. Nothing is checked.
 
     Parameters
     ----------
     target : path or open file
-        Where it goes to.
+        The file to write.
     nodes : array of int64, shape (n,)
         Nodes from 1 on.
 
@@ -190,12 +190,12 @@ def write_list_column(target: Target, nodes: Any) -> None:
 
 
 def read_places(source: Source) -> Iterator[Place]:
-    """Reads places: longitude, latitude and a name a line. Empty lines, and those that start with #, are left out.
+    """Reads places, each line with a longitude, a latitude and a name. Empty lines, and lines that start with #, are ignored.
 
     Parameters
     ----------
     source : path, open file or lines
-        What is read.
+        The file to read.
 
     Yields
     ------
@@ -205,7 +205,7 @@ def read_places(source: Source) -> Iterator[Place]:
     Raises
     ------
     FileFault
-        A line has no two degrees; the text has its number.
+        A line has no two degrees; the message has its number.
 
     Examples
     --------

@@ -1,8 +1,7 @@
-"""What weights are measured in: whole numbers as a graph has them, or numbers of the unit that a caller works in.
+"""Units of weights: the whole numbers of a graph, or numbers in the unit of a caller.
 
-An answer of w in the graph is w / factor in the caller's unit, as a float. A limit of the caller lets through each answer that is at most the
-limit, as those floats compare.
-"""
+A weight w of the graph is w / factor in the caller's unit, as a float. A limit of the caller admits each answer that is at most the limit, when both
+are compared as these floats. """
 from __future__ import annotations
 
 import datetime
@@ -21,23 +20,23 @@ if TYPE_CHECKING:
     import pandas
     from chtab.typing import Integers, Weights
 
-# The greatest weight of a graph, and so the greatest limit; and up to where each whole number is a float.
+# The largest weight of a graph, and therefore the largest limit; and the number up to which each whole number is a float.
 MOST, EXACT = 2**60, 2**53
 # A limit, as callers give it.
 Limit = float | datetime.timedelta | numpy.timedelta64 | None
 # How many milliseconds make one of a unit of time, and how many metres one of a unit of length.
 TIMES = {"milliseconds": 1, "seconds": 1_000, "minutes": 60_000, "hours": 3_600_000}
 LENGTHS = {"metres": 1, "kilometres": 1_000}
-# What a graph's comment may say of its weights, with the units that they can be told in.
+# The units that a comment of a graph may name, with the units in which callers may want answers.
 TIME, LENGTH = "milliseconds", "metres"
 BASES = {TIME: TIMES, LENGTH: LENGTHS}
-# How many of a graph's weights make a metre where a caller's lengths are made whole: they are rounded to millimetres.
+# How many of a graph's weights make a metre of a caller's lengths, which are rounded to millimetres.
 FINE = 1_000
 
 
 @dataclass(frozen=True)
 class Asked:
-    """What a caller says of the unit of limits and answers: `Network.open` has the meaning of each."""
+    """What a caller says about the unit of limits and answers; `Network.open` explains each."""
 
     unit: str | None = None
     scale: float | None = None
@@ -46,14 +45,14 @@ class Asked:
 
 @dataclass(frozen=True)
 class Measure:
-    """What answers and limits of a network are in.
+    """The unit of the answers and limits of a network.
 
     Parameters
     ----------
     unit : str
-        The name of the unit; empty where nobody told it.
+        The name of the unit; empty if it isn't known.
     factor : int or float
-        How many of the graph's weights make one. With 1 answers are whole numbers, and else floats.
+        How many of the graph's weights make one of the unit. With 1 answers are whole numbers, and otherwise floats.
     """
 
     unit: str = ""
@@ -67,7 +66,7 @@ class Measure:
     # Limits.
 
     def limit(self, name: str, given: Limit) -> int | None:
-        """The greatest weight of the graph whose answer is at most a limit; None where there is no limit."""
+        """The largest weight of the graph whose answer is at most a limit; None for no limit."""
         if given is None:
             return None
         if self.is_whole:
@@ -96,10 +95,8 @@ class Measure:
     # Answers.
 
     def told(self, weights: Integers, missing: float | None = None) -> Weights:
-        """Answers of weights, an array of int64 in which -1 says that no walk leads there. In place of these is `missing`.
-
-        Without it that is -1 where answers are whole, and else NaN.
-        """
+        """The answers of weights, an array of int64 with -1 where there is no walk. They have `missing` there, by default -1 if answers are whole,
+        and otherwise NaN. """
         if missing is None and self.is_whole:
             return weights
         is_missing = weights < 0
@@ -108,15 +105,15 @@ class Measure:
         return numpy.where(is_missing, numpy.nan if missing is None else float(missing), weights / self.factor)
 
     def one(self, weight: float | None) -> float | None:
-        """The answer of one weight, None of None."""
+        """The answer of one weight; None for None."""
         return weight if weight is None or self.is_whole else weight / self.factor
 
     def listed(self, weights: list[Any] | None) -> list[Any] | None:
-        """The answers of a list of weights, None of None."""
+        """The answers of a list of weights; None for None."""
         return weights if weights is None or self.is_whole else [weight / self.factor for weight in weights]
 
     def series(self, weights: Integers) -> pandas.Series:
-        """Answers as a column of pandas, NA where no walk leads: of `Int64`, or of float64."""
+        """The answers as a column of pandas, `Int64` or float64, with NA where there is no walk."""
         import pandas
 
         if not self.is_whole:
@@ -125,7 +122,7 @@ class Measure:
 
 
 def microseconds(duration: Any) -> Fraction:
-    """The microseconds of a duration, which may be a part of one."""
+    """The microseconds of a duration, as a fraction."""
     if isinstance(duration, numpy.timedelta64):
         if numpy.isnat(duration):
             raise ValueError("a duration is missing")
@@ -135,10 +132,10 @@ def microseconds(duration: Any) -> Fraction:
 
 
 def whole_limit(name: str, limit: Any) -> int:
-    """The greatest whole number up to a limit: no weight lies between. numpy compares it exactly, which it does with few other numbers."""
+    """The largest whole number up to a limit, which admits the same weights. numpy compares it exactly, unlike most other numbers."""
     if not 0 <= limit <= MOST:
         raise ValueError(f"{name} is {limit!r}: a limit is from 0 to 2^60")
-    # `math.floor` makes a float of a number of numpy first.
+    # `math.floor` would make a float of a number of numpy first.
     return int(limit)
 
 
@@ -153,26 +150,26 @@ def unit_in(unit: Any) -> str | None:
 
 
 def scale_of(unit: str | None, scale: float | None) -> float | None:
-    """What weights in a unit are multiplied by: the scale that is given, or else to whole milliseconds or millimetres. None: nothing is known."""
+    """The factor for weights in a unit: the given scale, or the one that makes whole milliseconds or millimetres; None if nothing is known."""
     if scale is not None or unit is None:
         return scale
     return TIMES[unit] if unit in TIMES else FINE * LENGTHS[unit] if unit in LENGTHS else None
 
 
 def base_of(unit: str | None, scale: float | None) -> str:
-    """What the weights of a graph are, where weights in a unit were multiplied by a scale: a name of `BASES`, or empty."""
+    """The unit of a graph's weights, if weights in a unit were multiplied by a scale: a name of `BASES`, or empty."""
     return next((base for base, units in BASES.items() if scale is not None and unit in units and units[unit] == scale), "")
 
 
 def asked_for(unit: str | None, scale: float | None, base: str, own_unit: str | None = None, own_scale: float | None = None) -> Measure:
-    """The measure for a caller's unit, on a graph that says `base` of its weights, or that was made of weights in `own_unit` times `own_scale`.
+    """The measure for a caller's unit, on a graph whose comments name `base`, or which was made of weights in `own_unit` times `own_scale`.
 
-    Without a unit it is that of the caller who made the graph, and else the graph's own. With `scale` that many of the graph's weights make one.
+    The default unit is that of the caller who made the graph, and otherwise the graph's own. With `scale`, that many of the graph's weights make one.
 
     Raises
     ------
     DataFault
-        Nothing tells how many of the graph's weights make one of the unit.
+        Nothing says how many of the graph's weights make one of the unit.
     """
     unit = unit_in(unit)
     if scale is not None:

@@ -1,4 +1,4 @@
-"""What the nodes of a network are called. The program numbers nodes from 1 on; callers have labels of their own, integers or strings."""
+"""The labels of the nodes of a network. The program numbers nodes from 1 on; callers may have their own labels."""
 from __future__ import annotations
 
 import collections
@@ -27,7 +27,7 @@ def fixed(values: LabelArray) -> LabelArray:
 
 
 class Numbers:
-    """Nodes that are called by their numbers, from 1 to `count`: those of a network of files."""
+    """Nodes that are called by their numbers, from 1 to `count`, as in a network of files."""
 
     def __init__(self, count: int) -> None:
         self.count = count
@@ -41,7 +41,7 @@ class Numbers:
         return self.known
 
     def nodes_of(self, name: str, given: Any) -> Integers:
-        """The nodes of an array of numbers, of any shape. Any other number is refused; whole decimal numbers are not."""
+        """The nodes of an array of numbers, of any shape. Numbers out of range are refused; whole floats are taken."""
         if isinstance(given, numpy.ma.MaskedArray):
             given = columns.array_of(name, given)
         column = numpy.asarray(given)
@@ -53,7 +53,7 @@ class Numbers:
         return column.astype(numpy.int64)
 
     def few(self, labels: Iterable[Any]) -> list[int] | None:
-        """The nodes of a short list of labels, as a list; None where one of them has to be looked at more closely."""
+        """The nodes of a short list of labels, as a list; None if one of them needs a closer look."""
         labels = [int(label) if type(label) is numpy.int64 else label for label in labels]
         return labels if all(type(label) is int and 0 < label <= self.count for label in labels) else None
 
@@ -62,7 +62,7 @@ class Numbers:
         return nodes
 
     def index_of(self, name: str, given: Any) -> pandas.Index:
-        """An index of pandas of labels that a caller gave."""
+        """An index of pandas with a caller's labels."""
         import pandas
 
         return pandas.Index(given, name=name)
@@ -78,10 +78,10 @@ def is_whole(column: NDArray[Any]) -> bool:
 
 
 class Labels:
-    """Labels that a caller gave: node k has `values[k - 1]`, int64, or objects that are all `int` or all `str`. No two are equal.
+    """The labels of a caller: node k has `values[k - 1]`, int64, or objects that are all `int`, all `str` or all tuples. No two are equal.
 
-    What they are looked up by is made when it is first needed, by two threads twice: a lock that one of them held would hold for ever in a
-    process that is forked meanwhile.
+    The index of the labels is made when it is first needed, and twice if two threads need it at a time. A lock would be held for ever in a process
+    that is forked while a thread holds it.
     """
 
     def __init__(self, values: LabelArray) -> None:
@@ -93,7 +93,7 @@ class Labels:
 
     @property
     def sorted(self) -> tuple[LabelArray, Integers]:
-        """The labels in order, and the node of each: of integers of 64 bits."""
+        """The labels in order and the node of each, for integers of 64 bits."""
         if self.in_order is None:
             order = numpy.argsort(self.values, kind="stable")
             self.in_order = self.values[order], order + 1
@@ -101,13 +101,13 @@ class Labels:
 
     @property
     def numbers(self) -> dict[Label, int]:
-        """The node of each label, of other labels."""
+        """The node of each label, for all other labels."""
         if self.by_label is None:
             self.by_label = dict(zip(self.values.tolist(), range(1, len(self.values) + 1)))
         return self.by_label
 
     def nodes_of(self, name: str, given: Any) -> Integers:
-        """The nodes of labels, an array of int64 in the shape of what is given. A label that no node has is a `DataFault`."""
+        """The nodes of labels, an array of int64 in the shape of the argument. Raises a `DataFault` if no node has a label."""
         labels = self.tuples_of(name, given) if self.kind == TUPLES else columns.labels_in(name, given)
         nodes = self.found(labels)
         place = columns.first_of(nodes == 0)
@@ -117,7 +117,7 @@ class Labels:
         return nodes
 
     def tuples_of(self, name: str, given: Any) -> LabelArray:
-        """Tuples in the shape of what is given: a column of labels, or rows of them."""
+        """Tuples in the shape of the argument: a column of labels, or rows of them."""
         items = list(given)
         if all(isinstance(item, tuple) and not (item and isinstance(item[0], tuple)) for item in items):
             return columns.tuples_in(name, items)
@@ -127,7 +127,7 @@ class Labels:
         return numpy.stack(rows)
 
     def found(self, labels: LabelArray) -> Integers:
-        """The nodes of labels, 0 where there is none."""
+        """The nodes of labels; 0 if no node has a label."""
         if self.values.dtype == object or labels.dtype == object:
             found = map(self.numbers.get, labels.reshape(-1).tolist(), [0] * labels.size)
             return numpy.fromiter(found, numpy.int64, labels.size).reshape(labels.shape)
@@ -138,7 +138,7 @@ class Labels:
         return numpy.where(values[place] == labels, nodes[place], 0)
 
     def few(self, labels: Iterable[Any]) -> list[int] | None:
-        """The nodes of a short list of labels, as a list; None where one of them has to be looked at more closely."""
+        """The nodes of a short list of labels, as a list; None if one of them needs a closer look."""
         labels = [int(label) if type(label) is numpy.int64 else label for label in labels]
         if self.values.dtype == object:
             found = [self.numbers.get(label, 0) if type(label) in (int, str) else 0 for label in labels]
@@ -155,7 +155,7 @@ class Labels:
         return self.values[nodes - 1]
 
     def index_of(self, name: str, given: Any) -> pandas.Index:
-        """An index of pandas of labels that a caller gave: of tuples one column, and not several."""
+        """An index of pandas with a caller's labels. Tuples make one column, not several."""
         import pandas
 
         return pandas.Index(columns.objects_of(list(given)), name=name, tupleize_cols=False) if self.kind == TUPLES else pandas.Index(given, name=name)
@@ -166,7 +166,7 @@ class Labels:
 
 
 def labels_of_nodes(name: str, column: Column) -> Labels:
-    """The labels of a column of nodes, which have to differ."""
+    """The labels of a column, which have to differ."""
     values = columns.column_labels_in(name, column)
     count = len(set(values.tolist())) if values.dtype == object else len(numpy.unique(values))
     if count < len(values):
@@ -179,12 +179,12 @@ def doubled(name: str, labels: Sequence[Label]) -> DataFault:
     known: dict[Label, int] = {}
     for row, label in enumerate(labels):
         if known.setdefault(label, row) != row:
-            return columns.refused(name, row, f"the label {told(label)} stands in row {known[label]} already")
-    raise AssertionError("no label stands again")
+            return columns.refused(name, row, f"the label {told(label)} is in row {known[label]} already")
+    raise AssertionError("no label is repeated")
 
 
 def labels_of_ends(names: Sequence[str], sources: LabelArray, targets: LabelArray) -> tuple[Labels, Integers]:
-    """The labels that either of two columns has, in ascending order; and the nodes of both columns, int64 (2, m)."""
+    """The labels in either of two columns, in ascending order, and the nodes of both columns, int64 (2, m)."""
     kinds = [columns.kind_of(type(values[:1].tolist()[0])) for values in (sources, targets) if len(values)]
     if len(set(kinds)) > 1:
         raise columns.refused(names[1], 0, f"the label {told(targets[:1].tolist()[0])} is not one of {kinds[0]}, as those of {names[0]}")
@@ -196,7 +196,7 @@ def labels_of_ends(names: Sequence[str], sources: LabelArray, targets: LabelArra
 
 
 def ordered(labels: Sequence[Label]) -> tuple[LabelArray, Integers]:
-    """The labels of a list in ascending order, each once, as an array of objects; and the place of each of the list among them."""
+    """The different labels of a list in ascending order, as an array of objects, and the place of each item of the list among them."""
     numbers: dict[Label, int] = collections.defaultdict(itertools.count().__next__)
     found = numpy.fromiter(map(numbers.__getitem__, labels), numpy.int64, len(labels))
     known = list(numbers)

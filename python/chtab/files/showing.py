@@ -1,4 +1,4 @@
-"""How answers are shown: on maps by matplotlib or folium, and as tables in notebooks."""
+"""Shows answers on maps by matplotlib or folium, and as tables in notebooks."""
 from __future__ import annotations
 
 import html
@@ -22,20 +22,20 @@ DEGREES = "EPSG:4326"
 
 
 class OnMap:
-    """What can be shown on a map: it gives GeoJSON by `to_geojson`, and `shown_by` names the property that colours it."""
+    """An answer that can be shown on a map. `to_geojson` returns its features, and `shown_by` names the property that colours them."""
 
     shown_by = ""
 
     if TYPE_CHECKING:
         def to_geojson(self) -> Geojson:
-            """As each of them gives it."""
+            """The features of the answer."""
 
     @property
     def __geo_interface__(self) -> dict:
         return self.to_geojson()
 
     def to_geodataframe(self) -> geopandas.GeoDataFrame:
-        """Gives the features as a GeoDataFrame.
+        """Returns the features as a GeoDataFrame.
 
         Returns
         -------
@@ -45,7 +45,7 @@ class OnMap:
         Raises
         ------
         ImportError
-            geopandas is not there.
+            geopandas is not installed.
         ChtabError
             The network has no places of nodes.
         """
@@ -57,19 +57,19 @@ class OnMap:
         Parameters
         ----------
         ax : matplotlib.axes.Axes, optional
-            Where they are drawn; without it in a new figure.
+            The axes to draw in; by default those of a new figure.
         **style
-            What the collections of matplotlib take, such as `linewidth`, `cmap` or `alpha`.
+            Arguments of the collections of matplotlib, such as `linewidth`, `cmap` or `alpha`.
 
         Returns
         -------
         matplotlib.axes.Axes
-            With longitudes and latitudes as axes. What has no geometry is left out.
+            The axes, in longitudes and latitudes. Features without a geometry are not drawn.
 
         Raises
         ------
         ImportError
-            matplotlib is not there.
+            matplotlib is not installed.
         ChtabError
             The network has no places of nodes.
         """
@@ -77,22 +77,22 @@ class OnMap:
         return drawn(features, self.shown_by, ax, style)
 
     def explore(self, **style: Any) -> folium.Map:
-        """Shows the features on a map to move, by folium.
+        """Shows the features on an interactive map, by folium.
 
         Parameters
         ----------
         **style
-            What the lines and polygons of Leaflet take, such as `weight`, `color` or `fillOpacity`.
+            Options of the lines and polygons of Leaflet, such as `weight`, `color` or `fillOpacity`.
 
         Returns
         -------
         folium.Map
-            Whose background tiles a browser loads from OpenStreetMap. What has no geometry is left out.
+            The map, whose background tiles a browser loads from OpenStreetMap. Features without a geometry are not shown.
 
         Raises
         ------
         ImportError
-            folium is not there.
+            folium is not installed.
         ChtabError
             The network has no places of nodes.
         """
@@ -109,7 +109,7 @@ class OnMap:
 
 
 def table_text(title: str, rows: list[dict]) -> str:
-    """The HTML of a table of some rows, all of one form. All that is in them is text."""
+    """The HTML of a table of rows with the same keys. Their values are escaped."""
     cells = "".join("<tr>" + "".join(f"<td>{html.escape(str(value))}</td>" for value in row.values()) + "</tr>" for row in rows)
     heads = "".join(f"<th>{html.escape(str(name))}</th>" for name in (rows[0] if rows else ()))
     return f"<p>{html.escape(title)}</p><table><thead><tr>{heads}</tr></thead><tbody>{cells}</tbody></table>"
@@ -121,7 +121,7 @@ def values_of(features: Sequence[Geojson], name: str) -> Floats:
 
 
 def drawn(features: Sequence[Geojson], name: str, ax: Any, style: Mapping[str, Any]) -> Any:
-    """The features in axes of matplotlib, points, lines and polygons each in one collection."""
+    """Draws features in axes of matplotlib, with one collection each for points, lines and polygons."""
     from matplotlib import pyplot
 
     if ax is None:
@@ -159,7 +159,7 @@ def draw_polygons(ax: Any, areas: Sequence[Any], values: Floats, style: Mapping[
 
 
 def explored(features: Sequence[Geojson], name: str, style: Mapping[str, Any]) -> folium.Map:
-    """The features on a map of folium, each with its properties as text that is shown."""
+    """Shows features on a map of folium, each with its properties as a tooltip."""
     import folium
     from matplotlib import colormaps, colors
 
@@ -182,7 +182,7 @@ def explored(features: Sequence[Geojson], name: str, style: Mapping[str, Any]) -
 
 
 def geodataframe(collection: dict) -> geopandas.GeoDataFrame:
-    """The features of a collection of GeoJSON as rows, in longitudes and latitudes. One without a geometry has None there."""
+    """The features of a collection of GeoJSON as rows, in longitudes and latitudes, with None for a missing geometry."""
     import geopandas
     from shapely.geometry import shape
 

@@ -1,4 +1,4 @@
-"""Streets: what the arcs of a graph are called, and on which side they are driven."""
+"""The streets of the arcs of a graph, and the side of the road that is driven on."""
 from __future__ import annotations
 
 import json
@@ -17,8 +17,8 @@ SIDE = "Driving side: "
 
 
 class Street(NamedTuple):
-    """What travellers read of a road in one direction: its kind (`highway` of OpenStreetMap, or `ferry`), `roundabout` or `circular` where it
-    is a ring, its name, its number, and where signs say that it leads; each may be empty."""
+    """What travellers read about a road in one direction: its kind (`highway` of OpenStreetMap, or `ferry`), `roundabout` or `circular` if it is a
+    ring, its name, its number, and the destinations on its signs; each may be empty."""
 
     highway: str = ""
     junction: str = ""
@@ -28,8 +28,8 @@ class Street(NamedTuple):
 
 
 class Streets(NamedTuple):
-    """The streets of a graph, `of_arcs` with one for each arc: the place of its street in `streets`, from 1 on, or 0 where it has none; and the
-    side of the road that is driven on, `right` or `left`."""
+    """The streets of a graph. `of_arcs` has for each arc the place of its street in `streets`, from 1 on, or 0 for none. `side` is the side of the
+    road that is driven on, `right` or `left`."""
 
     streets: list[Street]
     of_arcs: list[int]
@@ -37,14 +37,14 @@ class Streets(NamedTuple):
 
 
 def write_streets(target: Target, found: Streets, comments: Iterable[str] = ()) -> None:
-    """Writes streets (`.names`): a line `s {..}` for each, an object of JSON with what isn't empty, then a line `a STREET` for each arc, in order.
+    """Writes streets (`.names`): a line `s {..}` for each, an object of JSON without empty fields, and then a line `a STREET` for each arc, in order.
 
     Parameters
     ----------
     target : path or open file
-        Where it goes to.
+        The file to write.
     found : Streets
-        What is written.
+        The streets.
     comments : list of str
         The first lines.
 
@@ -67,7 +67,7 @@ def read_streets(source: Source, arcs: int) -> Streets:
     Parameters
     ----------
     source : path, open file or lines
-        What is read.
+        The file to read.
     arcs : int
         How many arcs the graph has.
 
@@ -79,7 +79,7 @@ def read_streets(source: Source, arcs: int) -> Streets:
     Raises
     ------
     FileFault
-        The file isn't of this kind, or is that of another graph; the text names it, and the line where there is one.
+        The file isn't of this kind, or belongs to another graph; the message names it, and the line if there is one.
     """
     streets: list[Street] = []
     of_arcs: list[int] = []
@@ -105,7 +105,7 @@ def read_streets(source: Source, arcs: int) -> Streets:
 
 
 def told_of(line: str) -> tuple[int, int]:
-    """The numbers of streets and of arcs that a problem line tells."""
+    """The numbers of streets and of arcs in a problem line."""
     *words, streets, arcs = line.split()
     if words != ["p", "aux", "sp", "names"]:
         raise ValueError
@@ -113,7 +113,7 @@ def told_of(line: str) -> tuple[int, int]:
 
 
 def street_in(value: Any) -> Street:
-    """The street of an object of JSON, whose fields are all texts."""
+    """The street of an object of JSON, whose fields are all strings."""
     if not isinstance(value, dict) or not all(key in FIELDS and isinstance(text, str) for key, text in value.items()):
         raise ValueError
     return Street(**value)

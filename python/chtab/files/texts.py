@@ -1,4 +1,4 @@
-"""What the program writes, distances, routes, tables and near rows, and tables as CSV and as an array of numpy."""
+"""The texts that the program writes: distances, routes, tables and near rows; and tables as CSV and as arrays of numpy."""
 from __future__ import annotations
 
 import array
@@ -17,8 +17,8 @@ if TYPE_CHECKING:
 
 
 class Answer(NamedTuple):
-    """What `dist` says of a query. `weight` is None where there is no walk; `nodes` of the route and the `weights` of its arcs are
-    None where there is none or the text has distances alone."""
+    """The answer of `dist` to a query. `weight` is None if there is no walk. `nodes` of the route and `weights` of its arcs are None if there is no
+    walk, or if the text has only distances."""
 
     source: Any
     target: Any
@@ -37,7 +37,7 @@ def read_answers(source: Source) -> Iterator[Answer]:
     Parameters
     ----------
     source : path, open file or lines
-        What is read.
+        The file to read.
 
     Yields
     ------
@@ -47,7 +47,7 @@ def read_answers(source: Source) -> Iterator[Answer]:
     Raises
     ------
     FileFault
-        A route is cut short, or a line is another one.
+        A route is cut short, or a line has another form.
     """
     with reading(source) as file:
         lines = iter(file)
@@ -65,7 +65,7 @@ def read_answers(source: Source) -> Iterator[Answer]:
 
 
 def with_route(answer: Answer, line: str, lines: Iterator[str]) -> Answer:
-    """The answer with its route, of which `line` is the first line."""
+    """The answer with its route, whose first line is `line`."""
     nodes: list[int] = [answer.source]
     weights: list[int] = []
     words = line.split()
@@ -87,7 +87,7 @@ def read_routes(source: Source) -> Iterator[Answer]:
     Parameters
     ----------
     source : path, open file or lines
-        What is read.
+        The file to read.
 
     Yields
     ------
@@ -116,7 +116,7 @@ def read_rows(source: Source, width: int) -> Iterator[tuple[int, list[int | None
     Parameters
     ----------
     source : path, open file or lines
-        What is read.
+        The file to read.
     width : int
         The number of targets.
 
@@ -128,7 +128,7 @@ def read_rows(source: Source, width: int) -> Iterator[tuple[int, list[int | None
     Raises
     ------
     FileFault
-        A line is no row with so many targets.
+        A line is no row with this many targets.
     """
     with reading(source) as file:
         first = next(file, "")
@@ -146,7 +146,7 @@ def read_near(source: Source) -> Iterator[tuple[int, list[tuple[int, int]]]]:
     Parameters
     ----------
     source : path, open file or lines
-        What is read.
+        The file to read.
 
     Yields
     ------
@@ -175,11 +175,11 @@ def write_csv(target: Target, targets: Iterable[object], rows: Iterable[tuple[ob
     Parameters
     ----------
     target : path or open file
-        Where it goes to.
+        The file to write.
     targets : list of int
         The targets, which the first line names.
     rows : list of (int, list)
-        A source and its cells each; None makes an empty cell.
+        Each source with its cells; None makes an empty cell.
 
     Raises
     ------
@@ -193,24 +193,24 @@ def write_csv(target: Target, targets: Iterable[object], rows: Iterable[tuple[ob
 
 
 def read_row_texts(source: Source, width: int) -> Iterator[tuple[bytes, bytes]]:
-    """Reads the rows of a text of `chtab table` as texts, in a part of the time that their numbers take.
+    """Reads the rows of a text of `chtab table` as texts, which is much faster than reading their numbers.
 
     Parameters
     ----------
     source : path, open file or lines
-        What is read.
+        The file to read.
     width : int
         The number of targets.
 
     Yields
     ------
     (bytes, bytes)
-        The next source and its cells, with a blank between two.
+        The next source and its cells, separated by blanks.
 
     Raises
     ------
     FileFault
-        A line is no row with so many targets.
+        A line is no row with this many targets.
     """
     with reading(source, "rb") as file:
         for line in file:
@@ -226,11 +226,11 @@ def write_csv_of_texts(target: Target, targets: Iterable[int], rows: Iterable[by
     Parameters
     ----------
     target : path or open file
-        Where it goes to.
+        The file to write.
     targets : list of int
         The targets.
     rows : list of bytes
-        The source and the cells, with a blank between two, and `-` for none.
+        The source and the cells, separated by blanks, and `-` for none.
 
     Raises
     ------
@@ -243,14 +243,14 @@ def write_csv_of_texts(target: Target, targets: Iterable[int], rows: Iterable[by
 
 
 def write_npy_of_texts(target: Target, height: int, width: int, rows: Iterable[bytes]) -> None:
-    """Writes a matrix of 64-bit numbers as numpy reads it, -1 for none, from such rows of text.
+    """Writes a matrix of 64-bit numbers as numpy reads it, with -1 for no distance, from such rows of text.
 
-    The form is that of numpy, version 1.0: its head is filled with blanks to a multiple of 64 bytes.
+    The form is numpy's version 1.0, whose header is padded with blanks to a multiple of 64 bytes.
 
     Parameters
     ----------
     target : path or open file
-        Where it goes to.
+        The file to write.
     height, width : int
         How many rows and columns there are.
     rows : list of bytes

@@ -18,7 +18,7 @@ def write_ways(target: Target, numbers: Sequence[int], comments: Iterable[str] =
     Parameters
     ----------
     target : path or open file
-        Where it goes to.
+        The file to write.
     numbers : list of int
         For each arc OpenStreetMap's number of the way that it is a part of, 0 for an arc that is a part of none.
     comments : list of str
@@ -41,7 +41,7 @@ def read_ways(source: Source, arcs: int) -> array.array[int]:
     Parameters
     ----------
     source : path, open file or lines
-        What is read.
+        The file to read.
     arcs : int
         How many arcs the graph has.
 
@@ -53,7 +53,7 @@ def read_ways(source: Source, arcs: int) -> array.array[int]:
     Raises
     ------
     FileFault
-        The file isn't of this kind, or belongs to another graph; the text names it, and the line where there is one.
+        The file isn't of this kind, or belongs to another graph; the message names it, and the line if there is one.
     """
     (numbers,), lines = columns(source, b"w", 1)
     problems = [line.split() for line in lines if line[:1] == b"p"]

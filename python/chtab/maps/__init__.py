@@ -1,4 +1,4 @@
-"""Maps of OpenStreetMap, made into graphs: what becomes a road, for whom, and how fast. docs/MAPS.md says it all in tables.
+"""Makes graphs from maps of OpenStreetMap. docs/MAPS.md has the rules: what becomes a road, for whom, and how fast.
 
 | module | what it holds |
 |---|---|
@@ -6,14 +6,14 @@
 | `profiles` | the tables of `tables/`: one for each way of travelling, and the limits of speed |
 | `tags` | access and direction by tags |
 | `speeds` | limits of speed and durations of ferries by tags |
-| `signs` | what ways are called, by the tags that travellers read on signs |
+| `signs` | the streets of ways, from the tags that travellers read on signs |
 | `ways` | which ways are roads, and what was left out |
 | `arcs` | roads as arcs between nodes: crossings, dead ends and barriers; metres between places |
 | `restrictions` | relations that forbid turns |
-| `turns` | nodes split so that forbidden turns are no walks |
-| `parts` | strongly connected parts |
+| `turns` | nodes that are split so that no walk makes a forbidden turn |
+| `parts` | strongly connected components |
 | `report` | the table of what was left out |
 | `converting` | all of these in order, and the files written |
 
-Nothing but Python's own library is needed, and for `.osm.pbf` pyosmium.
+Only Python's own library is needed, and pyosmium for `.osm.pbf`.
 """

@@ -1,8 +1,7 @@
 """Roads as arcs between nodes.
 
-A node is where roads meet or end, or each bend of a road; an arc is a road between two of them, in one direction. At a node that no
-way leads through (a barrier) each road that comes to it has an end of its own, and so has each road where the map ends.
-"""
+A node is where roads meet or end, or each bend of a road. An arc is a road between two nodes, in one direction. At a closed barrier each road ends in
+a node of its own, and so does each road at the border of the map. """
 from __future__ import annotations
 
 import collections
@@ -22,19 +21,17 @@ if TYPE_CHECKING:
 HALF_DEGREE, DEGREE = radians(0.5), 2 * radians(0.5)
 QUARTER_TURN = math.pi / 2
 DIAMETER = 2 * RADIUS
-# The piece of an arc that is no road, and the way of such an arc.
+# The piece and the way of an arc that is no road.
 NO_PIECE, NO_WAY = -1, 0
 
 
 class Network:
-    """Nodes and arcs, both numbered from 0 in the order in which they came.
+    """Nodes and arcs, both numbered from 0 in the order in which they were added.
 
-    Node k stands for the map's node `names[k]`, at `places[k]`, and there may be several for one. Arc k leads from `tails[k]` to
-    `heads[k]`, weighs `weights[k]` and is one direction of piece `pieces[k]`, which lies on way `ways[pieces[k]]`. `bends` has the
-    places between the ends of each arc, or is None where nobody asked for them, and so `streets` the number of the street of each, None of an
-    arc that has none. `ends` has, for nodes at which turns are restricted,
-    the node where trips to it end, {end: node}, and `copies` the other nodes that stand for it: {copy: node}.
-    """
+    Node k is the map's node `names[k]`, at `places[k]`; several nodes may be the same one of the map. Arc k leads from `tails[k]` to `heads[k]`, has
+    the weight `weights[k]`, and is one direction of piece `pieces[k]`, which is part of way `ways[pieces[k]]`. `bends` has the places between the
+    ends of each arc, and `streets` the number of its street or None; both are None unless they are wanted. Where turns are restricted, `ends` has the
+    node where trips to a node end, {end: node}, and `copies` the other copies of a node, {copy: node}. """
 
     def __init__(self, with_bends: bool = False, with_names: bool = False) -> None:
         self.names: list[int] = []
@@ -55,7 +52,7 @@ class Network:
         return len(self.names) - 1
 
     def add_copy(self, node: int) -> int:
-        """One more node for the map's node of this one."""
+        """Adds another node for the same node of the map."""
         return self.add_node(self.names[node], self.places[node])
 
     def add_arc(self, tail: int, head: int, weight: int, piece: int, bends: list[Point] | None, street: int | None = None) -> None:
@@ -69,7 +66,7 @@ class Network:
             self.streets.append(street)
 
     def add_piece(self, tail: int, head: int, weights: tuple[int | None, int | None], road: Road, bends: list[Point] | None) -> None:
-        """The arcs of a road between two nodes of it: along it, then against it, each where it has a weight."""
+        """Adds the arcs of a road between two of its nodes, first along it and then against it, if they have weights."""
         piece, (along, against), streets = len(self.ways), weights, road.streets or (None, None)
         self.ways.append(road.number)
         if along is not None:
@@ -78,20 +75,20 @@ class Network:
             self.add_arc(head, tail, against, piece, bends and bends[::-1], streets[1])
 
     def way_of(self, arc: int) -> int:
-        """The map's number of the way that an arc is a part of, `NO_WAY` of an arc that is no road."""
+        """The map's number of the way that an arc is part of; `NO_WAY` for an arc that is no road."""
         piece = self.pieces[arc]
         return NO_WAY if piece == NO_PIECE else self.ways[piece]
 
 
 def crossings(survey: Survey) -> set[int]:
-    """The nodes at which roads meet or end: those that come up twice, and the two ends of each road."""
+    """The nodes at which roads meet or end: those that occur twice, and the two ends of each road."""
     uses = collections.Counter(survey.nodes())
     ends = itertools.chain.from_iterable((road.nodes[0], road.nodes[-1]) for road in survey.roads)
     return {node for node, count in uses.items() if count > 1}.union(ends)
 
 
 class Builder:
-    """Makes a network of a survey's roads. `cuts` are the nodes between arcs (None: all nodes), `closed` those with a barrier."""
+    """Makes a network from the roads of a survey. `cuts` are the nodes between arcs (None: all nodes), and `closed` those with a barrier."""
 
     def __init__(self, survey: Survey, cuts: set[int] | None, closed: set[int], in_metres: bool = False, with_bends: bool = False) -> None:
         self.report, self.cuts, self.closed, self.in_metres = survey.report, cuts, closed, in_metres
@@ -100,7 +97,7 @@ class Builder:
         self.missing: set[int] = set()
 
     def node_at(self, number: int, longitude: float, latitude: float) -> int:
-        """The network's node where a piece of road starts or ends: at a barrier always a new one."""
+        """The network's node where a piece of road starts or ends, which is always a new one at a barrier."""
         node = self.nodes.get(number)
         if node is None:
             node = self.network.add_node(number, (longitude, latitude))
@@ -109,7 +106,7 @@ class Builder:
         return node
 
     def runs(self, road: Road) -> list[Any]:
-        """The longest runs of two or more nodes of a road that the map has: their numbers, longitudes and latitudes."""
+        """The runs of two or more nodes of a road without a gap in the map: their numbers, longitudes and latitudes."""
         nodes, longitudes = road.nodes.tolist(), road.longitudes.tolist()
         columns: tuple[list[Any], ...] = nodes, longitudes, road.latitudes.tolist()
         if not math.isnan(sum(longitudes)):
@@ -127,7 +124,7 @@ class Builder:
             self.report.note("short", "", "way", road.number)
 
     def add_run(self, road: Road, nodes: list[int], longitudes: list[float], latitudes: list[float]) -> None:
-        """The arcs of a run of nodes of a road; where it is the whole road, a ferry's duration holds."""
+        """Adds the arcs of a run of nodes of a road. The duration of a ferry applies if the run is the whole road."""
         metres = metres_between(longitudes, latitudes)
         forward, backward, seconds = road.rule
         length = math.fsum(metres) if seconds and len(nodes) == len(road.nodes) else 0
@@ -144,13 +141,13 @@ class Builder:
             network.add_piece(tail, head, (along, against), road, bends)
 
     def ends_of(self, nodes: list[int]) -> Sequence[int]:
-        """Where the pieces of a run of nodes start and end."""
+        """The places in a run of nodes where its pieces start and end."""
         last = len(nodes) - 1
         return range(last + 1) if self.cuts is None else [0, *[at for at in range(1, last) if nodes[at] in self.cuts], last]
 
     def weight(self, metres: float, speed: float) -> int | None:
-        """Metres, or milliseconds at so many kilometres an hour: rounded once, and at least 1 where there is a length; None where it is
-        closed."""
+        """The weight of a length: metres, or milliseconds at a speed in kilometres an hour, rounded once, and at least 1 unless the length is 0; None
+        if the road is closed."""
         if not speed:
             return None
         return (round(metres if self.in_metres else metres * 3600 / speed) or 1) if metres else 0
@@ -159,7 +156,7 @@ class Builder:
 def network_of(
     survey: Survey, closed: set[int], with_all_nodes: bool, in_metres: bool, with_bends: bool, progress: Progress,
 ) -> tuple[Network, dict[int, int]]:
-    """The network of a survey's roads, which are counted, and the network's nodes by the map's numbers, barriers aside."""
+    """The network of a survey's roads, which `progress` counts, and its nodes by the map's numbers, except those at barriers."""
     cuts = None if with_all_nodes else crossings(survey) | closed
     builder = Builder(survey, cuts, closed, in_metres, with_bends)
     for road in progress.each(survey.roads):

@@ -1,4 +1,4 @@
-"""From a map to the files of a graph: reading, arcs, turns and parts in order, and the table of what was left out."""
+"""Makes the files of a graph from a map: reading, arcs, turns and components in order, and the table of what was left out."""
 from __future__ import annotations
 
 import contextlib
@@ -27,7 +27,7 @@ SOURCE = (
 
 
 class Choices(NamedTuple):
-    """What is to be made of a map: as the options of the command are named."""
+    """The choices for a conversion, by the names of the command's options."""
 
     profile: str = "car"
     nodes: str = "crossings"
@@ -41,8 +41,8 @@ class Choices(NamedTuple):
 
 
 class Numbered(NamedTuple):
-    """A network as its files have it: the nodes' names and places, arcs between nodes from 1 on, their bends, the ends of trips, the
-    copies of nodes, what arcs are called, None where nobody asked for it, and the number of each arc's way."""
+    """A network as its files have it: the names and places of nodes, which count from 1, the arcs and their bends, the ends of trips, the copies of
+    nodes, the streets of arcs, None unless they are wanted, and the number of each arc's way."""
 
     names: list[int]
     places: list[Point]
@@ -56,7 +56,7 @@ class Numbered(NamedTuple):
 
 @contextlib.contextmanager
 def uncollected() -> Iterator[None]:
-    """Holds the search for circles of objects: there are none in a map, and looking through its many objects takes a fifth of the time."""
+    """Pauses the garbage collector: a map has no cycles of objects, and scanning its many objects takes a fifth of the time."""
     was_on = gc.isenabled()
     gc.disable()
     try:
@@ -68,8 +68,8 @@ def uncollected() -> Iterator[None]:
 
 @uncollected()
 def convert(path: str, choices: Choices, is_told: bool = False, is_logged: bool = False) -> tuple[Numbered, Report]:
-    """Reads a map (`-` is standard input); what comes of it, and the report of what was left out, with its objects where they are wanted.
-    An empty map is a fault. Standard error gets lines on how far it is, where these are wanted."""
+    """Converts a map (`-` is standard input). Returns the network, and the report of what was left out, with its objects if `is_logged`. An empty map
+    is a fault. `is_told` reports progress on standard error."""
     profile, report = profiles.profile(choices.profile), Report(is_logged)
     survey = Survey(profile, report, choices.ferries, choices.names)
     reading.read_map(path, survey, is_told)
@@ -88,7 +88,7 @@ def convert(path: str, choices: Choices, is_told: bool = False, is_logged: bool 
 
 
 def kept_of(made: arcs.Network, wanted: str | int, report: Report) -> bytearray:
-    """Whether each node is kept, by the part that is wanted: `all`, `largest` or a rank, from 1 on. What isn't kept is noted."""
+    """Whether each node is kept, by the wanted component: `all`, `largest` or a rank, from 1 on. The others are noted."""
     if wanted == "all":
         return bytearray([True]) * len(made.names)
     part, ranked = parts.ranked(made)
@@ -105,7 +105,7 @@ def kept_of(made: arcs.Network, wanted: str | int, report: Report) -> bytearray:
 
 
 def numbered(made: arcs.Network, kept: bytearray, streets: Streets | None = None, side: str = "right") -> Numbered:
-    """The kept nodes by their names, those of one name in the order in which they came, numbered from 1."""
+    """Numbers the kept nodes from 1 on, in the order of their names, and those with the same name in the order in which they were added."""
     nodes = sorted(itertools.compress(range(len(kept)), kept), key=made.names.__getitem__)
     numbers = [0] * len(kept)
     for number, node in enumerate(nodes, 1):
@@ -126,15 +126,15 @@ def name_of(path: str) -> str:
 
 
 def comments_of(path: str, choices: Choices) -> list[str]:
-    """The comments of a graph's files: what it was made of, and how."""
+    """The comments of a graph's files: the map, and the choices."""
     more = ", turns as the map restricts them" * choices.turns + ", no ferries" * (not choices.ferries)
     people = profiles.profile(choices.profile).people
     return [f"Roads for {people}, from {name_of(path)}: nodes {choices.nodes}, part {choices.part}{more}.", *SOURCE]
 
 
 def write(out: str, made: Numbered, comments: Sequence[str], unit: str) -> list[str]:
-    """Writes the files, none of which takes its name before all are whole; their names. Bends and streets of an earlier graph of this name are
-    taken away, since they would be taken for those of this one."""
+    """Writes the files, none of which gets its name before all are complete, and returns their names. Bends and streets of an earlier graph with the
+    same name are removed, because they would be used for this one."""
     streets = made.streets
     writers: dict[str, Callable[[str], None] | None] = {
         "gr": lambda part: files.write_graph(part, len(made.names), made.arcs, [*comments, f"Weights are {unit}."]),

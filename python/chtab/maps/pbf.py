@@ -22,21 +22,21 @@ if TYPE_CHECKING:
     from chtab.maps.ways import Survey, Verdict
     from chtab.typing import Point
 
-# A member of a relation, and a character that stands by its number.
+# A member of a relation, and a character that is given by its number.
 MEMBER = re.compile(r"([nwr])(-?\d+)@([^,]*)")
 CHARACTER = re.compile(r"%([0-9a-f]+)%")
 KINDS = {"n": "node", "w": "way", "r": "relation"}
-# What stands in lines that are looked at. Of nodes: a barrier, or a number below 0, whose place is not looked up by pyosmium.
+# Marks of the lines that are read. Of nodes: a barrier, or a number below 0, whose place pyosmium doesn't look up.
 NODE_MARKS = (b"barrier=", b"\nn-")
 OTHER_MARKS = (*(f"{key}=".encode() for key in ROAD_KEYS), b"type=restriction")
-# What stands for a node of a way that has no place.
+# A node of a way that has no place.
 NO_PLACE = "xy"
-# Bytes of the text that are read at once.
+# How many bytes of the text are read at a time.
 BLOCK = 1 << 18
 
 
 def texts_of(file: IO[bytes]) -> Iterator[bytes]:
-    """The text of a file in parts of whole lines, each with an end of a line also before its first."""
+    """Yields the text of a file in parts of whole lines, each with a line feed before its first line too."""
     rest = b"\n"
     while block := file.read(BLOCK):
         end = block.rfind(b"\n") + 1
@@ -47,7 +47,7 @@ def texts_of(file: IO[bytes]) -> Iterator[bytes]:
 
 
 def nodes_and_others(text: bytes) -> tuple[bytes, bytes]:
-    """The lines of nodes, which come before all others, and the others."""
+    """The lines of nodes, which come first, and the other lines."""
     if text.startswith(b"n", text.rindex(b"\n", 0, -1) + 1):
         return text, b""
     if not text.startswith(b"\nn"):
@@ -57,7 +57,7 @@ def nodes_and_others(text: bytes) -> tuple[bytes, bytes]:
 
 
 def lines_with(text: bytes, marks: Iterable[bytes]) -> Iterator[str]:
-    """The lines of a text that have one of these marks, in order. All others are passed over without being taken apart."""
+    """Yields the lines of a text that have one of these marks, in order. The others are skipped without being parsed."""
     starts = set()
     for mark in marks:
         at = text.find(mark)
@@ -78,13 +78,13 @@ def plain(text: str) -> str:
 
 
 def tags_of(items: Iterable[str]) -> dict[str, str]:
-    """The tags of such items, `key=value`."""
+    """The tags of items of the form `key=value`."""
     pairs = (item.partition("=") for item in items if item)
     return {plain(key): plain(value) for key, _, value in pairs}
 
 
 def nodes_of(text: str) -> tuple[list[int], list[float], list[float]]:
-    """The nodes of a way, `n1x9.5y47.1,n2xy,..`: their numbers, longitudes and latitudes, as `NOWHERE` has them where there are none."""
+    """The nodes of a way, `n1x9.5y47.1,n2xy,..`: their numbers, longitudes and latitudes, or those of `NOWHERE` for a node without a place."""
     if not text:
         return [], [], []
     parts = text[1:].replace("x", "y").replace(",n", "y").split("y")
@@ -94,18 +94,18 @@ def nodes_of(text: str) -> tuple[list[int], list[float], list[float]]:
 
 
 class Lines:
-    """Takes the lines of the text into a survey."""
+    """Adds the lines of the text to a survey."""
 
     def __init__(self, survey: Survey) -> None:
         self.survey = survey
         self.asked = re.compile(f",((?:{'|'.join(map(re.escape, survey.keys))})=[^,]*)")
         self.called = re.compile(f",((?:{'|'.join(map(re.escape, KEYS))})=[^,]*)")
-        # The verdict by the tags that are asked for, as they stand in the text, and the places of nodes with numbers below 0.
+        # The verdicts by the relevant tags, as the text has them, and the places of nodes with numbers below 0.
         self.verdicts: dict[tuple[str, ...], Verdict | None] = {}
         self.places: dict[int, Point] = {}
 
     def take(self, text: bytes) -> None:
-        """Takes a text as `texts_of` gives it."""
+        """Reads a text of `texts_of`."""
         nodes, others = nodes_and_others(text)
         for line in lines_with(nodes, NODE_MARKS):
             self.node(fields_of(line))
@@ -116,7 +116,7 @@ class Lines:
                 self.relation(fields_of(line))
 
     def node(self, fields: Mapping[str, str]) -> None:
-        """A node with a barrier, or with a number below 0."""
+        """Reads a node with a barrier, or with a number below 0."""
         number, tags = int(fields["n"]), tags_of(fields["T"].split(","))
         if fields["d"] == "D" or not fields["x"]:
             return
@@ -127,7 +127,7 @@ class Lines:
             self.survey.add_barrier(number, tags)
 
     def verdict_on(self, items: tuple[str, ...]) -> Verdict | None:
-        """The verdict on a way with these tags, None where it has none of `ROAD_KEYS`."""
+        """The verdict on a way with these tags; None if it has none of `ROAD_KEYS`."""
         if items not in self.verdicts:
             tags = tags_of(items)
             self.verdicts[items] = self.survey.verdict_on(tags) if any(key in tags for key in ROAD_KEYS) else None
@@ -151,7 +151,7 @@ class Lines:
         self.survey.add_way(int(number[1:]), rule, numbers, longitudes, latitudes, streets)
 
     def place(self, numbers: list[int], longitudes: list[float], latitudes: list[float]) -> None:
-        """The places of nodes that pyosmium didn't look up."""
+        """Adds the places of nodes that pyosmium didn't look up."""
         for at, number in enumerate(numbers):
             if math.isnan(longitudes[at]):
                 longitudes[at], latitudes[at] = self.places.get(number, NOWHERE)
@@ -164,7 +164,7 @@ class Lines:
 
 
 def read(path: str, name: str, survey: Survey, progress: Progress) -> None:
-    """Reads a map into a survey, by a child that unpacks it. Its objects are counted."""
+    """Reads a map into a survey, by a child process that unpacks it. `progress` counts its objects."""
     lines = Lines(survey)
     command = [sys.executable, unpacking.__file__, path]
     with subprocess.Popen(command, stdout=subprocess.PIPE, stderr=subprocess.PIPE) as child:

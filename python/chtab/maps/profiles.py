@@ -1,4 +1,4 @@
-"""The tables of `tables/`, as they are read: one file for each way of travelling, and one for the limits of speed."""
+"""Reads the tables of `tables/`: a file for each way of travelling, and one for the limits of speed."""
 from __future__ import annotations
 
 import functools
@@ -9,12 +9,12 @@ from typing import Any, NamedTuple
 
 TABLES = pathlib.Path(__file__).resolve().parent / "tables"
 NAMES = ("car", "bicycle", "foot")
-# What a limit of speed may do, as `[maxspeed]` says.
+# The effects that a limit of speed may have, as in `[maxspeed]`.
 LIMITS = ("is the speed", "bounds the speed", "says nothing")
 
 
 class Access(NamedTuple):
-    """Tags in the order in which they are asked, and the words that open and close."""
+    """The tags of access in the order in which they count, and the words that open and close."""
 
     tags: tuple[str, ...]
     open: frozenset[str]
@@ -22,7 +22,8 @@ class Access(NamedTuple):
 
 
 class Oneway(NamedTuple):
-    """Tags in the order in which they are asked; tags that imply a direction, and tags that open the other, with their words."""
+    """The tags of direction in the order in which they count; the tags that imply a direction, and those that open the other one, with their
+    words."""
 
     tags: tuple[str, ...]
     implied: dict[str, frozenset[str]]
@@ -30,7 +31,7 @@ class Oneway(NamedTuple):
 
 
 class Barriers(NamedTuple):
-    """Access at the node, which comes first; the kinds that are open and closed, and whether all others are open."""
+    """The tags of access at the node, which count first; the kinds that are open and closed, and whether all others are open."""
 
     access: Access
     open: frozenset[str]
@@ -56,7 +57,7 @@ class Profile(NamedTuple):
     turn_exceptions: frozenset[str]
 
     def keys(self) -> set[str]:
-        """The tags of ways that the tables ask for."""
+        """The tags of ways that the tables use."""
         of_speed = {"maxspeed", "maxspeed:forward", "maxspeed:backward", "route", "duration"}
         return of_speed | {"highway"}.union(
             self.access.tags, self.closed_by, self.oneway.tags, self.oneway.implied, self.oneway.opened_by, self.ferries_for_others
@@ -64,7 +65,7 @@ class Profile(NamedTuple):
 
 
 class Limits(NamedTuple):
-    """Kilometres an hour of units, of words and of zones; 0 for a word that has no one number. `most` is the highest limit that is taken."""
+    """The kilometres an hour of units, words and zones; 0 for a word without a single number. `most` is the highest limit that counts."""
 
     units: dict[str, float]
     words: dict[str, float]
@@ -86,7 +87,7 @@ def access(table: Mapping[str, Any], more: Iterable[str] = ()) -> Access:
 
 @functools.cache
 def profile(name: str) -> Profile:
-    """The profile of this name, one of `NAMES`."""
+    """The profile with a name of `NAMES`."""
     table = read(name)
     oneway, barriers, turns = table["oneway"], table["barriers"], table["turns"]
     return Profile(

@@ -1,6 +1,6 @@
-"""The forms of map files, known by their first bytes: XML of OpenStreetMap, plain or packed by gzip, bzip2 or xz, and .osm.pbf.
+"""Reads maps in XML, plain or compressed by gzip, bzip2 or xz, and in .osm.pbf. The first bytes tell the format.
 
-A file is read twice: first its ways and relations, then the nodes that roads use. A fault of the file is one line.
+XML is read twice: first its ways and relations, then the nodes that roads use. A fault of the file is one line.
 """
 from __future__ import annotations
 
@@ -27,7 +27,7 @@ if TYPE_CHECKING:
     from chtab.typing import Point
 
 PACKED: dict[bytes, Any] = {b"\x1f\x8b": gzip.open, b"BZh": bz2.open, b"\xfd7zXZ\x00": lzma.open}
-# What XML's parser says of a text that ends before its last element does.
+# The errors of the XML parser for a text that ends within an element.
 CUT_SHORT = {
     xml.parsers.expat.errors.codes[text]
     for text in ("no element found", "unclosed token", "unclosed CDATA section", "partial character")
@@ -37,7 +37,7 @@ BLOCK = 1 << 20
 
 
 class Relation(NamedTuple):
-    """A relation of the type restriction: its number, its tags and its members, each as (type, number, role)."""
+    """A relation of the type `restriction`: its number, its tags, and its members as (type, number, role)."""
 
     number: int
     tags: Tags
@@ -46,7 +46,7 @@ class Relation(NamedTuple):
 
 @contextlib.contextmanager
 def lasting(path: str) -> Iterator[str]:
-    """The path itself, or for `-` that of a copy of standard input, which is there as long as it is needed."""
+    """Lends the path itself, or for `-` the path of a copy of standard input."""
     if path != "-":
         yield path
         return
@@ -66,7 +66,7 @@ def is_pbf(path: str) -> bool:
 
 
 def read_map(path: str, survey: Survey, is_told: bool = False) -> None:
-    """Reads a map into a survey, and tells how far it is where that is wanted. `-` is standard input."""
+    """Reads a map into a survey; `-` is standard input. `is_told` reports progress."""
     name = "standard input" if path == "-" else os.path.basename(path)
     with lasting(path) as file:
         if is_pbf(file):
@@ -83,7 +83,7 @@ def read_map(path: str, survey: Survey, is_told: bool = False) -> None:
 
 
 class Ways:
-    """What the first reading of XML keeps: roads, and relations that restrict turns."""
+    """Keeps what the first reading of XML finds: roads, and relations that restrict turns."""
 
     def __init__(self, survey: Survey) -> None:
         self.survey = survey
@@ -104,7 +104,7 @@ class Ways:
 
 
 class Nodes:
-    """What the second reading keeps: the places of the roads' nodes, and barriers."""
+    """Keeps what the second reading finds: the places of the roads' nodes, and barriers."""
 
     def __init__(self, survey: Survey) -> None:
         self.survey, self.wanted = survey, set(survey.nodes())
@@ -125,7 +125,7 @@ class Nodes:
 
 
 class Elements:
-    """Hears the elements of XML and hands on what `keeper` has a method for."""
+    """Handles the elements of XML, and passes those on that `keeper` has a method for."""
 
     def __init__(self, keeper: Ways | Nodes) -> None:
         self.calls = {name: getattr(keeper, name) for name in ("node", "way", "relation") if hasattr(keeper, name)}
@@ -137,7 +137,7 @@ class Elements:
     def start(self, name: str, attributes: Mapping[str, str]) -> None:
         self.depth += 1
         if self.depth == 1 and name != "osm":
-            raise ValueError(f"it begins with {name}")
+            raise ValueError(f"its first element is {name}")
         if self.depth == 2 and name in self.calls:
             self.head, self.tags, self.parts = attributes, {}, []
         elif self.depth != 3:
@@ -159,7 +159,7 @@ class Elements:
 
 
 def blocks_of(path: str, progress: Progress) -> Iterator[bytes]:
-    """The bytes of a file, unpacked, block by block. Counted are the bytes of the file itself."""
+    """Yields the decompressed bytes of a file in blocks. `progress` counts the bytes of the file itself."""
     with open(path, "rb") as packed:
         head = packed.read(6)
         packed.seek(0)
@@ -173,7 +173,7 @@ def blocks_of(path: str, progress: Progress) -> Iterator[bytes]:
 
 
 def read_elements(path: str, name: str, keeper: Ways | Nodes, progress: Progress) -> None:
-    """Reads XML once, for what the keeper takes."""
+    """Reads XML once, for the objects that `keeper` wants."""
     elements = Elements(keeper)
     parser = xml.parsers.expat.ParserCreate()
     parser.StartElementHandler, parser.EndElementHandler = elements.start, elements.end

@@ -1,5 +1,5 @@
-"""What a conversion left out, passed over or could not read: counted by kind and by words, told in one table, and where it is wanted in a
-file with the map's number of each object."""
+"""Reports what a conversion left out, ignored or could not read: counted by kind and words in a table, and on request in a file with the map's number
+of each object."""
 from __future__ import annotations
 
 import collections
@@ -7,7 +7,7 @@ import csv
 from collections.abc import Iterable, Mapping
 from typing import Any
 
-# The kinds of what is counted, in the order in which they are told.
+# The kinds of notes, in the order of the table.
 KINDS = {
     "kinds": "ways of other kinds",
     "closed": "ways closed by their tags",
@@ -26,7 +26,7 @@ KINDS = {
     "turns": "turn restrictions left out",
     "parts": "nodes of smaller components",
 }
-# How many words are told of a kind.
+# How many words of a kind the table has.
 MOST_WORDS = 4
 
 
@@ -44,7 +44,7 @@ class Report:
         self.log: list[tuple[Any, ...]] | None = [] if is_logged else None
 
     def note(self, kind: str, words: str, thing: str | None = None, number: int | None = None, count: int = 1) -> None:
-        """Counts a note on a `thing` of the map, `way`, `node` or `relation`, by its number there."""
+        """Counts a note about a `thing` of the map, `way`, `node` or `relation`, by its number."""
         self.counts[kind][words] += count
         if self.log is not None and thing is not None:
             self.log.append((thing, number, kind, words))
@@ -54,7 +54,7 @@ class Report:
             self.note(kind, words, thing, number)
 
     def write_log(self, path: str) -> None:
-        """Writes a line of CSV for each object that was noted: what it is, its number in the map, why, and its words."""
+        """Writes a line of CSV for each noted object: its type, its number in the map, the reason, and its words."""
         with open(path, "w", newline="") as file:
             lines = csv.writer(file, lineterminator="\n")
             lines.writerow(["object", "id", "reason", "words"])
@@ -64,7 +64,7 @@ class Report:
         return self.counts[kind].total()
 
     def lines(self, title: str) -> list[str]:
-        """The table: a line for each kind that was met, with its commonest words."""
+        """The table: a line for each kind that occurred, with its most frequent words."""
         rows = [(f"{self.total(kind):,}", told, words_told(self.counts[kind])) for kind, told in KINDS.items() if self.total(kind)]
         if not rows:
             return [f"{title}: nothing"]
@@ -73,7 +73,7 @@ class Report:
 
 
 def words_told(counts: Mapping[str, int]) -> str:
-    """The commonest words, the most frequent first, and how many others there are."""
+    """The most frequent words in order, and how many others there are."""
     ordered = sorted(counts.items(), key=lambda item: (-item[1], item[0]))
     told = [f"{count:,} {words}" for words, count in ordered[:MOST_WORDS] if words]
     others = sum(count for _, count in ordered[MOST_WORDS:])

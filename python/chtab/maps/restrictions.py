@@ -1,4 +1,4 @@
-"""Relations that restrict turns, read to pairs of arcs that may not follow one another.
+"""Reads relations that restrict turns, and finds the pairs of arcs that may not follow one another.
 
 https://wiki.openstreetmap.org/wiki/Relation:restriction
 """
@@ -18,16 +18,16 @@ if TYPE_CHECKING:
 
 FORBIDDING = {"no_left_turn", "no_right_turn", "no_straight_on", "no_u_turn", "no_entry", "no_exit"}
 DEMANDING = {"only_left_turn", "only_right_turn", "only_straight_on", "only_u_turn"}
-# Tags of restrictions that hold at some times alone, in a form that is no longer used.
+# Tags of restrictions that hold only at some times, in a form that is no longer used.
 TIMES = {"day_on", "day_off", "hour_on", "hour_off"}
 
 
 class NotRead(Exception):
-    """Why a restriction is left out."""
+    """The reason why a restriction is left out."""
 
 
 class Restriction(NamedTuple):
-    """From these ways over the map's node `via` to these ways: no turn, or no other turn where it is demanded."""
+    """A restriction: turns from some ways over the map's node `via` to some ways are forbidden, or all other turns are."""
 
     is_demand: bool
     is_back: bool
@@ -55,7 +55,7 @@ def words_for(relation: Relation, profile: Profile) -> set[str]:
 
 
 def restriction_of(relation: Relation, profile: Profile) -> Restriction:
-    """The restriction that a relation tells."""
+    """The restriction of a relation."""
     words = words_for(relation, profile)
     froms, tos = ([ref for kind, ref, part in relation.members if (kind, part) == ("way", role)] for role in ("from", "to"))
     vias = [(kind, ref) for kind, ref, role in relation.members if role == "via"]
@@ -67,7 +67,7 @@ def restriction_of(relation: Relation, profile: Profile) -> Restriction:
 
 
 def read_all(relations: Iterable[Relation], profile: Profile, report: Report) -> list[Restriction]:
-    """The restrictions of the relations; those that are left out are noted."""
+    """The restrictions of relations. Those that are left out are noted."""
     found = []
     for relation in relations:
         try:
@@ -78,7 +78,7 @@ def read_all(relations: Iterable[Relation], profile: Profile, report: Report) ->
 
 
 class Crossing(NamedTuple):
-    """The arcs that come to a node and those that leave it, in order."""
+    """The arcs that end at a node and those that start there, in order."""
 
     ins: list[int]
     outs: list[int]
@@ -96,7 +96,7 @@ def arcs_at(network: Network, nodes: Iterable[int]) -> dict[int, Crossing]:
 
 
 def arcs_of_ways(network: Network, ways: Iterable[int], arcs: Iterable[int], is_back: bool) -> list[int]:
-    """Those of a crossing's arcs that lie on these ways, each of which has to have one, and but for turns back no other."""
+    """The arcs of a crossing that are part of these ways. Each way has to have exactly one, except for turns back."""
     found = []
     for way in ways:
         of_way = [arc for arc in arcs if network.way_of(arc) == way]
@@ -109,7 +109,7 @@ def arcs_of_ways(network: Network, ways: Iterable[int], arcs: Iterable[int], is_
 
 
 def turns_of(restriction: Restriction, crossing: Crossing, network: Network) -> list[tuple[int, int]]:
-    """The turns (arc in, arc out) that a restriction names."""
+    """The turns of a restriction, as (arc in, arc out)."""
     ins = arcs_of_ways(network, restriction.froms, crossing.ins, restriction.is_back)
     outs = arcs_of_ways(network, restriction.tos, crossing.outs, restriction.is_back)
     turns = [(one, other) for one in ins for other in outs]
@@ -121,9 +121,9 @@ def turns_of(restriction: Restriction, crossing: Crossing, network: Network) -> 
 
 
 def forbidden_turns(restrictions: Sequence[Restriction], network: Network, nodes: Mapping[int, int], report: Report) -> dict[int, set[int]]:
-    """The arcs that may not follow on an arc: {arc in: {arcs out}}. `nodes` has the network's nodes by the map's numbers.
+    """The arcs that may not follow an arc: {arc in: {arcs out}}. `nodes` has the network's nodes by the map's numbers.
 
-    What several demands for one arc name is open; what they don't name is not.
+    If several restrictions demand turns from one arc, all of these are open, and all others are forbidden.
     """
     crossings = arcs_at(network, {nodes[each.via] for each in restrictions if each.via in nodes})
     forbidden: dict[int, set[int]] = collections.defaultdict(set)

@@ -1,4 +1,4 @@
-"""What ways of a map are called: the street of each direction of a road, by the tags that travellers read on signs."""
+"""The streets of ways: for each direction of a road, the tags that travellers read on signs."""
 from __future__ import annotations
 
 from collections.abc import Iterable
@@ -9,27 +9,27 @@ from chtab.files import Street
 if TYPE_CHECKING:
     from chtab.maps.tags import Tags
 
-# The tags that a street is made of. Signs with destinations may differ by direction.
+# The tags of a street. Signs with destinations may differ by direction.
 SIGNS = ("destination", "destination:ref")
 KEYS = ("highway", "junction", "name", "ref", *(f"{key}{side}" for key in SIGNS for side in ("", ":forward", ":backward")))
-# The words of junction whose ways are rings, all of whose traffic goes round.
+# The words of `junction` for rings, on which all traffic goes round.
 # https://wiki.openstreetmap.org/wiki/Key:junction
 RINGS = ("roundabout", "circular")
 
 
 def listed(value: str) -> str:
-    """The items of a list in a tag, as a sign has them."""
+    """The items of a list in a tag, as a sign shows them."""
     return ", ".join(word for word in map(str.strip, value.split(";")) if word)
 
 
 def destinations_of(tags: Tags, side: str) -> str:
-    """What signs say of where a way leads in one direction, `REF, REF: PLACE, PLACE`: https://wiki.openstreetmap.org/wiki/Key:destination."""
+    """The destinations on the signs of a way in one direction, `REF, REF: PLACE, PLACE`: https://wiki.openstreetmap.org/wiki/Key:destination."""
     places, numbers = (listed(tags.get(f"{key}:{side}", tags.get(key, ""))) for key in SIGNS)
     return f"{numbers}: {places}" if numbers and places else numbers or places
 
 
 def streets_of(tags: Tags) -> tuple[Street, Street]:
-    """The streets of both directions of a way that is a road: along it, and against it."""
+    """The streets of both directions of a road: along it, and against it."""
     kind = tags.get("highway", "ferry")
     junction = tags.get("junction", "")
     common = kind, junction if junction in RINGS else "", tags.get("name", "").strip(), listed(tags.get("ref", ""))
@@ -37,7 +37,7 @@ def streets_of(tags: Tags) -> tuple[Street, Street]:
 
 
 class Streets:
-    """The streets of a map, each once. A road has a pair of their numbers, which count from 0, for its two directions."""
+    """The different streets of a map. Each road has a pair of their numbers, which count from 0, for its two directions."""
 
     def __init__(self) -> None:
         self.numbers: dict[Street, int] = {}
@@ -48,8 +48,8 @@ class Streets:
         return along, against
 
     def chosen(self, numbers: Iterable[int | None]) -> tuple[list[Street], list[int]]:
-        """The streets of these numbers, `None` for none, each once in the order of its first use, and the place of each in them, from 1 on; 0
-        where there is none."""
+        """The different streets with these numbers, in the order of their first use, and for each number the place of its street, from 1 on, or 0 for
+        None."""
         every = list(self.numbers)
         places: dict[int | None, int] = {None: 0}
         found = [places.setdefault(number, len(places)) for number in numbers]

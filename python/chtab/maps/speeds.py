@@ -1,4 +1,4 @@
-"""Limits of speed, and durations of ferries, as tags tell them.
+"""Reads limits of speed and durations of ferries from tags.
 
 https://wiki.openstreetmap.org/wiki/Key:maxspeed and https://wiki.openstreetmap.org/wiki/Key:duration
 """
@@ -16,13 +16,13 @@ if TYPE_CHECKING:
 NUMBER = re.compile(r"(\d+(?:\.\d+)?)\s*([a-z/]*)", re.ASCII)
 # A zone whose name is its limit, in a country that counts in kilometres: DE:zone:30, FR:zone30, CZ:30.
 ZONE = re.compile(r"(?!GB|UK|US)[A-Z]{2}(?:-[A-Z]+)?:(?:zone:?)?(\d+)", re.ASCII)
-# Hours and minutes, with seconds where they are told; minutes alone; or the form of ISO 8601.
+# Hours and minutes, and optionally seconds; minutes alone; or the form of ISO 8601.
 CLOCK = re.compile(r"(?:(\d+):)?(\d+)(?::(\d\d))?", re.ASCII)
 ISO = re.compile(r"P(?:(\d+)D)?(?:T(?:(\d+)H)?(?:(\d+)M)?(?:(\d+)S)?)?", re.ASCII)
 
 
 def one_limit(word: str) -> float | None:
-    """Kilometres an hour of one word; 0 where it has no one number, None where it can't be read."""
+    """The kilometres an hour of one word; 0 if it has no single number, None if it can't be read."""
     limits = profiles.limits()
     if word in limits.words:
         return limits.words[word]
@@ -37,9 +37,9 @@ def one_limit(word: str) -> float | None:
 
 
 def limit_of(tags: Tags, side: str, notes: Notes) -> float | None:
-    """The limit of a way in one direction, `forward` or `backward`, in kilometres an hour; None where there is no number.
+    """The limit of a way in one direction, `forward` or `backward`, in kilometres an hour; None if there is no number.
 
-    The least of a list is taken. What can't be read is noted, and says nothing.
+    The least of a list counts. What can't be read is noted and ignored.
     """
     key = f"maxspeed:{side}" if f"maxspeed:{side}" in tags else "maxspeed"
     if key not in tags:
@@ -51,7 +51,7 @@ def limit_of(tags: Tags, side: str, notes: Notes) -> float | None:
 
 
 def speed_of(tags: Tags, side: str, usual: float, limit_use: str, notes: Notes) -> float:
-    """Kilometres an hour in one direction of a way whose kind has the usual speed."""
+    """The kilometres an hour in one direction of a way whose kind has the usual speed."""
     if limit_use == "says nothing":
         return usual
     limit = limit_of(tags, side, notes)
@@ -61,7 +61,7 @@ def speed_of(tags: Tags, side: str, usual: float, limit_use: str, notes: Notes) 
 
 
 def seconds_of(duration: str) -> int | None:
-    """The seconds of a duration, and None where it can't be read or is 0."""
+    """The seconds of a duration; None if it can't be read or is 0."""
     clock = CLOCK.fullmatch(duration.strip())
     if clock:
         hours, minutes, seconds = (int(part or 0) for part in clock.groups())

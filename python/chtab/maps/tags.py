@@ -1,6 +1,6 @@
-"""What the tags of a way or a node say to one way of travelling: whether it is open, and in which direction.
+"""What the tags of a way or a node mean for one way of travelling: whether it is open, and in which direction.
 
-`notes` is a list that takes what could not be read, each as (kind, text); the kinds are those of `report`.
+`notes` is a list for what could not be read, as (kind, text); the kinds are those of `report`.
 """
 from __future__ import annotations
 
@@ -9,8 +9,8 @@ from typing import TYPE_CHECKING, TypeAlias
 
 if TYPE_CHECKING:
     from chtab.maps.profiles import Access, Barriers, Oneway
-# What the words of oneway mean: along the way, against it, both, or a direction that changes with the time of day. Where the direction
-# alternates all the time (`alternating`) each is open.
+# The meanings of the words of `oneway`: along the way, against it, both, or a direction that changes with the time of day. If the direction
+# alternates all the time (`alternating`), both are open.
 # https://wiki.openstreetmap.org/wiki/Key:oneway
 ALONG, AGAINST, BOTH, BY_TIME = 1, -1, 0, None
 DIRECTIONS: dict[str, int | None] = {
@@ -19,18 +19,18 @@ DIRECTIONS: dict[str, int | None] = {
 }
 
 
-# The tags of a thing of the map, and what is noted of it: kinds and words.
+# The tags of an object of the map, and the notes about it: kinds and words.
 Tags: TypeAlias = Mapping[str, str]
 Notes: TypeAlias = list[tuple[str, str]]
 
 
 def words_of(value: str) -> set[str]:
-    """The words of a list in a tag: a set, since their order says nothing."""
+    """The words of a list in a tag, as a set, because their order has no meaning."""
     return {word.strip() for word in value.split(";")} - {""}
 
 
 def deciding(tags: Tags, access: Access, notes: Notes) -> tuple[str, bool] | tuple[None, None]:
-    """The first of the access tags that has a known word, and whether it opens: (tag, True or False), or (None, None).
+    """The first of the access tags with a known word, and whether it opens: (tag, True or False), or (None, None).
 
     Of several words one that opens is enough.
     """
@@ -47,7 +47,7 @@ def deciding(tags: Tags, access: Access, notes: Notes) -> tuple[str, bool] | tup
 
 
 def has_one_of(tags: Tags, table: Mapping[str, frozenset[str]]) -> str | None:
-    """The first tag of a table {key: words} that has one of its words, as key=value, and None where there is none."""
+    """The first tag of a table {key: words} with one of its words, as key=value; None if there is none."""
     return next((f"{key}={tags[key]}" for key, words in table.items() if key in tags and words_of(tags[key]) & words), None)
 
 
@@ -64,7 +64,7 @@ def direction_of(tags: Tags, oneway: Oneway, notes: Notes) -> int | None:
 
 
 def is_closed_barrier(tags: Tags, barriers: Barriers, notes: Notes) -> bool:
-    """Whether no way leads through a node with these tags, of which one is `barrier`."""
+    """Whether a node with these tags, one of which is `barrier`, is closed."""
     key, is_open = deciding(tags, barriers.access, notes)
     if key:
         return not is_open

@@ -1,10 +1,9 @@
-"""Nodes split so that forbidden turns are no walks.
+"""Splits nodes so that no walk makes a forbidden turn.
 
-At a node where turns are forbidden each arc in from which one is forbidden gets a copy of the node to lead to, which has the arcs out that
-are open from there. All other arcs in lead to the node itself, which has all arcs out: there trips start. Trips end at one more copy, the
-node's end, to which these arcs in lead too, and from the node itself an arc of weight 0, and which nothing leaves. One node can't be both:
-what ends there could go on by any arc out.
-"""
+At a node with forbidden turns, each arc in that has a forbidden turn leads to its own copy of the node, which has only the arcs out that are open to
+it. All other arcs in lead to the node itself, which has all arcs out, and where trips start. Trips end at one more copy, the end of the node, which
+no arc leaves. The arcs in that lead to copies lead there too, and an arc of weight 0 leads there from the node itself. The node can't be its own end,
+because trips that arrive there could continue by any arc out. """
 from __future__ import annotations
 
 import collections
@@ -15,12 +14,12 @@ from chtab.maps.arcs import NO_PIECE, Network
 
 
 class Copies:
-    """The copies of nodes that forbidden turns ask for, added to the network."""
+    """Adds the copies of nodes that forbidden turns need to the network."""
 
     def __init__(self, network: Network, forbidden: Mapping[int, set[int]]) -> None:
         nodes = {network.heads[arc] for arc in forbidden}
         crossings = restrictions.arcs_at(network, nodes)
-        # The copy to which an arc leads, None where nothing is open from there, and the copies that an arc leaves beside its tail.
+        # The copy to which an arc leads, None if no arc is open from there, and the copies that an arc starts at in addition to its tail.
         self.heads: dict[int, int | None] = {}
         self.tails: dict[int, list[int]] = collections.defaultdict(list)
         for arc in sorted(forbidden):
@@ -45,7 +44,7 @@ class Copies:
 
 
 def split(network: Network, forbidden: Mapping[int, set[int]]) -> Network:
-    """The network in which no walk has a forbidden turn; all of its arcs are arcs of this one, some of them several times."""
+    """A network in which no walk makes a forbidden turn. Its arcs are those of the given one, some of them several times."""
     copies = Copies(network, forbidden)
     made = Network(network.bends is not None, network.streets is not None)
     made.names, made.places, made.ways = network.names, network.places, network.ways

@@ -1,15 +1,14 @@
 """Run as a program: writes a map of the form .osm.pbf to standard output as text, by pyosmium.
 
-The text has a line for each object (https://osmcode.org/opl-file-format/): first nodes, then ways, each of whose nodes has its place, and
-relations. All of that is done outside of Python, some ten times as fast as objects are shown to Python one by one, and in a process of
-its own beside the one that reads the text.
+The text has a line for each object (https://osmcode.org/opl-file-format/): first nodes, then ways with the places of their nodes, then relations. All
+of this happens outside of Python, some ten times as fast as with one object at a time in Python, and in a process beside the one that reads the text.
 """
 from __future__ import annotations
 
 import sys
 from typing import Any
 
-# Status of an end for want of pyosmium, and for a fault of the file.
+# The exit statuses without pyosmium, and for a fault of the file.
 NO_OSMIUM, FAULT = 3, 4
 FORM = "osh.opl,locations_on_ways=true,add_metadata=version"
 BUFFER = 1 << 20
@@ -20,7 +19,7 @@ def main(path: str) -> int:
         import osmium
     except ImportError:
         return NO_OSMIUM
-    # The index of places is named, since pyosmium 3 doesn't keep it by itself.
+    # The index of places has a name, because pyosmium 3 doesn't keep it alive by itself.
     index = osmium.index.create_map("flex_mem")
     places = osmium.NodeLocationsForWays(index)
     places.ignore_errors()
@@ -42,7 +41,7 @@ def main(path: str) -> int:
 
 
 def nodes_that_lie_nowhere(osmium: Any, path: str) -> list[int]:
-    """The numbers of the nodes whose longitude and latitude are none."""
+    """The numbers of the nodes without a valid longitude and latitude."""
     found = []
 
     class Finder(osmium.SimpleHandler):

@@ -1,4 +1,4 @@
-"""Which ways of a map are roads for one way of travelling, how fast, and in which direction."""
+"""Decides which ways of a map are roads for one way of travelling, how fast, and in which direction."""
 from __future__ import annotations
 
 import array
@@ -18,15 +18,15 @@ if TYPE_CHECKING:
     from chtab.maps.report import Report
     from chtab.typing import Point
 
-# The keys of which a way has at least one, where it may be a road or a ferry.
+# A way can only be a road or a ferry if it has one of these keys.
 ROAD_KEYS = ("highway", "route")
 # The place of a node that the map doesn't have.
 NOWHERE = (math.nan, math.nan)
 
 
 class Rule(NamedTuple):
-    """What the tags of a way make of it: kilometres an hour along it and against it, 0 where it is closed in that direction, and for
-    a ferry the seconds that it takes in all, 0 where nobody told them."""
+    """The rule for a way by its tags: the kilometres an hour along it and against it, 0 if it is closed in that direction, and for a ferry the
+    seconds of the whole crossing, 0 if its tags don't say."""
 
     forward: float
     backward: float
@@ -34,8 +34,8 @@ class Rule(NamedTuple):
 
 
 class Road(NamedTuple):
-    """A way that is a road: its number in the map, its rule, and of its nodes, in order, the numbers, longitudes and latitudes. A node that
-    the map doesn't have is at `NOWHERE`. `streets` are the numbers of its streets along it and against it, None where nobody asked for them."""
+    """A way that is a road: its number in the map, its rule, and the numbers, longitudes and latitudes of its nodes, in order. A node that the map
+    lacks is at `NOWHERE`. `streets` has the numbers of its streets along it and against it, or is None unless they are wanted."""
 
     number: int
     rule: Rule
@@ -46,7 +46,7 @@ class Road(NamedTuple):
 
 
 class Verdict(NamedTuple):
-    """The rule of a way, None where it is no road, and what is to be noted."""
+    """The rule of a way, None if it is no road, and the notes about it."""
 
     rule: Rule | None
     notes: tuple[tuple[str, str], ...]
@@ -57,7 +57,7 @@ def is_ferry(way: tags.Tags, profile: Profile) -> bool:
 
 
 def reason_against(way: tags.Tags, profile: Profile, notes: tags.Notes) -> tuple[str, str] | None:
-    """Why a way is no road, as (kind, words), or None where it is one."""
+    """The reason why a way is no road, as (kind, words); None if it is one."""
     kind, on_ferry = way.get("highway"), is_ferry(way, profile)
     if not on_ferry and kind not in profile.speeds and kind not in profile.speeds_where_opened:
         return "kinds", f"highway={kind}"
@@ -75,14 +75,14 @@ def reason_against(way: tags.Tags, profile: Profile, notes: tags.Notes) -> tuple
 
 
 def usual_speed(way: tags.Tags, profile: Profile) -> float:
-    """Kilometres an hour of a road's kind."""
+    """The kilometres an hour of a road's kind."""
     if is_ferry(way, profile):
         return profile.ferry_speed
     return profile.speeds.get(way["highway"]) or profile.speeds_where_opened[way["highway"]]
 
 
 def duration_of(way: tags.Tags, notes: tags.Notes) -> int:
-    """The seconds of a ferry, 0 where they are not told."""
+    """The seconds of a ferry; 0 if its tags don't say."""
     seconds = speeds.seconds_of(way.get("duration", ""))
     if seconds is None:
         notes.append(("durations", f"duration={way['duration']}" if "duration" in way else ""))
@@ -90,7 +90,7 @@ def duration_of(way: tags.Tags, notes: tags.Notes) -> int:
 
 
 def judged(way: tags.Tags, profile: Profile, with_ferries: bool = True) -> Verdict:
-    """The verdict on a way with these tags. Ways that are neither a road nor a ferry of any kind are passed over in silence."""
+    """The verdict on a way with these tags. Nothing is noted about ways that are neither a road nor a ferry of any kind."""
     notes: tags.Notes = []
     on_ferry = is_ferry(way, profile)
     if not on_ferry and "highway" not in way:
@@ -111,42 +111,42 @@ def judged(way: tags.Tags, profile: Profile, with_ferries: bool = True) -> Verdi
 
 
 class Survey:
-    """What is read of a map: the roads with the places of their nodes, barriers, and the relations that restrict turns."""
+    """What is kept of a map: the roads with the places of their nodes, barriers, and the relations that restrict turns."""
 
     def __init__(self, profile: Profile, report: Report, with_ferries: bool = True, with_names: bool = False) -> None:
         self.profile, self.report, self.with_ferries = profile, report, with_ferries
-        # What roads are called, where that is wanted.
+        # The streets of roads, if they are wanted.
         self.streets = Streets() if with_names else None
         self.roads: list[Road] = []
         self.barriers: dict[int, tags.Tags] = {}
         self.relations: list[Relation] = []
-        # Nodes on which no road need be, and whose barriers are told all the same.
+        # Nodes that may be on no road, but whose barriers are noted too.
         self.lone_nodes: set[int] = set()
         self.keys = profile.keys()
         self.barrier_keys = {"barrier", *profile.access.tags}
         self.verdicts: dict[Any, Verdict] = {}
 
     def verdict_on(self, way: tags.Tags) -> Verdict:
-        """The verdict on a way with these tags. Ways of which the same is asked have the same one."""
+        """The verdict on a way with these tags, which is kept for other ways with the same relevant tags."""
         asked = frozenset(item for item in way.items() if item[0] in self.keys)
         if asked not in self.verdicts:
             self.verdicts[asked] = judged(dict(asked), self.profile, self.with_ferries)
         return self.verdicts[asked]
 
     def rule_by(self, verdict: Verdict, number: int) -> Rule | None:
-        """The rule of a verdict on a way of this number; what it gives to note is counted."""
+        """The rule of a verdict on a way with this number. Its notes are counted."""
         self.report.note_all(verdict.notes, "way", number)
         return verdict.rule
 
     def streets_of(self, way: tags.Tags) -> tuple[int, int] | None:
-        """The numbers of the streets of a road with these tags, None where nobody asked for them."""
+        """The numbers of the streets of a road with these tags; None unless they are wanted."""
         return None if self.streets is None else self.streets.add(way)
 
     def add_way(
         self, number: int, rule: Rule, nodes: Sequence[int], longitudes: Sequence[float] = (), latitudes: Sequence[float] = (),
         streets: tuple[int, int] | None = None,
     ) -> None:
-        """A road through these nodes, at these places where they are known by now; a node that follows on itself is there once."""
+        """Adds a road through these nodes, with their places if they are known already. Repeated nodes are dropped."""
         if any(map(operator.eq, nodes, nodes[1:])):
             is_kept = [True, *map(operator.ne, nodes, nodes[1:])]
             nodes = list(itertools.compress(nodes, is_kept))
@@ -158,22 +158,22 @@ class Survey:
             self.roads.append(Road(number, rule, array.array("q", nodes), array.array("d", longitudes), array.array("d", latitudes), streets))
 
     def place_roads(self, places: Mapping[int, Point]) -> None:
-        """The places of the roads' nodes, {number: (longitude, latitude)}, where they were not known when the roads were added."""
+        """Adds the places of the roads' nodes, {number: (longitude, latitude)}, if they were not known when the roads were added."""
         for road in self.roads:
             longitudes, latitudes = zip(*(places.get(node, NOWHERE) for node in road.nodes))
             road.longitudes.extend(longitudes)
             road.latitudes.extend(latitudes)
 
     def add_barrier(self, number: int, node: tags.Tags) -> None:
-        """The tags of a node with a barrier."""
+        """Adds a node with a barrier, by its tags."""
         self.barriers[number] = {key: value for key, value in node.items() if key in self.barrier_keys}
 
     def nodes(self) -> Iterator[int]:
-        """The nodes of the roads, one road after the other."""
+        """Yields the nodes of the roads, one road after the other."""
         return itertools.chain.from_iterable(road.nodes for road in self.roads)
 
     def closed_nodes(self) -> set[int]:
-        """The nodes of roads through which no way leads. They are noted, and so are kinds of barrier that are not known."""
+        """The nodes of roads that a barrier closes. They are noted, and so are unknown kinds of barrier."""
         closed: set[int] = set()
         for number in sorted(set(self.barriers).intersection(itertools.chain(self.nodes(), self.lone_nodes))):
             notes: tags.Notes = []
@@ -185,7 +185,7 @@ class Survey:
         return closed
 
     def note_ways_that_come_twice(self) -> None:
-        """Notes each road whose number is that of a road before it. Both are roads."""
+        """Notes each road with the number of an earlier road. Both are kept."""
         counts = collections.Counter(road.number for road in self.roads)
         for number, count in counts.items():
             for _ in range(count - 1):

@@ -1,4 +1,4 @@
-"""What a network answers on nearness: the targets near each source, the nearest of them, and aggregates of values over them."""
+"""The calls of a network on nearness: the targets near each source, the nearest of them, and aggregates of values over them."""
 from __future__ import annotations
 
 from collections.abc import Callable, Sequence
@@ -30,7 +30,7 @@ Direction = Literal["to", "from"]
 
 
 class Accessibility:
-    """The calls of a `Network` on nearness. It has `nodes`, `labels`, `_nodes`, which finds the nodes of labels, and `_near`, its runs."""
+    """The calls of a `Network` on nearness, which uses its `nodes`, `labels`, `_nodes` and `_near`."""
 
     if TYPE_CHECKING:
         nodes: int
@@ -40,36 +40,36 @@ class Accessibility:
 
         @property
         def labels(self) -> LabelArray:
-            """As a `Network` has them."""
+            """The labels of a `Network`."""
 
         def _nodes(self, name: str, given: Any) -> NDArray[numpy.int64]:
-            """As a `Network` finds them."""
+            """The nodes of labels, as a `Network` finds them."""
 
     @whole
     def near(
         self, sources: ArrayLike | None, targets: ArrayLike, count: int | None = None, within: Limit = None, direction: Direction = "to", *,
         workers: int | distributed.Client = 1, progress: Progress = None,
     ) -> Near:
-        """Answers the targets near each source: the first ones, or all, or those within a limit.
+        """Finds the targets near each source: the first ones, or all, or those within a limit.
 
         Parameters
         ----------
         sources : array of labels, shape (n,), or None
-            Nodes; they may repeat. None: all nodes, in the order of `labels`.
+            Nodes, which may repeat. None: all nodes, in the order of `labels`.
         targets : array of labels, shape (l,)
-            Nodes; they may repeat, and each place of the list counts. A target that is the source is at the weight 0.
+            Nodes, which may repeat; each place of the list counts. A source that is a target has the weight 0 there.
         count : int, optional
             The most targets of a source, from 1 on. Of equally near ones, those that come first in the list are taken.
         within : number or duration, optional
-            A limit in the network's `unit`. A target that is just as far is near.
+            A limit in the network's `unit`. A target at exactly this weight counts as near.
         direction : {"to", "from"}
             Whether weights are those from the source to the target, or from the target to the source.
         workers : int or distributed.Client
-            How many runs of the program, or threads of this process, make blocks at a time, 1 where it is not given; or a client of Dask, whose
+            How many runs of the program, or threads of the library, work on blocks of the answer at a time, 1 by default; or a client of Dask, whose
             workers run the program. All machines need the files and the program at the same paths.
         progress : bool or callable, optional
-            True: how far the call is, on standard error; False: nothing; a callable is called with how many blocks are done, and of how many.
-            Without it a call of several blocks that takes more than ten seconds says so.
+            True reports progress on standard error; a callable gets how many blocks are done, and their total. By default only calls of several
+            blocks and more than ten seconds report it.
 
         Returns
         -------
@@ -78,32 +78,16 @@ class Accessibility:
 
         Raises
         ------
-        TypeError
-            A limit or a count is no number.
-        ValueError
-            A label is that of no node; a number or `direction` is out of its range.
+        TypeError, ValueError
+            A limit or a count is no number; a label is that of no node; a number or `direction` is out of its range.
         ChtabError
-            The program has no command `near`; or the network is closed.
+            The program has no command `near`, or the network is closed.
         ProgramFault, TimedOut
-            A run of the program failed, or took too long.
-
-        Notes
-        -----
-        Where the library for C answers (`library` of `Network.open`), rows come from this process, and `workers` are threads. All nodes go by
-        one sweep, unless that would take more than 256 MB and 64 bytes a node; then they go by searches, as other sources do.
-
-        Otherwise each call runs the program anew, which reads the network. Without `saved=` of `Network.open` it also builds the hierarchy.
-        `timeout` counts from the beginning of a run.
-
-        One run answers for all nodes, unless they may have more than 2^26 targets in all. Then, or with several workers, the sources go in
-        blocks, each by a run: of at most 65,536 sources, as many targets, and 2^26 targets of sources.
-
-        The answer takes 16 bytes for each target of a source, and twice as much while it is made. A run holds the network, and about 16 bytes
-        of text for each target of a source of its block. Matching its rows takes 4 bytes a node.
+            A run of the program failed, or took too long. Without the library each call starts a run, which reads the network anew.
 
         Examples
         --------
-        >>> near = network.near(None, hospitals, count=3, within=1_800_000)        # doctest: +SKIP
+        >>> near = network.near(None, hospitals, count=3, within=30)               # doctest: +SKIP
         >>> near.to_frame().groupby("source")["weight"].mean()                     # doctest: +SKIP
         """
         rows, asked, found = self._near_rows(sources, targets, count, within, direction, workers, progress)
@@ -114,7 +98,7 @@ class Accessibility:
     ) -> tuple[near_rows.Rows, LabelArray, LabelArray]:
         """The rows with weights of the graph, and the labels of sources and targets."""
         sources_asked, targets_asked = None if sources is None else self._nodes("sources", sources), self._nodes("targets", targets)
-        # No row has more than all targets: numpy has no greater numbers than those of 64 bits.
+        # A row has at most all targets. This also keeps the number within the 64 bits that numpy has.
         most = None if count is None else min(row_blocks.count_in("count", count), max(1, len(targets_asked)))
         question = NearQuestion(sources_asked, targets_asked, most, self._measure.limit("within", within), is_from(direction))
         rows = row_blocks.rows(self._near, question, workers, progress)
@@ -126,17 +110,16 @@ class Accessibility:
         self, sources: ArrayLike | None, targets: ArrayLike, count: int = 1, within: Limit = None, direction: Direction = "to", *,
         missing: float | None = None, workers: int | distributed.Client = 1, progress: Progress = None,
     ) -> Nearest:
-        """Answers the nearest targets of each source in columns: as `near` gives them, with room for `count` of each.
+        """Finds the nearest targets of each source, in columns: as `near` does, with room for `count` targets of each.
 
-        It is what Pandana's `nearest_pois` answers. Here weights are exact, paths are directed, and targets are nodes. Where there is no target, the
-        place is -1, and the weight is -1 or NaN and masked, and not the limit.
+        Where there is no further target, the place is -1, and the weight is -1 or NaN and masked.
 
         Parameters
         ----------
         sources : array of labels, shape (n,), or None
-            As `near` takes them.
+            Nodes, as `near` takes them.
         targets : array of labels, shape (l,)
-            As `near` takes them.
+            Nodes, as `near` takes them.
         count : int
             How many targets of each source, from 1 on.
         within : number or duration, optional
@@ -144,7 +127,7 @@ class Accessibility:
         direction : {"to", "from"}
             As `near` takes it.
         missing : int or float, optional
-            The weight where there is no further target: as `distances` takes it.
+            The weight where there is no further target, as `distances` takes it.
         workers, progress : int or distributed.Client, bool or callable
             As `near` takes them.
 
@@ -161,7 +144,7 @@ class Accessibility:
         Examples
         --------
         >>> found = network.nearest_of(None, hospitals, count=2)                    # doctest: +SKIP
-        >>> minutes = numpy.ma.array(found.weights, mask=found.mask) / 60_000       # doctest: +SKIP
+        >>> minutes = numpy.ma.array(found.weights, mask=found.mask)                # doctest: +SKIP
         """
         count = row_blocks.count_in("count", count)
         rows, asked, found = self._near_rows(sources, targets, count, within, direction, workers, progress)
@@ -176,27 +159,24 @@ class Accessibility:
         targets: ArrayLike | None = None, aggregate: str = "sum", decay: str | Callable | None = None, direction: Direction = "to", *,
         workers: int | distributed.Client = 1, progress: Progress = None,
     ) -> NDArray[numpy.float64] | pandas.DataFrame:
-        """Answers an aggregate of values over the targets within a limit, for each source: such as the jobs within 30 minutes.
-
-        It is what Pandana's `aggregate` answers. Here weights are exact, paths are directed, a target just at the limit counts, and several limits
-        and columns take one call.
+        """Aggregates values over the targets within a limit, for each source: such as the jobs within 30 minutes.
 
         Parameters
         ----------
         values : array of float, shape (l,) or (l, c), float, or pandas.DataFrame
-            The value of each target, in one column or several; one number is that of each, and True is 1. Without `targets` it is a Series, a frame
-            or a dict with the labels of targets, or has a value for each node in the order of `labels`.
+            The value of each target, in one column or several. A single number is the value of each target, and True is 1. Without `targets`, a
+            Series, a frame or a dict has the labels of targets as its index, and an array has a value for each node in the order of `labels`.
         within : number, duration, or list of these, length m
-            A limit in the network's `unit`, or several.
+            A limit in the network's `unit`, or several. A target at exactly the limit counts.
         sources : array of labels, shape (n,), optional
-            Nodes; they may repeat. Without it all nodes, in the order of `labels`.
+            Nodes, which may repeat; by default all nodes, in the order of `labels`.
         targets : array of labels, shape (l,), optional
             Nodes; each place of the list counts.
         aggregate : {"sum", "mean", "median", "count", "std", "min", "max"}
-            What is answered of the values. `count` is how many targets are near, and `std` the standard deviation of them as a whole population.
+            The aggregate. `count` is how many targets are near, and `std` the standard deviation of their values as a whole population.
         decay : {"linear", "exponential"} or callable, optional
-            Which share of a value counts at the weight w, within the limit R: all without it; by "linear" 1 - w / R; by "exponential"
-            e^(-w / R). A callable takes an array of weights, and gives the share at each. It is for sums, means, counts and standard deviations.
+            The share of a value that counts at the weight w within the limit R: 1 - w / R, e^(-w / R), or what a callable gives for an array of
+            weights. It applies to sums, means, counts and standard deviations.
         direction : {"to", "from"}
             Whether weights are those from the source to the target, or from the target to the source.
         workers, progress : int or distributed.Client, bool or callable
@@ -205,25 +185,17 @@ class Accessibility:
         Returns
         -------
         array of float64, shape (n,), (n, m), (n, c) or (n, c, m)
-            The aggregates, with an axis for several columns and for a list of limits. Of a frame of values it is a frame with the sources as index,
-            and the columns of the values, for a list of limits each with each limit. Where no target is near sums and counts are 0, others NaN.
+            The aggregates, with an axis for several columns and for a list of limits; for a frame of values a frame, with the sources as index and
+            the same columns. Where no target is near, sums and counts are 0, and the others NaN.
 
         Raises
         ------
         DataFault
-            A value is not finite, or is missing; or there are more or fewer than targets.
-        TypeError
-            A limit is no number.
-        ValueError
-            As `near` raises it; or `aggregate` or `decay` is another one, or gives another shape; or a limit is 0 where a decay divides by it.
+            A value is missing or not finite, or there are more or fewer values than targets.
+        TypeError, ValueError
+            As `near` raises them; or `aggregate` or `decay` is unknown; or a limit is 0 where a decay divides by it.
         ChtabError, ProgramFault, TimedOut
             As `near` raises them.
-
-        Notes
-        -----
-        Runs and blocks are those of `near`. Rows are added up as they come, and not kept: beside its runs a call holds 8 bytes for each source,
-        column and limit (a mean 16, a standard deviation 24), and 256 KiB of text for each worker. A median of more than 65,536 targets holds all
-        rows. A client of Dask sends the rows of whole blocks, one after the other.
 
         Examples
         --------
@@ -234,7 +206,7 @@ class Accessibility:
             raise ValueError(f"aggregate is one of {', '.join(sums.KINDS)}, not {aggregate!r}")
         given = numpy.asarray(within, object)
         if given.ndim > 1:
-            raise ValueError("limits stand in one list")
+            raise ValueError("several limits are one list")
         listed = numpy.atleast_1d(given).tolist()
         if None in listed:
             raise TypeError("within is a number, or a list of numbers, not None")
@@ -261,12 +233,12 @@ class Accessibility:
         self, values: ArrayLike | dict, within: Limit | list[Limit], sources: ArrayLike | None = None, targets: ArrayLike | None = None,
         decay: str | Callable | None = None, direction: Direction = "to", *, workers: int | distributed.Client = 1, progress: Progress = None,
     ) -> NDArray[numpy.float64] | pandas.DataFrame:
-        """Answers the sum of values over the targets within a limit: `accessibility` by its earlier name.
+        """Sums values over the targets within a limit: `accessibility` under its earlier name.
 
         Parameters
         ----------
         values, within, sources, targets, decay, direction, workers, progress : as `accessibility` has them
-            What is summed, how far, and for whom.
+            The values, the limits in the network's `unit`, and the nodes.
 
         Returns
         -------

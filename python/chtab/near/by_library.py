@@ -19,20 +19,19 @@ if TYPE_CHECKING:
     from chtab.engine.in_process import InProcess
     from chtab.typing import Floats
 
-# What one call of the library gives at most: pairs, and with them rows that it copies.
+# The most that one call of the library gives: pairs, and the rows that it copies with them.
 PAIRS = 1 << 20
-# Pairs of a sweep, of 16 bytes each, and pairs of a node: one of more than both is not made. So a call takes much more than a second only where a
-# network has many millions of nodes.
+# A sweep may have this many pairs of 16 bytes each, or this many for each node. A call therefore takes much more than a second only in networks of
+# many millions of nodes.
 SWEPT, FEW = 1 << 24, 4
-# All rows are swept where there are at least this share of the nodes as sources: one sweep takes as long as so many searches.
+# From this share of the nodes as sources on, all rows are swept, because a sweep takes as long as that many searches.
 SHARE = 1 / 4
-# Sources whose rows say how many pairs all rows have.
+# How many sources are sampled to estimate the pairs of all rows.
 SAMPLE = 64
 
 
 class NearInProcess:
-    """Near rows as `runs.NearRuns` gives them, by the handles of an `in_process.InProcess`. Calls may come from several threads, and from
-    processes that were forked.
+    """Near rows as `runs.NearRuns` gives them, by the handles of an `in_process.InProcess`. Several threads and forked processes may share it.
 
     Parameters
     ----------
@@ -40,7 +39,7 @@ class NearInProcess:
         The network.
     """
 
-    # Whether rows come without a run that reads the network first.
+    # Whether rows need no run that reads the network first.
     is_at_hand = True
 
     def __init__(self, engine: InProcess) -> None:
@@ -52,7 +51,7 @@ class NearInProcess:
             raise ChtabError(library.GONE)
 
     def portions(self, question: NearQuestion) -> Iterator[tuple[int, near_rows.Rows]]:
-        """The rows for a question, in portions: pairs of the first row's place and the rows."""
+        """Yields the rows for a question in portions, each with the place of its first row."""
         self.see_that_there()
         targets = library.nodes_of(question.targets, self.nodes)
         sources = numpy.arange(self.nodes, dtype=numpy.uint32) if question.sources is None else library.nodes_of(question.sources, self.nodes)
@@ -73,8 +72,8 @@ class NearInProcess:
                 start += len(ends)
 
     def sums(self, question: NearQuestion, values: NDArray[numpy.uint64], limits: Sequence[int]) -> Floats:
-        """For each source, column and limit the sum of the values of the targets within it, float64 (n, c, m). The values are whole numbers from 0
-        on, an array (l, c) of uint64, the sum of each column no more than is exact as a float."""
+        """For each source, column and limit the sum of the values of the targets within the limit, float64 (n, c, m). The values are whole numbers,
+        uint64 (l, c), and the sum of each column is small enough to be exact as a float."""
         self.see_that_there()
         targets = library.nodes_of(question.targets, self.nodes)
         sources = numpy.arange(self.nodes, dtype=numpy.uint32) if question.sources is None else library.nodes_of(question.sources, self.nodes)
@@ -94,7 +93,8 @@ class NearInProcess:
         return found
 
     def has_few(self, handle: library.Handle, most: int) -> bool:
-        """Whether the rows of all nodes have few enough pairs for a sweep, each at most so many: by those of some nodes, where there may be more."""
+        """Whether the rows of all nodes have few enough pairs for a sweep. A row has at most that many; if this bound is too large, a sample of nodes
+        decides."""
         enough = max(SWEPT, FEW * self.nodes)
         if self.nodes * most <= enough:
             return True
@@ -104,7 +104,7 @@ class NearInProcess:
 
     @contextlib.contextmanager
     def apart(self) -> Iterator[NearInProcess]:
-        """The same for one call, which may be ended alone."""
+        """The same object for one call, which can be ended separately."""
         own = NearInProcess(self.engine)
         try:
             yield own
@@ -112,12 +112,12 @@ class NearInProcess:
             own.kill()
 
     def kill(self) -> None:
-        """Refuses what is asked from now on. A call of the library that is under way ends by itself."""
+        """Refuses all further questions. A call of the library that is under way ends by itself."""
         self.is_closed = True
 
 
 def is_swept_by(handle: library.Handle) -> bool:
-    """Sweeps, unless there is no memory for all rows at once; whether that was done. The samples may have had fewer pairs than most rows."""
+    """Sweeps, unless memory is too short for all rows at once, and returns whether it did. The sample may have had fewer pairs than most rows."""
     try:
         interruptible(LONG, handle.sweep)
     except ProgramFault:
@@ -132,5 +132,5 @@ def limits_of(question: NearQuestion) -> tuple[int, int]:
 
 
 def near_of(engine: asking.Engine | InProcess) -> NearInProcess | NearRuns:
-    """What gives the near rows of an engine: the library where it answers, and else runs of the program."""
+    """The source of near rows for an engine: the library if it answers, and otherwise runs of the program."""
     return NearRuns(engine.setting, engine.nodes) if isinstance(engine, asking.Engine) else NearInProcess(engine)

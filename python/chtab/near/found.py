@@ -1,4 +1,4 @@
-"""What a network answers on nearness: targets near each source in compressed form, and the nearest of them in columns."""
+"""Answers on nearness: the targets near each source in compressed form, and the nearest of them in columns."""
 from __future__ import annotations
 
 import operator
@@ -22,19 +22,19 @@ if TYPE_CHECKING:
 class Near:
     """The targets near each source, in compressed form.
 
-    The targets of source k are the rows from `offsets[k]` to before `offsets[k + 1]` of the two other columns, the nearest first. Of equally
-    near ones, the one that comes first in the list of targets is first.
+    The targets of source k are the items `offsets[k]` to `offsets[k + 1] - 1` of the two other columns, the nearest first. Equally near ones are in
+    the order of the list of targets.
 
     Attributes
     ----------
     offsets : array of int64, shape (n + 1,)
-        Where the targets of each source start.
+        The place where the targets of each source start.
     places : array of int64, shape (p,)
         The positions of the targets in the list `targets`, counted from 0.
     weights : array of int64 or float64, shape (p,)
         Their weights, in the network's `unit`.
     sources, targets : array of labels, shape (n,) and (l,)
-        What was asked.
+        The nodes of the question.
 
     Examples
     --------
@@ -52,7 +52,7 @@ class Near:
         return len(self.sources)
 
     def __getitem__(self, source: int) -> tuple[NDArray[numpy.int64], NDArray]:
-        """The positions and the weights of the targets of one source, which is named by its own position, counted from 0."""
+        """The positions and the weights of the targets of the source at a position, counted from 0."""
         source = range(len(self))[operator.index(source)]
         some = slice(self.offsets[source], self.offsets[source + 1])
         return self.places[some], self.weights[some]
@@ -65,7 +65,7 @@ class Near:
         return table_text(repr(self), [dict(zip(("source", "target", "weight"), row)) for row in first])
 
     def owners(self) -> NDArray[numpy.int64]:
-        """Gives the place of the source of each target.
+        """Returns the place of the source of each target.
 
         Returns
         -------
@@ -75,7 +75,7 @@ class Near:
         return numpy.repeat(numpy.arange(len(self)), numpy.diff(self.offsets))
 
     def to_frame(self) -> pandas.DataFrame:
-        """Gives the same as a table.
+        """Returns the same as a frame.
 
         Returns
         -------
@@ -93,7 +93,7 @@ class Near:
         return pandas.DataFrame(columns)
 
     def to_sparse(self) -> scipy.sparse.csr_matrix:
-        """Gives the same as a sparse matrix.
+        """Returns the same as a sparse matrix.
 
         Returns
         -------
@@ -128,19 +128,19 @@ class Columns(NamedTuple):
 class Nearest(OnMap, Columns):
     """The nearest targets of each source, in columns from the nearest on: arrays of the shape (n, count).
 
-    `places` are those in the list of targets, int64, and `weights` those of the paths, int64 or float64 in the network's `unit`. Where there is no
-    further target a place is -1, and a weight is -1 or NaN. There `mask` is true, as numpy's masked arrays have it.
+    `places` are places in the list of targets, int64, and `weights` the weights of the paths, int64 or float64 in the network's `unit`. Where there
+    is no further target, a place is -1, a weight is -1 or NaN, and `mask` is True, as in masked arrays of numpy.
     """
 
     shown_by = "weight"
-    # What was asked, and the files of the network.
+    # The question, and the files of the network.
     sources: NDArray
     targets: NDArray
     layers: Layers
 
     @classmethod
     def of(cls, places: NDArray[numpy.int64], weights: NDArray, sources: NDArray, targets: NDArray, layers: Layers) -> Nearest:
-        """The columns, which remember what was asked, by labels."""
+        """The columns, with the labels of the question."""
         found = cls(places, weights, places == NO_WALK)
         found.sources, found.targets, found.layers = sources, targets, layers
         return found
@@ -149,7 +149,7 @@ class Nearest(OnMap, Columns):
         return f"<the nearest {self.places.shape[1]:,} of {len(self.targets):,} targets of {len(self.sources):,} sources>"
 
     def labels(self, place: int) -> NDArray:
-        """Gives the labels of the targets at a rank, None where there is none.
+        """Returns the labels of the targets at a rank, None where there is no target.
 
         Parameters
         ----------
@@ -167,7 +167,7 @@ class Nearest(OnMap, Columns):
         return found
 
     def to_frame(self) -> pandas.DataFrame:
-        """Gives the same as a table.
+        """Returns the same as a frame.
 
         Returns
         -------
@@ -191,7 +191,7 @@ class Nearest(OnMap, Columns):
         return frame.astype({"target": "Int64"}) if self.targets.dtype == numpy.int64 else frame
 
     def to_geojson(self) -> dict:
-        """Gives the sources as points on a map.
+        """Returns the sources as points on a map.
 
         Returns
         -------
@@ -221,7 +221,7 @@ class Nearest(OnMap, Columns):
 
 
 def masked(values: NDArray, mask: NDArray[numpy.bool_]) -> Any:
-    """A column of pandas, NA where the mask is true: of whole numbers `Int64`."""
+    """A column of pandas, NA where the mask is True; whole numbers become `Int64`."""
     import pandas
 
     return pandas.arrays.IntegerArray(values.copy(), mask.copy()) if values.dtype == numpy.int64 else numpy.where(mask, numpy.nan, values)

@@ -1,4 +1,4 @@
-"""Near rows of any number of sources and targets, in blocks: by runs on this machine, or on the workers of a Dask cluster."""
+"""Near rows of any number of sources and targets, in blocks, by runs on this machine or by the workers of a cluster of Dask."""
 from __future__ import annotations
 
 import concurrent.futures
@@ -22,18 +22,18 @@ if TYPE_CHECKING:
 
 # The most nodes of a list, and the most pairs that a block may have: about 1 GB of the program's text, and as much in arrays.
 LENGTH, PAIRS = 2**16, 2**26
-# The blocks that are under way on a cluster, for each of its threads.
+# How many blocks are under way for each thread of a cluster.
 AHEAD = 2
 # The clients of Dask whose workers have this package.
 KNOWN: weakref.WeakSet[Any] = weakref.WeakSet()
-# What makes the value of a block of its portions of rows, and blocks with their values, as these are whole.
+# A function that makes the value of a block from its portions of rows, and blocks with their values, as they are completed.
 Make: TypeAlias = "Callable[[Block, Iterable[tuple[int, near_rows.Rows]]], Any]"
 Made: TypeAlias = "Generator[tuple[Block, Any], None, None]"
 
 
 @dataclass(frozen=True)
 class Block:
-    """The rows of some sources among some of the targets: where both start, and what is asked."""
+    """A block: the rows of some sources among some of the targets, with the places where both start, and their question."""
 
     row: int
     column: int
@@ -41,9 +41,9 @@ class Block:
 
 
 def cut(question: NearQuestion, nodes: int, workers: int = 1) -> Iterator[Block]:
-    """The blocks of a question with lists of any length, on a network of so many nodes, for so many workers.
+    """Cuts a question with lists of any length into blocks, on a network with this many nodes, for this many workers.
 
-    A single worker answers for all nodes at once where they have few pairs. Else the sources are shared out.
+    If all nodes have few pairs, a single worker answers for them at once. Otherwise the sources are divided.
     """
     width = len(question.targets)
     most = min(width, LENGTH, width if question.count is None else question.count)
@@ -54,7 +54,7 @@ def cut(question: NearQuestion, nodes: int, workers: int = 1) -> Iterator[Block]
 
 
 def parts_of(sources: Integers | None, nodes: int, most: int, workers: int) -> Sequence[tuple[int, Integers | None]]:
-    """The sources in parts, each with the place at which it starts. A row has at most so many pairs."""
+    """Yields the sources in parts, each with the place at which it starts. A row has at most this many pairs."""
     if sources is None and workers == 1 and nodes * most <= PAIRS:
         return [(0, None)] if nodes else []
     sources = numpy.arange(1, nodes + 1) if sources is None else sources
@@ -62,17 +62,17 @@ def parts_of(sources: Integers | None, nodes: int, most: int, workers: int) -> S
     return [(row, sources[row:row + side]) for row in range(0, len(sources), side)]
 
 
-# By whom blocks are made: a call that gives each block with its value, as it is whole.
+# Makes blocks: a call that yields each block with its value, as it is completed.
 
 
 def in_turn(runs: Any, found: Iterable[Block], make: Make) -> Made:
-    """By one run after the other. `make` gives the value of a block from its portions of rows."""
+    """Makes blocks by one run after the other. `make` makes the value of a block from its portions of rows."""
     for block in found:
         yield block, make(block, near_rows.portions(runs, block.question))
 
 
 def side_by_side(runs: Any, found: Iterable[Block], make: Make, workers: int) -> Made:
-    """By so many runs at a time."""
+    """Makes blocks by several runs at a time."""
     deadline = deadlines.current(runs.setting.timeout)
     with runs.apart() as own, concurrent.futures.ThreadPoolExecutor(workers) as threads:
         def made(block: Block) -> Any:
@@ -90,7 +90,7 @@ def side_by_side(runs: Any, found: Iterable[Block], make: Make, workers: int) ->
 
 
 def on_cluster(runs: Any, found: Iterable[Block], make: Make, client: Any) -> Made:
-    """By the workers of a cluster, which send rows. The values are made here, one after the other."""
+    """Makes blocks by the workers of a cluster, which send rows. The values are made in this process, one after the other."""
     import distributed
 
     if client not in KNOWN:
@@ -126,7 +126,7 @@ def rows_on_worker(question: NearQuestion, setting: Setting, nodes: int) -> near
 
 
 def values(runs: Any, question: NearQuestion, make: Make, workers: Any = 1, progress: Any = None) -> Iterator[tuple[Block, Any]]:
-    """The value of each block of a question, as it is whole, with its block. `workers` is a number of runs, or a client of Dask, and `progress` what
+    """Yields each block of a question with its value, as it is completed. `workers` is a number of runs, or a client of Dask, and `progress` is what
     `progress_of` takes."""
     runs.see_that_there()
     is_client = hasattr(workers, "submit")
@@ -162,5 +162,5 @@ def rows(runs: Any, question: NearQuestion, workers: Any = 1, progress: Any = No
 
 
 def of_row(parts: Sequence[tuple[int, near_rows.Rows]], count: int | None) -> near_rows.Rows:
-    """The rows of some sources from those of all parts of the targets."""
+    """Joins the rows of some sources, given for each part of the targets."""
     return parts[0][1] if len(parts) == 1 else near_rows.beside(parts, count)

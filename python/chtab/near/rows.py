@@ -1,4 +1,4 @@
-"""Near rows in compressed form: of each source the places of the targets that are near, and the weights, in order of weight and of place."""
+"""Near rows in compressed form: for each source the places and weights of the targets that are near, in order of weight and place."""
 from __future__ import annotations
 
 from collections.abc import Iterable, Iterator, Sequence
@@ -19,7 +19,7 @@ if TYPE_CHECKING:
 
 @dataclass(frozen=True)
 class Rows:
-    """Rows one after the other: row i has the places and weights from `offsets[i]` to before `offsets[i + 1]`, all int64."""
+    """Rows, one after the other. Row i has the places and weights `offsets[i]` to `offsets[i + 1] - 1`, all int64."""
 
     offsets: Integers
     places: Integers
@@ -37,17 +37,17 @@ class Rows:
         return numpy.repeat(numpy.arange(len(self)), self.counts())
 
     def ranks(self) -> Integers:
-        """The place of each pair in its row, from 0 on."""
+        """The rank of each pair in its row, from 0 on."""
         return numpy.arange(len(self.places)) - numpy.repeat(self.offsets[:-1], self.counts())
 
 
 def rows_of(counts: Integers, places: Integers, weights: Integers) -> Rows:
-    """Rows of so many pairs each."""
+    """Makes rows, each with this many pairs."""
     return Rows(numpy.append(0, numpy.cumsum(counts)), places, weights)
 
 
 def below(parts: Sequence[Rows]) -> Rows:
-    """Rows one below the other."""
+    """Joins rows of different sources, one below the other."""
     if not parts:
         return Rows(*(numpy.zeros(length, numpy.int64) for length in (1, 0, 0)))
     columns = ([getattr(part, name) for part in parts] for name in ("places", "weights"))
@@ -55,8 +55,8 @@ def below(parts: Sequence[Rows]) -> Rows:
 
 
 def beside(parts: Sequence[tuple[int, Rows]], count: int | None = None) -> Rows:
-    """Rows of the same sources and of several parts of the targets, put together: of each the first pairs, or all. `parts` are pairs of the
-    place at which a part begins and the rows."""
+    """Joins rows of the same sources for several parts of the targets, and keeps the first pairs of each row, or all. `parts` are pairs of the place
+    at which a part starts and its rows."""
     owners = numpy.concatenate([rows.owners() for _, rows in parts])
     places = numpy.concatenate([rows.places + first for first, rows in parts])
     weights = numpy.concatenate([rows.weights for _, rows in parts])
@@ -72,7 +72,7 @@ def beside(parts: Sequence[tuple[int, Rows]], count: int | None = None) -> Rows:
 
 
 class Places:
-    """The places of nodes in a list of targets, on a network of so many nodes."""
+    """Finds the places of nodes in a list of targets, on a network with this many nodes."""
 
     def __init__(self, targets: Integers, nodes: int) -> None:
         self.order = numpy.argsort(targets, kind="stable")
@@ -83,8 +83,8 @@ class Places:
         self.are_apart = bool(is_new.all())
 
     def of(self, nodes: Integers, owners: Integers) -> Integers:
-        """The places of the nodes of rows, in the order of `owners`. A node that is in the list again has its places in their order. One
-        that does not stand there so often is a fault."""
+        """The places of the nodes of rows, in the order of `owners`. A node that occurs several times in the list gets its places in order. It is a
+        fault if a row has a node more often than the list."""
         if (nodes < 1).any() or (nodes >= len(self.firsts)).any():
             raise unasked()
         found = self.firsts[nodes]
@@ -96,7 +96,7 @@ class Places:
 
 
 def times_before(owners: Integers, nodes: Integers) -> Integers:
-    """How often the node of each pair comes before it in its row."""
+    """How often the node of each pair occurs before it in its row."""
     order = numpy.lexsort([nodes, owners])
     is_new = numpy.ones(len(order), bool)
     is_new[1:] = (numpy.diff(owners[order]) != 0) | (numpy.diff(nodes[order]) != 0)
@@ -107,7 +107,7 @@ def times_before(owners: Integers, nodes: Integers) -> Integers:
 
 
 def matched(lines: Lines, sources: Integers, question: NearQuestion, places: Places) -> Rows:
-    """The rows of lines, where they answer a question for these sources. Else that is a `ProgramFault`."""
+    """The rows of lines, if they answer a question for these sources. Otherwise raises a `ProgramFault`."""
     if lines.sources.shape != sources.shape or (lines.sources != sources).any():
         raise unasked()
     owners = numpy.repeat(numpy.arange(len(sources)), lines.counts)
@@ -122,7 +122,7 @@ def matched(lines: Lines, sources: Integers, question: NearQuestion, places: Pla
 
 
 def portions(runs: Any, question: NearQuestion) -> Iterator[tuple[int, Rows]]:
-    """The rows for a question, in portions as they come: pairs of the first row's place and the rows. `runs` tells texts, or gives the portions."""
+    """Yields the rows for a question in portions as they arrive, each with the place of its first row. `runs` gives texts, or the portions."""
     if hasattr(runs, "portions"):
         yield from runs.portions(question)
         return
@@ -138,5 +138,5 @@ def portions(runs: Any, question: NearQuestion) -> Iterator[tuple[int, Rows]]:
 
 
 def joined(portions: Iterable[tuple[int, Rows]]) -> Rows:
-    """The rows of all portions."""
+    """Joins the rows of all portions."""
     return below([rows for _, rows in portions])

@@ -1,4 +1,4 @@
-"""Runs of `chtab near`. Each run reads the network, writes its rows and ends."""
+"""Runs of `chtab near`, each of which reads the network, writes its rows and ends."""
 from __future__ import annotations
 
 import contextlib
@@ -28,7 +28,7 @@ LACKING = "{} has no command `near`: take a later program"
 
 @functools.cache
 def has_near(program: str) -> bool:
-    """Whether a program has the command: whether it tells how the command is called."""
+    """Whether a program has the command, which its help then describes."""
     child.see_to(program)
     silent = subprocess.DEVNULL
     return subprocess.run([program, "near", "--help"], stdin=silent, stdout=silent, stderr=silent).returncode == 0
@@ -36,18 +36,18 @@ def has_near(program: str) -> bool:
 
 @dataclass(frozen=True)
 class NearQuestion:
-    """What a run of `chtab near` is asked.
+    """A question to a run of `chtab near`.
 
     Parameters
     ----------
     sources : array of int64, optional
-        Nodes from 1 on, at most `LENGTH`; None: all nodes.
+        At most `LENGTH` nodes, which count from 1; None: all nodes.
     targets : array of int64
-        Nodes from 1 on, at most `LENGTH`.
+        At most `LENGTH` nodes.
     count : int, optional
         The most targets of a row, from 1 on.
     within : int, optional
-        The most that one of them is away, from 0 to 2^60.
+        The largest weight of a target, from 0 to 2^60.
     is_from : bool
         Whether weights are those from the targets to the sources.
     """
@@ -65,12 +65,12 @@ class NearQuestion:
         return [*count, *within, *["--from"] * self.is_from, *["--all"] * (self.sources is None)]
 
     def height(self, nodes: int) -> int:
-        """How many rows the answer has, on a network of so many nodes."""
+        """How many rows the answer has, on a network with this many nodes."""
         return nodes if self.sources is None else len(self.sources)
 
 
 class NearRun:
-    """A run of the program that writes one answer. It is ended, with its process group, as a `child.Child` is."""
+    """A run of the program that writes a single answer. It is ended, with its process group, as a `child.Child` is."""
 
     def __init__(self, command: Sequence[str]) -> None:
         self.is_open = True
@@ -82,16 +82,16 @@ class NearRun:
             weakref.finalize(self, child.end_unused).atexit = False
             forks.follow(self)
         requests.close()
-        # A pipe that holds more is read in fewer and longer portions.
+        # A larger pipe is read in fewer and longer portions.
         with contextlib.suppress(OSError):
             fcntl.fcntl(self.answered, fcntl.F_SETPIPE_SZ, child.CHUNK)
 
     def leave_parent(self) -> None:
-        """Closes, in a process that was forked, what leads to the parent's run. The run goes on."""
+        """Closes this process's copies of the streams to the run of its parent, in a forked process. The run continues."""
         self.close()
 
     def texts(self, deadline: deadlines.Deadline) -> Iterator[bytes]:
-        """What the run writes, in texts of whole lines, as they come. All of it comes in time."""
+        """Yields what the run writes, in texts of whole lines, as they arrive. All of it has to arrive before the deadline."""
         rest = b""
         while chunk := self.read(deadline):
             text = rest + chunk
@@ -104,7 +104,7 @@ class NearRun:
             raise fault or unasked()
 
     def read(self, deadline: child.Deadline) -> bytes:
-        """What the run writes next, nothing where it has closed its output."""
+        """Returns what the run writes next, nothing once it has closed its output."""
         ready = select.poll()
         ready.register(self.answered, select.POLLIN)
         ready.poll(deadline.milliseconds())
@@ -113,7 +113,7 @@ class NearRun:
         return self.read(deadline)
 
     def fault(self) -> ProgramFault | None:
-        """Why a run that closed its output did so; None where it ended well."""
+        """The reason why a run closed its output; None if it ended well."""
         try:
             status = self.process.wait(child.PATIENCE)
         except subprocess.TimeoutExpired:
@@ -122,19 +122,20 @@ class NearRun:
         return child.fault_of(self.told.read(), status) if status else None
 
     def kill(self) -> None:
-        """Ends the run, so that a thread that reads its answer sees the end. Any thread may do so."""
+        """Ends the run, so that a thread that reads its answer sees the end. Any thread may call this."""
         if os.getpid() == self.owner:
             child.kill(self.process)
 
     def close(self) -> None:
-        """Ends the run, and closes what leads to it."""
+        """Ends the run, and closes its streams."""
         self.is_open = False
         child.end_unused()
 
 
 @contextlib.contextmanager
 def listed(nodes: Integers) -> Iterator[str]:
-    """A path by which a run reads a list of nodes. It leads to memory of this process, so that nothing stays behind, however the process ends."""
+    """Lends a path by which a run reads a list of nodes. It leads to memory of this process, so that nothing is left behind, however the process
+    ends."""
     with os.fdopen(os.memfd_create("chtab"), "w") as file:
         files.write_list_column(file, nodes)
         file.flush()
@@ -142,7 +143,7 @@ def listed(nodes: Integers) -> Iterator[str]:
 
 
 class NearRuns:
-    """The runs of `chtab near` for one network. Calls may come from several threads, and from processes that were forked.
+    """The runs of `chtab near` for one network. Several threads and forked processes may share it.
 
     Parameters
     ----------
@@ -152,7 +153,7 @@ class NearRuns:
         How many nodes the graph has.
     """
 
-    # Whether rows come without a run that reads the network first.
+    # Whether rows need no run that reads the network first.
     is_at_hand = False
 
     def __init__(self, setting: Setting, nodes: int) -> None:
@@ -161,7 +162,7 @@ class NearRuns:
         forks.follow(self)
 
     def leave_parent(self) -> None:
-        """Starts with no run, and with a lock that nobody holds: in a process that was forked too."""
+        """Resets to no runs and to a free lock, at first and in each forked process."""
         self.lock = threading.RLock()
         self.under_way: set[NearRun | NearRuns] = set()
 
@@ -177,7 +178,7 @@ class NearRuns:
         return has_near(self.setting.program)
 
     def texts(self, question: NearQuestion) -> Iterator[bytes]:
-        """What the program writes for a question, in texts of whole lines."""
+        """Yields what the program writes for a question, in texts of whole lines."""
         with self.begun(question) as run:
             try:
                 yield from run.texts(deadlines.current(self.setting.timeout))
@@ -188,7 +189,7 @@ class NearRuns:
 
     @contextlib.contextmanager
     def begun(self, question: NearQuestion) -> Iterator[NearRun]:
-        """A run for a question. It has ended after the `with`."""
+        """Lends a run for a question, which has ended after the `with`."""
         with contextlib.ExitStack() as lists:
             paths = [lists.enter_context(listed(nodes)) for nodes in (question.sources, question.targets) if nodes is not None]
             with self.lock:
@@ -206,7 +207,7 @@ class NearRuns:
 
     @contextlib.contextmanager
     def apart(self) -> Iterator[NearRuns]:
-        """The same for one call, which ends its runs alone. They have ended after the `with`."""
+        """Lends runs to a single call, which can be ended separately. They have ended after the `with`."""
         runs = NearRuns(self.setting, self.nodes)
         runs.stamps = self.stamps
         with self.lock:
@@ -221,7 +222,7 @@ class NearRuns:
                 self.under_way.discard(runs)
 
     def kill(self) -> None:
-        """Ends the runs that are under way, whose calls fail, and starts no more."""
+        """Ends the runs that are under way, so that their calls fail, and starts no more."""
         with self.lock:
             self.is_closed = True
             under_way = list(self.under_way)

@@ -1,4 +1,4 @@
-"""Aggregates of values over the targets that are near, by near rows: sums, means and others, for several limits and columns of values at once."""
+"""Aggregates of values over near rows, such as sums and means, for several limits and columns of values at once."""
 from __future__ import annotations
 
 from collections.abc import Callable, Iterable, Sequence
@@ -20,33 +20,33 @@ if TYPE_CHECKING:
     from chtab.typing import Floats, Integers, Weights
 
 LINEAR, EXPONENTIAL = "linear", "exponential"
-# Which share of a value counts, as callers say it; the shares at weights within a limit; and what an aggregate has so far.
+# The decay as callers give it; the shares of values at weights within a limit; and the state of an aggregate.
 Decay: TypeAlias = str | Callable[[Any], Any] | None
 Share: TypeAlias = Callable[[Any, Any], Any]
 State: TypeAlias = "Sequence[NDArray[Any]]"
 Portions: TypeAlias = "Iterable[tuple[int, near_rows.Rows]]"
 KINDS = "sum", "mean", "median", "count", "std", "min", "max"
-# Those for which a value may count less the farther it is away.
+# The aggregates that may have a decay.
 DECAYING = "sum", "mean", "count", "std"
 
 
 class Asked(NamedTuple):
-    """What is asked for of values.
+    """The question of an aggregate.
 
     Attributes
     ----------
     kind : str
         One of `KINDS`.
     values : array of float64, shape (l, c)
-        For each target its value in each column.
+        The values of each target, one for each column.
     limits : list of int
-        The limits of the graph.
+        The limits, in the unit of the graph.
     told : list of number
-        The same in the unit of the caller.
+        The limits, in the unit of the caller.
     share : callable, optional
-        Which share of a value counts at each of some weights, within a limit, both in the unit of the caller; None: all of it.
+        The share of a value that counts at each of some weights within a limit, both in the unit of the caller; None: all of it.
     measure : measures.Measure
-        That unit.
+        The unit of the caller.
     """
 
     kind: str
@@ -57,16 +57,16 @@ class Asked(NamedTuple):
     measure: Measure
 
     def of(self, some: slice) -> Asked:
-        """The same for some of the targets."""
+        """The same question for some of the targets."""
         return self._replace(values=self.values[some])
 
     def shape(self, height: int) -> tuple[int, int, int]:
-        """That of aggregates for so many sources."""
+        """The shape of aggregates for this many sources."""
         return height, self.values.shape[1], len(self.limits)
 
 
 def share_by(decay: Decay, kind: str, limits: Sequence[Any]) -> Share | None:
-    """A call that gives which share of a value counts at each of some weights, within a limit."""
+    """A function that gives the share of a value that counts at each of some weights within a limit."""
     if decay is not None and kind not in DECAYING:
         raise ValueError(f"the {kind} has no decay; {', '.join(DECAYING)} have one")
     if decay in (LINEAR, EXPONENTIAL) and 0 in limits:
@@ -84,7 +84,7 @@ def share_by(decay: Decay, kind: str, limits: Sequence[Any]) -> Share | None:
 
 
 def shares_of(decay: Callable[[Any], Any], weights: Weights) -> Floats:
-    """What a caller's own decay gives, a number for each weight."""
+    """The shares that a caller's own decay gives, a number for each weight."""
     shares = numpy.asarray(decay(weights), float)
     if shares.shape not in ((), weights.shape):
         raise ValueError(f"decay gave the shape {shares.shape} for weights of the shape {weights.shape}")
@@ -97,11 +97,10 @@ def shares_of(decay: Callable[[Any], Any], weights: Weights) -> Floats:
 def values_in(
     values: Any, targets: Any, nodes_of: Callable[[str, Any], Integers], count: int, with_zeros: bool = False,
 ) -> tuple[Integers, Floats, list[Any] | None]:
-    """The targets and the values of each: nodes (l,) and float64 (l, c), and the names of the columns, None where they have none.
+    """The targets and their values: nodes (l,) and float64 (l, c), with the names of the columns, or None if they have no names.
 
-    `nodes_of` gives the nodes of labels, and `count` says how many nodes there are. Without targets a Series, a frame or a dict has the labels, and
-    an array has a value for each node.
-    """
+    `nodes_of` gives the nodes of labels, and `count` is the number of nodes. Without targets, the index of a Series, frame or dict has the labels,
+    and an array has a value for each node. """
     if targets is None and hasattr(values, "keys"):
         targets, values = (values.index, values) if hasattr(values, "index") else ([*values.keys()], [*values.values()])
     nodes = numpy.arange(1, count + 1) if targets is None else nodes_of("targets", targets)
@@ -140,8 +139,8 @@ def column_in(name: str, column: Any, nodes: Integers, are_all: bool) -> Floats:
 
 
 def aggregates(runs: Any, question: NearQuestion, asked: Asked, workers: Any = 1, progress: Any = None) -> Floats:
-    """The aggregates of the values of targets for each source, column and limit, float64 (n, c, m). The question's own limit is the largest of
-    these. Where no target is near a sum and a count are 0, and others NaN."""
+    """The aggregates of the values of targets for each source, column and limit, float64 (n, c, m). The limit of the question itself is the largest
+    of these. Where no target is near, a sum and a count are 0, and the others NaN."""
     height = question.height(runs.nodes)
     if asked.kind == "median":
         return medians(runs, question, asked, workers, progress)
@@ -165,7 +164,7 @@ def aggregates(runs: Any, question: NearQuestion, asked: Asked, workers: Any = 1
 
 
 def are_counted(question: NearQuestion, asked: Asked) -> bool:
-    """Whether values are summed as whole numbers: all of them from 0 on, and all together no more than a float has exactly."""
+    """Whether values are summed as whole numbers: none is below 0, and the sum of all is small enough to be exact as a float."""
     values = asked.values
     is_plain = asked.kind == "sum" and asked.share is None and 0 < len(question.targets) <= row_blocks.LENGTH
     return is_plain and bool((values >= 0).all() and (values == numpy.floor(values)).all() and values.sum() <= EXACT)
@@ -197,7 +196,7 @@ def state_of(rows: near_rows.Rows, asked: Asked) -> State:
 
 
 def extremes(out: Floats, owners: Integers, values: Floats, least: Any) -> None:
-    """Writes the least or greatest value of each owner, of owners in order."""
+    """Writes the least or greatest value of each owner. The owners are in order."""
     firsts = numpy.flatnonzero(numpy.diff(owners, prepend=-1))
     if len(firsts):
         out[owners[firsts]] = least.reduceat(values, firsts, axis=0)
@@ -211,7 +210,7 @@ def moments(owners: Integers, values: Floats, shares: Floats, count: int) -> Sta
 
 
 def joined_moments(first: State, second: State) -> State:
-    """The same of two lists of targets (Chan, Golub and LeVeque 1979)."""
+    """The moments of two lists of targets together (Chan, Golub and LeVeque 1979)."""
     (total, mean, squares), (other, other_mean, other_squares) = first, second
     whole = total + other
     apart = other_mean - mean
@@ -219,7 +218,7 @@ def joined_moments(first: State, second: State) -> State:
 
 
 def quotient(above: NDArray[Any], below: NDArray[Any], otherwise: float = numpy.nan) -> Floats:
-    """A quotient where the divisor is not 0."""
+    """The quotient where the divisor is not 0."""
     return numpy.divide(above, below, out=numpy.full(numpy.shape(above), otherwise), where=below != 0)
 
 
@@ -227,7 +226,7 @@ def added(first: State, second: State) -> State:
     return [one + other for one, other in zip(first, second)]
 
 
-# How each aggregate is made of values with their shares, joined of two states, and ended.
+# How each aggregate is made from values with their shares, joined from two states, and finished.
 PARTS: dict[str, Callable[..., State]] = {
     "sum": lambda owners, values, shares, count: [numpy.bincount(owners, values * shares, count)],
     "count": lambda owners, values, shares, count: [numpy.bincount(owners, shares, count)],

@@ -12,8 +12,8 @@ if TYPE_CHECKING:
     from numpy.typing import NDArray
     from chtab.typing import Integers
 
-# Bytes that are read at a time, so that their arrays stay in the processor's cache; and the most digits of a number. One of 2^63 or more
-# is read as 2^63 - 1, which is no node, number of pairs or weight.
+# How many bytes are read at a time, so that their arrays stay in the processor's cache; and the most digits of a number. A number of 2^63 or more is
+# read as 2^63 - 1, which is neither a node nor a number of pairs nor a weight.
 PIECE, DIGITS = 1 << 18, 19
 
 
@@ -27,13 +27,13 @@ class Lines(NamedTuple):
 
 
 def lines_of(text: bytes) -> Lines:
-    """The lines of a text. One of another form, or one that is cut off, is a `ProgramFault`."""
+    """Reads the lines of a text. Raises a `ProgramFault` if a line has another form or is cut off."""
     parts = [lines_of_piece(piece) for piece in pieces_of(text)]
     return Lines(*(numpy.concatenate(column) for column in zip(*parts))) if parts else Lines(*numpy.zeros((4, 0), numpy.int64))
 
 
 def pieces_of(text: bytes) -> Iterator[bytes]:
-    """The text in pieces of whole lines."""
+    """Cuts the text into pieces of whole lines."""
     start = 0
     while start < len(text):
         end = text.rfind(b"\n", start, start + PIECE) + 1 or text.find(b"\n", start) + 1
@@ -44,7 +44,7 @@ def pieces_of(text: bytes) -> Iterator[bytes]:
 
 
 def lines_of_piece(text: bytes) -> Lines:
-    """The same of a text that is read at once, and ends with a line."""
+    """Reads the lines of a piece, which ends with a line."""
     letters = numpy.frombuffer(text, numpy.uint8)
     ends = numpy.flatnonzero(letters < ord("0"))
     lasts = numpy.flatnonzero(letters[ends] == ord("\n"))
@@ -62,8 +62,8 @@ def lines_of_piece(text: bytes) -> Lines:
 
 
 def see_that_words(letters: NDArray[numpy.uint8], ends: Integers, lasts: Integers) -> None:
-    """Refuses a text unless each line is `n` and two or more numbers, with a blank before each. The words end at `ends`, of which those at
-    `lasts` are the last of a line."""
+    """Refuses a text unless each line is `n` and two or more numbers, with a blank before each. The words end at `ends`; those at `lasts` are the
+    last words of lines."""
     lengths = numpy.diff(ends, prepend=-1) - 1
     begins = numpy.append(0, ends[lasts[:-1]] + 1)
     is_right = (

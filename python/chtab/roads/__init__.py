@@ -19,7 +19,7 @@ import typing
 
 from chtab import _moved
 
-# Checkers of types don't see it, so that they find a name that is misspelt.
+# Hidden from type checkers, so that they find misspelt names.
 if not typing.TYPE_CHECKING:
     def __getattr__(name):
         return _moved.attribute(__name__, name)

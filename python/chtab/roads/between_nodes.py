@@ -1,4 +1,4 @@
-"""What a network answers between nodes: distances, tables and routes."""
+"""The calls of a network between nodes: distances, tables and routes."""
 from __future__ import annotations
 
 from collections.abc import Collection, Iterable
@@ -23,12 +23,12 @@ if TYPE_CHECKING:
     from chtab.roads.layers import Layers
 
 Nodes = ArrayLike | Iterable
-# Pairs that are asked for without arrays.
+# Up to this many pairs are asked for without arrays.
 FEW = 16
 
 
 class BetweenNodes:
-    """The calls of a `Network` that take nodes. It has `_layers`, its files, `_measure`, its unit, and `_queries`, which answers."""
+    """The calls of a `Network` that take nodes. They use `_layers`, its files, `_measure`, its unit, and `_queries`, which asks its engine."""
 
     _layers: Layers
     _measure: Measure
@@ -36,18 +36,18 @@ class BetweenNodes:
     _engine: Engine | InProcess
 
     def distances(self, pairs: Nodes, targets: Nodes | None = None, *, missing: float | None = None, progress: Progress = None) -> NDArray:
-        """Answers the distances of pairs of nodes.
+        """Returns the distances of pairs of nodes.
 
         Parameters
         ----------
         pairs : array of labels, shape (n, 2)
-            Pairs of nodes; or their sources, shape (n,), where `targets` are given.
+            Pairs of nodes; with `targets`, the sources, shape (n,).
         targets : array of labels, shape (n,), optional
             The targets.
         missing : int or float, optional
-            What is given where no path leads. Without it that is -1, or NaN where answers are floats. `numpy.inf` makes them floats.
+            The value where no path leads; by default -1, or NaN if answers are floats. `numpy.inf` makes them floats.
         progress : bool or callable, optional
-            True: how far the call is, on standard error; a callable is called with how much is done, and of how much.
+            True reports progress on standard error; a callable gets how much is done, and the total.
 
         Returns
         -------
@@ -57,7 +57,7 @@ class BetweenNodes:
         Raises
         ------
         ValueError
-            A label is that of no node; the error of labels of your own is a `DataFault`.
+            A label is that of no node. For labels of your own the error is a `DataFault`.
         ProgramFault, TimedOut
             The program died, or took too long. The next call runs it again.
 
@@ -75,8 +75,8 @@ class BetweenNodes:
         return self._queries.distances(self._pairs(pairs, targets), progress)
 
     def _few_distances(self, pairs: Any) -> NDArray[numpy.int64] | None:
-        """The distances of few pairs, without arrays: a library in this process answers them in microseconds. None where they are no pairs of known
-        labels, or where another engine answers."""
+        """The distances of few pairs, without arrays: the library in this process answers them in microseconds. None if these are no pairs of known
+        labels, or if another engine answers."""
         if not hasattr(self._engine, "few_distances") or not all(type(pair) is tuple and len(pair) == 2 for pair in pairs):
             return None
         nodes = self._layers.labels.few([label for pair in pairs for label in pair])
@@ -87,16 +87,16 @@ class BetweenNodes:
 
     @whole
     def table(self, sources: Nodes, targets: Nodes, within: Limit = None, *, missing: float | None = None, progress: Progress = None) -> NDArray:
-        """Answers the distances from each source to each target. Tables past the limits of one are made in blocks.
+        """Returns the distances from each source to each target. Tables that are too large for one run are made in blocks.
 
         Parameters
         ----------
         sources, targets : array of labels, shape (k,) and (l,)
-            Nodes; they may repeat.
+            Nodes, which may repeat.
         within : number or duration, optional
             A limit in the network's `unit`, from 0 to 2^60 of the graph's weights.
         missing : int or float, optional
-            What is given where no path leads, or none of at most `within`: as `distances` takes it.
+            The value where no path leads, or none of at most `within`, as `distances` takes it.
         progress : bool or callable, optional
             As `distances` takes it.
 
@@ -110,7 +110,7 @@ class BetweenNodes:
         TypeError
             A limit is no number.
         ValueError, ProgramFault, TimedOut
-            As `distances` raises them; a limit is out of its range.
+            As `distances` raises them; or a limit is out of its range.
         """
         limit = self._measure.limit("within", within)
         found = self._queries.table(self._nodes("sources", sources), self._nodes("targets", targets), limit, progress)
@@ -118,7 +118,7 @@ class BetweenNodes:
 
     @whole
     def frame(self, sources: Nodes, targets: Nodes, within: Limit = None, *, progress: Progress = None) -> pandas.DataFrame:
-        """Answers the same as a DataFrame of pandas.
+        """Returns the table as a DataFrame of pandas.
 
         Parameters
         ----------
@@ -132,13 +132,13 @@ class BetweenNodes:
         Returns
         -------
         pandas.DataFrame
-            A row for each source, a column for each target. Where no path leads, or none of at most `within`, is NA: columns are `Int64`, or
-            float64 where the network's `unit` is not that of the graph.
+            A row for each source and a column for each target, with NA where no path leads, or none of at most `within`. Columns are `Int64`, or
+            float64 if the network's `unit` is not that of the graph.
 
         Raises
         ------
         ImportError
-            pandas is not there.
+            pandas is not installed.
         TypeError, ValueError, ProgramFault, TimedOut
             As `table` raises them.
         """
@@ -155,7 +155,7 @@ class BetweenNodes:
 
     @whole
     def routes(self, pairs: Nodes, targets: Nodes | None = None, *, progress: Progress = None) -> Routes:
-        """Answers the routes of pairs of nodes: each of least weight, and of these with the fewest arcs.
+        """Returns the routes of pairs of nodes: paths of least weight, and among these one with the fewest arcs.
 
         Parameters
         ----------
@@ -179,13 +179,13 @@ class BetweenNodes:
 
     @whole
     def along(self, values: ArrayLike, pairs: Nodes, targets: Nodes | None = None) -> NDArray[numpy.float64]:
-        """Answers the sums of values along the routes of pairs of nodes, such as the metres or the climb of the fastest routes.
+        """Sums values along the routes of pairs of nodes, such as the metres or the climb of the fastest routes.
 
         Parameters
         ----------
         values : array of float, shape (m,) or (m, c)
-            A value for each row of the arcs that the network was made of, in one column or several; of files for each line of the graph. Of several
-            arcs between two nodes a route takes the one of least weight, and of these the first.
+            A value for each row of the arcs that the network was made of, or for each arc of a graph file, in one column or several. Of several arcs
+            between two nodes, a route takes the first of those with the least weight.
         pairs, targets : array of labels, shape (n, 2), or (n,) each
             As `distances` takes them.
 
@@ -197,7 +197,7 @@ class BetweenNodes:
         Raises
         ------
         DataFault
-            There are more or fewer values than rows, or one is no number.
+            There are more or fewer values than rows, or a value is no number.
         ValueError, ProgramFault, TimedOut
             As `distances` raises them.
 
@@ -218,13 +218,13 @@ class BetweenNodes:
         return sums if found.ndim == 2 else sums[:, 0]
 
     def _lines(self, pairs: NDArray[numpy.int64]) -> tuple[NDArray[Any], NDArray[Any], NDArray[Any]]:
-        """The weights of the routes of pairs, how many arcs each has, and the lines of all arcs in the graph."""
+        """The weights of the routes of pairs, how many arcs each has, and the places of all these arcs in the graph."""
         return self._queries.lines(pairs, lambda tails, heads, _: self._layers.arcs.of(tails, heads))
 
     matrix = table
 
     def _nodes(self, name: str, given: Nodes) -> NDArray[numpy.int64]:
-        """The nodes of labels, in a column."""
+        """The nodes of labels, as a column."""
         return self._layers.labels.nodes_of(name, listed(given)).reshape(-1)
 
     def _pairs(self, pairs: Nodes, targets: Nodes | None) -> NDArray[numpy.int64]:
@@ -243,6 +243,6 @@ class BetweenNodes:
 
 
 def listed(given: Nodes) -> Nodes:
-    """What is given, as a list where it is a set, a view of a dict, or comes one by one."""
+    """The argument itself, or a list of its items if it is a set, a view of a dict, or an iterator."""
     is_array = hasattr(given, "__array__") or hasattr(given, "__getitem__")
     return list(given) if not is_array and isinstance(given, Iterable | Collection) else given

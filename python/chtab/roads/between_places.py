@@ -1,4 +1,4 @@
-"""What a network answers between places: the nearest nodes, spots on roads, trips between these, and what is reached from one."""
+"""The calls of a network between places: the nearest nodes, spots on roads, trips between these, and what is reached from a spot."""
 from __future__ import annotations
 
 import math
@@ -23,7 +23,7 @@ if TYPE_CHECKING:
 
 
 class BetweenPlaces:
-    """The calls of a `Network` that take places in degrees, or spots beside roads. It has `_layers`, its files, and `_trips`, its trips."""
+    """The calls of a `Network` that take places in degrees, or spots on roads. They use `_layers`, its files, `_measure`, its unit, and `_trips`."""
 
     _layers: Layers
     _measure: Measure
@@ -31,11 +31,11 @@ class BetweenPlaces:
 
     @property
     def roads(self) -> Roads:
-        """The roads between nodes, which call nodes by number."""
+        """The roads between nodes; these are called by their numbers."""
         return self._layers.roads
 
     def nearest(self, longitudes: ArrayLike, latitudes: ArrayLike, max_metres: float | None = None) -> tuple[NDArray, NDArray]:
-        """The nearest node to each place.
+        """Finds the nearest node to each place.
 
         In a graph with turns these are nodes where trips start; `coordinates.ends()` says where they end.
 
@@ -44,7 +44,7 @@ class BetweenPlaces:
         longitudes, latitudes : array of float, shape (n,)
             Places in degrees, from -180 to 180 and from -90 to 90.
         max_metres : float, optional
-            How far a place may be from its node; without it, any distance.
+            The largest distance of a place from its node; no limit by default.
 
         Returns
         -------
@@ -74,14 +74,14 @@ class BetweenPlaces:
     nearest_nodes = nearest
 
     def snap(self, longitudes: ArrayLike, latitudes: ArrayLike, max_metres: float = 1_000.0) -> Spots:
-        """The places, taken to the nearest points of the roads.
+        """Takes places to the nearest points of roads.
 
         Parameters
         ----------
         longitudes, latitudes : array of float, shape (n,)
             Places in degrees, from -180 to 180 and from -90 to 90.
         max_metres : float
-            How far a place may be from each road.
+            The largest distance of a place from the nearest road.
 
         Returns
         -------
@@ -101,14 +101,14 @@ class BetweenPlaces:
 
     @whole
     def trips(self, starts: Spots, ends: Spots, *, missing: float | None = None) -> NDArray:
-        """Answers the weights of trips between spots beside roads.
+        """Returns the weights of trips between spots on roads.
 
         Parameters
         ----------
         starts, ends : chtab.Spots
             n spots each, as `snap` gives them: trip k leads from `starts[k]` to `ends[k]`.
         missing : int or float, optional
-            What is given where there is no way: as `distances` takes it.
+            The value where no path leads, as `distances` takes it.
 
         Returns
         -------
@@ -124,7 +124,7 @@ class BetweenPlaces:
 
     @whole
     def trip_table(self, starts: Spots, ends: Spots, within: Limit = None, *, missing: float | None = None) -> NDArray:
-        """Answers the weights of trips from each spot to each other one.
+        """Returns the weights of trips from each start to each end.
 
         Parameters
         ----------
@@ -133,7 +133,7 @@ class BetweenPlaces:
         within : number or duration, optional
             A limit in the network's `unit`.
         missing : int or float, optional
-            What is given where there is no way, or none of at most `within`: as `distances` takes it.
+            The value where no path leads, or none of at most `within`, as `distances` takes it.
 
         Returns
         -------
@@ -150,7 +150,7 @@ class BetweenPlaces:
 
     @whole
     def trip_routes(self, starts: Spots, ends: Spots) -> TripRoutes:
-        """Answers the ways between spots beside roads.
+        """Returns the routes of trips between spots on roads.
 
         Parameters
         ----------
@@ -172,7 +172,7 @@ class BetweenPlaces:
 
     @whole
     def reach(self, spot: Spots, within: Limit = None, *, missing: float | None = None) -> NDArray:
-        """Answers the weights at which nodes are reached from a spot.
+        """Returns the weights at which nodes are reached from a spot.
 
         Parameters
         ----------
@@ -181,7 +181,7 @@ class BetweenPlaces:
         within : number or duration, optional
             A limit in the network's `unit`.
         missing : int or float, optional
-            What is given of a node that is not reached, or not within the limit: as `distances` takes it.
+            The value of a node that is not reached, or not within the limit, as `distances` takes it.
 
         Returns
         -------
@@ -191,13 +191,13 @@ class BetweenPlaces:
         Raises
         ------
         TypeError, ValueError, ProgramFault, TimedOut
-            There is no spot, or there are several; and as `table` raises them.
+            There is no spot, or there are several; or as `table` raises them.
         """
         return self._measure.told(self._trips.reach(spot, self._measure.limit("within", within)), missing)
 
     @whole
     def isochrones(self, spot: Spots, limits: ArrayLike) -> Isochrones:
-        """Answers polygons of what is reached from a spot within each limit.
+        """Returns polygons of what is reached from a spot within each limit.
 
         Parameters
         ----------
@@ -215,9 +215,9 @@ class BetweenPlaces:
         Raises
         ------
         ImportError
-            shapely is not there.
+            shapely is not installed.
         TypeError, ValueError, ProgramFault, TimedOut
-            A limit is not above 0; and as `reach` raises them.
+            A limit is not above 0; or as `reach` raises them.
         """
         from chtab.roads.reach import Isochrones
 
@@ -233,5 +233,5 @@ class BetweenPlaces:
 
 
 def told_limit(limit: Any) -> Any:
-    """A limit as JSON has it."""
+    """A limit as JSON writes it: a whole number if it is one."""
     return int(limit) if limit == math.floor(limit) else float(limit)

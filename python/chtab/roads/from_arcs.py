@@ -1,4 +1,4 @@
-"""How a network is made of a caller's own arcs: of arrays, frames, graphs and matrices."""
+"""Makes networks of a caller's own arcs: of arrays, frames, graphs and matrices."""
 from __future__ import annotations
 
 import dataclasses
@@ -37,10 +37,10 @@ class FromArcs:
         _engine: asking.Engine | InProcess
 
         def __init__(self, opened: opening.Opening, folder: Folder | None = None, known: dict[str, Any] | None = None) -> None:
-            """As a `Network` is made."""
+            """Makes a `Network`."""
 
         def _load(self, running: opening.Running) -> None:
-            """As a `Network` loads."""
+            """Loads a `Network`."""
 
     @classmethod
     def from_arrays(
@@ -50,35 +50,35 @@ class FromArcs:
     ) -> Self:
         """Makes a network of arcs: arc k leads from `sources[k]` to `targets[k]`, and its weight is `weights[k]`.
 
-        Several arcs may lead from one node to another: the one of least weight counts. Columns may be arrays, lists, or columns of a frame.
+        Several arcs may lead from one node to another; the one of least weight counts. Columns may be arrays, lists, or columns of a frame.
 
         Parameters
         ----------
         sources, targets : array of labels, shape (m,)
-            The labels of both ends: all integers of any size (floats that are whole too), all strings, or all tuples of these.
+            The labels of both ends: all integers of any size (also as whole floats), all strings, or all tuples of these.
         weights : array of int, float or duration, shape (m,)
             Whole numbers from 0 on; with `unit` or `scale` any numbers from 0 on. In the graph a weight times the number of nodes is at most 2^60.
         nodes : array of labels, shape (n,), optional
-            The labels of all nodes, each once. Without it these are the labels of `sources` and `targets`, in ascending order.
+            The labels of all nodes, each once; by default those of `sources` and `targets`, in ascending order.
         x, y : array of float, shape (n,), optional
             Longitudes and latitudes of `nodes` in degrees, for `nearest`, `snap`, `trips`, `reach` and maps.
         scale : float, optional
-            Weights are multiplied by this and rounded once to whole numbers. `rounding` says by how much. A unit of time or length needs none.
+            Weights are multiplied by this and rounded once to whole numbers; `rounding` says by how much. A unit of time or length needs no scale.
         unit : str, optional
-            What the weights are measured in. Limits are taken and answers given in it: as floats, unless it is that of the whole numbers of the
-            graph. Of `milliseconds`, `seconds`, `minutes` and `hours` whole milliseconds are made, of `metres` and `kilometres` whole millimetres.
+            The unit of the weights, of limits and of answers, which are floats unless it is that of the graph. `milliseconds`, `seconds`, `minutes`
+            and `hours` become whole milliseconds in the graph, `metres` and `kilometres` whole millimetres.
         both_ways : bool
             Whether each arc leads back too, at the same weight.
         geometry : array of lines, shape (m,), optional
-            How arcs lie between their ends, in degrees: lines of shapely or lists of points, or None. Routes and `snap` follow them.
+            The lines of arcs in degrees, from shapely or as lists of points, or None. Routes and `snap` follow them.
         raw : bool
-            Whether limits are taken and answers given in the whole numbers of the graph, whatever the unit is.
+            Whether limits and answers are the whole numbers of the graph, whatever the unit is.
         folder : str or path, optional
-            A folder that is not there yet, or is empty. It gets the files, with the hierarchy: `Network.open(folder)` opens the same
-            network quickly. Without it they are in a temporary folder, until `close` or until the network is no longer used.
+            A new or empty folder for the files and the hierarchy, which `Network.open(folder)` opens quickly. By default they are in a temporary
+            folder until `close`, or until the network is no longer used.
         **running
-            `program`, `workers`, `timeout`, `load`, `routes`, `runs` and `library`, as `Network.open` takes them; and `progress`: True for lines on
-            standard error on how far the building is, or a callable, which is called with how many steps of a stage are done, and of how many.
+            `program`, `workers`, `timeout`, `load`, `routes`, `runs` and `library`, as `Network.open` takes them; and `progress`: True reports on
+            standard error how far the building is, and a callable gets how many steps of a stage are done, and their total.
 
             `like`: a network of the same nodes. Where the library answers for both networks, the new one is built in its order, in half the time;
             only the last `fresh` per cent of the nodes, 5 where it is not given, are ordered afresh. Answers are as exact as ever, whatever arcs
@@ -91,18 +91,16 @@ class FromArcs:
         Raises
         ------
         DataFault
-            A value is refused, such as a label 1.5, a weight NaN, or a row that is missing. The text names it; `column` and `row` of the error
-            say where it is. Nothing was written.
+            A value is refused, such as a label 1.5, a weight NaN, or a row that is missing; `column` and `row` of the error say where. Nothing was
+            written.
         FileExistsError
-            `folder` is there, and is not empty.
+            `folder` exists and is not empty.
         ProgramFault, ChtabError, OSError
-            As `Network.open` raises them. A folder is whole or not there.
+            As `Network.open` raises them. A folder is complete or doesn't exist.
 
         Examples
         --------
         >>> network = Network.from_arrays(["inn", "inn"], ["farm", "mill"], [2.5, 4.0], unit="minutes", both_ways=True)  # doctest: +SKIP
-        >>> network.distances([("farm", "mill")])                                                                        # doctest: +SKIP
-        array([6.5])
         """
         settings = opening.running_of("from_arrays", running, Asked(raw=raw), OF_ARCS)
         given = arc_columns.Columns(sources, targets, weights, nodes, x, y, scale, unit, both_ways, geometry)
@@ -288,7 +286,7 @@ class FromArcs:
 
     @classmethod
     def _made(cls, arcs: arc_columns.Arcs, folder: str | os.PathLike | None, running: opening.Running) -> Self:
-        """The network of these arcs, whose files are written."""
+        """Writes the files of these arcs, and opens their network."""
         if arcs.scale is not None and arcs.unit is None and running.asked == Asked():
             warn_of_scale(arcs.scale, 4)
         if see_that_network(running.like):
@@ -336,7 +334,7 @@ def with_nodes_of(given: arc_columns.Columns, like: Any) -> arc_columns.Columns:
 
 
 def warn_of_scale(scale: float, level: int) -> None:
-    """Warns that limits and answers are whole numbers, as they were in version 1.1, and not in the unit of the weights that were given."""
+    """Warns that limits and answers are whole numbers, as in version 1.1, and not in the unit of the weights that were given."""
     text = f"weights were multiplied by {scale:g}, and limits and answers are these whole numbers; name the unit of your weights, as unit='minutes', " \
         "for limits and answers in it, as later versions will have them, or give raw=True"
     warnings.warn(text, FutureWarning, stacklevel=level)

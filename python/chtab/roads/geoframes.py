@@ -20,16 +20,15 @@ if TYPE_CHECKING:
 
 
 def in_degrees(frame: geopandas.GeoDataFrame) -> geopandas.GeoDataFrame:
-    """A GeoDataFrame in longitudes and latitudes. One that doesn't say what its coordinates are is taken as it is."""
+    """A GeoDataFrame in longitudes and latitudes. A frame without a coordinate system is taken to be in degrees."""
     return frame if frame.crs is None or frame.crs == DEGREES else frame.to_crs(DEGREES)
 
 
 def columns_of_geodataframe(edges: Any, nodes: Any, names: tuple[str, str, str | None], more: Mapping[str, Any]) -> tuple[arc_columns.Columns, dict[str, Any]]:
-    """The columns of a frame with a line for each arc, with those of `more` that tell of arcs; and the others of `more`.
+    """The columns of a frame with a line for each arc, together with the items of `more` about arcs; and the other items of `more`.
 
-    Without columns or levels of the index by the names of both ends, nodes are the ends of lines, and called 1, 2, .. by longitude and latitude.
-    Without a weight it is the metres along the line.
-    """
+    If the frame has no columns or levels of the index with the names of both ends, the nodes are the ends of lines, numbered 1, 2, .. by longitude
+    and latitude. Without a column of weights, a weight is the metres along the line. """
     source, target, weight = names
     lines = edge_lines.lines_in("geometry", in_degrees(edges).geometry, len(edges))
     if lines is None or any(line is None for line in lines):
@@ -56,7 +55,7 @@ def columns_of_geodataframe(edges: Any, nodes: Any, names: tuple[str, str, str |
 
 
 def of_nodes(nodes: Any) -> dict[str, Any]:
-    """The labels and places of a frame of points, whose index has the labels; nothing where there is no frame."""
+    """The labels and places of a frame of points, whose index has the labels; nothing if there is no frame."""
     if nodes is None:
         return {}
     points = in_degrees(nodes).geometry

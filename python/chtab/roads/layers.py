@@ -1,4 +1,4 @@
-"""What is read of a network's files, each when it is first asked for, and kept: the arcs, the places and labels of nodes, roads."""
+"""The files of a network, each read when it is first needed and then kept: the arcs, the places and labels of nodes, the roads."""
 from __future__ import annotations
 
 import functools
@@ -26,18 +26,18 @@ if TYPE_CHECKING:
 
 
 class Layers:
-    """The files of a network. Calls may come from several threads. It goes from process to process by pickle, as the names of its files.
+    """The files of a network. Several threads may share it. Pickled, it has the names of the files alone.
 
     Parameters
     ----------
     path : str
         The graph (`.gr`).
     coordinates, bends : str, optional
-        The files of the nodes' places and of the points between them; without them those beside the graph, where they are there.
+        The files of the nodes' places and of the points between them; by default those beside the graph, if they exist.
     labelling : str, optional
-        The file of the nodes' labels; without it nodes are called by their numbers.
+        The file of the nodes' labels; by default nodes are called by their numbers.
     asked : measures.Asked
-        What the caller says of the unit of limits and answers.
+        What the caller said about the unit of limits and answers.
     """
 
     def __init__(
@@ -54,7 +54,7 @@ class Layers:
         forks.follow(self)
 
     def leave_parent(self) -> None:
-        """A lock that nobody holds: in a process that was forked too."""
+        """Resets to a free lock, at first and in each forked process."""
         self.lock = threading.RLock()
 
     def __reduce__(self) -> tuple[Any, ...]:
@@ -67,7 +67,7 @@ class Layers:
             return self.kept[name]
 
     def read_file(self, name: str, make: Callable[[], Any]) -> Any:
-        """The same of what a file is read for, as long as the files are those of the beginning."""
+        """Does the same for a file, and refuses it if one of the files was changed since the network was opened."""
         def read() -> Any:
             found = make()
             self.stamps.see_that_same()
@@ -87,7 +87,7 @@ class Layers:
 
     @property
     def streets(self) -> files.Streets | None:
-        """What the arcs are called, as `files.read_streets` gives it; None where the graph has no file of names beside it."""
+        """What the arcs are called, as `files.read_streets` gives it; None if no file of names is beside the graph."""
         path = self.paths["streets"]
         if path is None:
             return None
@@ -95,14 +95,14 @@ class Layers:
 
     @property
     def ways(self) -> Integers | None:
-        """The way of OpenStreetMap that each arc is a part of, as `files.read_ways` gives it; None where the graph has no file of ways beside it."""
+        """The way of OpenStreetMap that each arc is a part of, as `files.read_ways` gives it; None if no file of ways is beside the graph."""
         path = self.paths["ways"]
         if path is None:
             return None
         return numpy.asarray(self.read_file("ways", functools.partial(files.read_ways, path, files.count_arcs(self.path))), numpy.int64)
 
     def arcs_of_way(self, number: int) -> Integers | None:
-        """The arcs that are parts of a way of OpenStreetMap, by the file of ways or by the ways of the caller's rows; None where there are neither."""
+        """The arcs that are parts of a way of OpenStreetMap, by the file of ways or by the ways of the caller's rows; None if there is neither."""
         labelling, ways = self.labelling, self.ways
         if ways is not None:
             return numpy.flatnonzero(ways == number)
@@ -112,7 +112,7 @@ class Layers:
 
     @property
     def copies(self) -> dict[int, int]:
-        """The nodes that stand for another one where turns are restricted, as `files.Coordinates.copies` gives them."""
+        """The nodes that are copies of another one because turns are restricted there, as `files.Coordinates.copies` gives them."""
         return self.read("copies", lambda: {} if self.paths["coordinates"] is None else self.coordinates.copies())
 
     @property
@@ -129,7 +129,7 @@ class Layers:
 
     @property
     def row_count(self) -> int:
-        """How many rows of arcs there are, also those whose arcs are closed."""
+        """The number of rows of arcs, including those whose arcs are closed."""
         labelling = self.labelling
         return files.count_arcs(self.path) if labelling is None or labelling.rows is None else labelling.rows
 
@@ -154,7 +154,7 @@ class Layers:
 
     @property
     def labelling(self) -> files.Labelling | None:
-        """What `files.read_labels` gives, None of a network whose nodes are called by their numbers."""
+        """What `files.read_labels` gives, None if the nodes of the network are called by their numbers."""
         path = self.paths["labelling"]
         if path is None:
             return None
@@ -164,7 +164,7 @@ class Layers:
 
     @property
     def measure(self) -> measures.Measure:
-        """What limits and answers are in."""
+        """The unit of limits and answers."""
         def make() -> measures.Measure:
             base, labelling, asked = files.read_unit(self.path), self.labelling, self.asked
             own = (None, None) if labelling is None else (labelling.unit, labelling.scale)
@@ -187,7 +187,7 @@ class Layers:
 
     @property
     def index(self) -> nearest.Tree | nearest.Grid:
-        """The nodes, to be looked for by their places."""
+        """Finds nodes by their places."""
         return self.read("index", lambda: nearest.index_of(self.coordinates))
 
     @property
@@ -202,7 +202,7 @@ class Layers:
         return self.read_file("roads", make)
 
     def lines_of(self, routes: Sequence[files.Answer]) -> list[list[Point]]:
-        """For each route of `files.Answer` the places that it passes, in degrees: with the bends of its roads, where they are known."""
+        """For each route of `files.Answer` the places along it, in degrees, with the bends of its roads if they are known."""
         if self.paths["bends"] is None:
             return [[self.coordinates.of(node) for node in each.nodes or ()] for each in routes]
         from chtab.roads.lines import tidied
@@ -211,8 +211,8 @@ class Layers:
 
 
 def layers_of(opened: Opening, known: Mapping[str, Any] | None = None) -> Layers:
-    """The layers of an opening, with those that are known already. Labels and the unit are read at once, because the graph may be another one
-    later."""
+    """The layers of an opening, together with those that are known already. Labels and the unit are read now, because the file of the graph may be
+    replaced later."""
     layers = Layers(opened.setting.graph, opened.coordinates, opened.bends, opened.labelling, opened.asked)
     layers.kept.update(known or {})
     layers.labels, layers.measure

@@ -1,7 +1,7 @@
-"""Legs of trips: the best ways between spots beside roads, many at once in flat arrays, with their metres and how they lie.
+"""Legs of trips: the best ways between spots on roads, many at once in flat arrays, with their lengths and lines.
 
-A spot leaves its road by the nodes at both ends, and arrives by such nodes. So there are several ways from spot to spot, each over one node
-of both, and one more along a road on which both lie. The leg is the best of them.
+A trip leaves the road of its first spot by a node at either end, and comes to the road of its last spot by such a node. This makes several ways from
+spot to spot, one for each pair of these nodes, and one more if both spots are on the same road. The leg is the best of these ways.
 """
 from __future__ import annotations
 
@@ -27,8 +27,8 @@ NOWHERE = 1 << 61
 
 
 def ways_between(starts: Spots, ends: Spots) -> tuple[Integers, Integers]:
-    """The ways from spot k of `starts` to spot k of `ends`: the pairs of nodes (n, m, 2), `NONE` in one where there is none, and what is
-    added to the distance of each (n, m)."""
+    """The ways from spot k of `starts` to spot k of `ends`: pairs of nodes (n, m, 2), in which `NONE` stands for a missing node, and the weight that
+    is added to the distance of each pair (n, m)."""
     outs, ins = numpy.broadcast_arrays(starts.out_nodes[:, :, None], ends.in_nodes[:, None, :])
     added = starts.out_weights[:, :, None] + ends.in_weights[:, None, :]
     count = outs.shape[1] * outs.shape[2]
@@ -36,7 +36,7 @@ def ways_between(starts: Spots, ends: Spots) -> tuple[Integers, Integers]:
 
 
 def totals(added: Integers, is_there: Marks, between: Integers, along: Integers) -> Integers:
-    """The weights of all ways (n, m + 1), of which the last leads along one road; `FAR` where there is no way."""
+    """The weights of all ways (n, m + 1), the last of which is along a single road; `FAR` where there is no way."""
     weights = numpy.full((len(added), added.shape[1] + 1), FAR)
     weights[:, :-1][is_there] = numpy.where(between >= 0, between + added[is_there], FAR)
     weights[:, -1] = numpy.where(along >= 0, along, FAR)
@@ -44,9 +44,9 @@ def totals(added: Integers, is_there: Marks, between: Integers, along: Integers)
 
 
 class Trace(NamedTuple):
-    """How a leg lies: its places in degrees (n, 2), rounded to millionths, none of which follows on itself, and for each of them the weight
-    and the metres up to there. The leg leads along the first road, its arcs and the last road, or along one road: each of these pieces stops
-    at one of `stops`, numbers of places."""
+    """The line of a leg: its places in degrees (n, 2), rounded to millionths and without repeated ones, and the weight and the metres up to each
+    place. A leg goes along the first road, over its arcs and along the last road, or along a single road. Each of these pieces ends at one of
+    `stops`, which are numbers of places."""
 
     places: Floats
     weights: Integers
@@ -93,8 +93,9 @@ class Pieces(NamedTuple):
 class Legs:
     """The best ways from spot k of `starts` to spot k of `ends`.
 
-    Leg k weighs `weights[k]`, -1 where there is no way, and is `metres[k]` long. It is walk k of `walks` over `arcs`, from the end `leaves[k]`
-    of the first spot's road (0 at its first place, 1 at its last) to the end `arrives[k]` of the last spot's; or it leads along one road.
+    Leg k has the weight `weights[k]`, -1 if there is no way, and the length `metres[k]`. It is walk k of `walks` over `arcs`, from the end
+    `leaves[k]` of the first spot's road (0 at its first place, 1 at its last) to the end `arrives[k]` of the last spot's; or it stays on a single
+    road.
     """
 
     roads: Roads
@@ -115,7 +116,7 @@ class Legs:
         return len(self.weights)
 
     def nodes(self, leg: int) -> list[int]:
-        """The nodes that a leg passes: none where it leads along one road, or there is no way."""
+        """The nodes on a leg; none if it stays on a single road, or if there is no way."""
         if not self.is_walk[leg]:
             return []
         return [int(self.first_nodes[leg]), *self.walks.heads[self.walks.firsts[leg]:self.walks.firsts[leg + 1]].tolist()]
@@ -141,7 +142,7 @@ class Legs:
         return Pieces(roads, starts, ends, weights, numpy.append(firsts, len(roads)))
 
     def traces(self, which: Sequence[int]) -> Traces:
-        """How some legs lie, each of which is a way."""
+        """The lines of some legs, each of which has a way."""
         if not len(which):
             return Traces(numpy.zeros((0, 2)), *numpy.zeros((3, 0), numpy.int64), *numpy.zeros((2, 1), numpy.int64))
         numbers = numpy.asarray(which)
@@ -162,13 +163,13 @@ def traced(roads: Roads, pieces: Pieces, totals: Integers) -> Traces:
     weights = sums_before(pieces.weights, pieces.firsts)[piece] + numpy.round(found.shares * pieces.weights[piece]).astype(numpy.int64)
     cuts = numpy.append(0, stops + 1)[pieces.firsts]
     weights[cuts[:-1]], weights[cuts[1:] - 1] = 0, totals
-    # Of places that follow on themselves the last is kept, which has the weight of whatever stands still there.
+    # Of repeated places the last is kept, which includes the weight of pieces without a length.
     is_kept = numpy.ones(len(piece), bool)
     is_kept[:-1] = (found.places[1:] != found.places[:-1]).any(axis=1)
     is_kept[cuts[1:] - 1] = True
     kept_before = numpy.append(0, numpy.cumsum(is_kept))
     firsts = kept_before[cuts]
-    # Where a piece stops is the place that was kept of those that are the same.
+    # A piece ends at the kept one of its repeated places.
     kept_stops = kept_before[stops] - numpy.repeat(firsts[:-1], numpy.diff(pieces.firsts))
     return Traces(found.places[is_kept].round(6), weights[is_kept], metres[is_kept], kept_stops, firsts, pieces.firsts)
 
@@ -190,7 +191,7 @@ def best_ways(trips: Trips, starts: Spots, ends: Spots) -> tuple[Integers, Integ
 
 
 def table_ways(trips: Trips, starts: Spots, ends: Spots, within: int | None = None) -> tuple[Integers, Integers]:
-    """The least weights of the ways from each spot to each (k, l), `FAR` where there is none (of at most `within`), and which way has it."""
+    """The least weights of the ways from each spot to each (k, l), `FAR` where there is none (of at most `within`), and which way this is."""
     (outs, out_place), (ins, in_place) = (numpy.unique(nodes, return_inverse=True) for nodes in (starts.out_nodes, ends.in_nodes))
     is_out, is_in = outs > 0, ins > 0
     found = trips.queries.table(outs[is_out], ins[is_in], within)
@@ -222,7 +223,7 @@ def improve(best: Integers, ways: Integers, weights: Integers, way: int) -> None
 
 
 def legs_between(trips: Trips, starts: Spots, ends: Spots) -> Legs:
-    """The legs from spot k of `starts` to spot k of `ends`. Distances say which way is the best, and then its route alone is asked for."""
+    """The legs from spot k of `starts` to spot k of `ends`. Distances show which way is the best, and only its route is asked for."""
     best, ways = best_ways(trips, starts, ends)
     return legs_by(trips, starts, ends, best, ways)
 
@@ -281,7 +282,7 @@ def metres_by(trips: Trips, starts: Spots, ends: Spots, best: Integers, ways: In
 
 
 def metres_of(roads: Roads, starts: Spots, ends: Spots, found: Walked) -> Floats:
-    """How long legs are; what has no way is as long as the stretch between the parts of its roads, which says nothing."""
+    """The lengths of legs. The length of a leg without a way has no meaning."""
     of_road = roads.lines.metres
     along = roads.road_of[found.arcs]
     middle = found.sums(numpy.where(along != NONE, of_road[along], 0))

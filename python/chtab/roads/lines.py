@@ -1,6 +1,6 @@
-"""Lines on the earth: many of them in flat arrays, parts of them, and the point of all that is nearest to a place.
+"""Lines on the earth in flat arrays: their lengths, parts of them, and the point of all lines that is nearest to a place.
 
-Points are compared in Mercator's projection, which keeps angles, so that what is nearest there is nearest on the ground.
+Distances are compared in Mercator's projection. It keeps angles, so that the nearest point there is the nearest on the ground.
 """
 from __future__ import annotations
 
@@ -17,33 +17,33 @@ if TYPE_CHECKING:
     from numpy.typing import ArrayLike
     from chtab.typing import Floats, Integers, Marks, Point
 
-# Degrees beyond which the projection has no end.
+# The latitudes up to which the projection is used; at the poles it is infinite.
 STEEPEST = 89.9
-# Up to this distance in the plane, 6 mm at the equator, a place lies on a line.
+# A place is on a line if it is at most this far from it in the plane, which is 6 mm at the equator.
 ON_LINE = 1e-9
 # Pieces of lines whose middles are nearest to a place, among which its nearest step is looked for first.
 NEIGHBOURS = 12
 
 
 def mercator(longitudes: ArrayLike, latitudes: ArrayLike) -> Floats:
-    """Degrees to the plane."""
+    """Projects degrees to the plane."""
     latitudes = numpy.minimum(numpy.maximum(latitudes, -STEEPEST), STEEPEST)
     return numpy.array([numpy.radians(longitudes), numpy.arcsinh(numpy.tan(numpy.radians(latitudes)))]).T
 
 
 def degrees(x: Floats, y: Floats) -> tuple[Floats, Floats]:
-    """The plane to degrees."""
+    """Projects the plane back to degrees."""
     return numpy.degrees(x), numpy.degrees(numpy.arctan(numpy.sinh(y)))
 
 
 def metres_between(longitudes: ArrayLike, latitudes: ArrayLike, others: ArrayLike, other_latitudes: ArrayLike) -> Floats:
-    """Along the sphere, of each pair of places."""
+    """The metres between each pair of places, along the sphere."""
     return sphere.metres_of(numpy.linalg.norm(points(longitudes, latitudes) - points(others, other_latitudes), axis=1))
 
 
 def tidied(lines: Sequence[Floats]) -> list[tuple[list[Point], float]]:
-    """For each line of places (n, 2) the places as a list of (longitude, latitude), rounded to millionths of a degree and without those that
-    follow on themselves, and the metres along it."""
+    """For each line of places (n, 2) its places as a list of (longitude, latitude), rounded to millionths of a degree and without repeated ones, and
+    the metres along it."""
     if not lines:
         return []
     places, owner = numpy.concatenate(lines), numpy.repeat(numpy.arange(len(lines)), list(map(len, lines)))
@@ -69,7 +69,7 @@ class Stretches(NamedTuple):
 class Lines:
     """Lines of at least two places each. Line k has `places[firsts[k]:firsts[k + 1]]`, in degrees.
 
-    `parts` says of each place how far along its line it stands, from 0 to 1, and `metres` how long each line is.
+    `parts` has the position of each place along its line, from 0 to 1, and `metres` the length of each line.
     """
 
     def __init__(self, counts: Integers, places: Floats) -> None:
@@ -136,13 +136,13 @@ class Lines:
         return self.places[before] + shares[:, None] * (self.places[after] - self.places[before])
 
     def joined(self, lines: Integers, is_back: Marks) -> Floats:
-        """The places of some lines one after the other (n, 2), of some of them back."""
+        """The places of some lines one after the other (n, 2), in reverse order where `is_back` is True."""
         counts = self.firsts[lines + 1] - self.firsts[lines]
         which = ranges(self.firsts[lines], counts)
         return self.places[numpy.where(numpy.repeat(is_back, counts), numpy.repeat(2 * self.firsts[lines] + counts - 1, counts) - which, which)]
 
     def nearest(self, longitudes: Floats, latitudes: Floats) -> tuple[Integers, Floats, Floats, Floats]:
-        """The nearest point of all lines to each place: the lines, how far along each the point stands, from 0 to 1, and its longitude and
+        """The nearest point of all lines to each place: the lines, the position of the point along its line, from 0 to 1, and its longitude and
         latitude."""
         if self.pieces is None:
             self.pieces = Pieces(self)
@@ -151,7 +151,7 @@ class Lines:
         return lines, self.parts[steps] + shares * (self.parts[steps + 1] - self.parts[steps]), *degrees(*at.T)
 
     def nearest_some(self, longitude: float, latitude: float, most: int) -> tuple[Integers, Floats, Floats, Floats]:
-        """The same of one place and its nearest lines, at most so many, the nearest first."""
+        """The nearest points of the nearest lines to one place, at most `most` of them, the nearest first."""
         if self.pieces is None:
             self.pieces = Pieces(self)
         steps, shares, at = self.pieces.nearest_some(mercator([longitude], [latitude]), most, self.firsts)
@@ -159,15 +159,15 @@ class Lines:
         return lines, self.parts[steps] + shares * (self.parts[steps + 1] - self.parts[steps]), *degrees(*at.T)
 
     def nearest_facing(self, longitude: float, latitude: float, fits: Callable[[Integers], Marks]) -> tuple[Integers, Floats, tuple[Floats, Floats]]:
-        """The nearest step of all for which `fits` holds, how far along it the point nearest to a place stands, from 0 to 1, and that point;
-        arrays of one, or of none where there is no such step."""
+        """The nearest step to a place among those for which `fits` holds, the position of the nearest point along it, from 0 to 1, and that point; in
+        arrays of one item, or of none if there is no such step."""
         if self.pieces is None:
             self.pieces = Pieces(self)
         steps, shares, at = self.pieces.nearest_fitting(mercator([longitude], [latitude]), fits)
         return steps, shares, degrees(*at.T)
 
     def are_on(self, lines: Integers, longitudes: Floats, latitudes: Floats) -> Marks:
-        """Whether each place lies on its line, as the points do that `nearest` finds."""
+        """Whether each place is on its line, as the points that `nearest` finds are."""
         if self.pieces is None:
             self.pieces = Pieces(self)
         counts = self.firsts[lines + 1] - self.firsts[lines] - 1
@@ -209,11 +209,11 @@ class Pieces:
         self.steps = numpy.repeat(steps, counts)
         shares = (ranges(numpy.zeros(len(steps), int), counts) + 0.5) / numpy.repeat(counts, counts)
         self.tree = cKDTree(plane[self.steps] + ways[self.steps] * shares[:, None])
-        # No point of a piece is farther from its middle.
+        # The largest distance of a point of a piece from its middle.
         self.reach = (lengths / counts).max() / 2
 
     def nearest(self, places: Floats) -> tuple[Integers, Floats, Floats]:
-        """The nearest step to each point of the plane, how far along it its nearest point stands, from 0 to 1, and that point."""
+        """The nearest step to each point of the plane, the position of the nearest point along it, from 0 to 1, and that point."""
         steps, shares, left, count = numpy.zeros(len(places), numpy.int64), numpy.zeros(len(places)), numpy.arange(len(places)), NEIGHBOURS
         while len(left):
             count = min(count, len(self.steps))
@@ -231,7 +231,7 @@ class Pieces:
         return steps, shares, self.at(steps, shares)
 
     def within(self, places: Floats, distances: Floats) -> Any:
-        """The pieces of which a point is so near to each place, and some more: no point of a piece is farther from its middle than `reach`."""
+        """The pieces with a point within a distance of each place, and some others; a point of a piece is at most `reach` from its middle."""
         return self.tree.query_ball_point(places, distances * (1 + 1e-9) + self.reach + 1e-12)
 
     def feet(self, steps: Integers, places: Floats) -> tuple[Floats, Floats]:
@@ -249,7 +249,7 @@ class Pieces:
         return numpy.array([self.x[steps] + self.east[steps] * shares, self.y[steps] + self.north[steps] * shares]).T
 
     def nearest_some(self, place: Floats, most: int, firsts: Integers) -> tuple[Integers, Floats, Floats]:
-        """The same of one place and at most so many lines, which begin at `firsts`: of each line its nearest step, the nearest first."""
+        """The nearest step of each of the nearest lines to one place, at most `most` of them, the nearest first. Lines start at `firsts`."""
         def best_of(steps: Integers) -> tuple[Integers, Floats, Floats]:
             """The nearest step of each line, in order; of equally near ones the first."""
             shares, apart = self.feet(steps, place)
@@ -265,20 +265,20 @@ class Pieces:
             if count >= len(self.steps):
                 break
             count *= 2
-        # What is as near as the last of these may lie on a piece whose middle is farther away.
+        # A point as near as the last of these may be on a piece whose middle is farther away.
         [near] = self.within(place, numpy.sqrt(apart[-1:]))
         steps, shares, _ = best_of(self.steps[numpy.asarray(near, int)])
         return steps, shares, self.at(steps, shares)
 
     def nearest_fitting(self, place: Floats, fits: Callable[[Integers], Marks]) -> tuple[Integers, Floats, Floats]:
-        """The same of one place and the nearest step for which `fits`, which judges an array of steps, holds."""
+        """The nearest step to one place among those for which `fits` holds, which takes an array of steps."""
         count, found = 16, numpy.zeros(0, int)
         while not len(found):
             distances, near = self.tree.query(place[0], min(count, len(self.steps)))
             distances, steps = numpy.atleast_1d(distances), numpy.unique(self.steps[numpy.atleast_1d(near)])
             steps = steps[fits(steps)]
             shares, apart = self.feet(steps, place)
-            # No point of a step that was not looked at is nearer than this.
+            # The steps that were not checked are at least this far away.
             least = numpy.inf if count >= len(self.steps) else distances[-1] - self.reach
             found = numpy.lexsort([steps, apart])[:1]
             found = found[numpy.sqrt(apart[found]) <= least]

@@ -1,4 +1,4 @@
-"""The nodes nearest to places: by scipy's k-d tree where scipy and numpy are there, and else by a grid."""
+"""Finds the nodes nearest to places: by scipy's k-d tree if scipy and numpy are installed, and otherwise by a grid."""
 from __future__ import annotations
 
 import collections
@@ -17,7 +17,7 @@ CROWD = 16
 
 
 class Tree:
-    """The nodes in a k-d tree. Of nodes at one point the least numbered is taken."""
+    """The nodes in a k-d tree. Of several nodes at one point, the least numbered is found."""
 
     def __init__(self, coordinates: files.Coordinates) -> None:
         import numpy
@@ -36,7 +36,7 @@ class Tree:
 
 
 class Grid:
-    """The nodes' points in cubes of equal size. The nearest node lies in the first shells of cubes around a place."""
+    """The nodes in cubes of equal size. The nearest node is in the first shells of cubes around a place."""
 
     def __init__(self, coordinates: files.Coordinates) -> None:
         self.points = {node: sphere.point(*coordinates.of(node)) for node in coordinates.known()}
@@ -71,7 +71,7 @@ class Grid:
                     yield from self.cubes.get((x + a, y + b, z + c), ())
 
     def nearest_to(self, at: Sequence[float]) -> int:
-        """The node of least distance and number; all nodes within `reach` cubes are nearer than what is beyond."""
+        """The nearest node, and of equally near ones the least numbered. All nodes within `reach` cubes are nearer than those beyond."""
         middle, reach, best = self.cube(at), 0, (math.inf, 0)
         while best[0] > (reach - 1) * self.side:
             found = [(math.dist(at, self.points[node]), node) for node in self.shell(middle, reach)]
@@ -84,7 +84,7 @@ class Grid:
 
 
 def index_of(coordinates: files.Coordinates, plain: bool = False) -> Tree | Grid:
-    """The nodes, to be looked for: in a tree, or in a grid where `plain` asks for it or scipy isn't there."""
+    """Makes an index of nodes by their places: a tree, or a grid if `plain` asks for it or scipy isn't installed."""
     try:
         return Grid(coordinates) if plain else Tree(coordinates)
     except ImportError:

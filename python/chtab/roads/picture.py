@@ -1,4 +1,4 @@
-"""Draws a road network, routes, what is reached in a time, and how far the nearest place is, as SVG."""
+"""Draws a road network, routes, what is reached within a time, and how far the nearest place is, as SVG."""
 from __future__ import annotations
 
 import collections
@@ -14,7 +14,7 @@ ROUTES = ("#c51b5b", "#1f6fb4", "#e08214", "#2a8f4f", "#7b3fa0", "#8c5a2b", "#0f
 NEAR_TO_FAR = ((68, 1, 84), (59, 82, 139), (33, 145, 140), (120, 198, 80), (250, 170, 40))
 # Units of the drawing for each pixel, the margin in pixels, and a letter's width as a part of its height.
 FINE, MARGIN, LETTER = 4, 16, 0.6
-# A route's width in pixels, how much wider those are drawn that lie below others, and how many widths there are.
+# The width of a route in pixels, how much wider each route below others is drawn, and the number of widths.
 WIDE, WIDER, WIDTHS = 3, 3, 5
 
 
@@ -59,7 +59,7 @@ class Network:
 
 
 def path(segments: Iterable[tuple[At, ...]]) -> str:
-    """The segments as the text of an SVG path: each once, joined to lines as long as they come."""
+    """The segments as the text of an SVG path: each once, joined to lines that are as long as possible."""
     left: dict[At, set[At]] = {}
     for a, b in segments:
         if a != b:
@@ -99,7 +99,7 @@ def segments_of(line: Sequence[At]) -> set[Segment]:
 
 
 def by_width(line: Sequence[At], left: collections.Counter[Segment]) -> list[tuple[int, list[tuple[At, ...]]]]:
-    """The segments of a route's line, by how many routes that are drawn later take the same. `left` counts routes that are not drawn."""
+    """The segments of a route's line, by how many later routes share them. `left` counts the routes that are not drawn yet."""
     parts: dict[int, list[tuple[At, ...]]] = collections.defaultdict(list)
     for segment in segments_of(line):
         left[segment] -= 1
@@ -109,7 +109,7 @@ def by_width(line: Sequence[At], left: collections.Counter[Segment]) -> list[tup
 
 
 def draw_routes(network: Network, routes: Sequence[files.Answer], names: Mapping[int, str]) -> Drawing:
-    """The shapes, and the lines of the legend: (colour, text). Where routes share a road, the later are drawn thin over the wide ones."""
+    """The shapes, and the lines of the legend: (colour, text). Where routes share a road, later ones are drawn thin over wide ones."""
     shapes, marks, legend = roads(network), [], []
     lines = [[network.at(node) for node in route.nodes or ()] for route in routes]
     left = collections.Counter(segment for line in lines for segment in segments_of(line))
@@ -128,7 +128,7 @@ def draw_routes(network: Network, routes: Sequence[files.Answer], names: Mapping
 
 
 def banded(network: Network, graph: files.Graph, times: Mapping[int, float], borders: Sequence[float]) -> list[list[tuple[At, ...]]]:
-    """For each band the pieces of a graph's arcs on which a traveller is within it. borders[k] and borders[k + 1] bound band k."""
+    """For each band the pieces of a graph's arcs that are reached within it. Band k is between borders[k] and borders[k + 1]."""
     bands: list[list[tuple[At, ...]]] = [[] for _ in borders[1:]]
     for start, end, weight in zip(graph.tails, graph.heads, graph.weights):
         if start not in times:
@@ -144,7 +144,7 @@ def banded(network: Network, graph: files.Graph, times: Mapping[int, float], bor
 
 
 def colour_of(place: int, count: int) -> str:
-    """The colour of a band, of so many."""
+    """The colour of a band, of `count` bands."""
     part = place / max(1, count - 1) * (len(NEAR_TO_FAR) - 1)
     low, high = NEAR_TO_FAR[math.floor(part)], NEAR_TO_FAR[math.ceil(part)]
     return "#" + "".join(f"{round(a + (b - a) * (part % 1)):02x}" for a, b in zip(low, high))
@@ -185,7 +185,7 @@ def text(x: float, y: float, words: str, size: int = 13) -> str:
 
 
 def title_lines(title: str, pixels: float, size: int) -> list[str]:
-    """The title in lines that fit into so many pixels."""
+    """The title, broken into lines that fit into a width in pixels."""
     return textwrap.wrap(title, max(1, int(pixels / (size * LETTER))))
 
 
@@ -209,7 +209,7 @@ def legend_lines(legend: Legend, left: float, top: float) -> Iterator[str]:
 
 
 def write(network: Network, title: str, shapes: Sequence[str], legend: Legend, out: IO[str]) -> None:
-    """The whole picture: the title above, the map on the left, and the legend, as wide as its words, on the right."""
+    """Writes the whole picture: the title above, the map on the left, and the legend, as wide as its words, on the right."""
     longest = max((len(words) for _, words in legend), default=0)
     legend_width = max(215, round(30 + 13 * LETTER * longest + MARGIN))
     left, width = network.width + 2 * MARGIN, network.width + 2 * MARGIN + legend_width

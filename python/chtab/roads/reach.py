@@ -1,9 +1,8 @@
-"""What is reached from a spot: polygons around the roads that lead there in time, as GeoJSON.
+"""What is reached from a spot: polygons around the roads that are reached within a limit, as GeoJSON.
 
-Roads are sampled onto a grid of squares, each with the least weight of what lies in it. A polygon is the squares of at most a weight, with
-those around them, smoothed. So its border is as exact as a square is wide, and it takes as long as there are roads, not as they are
-bent.
-"""
+Roads are sampled onto a grid of squares, each with the least weight of the points in it. A polygon consists of the squares up to a weight and of
+those around them, smoothed. Its border is therefore as exact as a square is wide. Making it takes time by the length of the roads, not by their
+bends. """
 from __future__ import annotations
 
 from collections.abc import Sequence
@@ -24,15 +23,15 @@ if TYPE_CHECKING:
 
 # Squares along the longer side of what is reached, and the least width of one in metres.
 SQUARES, NARROWEST = 320, 40.0
-# A polygon ends so many metres from the roads, or one square where these are wider.
+# A polygon ends this many metres from the roads, or one square if squares are wider.
 AROUND = 90.0
-# Holes and islands of fewer squares are left out.
+# Holes and islands with fewer squares are left out.
 FEW = 8
 
 
 def samples(network_roads: Roads, times: Integers, spacing: float) -> tuple[Floats, Floats]:
-    """Points of roads in the plane, at most `spacing` apart, and the weight at which each is reached. `times` has the weights of nodes from
-    1 on, -1 where one is not reached."""
+    """Points of roads in the plane, at most `spacing` apart, and the weight at which each is reached. `times` has the weights of nodes, which count
+    from 1; -1 if a node is not reached."""
     arcs, ends, parts = network_roads.segments()
     firsts = times[network_roads.tails[arcs] - 1]
     kept = (firsts >= 0) & ~numpy.isnan(ends).any(axis=1)
@@ -47,7 +46,7 @@ def samples(network_roads: Roads, times: Integers, spacing: float) -> tuple[Floa
 
 
 def start_samples(network_roads: Roads, spot: Spots, spacing: float) -> tuple[Floats, ...]:
-    """The same of the road that the spot itself lies on."""
+    """The same points for the road that the spot itself is on."""
     road, part = spot.roads[0], spot.parts[0]
     found = []
     for end, weight in (0.0, network_roads.backward[road]), (1.0, network_roads.forward[road]):
@@ -62,7 +61,7 @@ def start_samples(network_roads: Roads, spot: Spots, spacing: float) -> tuple[Fl
 
 
 def grid_of(at: Floats, weights: Floats, width: float) -> tuple[Floats, Floats]:
-    """The least weight in each square, and the corner of the first. Four empty squares are left at each side."""
+    """The least weight in each square, and the corner of the first square. Four empty squares are added on each side."""
     corner = at.min(axis=0) - 4 * width
     square = ((at - corner) / width).astype(int)
     grid = numpy.full(square.max(axis=0) + 5, numpy.inf)
@@ -72,7 +71,7 @@ def grid_of(at: Floats, weights: Floats, width: float) -> tuple[Floats, Floats]:
 
 
 def spread(grid: Floats, reach: int) -> Floats:
-    """Each square takes the least weight of the squares within `reach` of it."""
+    """Gives each square the least weight of the squares within `reach` of it."""
     for _ in range(reach):
         for axis in (0, 1):
             behind, ahead = numpy.roll(grid, 1, axis), numpy.roll(grid, -1, axis)
@@ -93,7 +92,7 @@ def outline(inside: Marks, corner: Floats, width: float) -> list[Any]:
 
 
 def smooth(ring: Any, width: float) -> list[Point]:
-    """The ring of a polygon with its stairs cut and its corners rounded (Chaikin 1974)."""
+    """The ring of a polygon with its stairs cut off and its corners rounded (Chaikin 1974)."""
     line = numpy.array(Polygon(ring).simplify(0.75 * width).exterior.coords)[:-1]
     for _ in range(2):
         after = numpy.roll(line, -1, axis=0)
@@ -107,7 +106,7 @@ class Isochrones(OnMap, dict):
     shown_by = "limit"
 
     def to_geojson(self) -> dict:
-        """Gives the collection as a dict of its own.
+        """Returns the collection as a plain dict.
 
         Returns
         -------
@@ -132,8 +131,8 @@ def polygons_of(inside: Marks, corner: Floats, width: float) -> list[list[list[P
 
 
 def polygons(network_roads: Roads, spot: Spots, times: Integers, limits: Sequence[float]) -> list[Any]:
-    """The coordinates of a MultiPolygon for each limit, of which the largest is first. `times` are the weights at which nodes are reached from
-    the spot, -1 where one is not, or not within the largest limit."""
+    """The coordinates of a MultiPolygon for each limit, the largest first. `times` are the weights at which nodes are reached from the spot; -1 if a
+    node is not reached, or not within the largest limit."""
     metre = 1 / (sphere.RADIUS * numpy.cos(numpy.radians(spot.latitudes[0])))
     near = numpy.flatnonzero((times >= 0) & (times <= limits[0]))
     places = mercator(*numpy.vstack([network_roads.places[near], [[spot.longitudes[0], spot.latitudes[0]]]]).T)

@@ -1,4 +1,4 @@
-"""Routes between nodes and trips between spots, as they are given to callers."""
+"""Routes between nodes and trips between spots, as callers get them."""
 from __future__ import annotations
 
 import collections.abc
@@ -33,7 +33,7 @@ class Routes(showing.OnMap, collections.abc.Sequence):
     shown_by = "weight"
 
     def __init__(self, answers: list[Answer], layers: Layers) -> None:
-        # The answers by the numbers of nodes and the weights of the graph, as the files of the network have them.
+        # The answers with the numbers of nodes and the weights of the graph, and the files of the network.
         self.numbered, self.layers = answers, layers
 
     def __getitem__(self, place: Any) -> Any:
@@ -41,7 +41,7 @@ class Routes(showing.OnMap, collections.abc.Sequence):
         return [self.labelled(each) for each in some] if isinstance(place, slice) else self.labelled(some)
 
     def labelled(self, answer: Answer) -> Answer:
-        """The answer with the labels of its nodes, and weights in the network's unit."""
+        """The answer with the labels of its nodes and with weights in the network's unit."""
         listed, measure = self.layers.labels.listed, self.layers.measure
         source, target = listed([answer.source, answer.target])
         nodes = answer.nodes and listed(answer.nodes)
@@ -54,13 +54,13 @@ class Routes(showing.OnMap, collections.abc.Sequence):
         return f"<{len(self):,} routes on {self.layers.path}>"
 
     def rows(self) -> list[NDArray[numpy.int64] | None]:
-        """Gives the arcs of the routes, as rows of what the network was made of.
+        """Returns the arcs of the routes, as rows of the columns or frame that the network was made of.
 
         Returns
         -------
         list of array of int64
-            For each pair the rows of the arcs in the order of its route, from 0 on, as `frame.iloc` counts them and `graph.edges` of networkx has them;
-            of files the lines of the graph. None where no path leads.
+            For each pair the rows of the arcs in the order of its route, from 0 on, as `frame.iloc` counts them and `graph.edges` of networkx has
+            them; of files the lines of the graph. None where no path leads.
         """
         import numpy
 
@@ -72,7 +72,7 @@ class Routes(showing.OnMap, collections.abc.Sequence):
         return [next(found) if each.nodes else None for each in self.numbered]
 
     def edges(self) -> list[list[tuple] | None]:
-        """Gives the arcs of the routes by their nodes, as networkx and osmnx name edges.
+        """Returns the arcs of the routes by their nodes, as networkx and osmnx name edges.
 
         Returns
         -------
@@ -92,7 +92,7 @@ class Routes(showing.OnMap, collections.abc.Sequence):
         return found
 
     def to_frame(self) -> pandas.DataFrame:
-        """Gives the routes as a table.
+        """Returns the routes as a frame.
 
         Returns
         -------
@@ -103,7 +103,7 @@ class Routes(showing.OnMap, collections.abc.Sequence):
         Raises
         ------
         ImportError
-            pandas is not there.
+            pandas is not installed.
         """
         import numpy
         import pandas
@@ -117,7 +117,7 @@ class Routes(showing.OnMap, collections.abc.Sequence):
         return frame.rename_axis("query")
 
     def to_geojson(self, names: dict | None = None) -> dict:
-        """Gives the routes as lines on a map. They follow the bends of roads, where the network has a file of bends.
+        """Returns the routes as lines on a map, which follow the bends of roads if the network knows them.
 
         Parameters
         ----------
@@ -142,7 +142,7 @@ class Routes(showing.OnMap, collections.abc.Sequence):
         )
 
     def to_geodataframe(self) -> geopandas.GeoDataFrame:
-        """Gives the routes as a GeoDataFrame.
+        """Returns the routes as a GeoDataFrame.
 
         Returns
         -------
@@ -152,7 +152,7 @@ class Routes(showing.OnMap, collections.abc.Sequence):
         Raises
         ------
         ImportError
-            geopandas is not there.
+            geopandas is not installed.
         ChtabError
             The network has no places of nodes.
         """
@@ -160,8 +160,8 @@ class Routes(showing.OnMap, collections.abc.Sequence):
 
 
 class Trip(NamedTuple):
-    """A way between two spots. `weight`, `metres` and the `line` of (longitude, latitude), in millionths of a degree, are None where there is
-    none; `nodes` are those that it passes."""
+    """A route between two spots. `weight`, `metres` and the `line` of (longitude, latitude), rounded to millionths of a degree, are None if no path
+    leads; `nodes` are the nodes along it."""
 
     weight: float | None
     metres: float | None
@@ -169,7 +169,7 @@ class Trip(NamedTuple):
     nodes: list
 
     def to_geojson(self, properties: dict | None = None) -> dict:
-        """Gives the trip as a line on a map.
+        """Returns the trip as a line on a map.
 
         Parameters
         ----------
@@ -184,7 +184,7 @@ class Trip(NamedTuple):
         return geojson.feature(self.line, self.properties(properties))
 
     def to_text(self, properties: dict | None = None) -> str:
-        """Gives the same as text of JSON, which takes a third of the time."""
+        """Returns the same as text of JSON, in a third of the time."""
         return geojson.line_text(self.line, self.properties(properties))
 
     def properties(self, more: dict | None) -> dict[str, Any]:
@@ -193,12 +193,12 @@ class Trip(NamedTuple):
 
 
 class TripRoutes(showing.OnMap, list):
-    """Trips in the order of the spots that they lead between: a list of `Trip`, which a map or a table can be made of."""
+    """Trips in the order of their spots: a list of `Trip`, which makes frames, GeoJSON and pictures."""
 
     shown_by = "weight"
 
     def to_geojson(self) -> dict:
-        """Gives the trips as lines on a map.
+        """Returns the trips as lines on a map.
 
         Returns
         -------
@@ -209,7 +209,7 @@ class TripRoutes(showing.OnMap, list):
         return geojson.collection(each.to_geojson({"query": place}) for place, each in enumerate(self))
 
     def to_frame(self) -> pandas.DataFrame:
-        """Gives the trips as a table.
+        """Returns the trips as a frame.
 
         Returns
         -------
@@ -219,14 +219,14 @@ class TripRoutes(showing.OnMap, list):
         Raises
         ------
         ImportError
-            pandas is not there.
+            pandas is not installed.
         """
         import pandas
 
         return pandas.DataFrame([each._replace(line=None) for each in self], columns=Trip._fields).drop(columns="line").rename_axis("query")
 
     def to_geodataframe(self) -> geopandas.GeoDataFrame:
-        """Gives the trips as a GeoDataFrame.
+        """Returns the trips as a GeoDataFrame.
 
         Returns
         -------
@@ -236,6 +236,6 @@ class TripRoutes(showing.OnMap, list):
         Raises
         ------
         ImportError
-            geopandas is not there.
+            geopandas is not installed.
         """
         return showing.with_geometry(self.to_frame(), super().to_geodataframe().geometry.to_list())

@@ -31,7 +31,7 @@ NAMES = "a row, (source, target), (source, target, key), (node,), spots of `snap
 
 
 class Scenarios(FromArcs):
-    """The call of a `Network` that makes another one of it. It has `_layers`, its files, `_measure`, its unit, and `_opened`, its opening."""
+    """The call of a `Network` that makes another network from it. It uses `_layers`, its files, `_measure`, its unit, and `_opened`, its opening."""
 
     if TYPE_CHECKING:
         nodes: int
@@ -63,19 +63,18 @@ class Scenarios(FromArcs):
         closed : list of arcs, spots, or array of bool, optional
             The arcs that are no longer there, or for each row whether it is closed. Nodes stay.
         added : list of (source, target, weight) or pandas.DataFrame, optional
-            Arcs between nodes of the network that come to the others, with the columns source, target and weight, and geometry where there are
-            lines. Each leads one way. They are the rows behind those that there were.
+            Further arcs between nodes of the network, with the columns source, target and weight, and optionally geometry. Each leads one way. Their
+            rows follow those of the network.
         folder : str or path, optional
             As `Network.from_arrays` takes it.
         fresh : int
-            How many per cent of the nodes are ordered afresh where the library answers, from 0 to 100. With more of them building takes longer, and
-            answers take less time if the weights differ much. Answers themselves are the same.
+            How many per cent of the nodes are ordered afresh if the library answers, from 0 to 100. More of them make building slower, and answers
+            faster if the weights differ much. The answers themselves are the same.
 
         Returns
         -------
         Network
-            It answers as this one does, by the library or by runs. The library builds it in the order of this one, in half the time of a new
-            network. Runs build it anew.
+            The changed network. The library builds it in the order of this one, in half the time of a new network; runs build it anew.
 
         Raises
         ------
@@ -105,7 +104,7 @@ class Scenarios(FromArcs):
 
 
 class New(NamedTuple):
-    """Arcs that are added: their ends and weights, lines or None, and the most that a weight was rounded by."""
+    """Added arcs: their ends and weights, their lines or None, and the largest rounding of a weight."""
 
     tails: Integers
     heads: Integers
@@ -115,7 +114,7 @@ class New(NamedTuple):
 
 
 class Given(NamedTuple):
-    """The arcs of a network as they are given to others: in columns, each with its row."""
+    """The arcs of a network in columns, each with its row, from which a scenario starts."""
 
     layers: Layers
     tails: Integers
@@ -126,20 +125,20 @@ class Given(NamedTuple):
 
     @classmethod
     def of(cls, layers: Layers) -> Given:
-        """Those of the files of a network."""
+        """The arcs of the files of a network."""
         graph, labelling = layers.graph, layers.labelling
         tails, heads, weights = (numpy.array(column, numpy.int64) for column in (graph.tails, graph.heads, graph.weights))
         return cls(layers, tails, heads, weights, layers.rows, None if labelling is None else labelling.keys)
 
     @property
     def row_count(self) -> int:
-        """How many rows there are, also those whose arcs are closed."""
+        """The number of rows, including those whose arcs are closed."""
         return self.layers.row_count
 
     # Which arcs are meant.
 
     def marked(self, name: str, arcs: Any) -> Marks:
-        """Which arcs some names of arcs are, as an array of bool."""
+        """Marks the arcs that a list of names stands for."""
         is_marked = numpy.zeros(len(self.rows), bool)
         if arcs is None:
             return is_marked
@@ -160,7 +159,7 @@ class Given(NamedTuple):
             raise DataFault(f"{name} has the shape {column.shape}, and there are {self.row_count:,} rows of arcs", name)
 
     def places(self, name: str, place: int, arc: Any) -> Integers:
-        """The arcs of a name."""
+        """The arcs that a name stands for."""
         if isinstance(arc, int | numpy.integer) and not isinstance(arc, bool):
             found = numpy.flatnonzero(self.rows == arc)
             if not 0 <= arc < self.row_count:
@@ -193,17 +192,17 @@ class Given(NamedTuple):
             raise columns.refused(name, place, str(fault).removeprefix(f"{name}[0]: ")) from None
 
     def crossing(self, node: int) -> list[int]:
-        """A node, or where turns are restricted all nodes of its crossing."""
+        """All nodes of the crossing of a node. It has several if turns are restricted."""
         copies = self.layers.copies
         first = copies.get(node, node)
         return [first, *(copy for copy, other in copies.items() if other == first)] if copies else [node]
 
     def are_at(self, nodes: list[int]) -> Marks:
-        """Which arcs come to one of some nodes, or leave it."""
+        """Marks the arcs that start or end at one of some nodes."""
         return numpy.isin(self.tails, nodes) | numpy.isin(self.heads, nodes)
 
     def of_spots(self, name: str, place: int, spots: Spots) -> Integers:
-        """The arcs along the roads of spots, in the directions in which these are left; of a spot at a crossing all arcs of the crossing."""
+        """The arcs along the roads of spots, in the directions in which trips may leave these; for a spot at a crossing, all arcs of the crossing."""
         roads = self.layers.roads
         for index in numpy.flatnonzero(~roads.are_here(spots))[:1]:
             raise columns.refused(name, place, f"spot {index} lies on no road of this network: `snap` of this one gives its own")
@@ -243,7 +242,7 @@ class Given(NamedTuple):
     # What is changed.
 
     def reweighted(self, weights: Any, measure: measures.Measure, scale: float | None, most: int) -> tuple[Given, float]:
-        """These arcs with other weights, and the most that one was rounded by."""
+        """These arcs with other weights, and the largest rounding of a weight."""
         if weights is None:
             return self, 0.0
         names = list(weights.keys()) if hasattr(weights, "keys") and self.are_names(weights) else None
@@ -259,14 +258,14 @@ class Given(NamedTuple):
         return self._replace(weights=changed), rounding
 
     def are_names(self, weights: Any) -> bool:
-        """Whether a Series has names of arcs, and is not just one weight for each row in their order; a dict always has."""
+        """Whether the index of a Series names arcs; otherwise it has a weight for each row, in order. The keys of a dict always name arcs."""
         if isinstance(weights, Mapping):
             return True
         index = weights.index
         return getattr(index, "nlevels", 1) > 1 or len(weights) != self.row_count or any(isinstance(name, tuple) for name in index[:1])
 
     def added(self, given: Any, measure: measures.Measure, scale: float | None, most: int) -> New:
-        """The arcs that come to these."""
+        """The arcs that are added to these."""
         if given is None:
             nothing = numpy.zeros(0, numpy.int64)
             return New(nothing, nothing, nothing, None, 0.0)
@@ -285,7 +284,7 @@ class Given(NamedTuple):
         return New(tails, heads, whole, edge_lines.lines_in("added geometry", lines, len(whole)), rounding)
 
     def arcs(self, kept: Marks, new: New, rounding: float) -> arc_columns.Arcs:
-        """The arcs that are kept, and the new ones behind them."""
+        """The kept arcs, followed by the new ones."""
         layers, labelling = self.layers, self.layers.labelling
         count = len(new.tails)
         rows = numpy.append(self.rows[kept], self.row_count + numpy.arange(count))
@@ -309,7 +308,7 @@ class Given(NamedTuple):
         )
 
     def bends(self, kept: Marks, new: New) -> dict[int, list[Point]]:
-        """The bends of the arcs that are kept, by their new numbers, and those of the new ones."""
+        """The bends of the kept arcs, by their new numbers, and those of the new arcs."""
         path, numbers = self.layers.paths["bends"], numpy.cumsum(kept) - 1
         found = {} if path is None else self.layers.read_file("bends", functools.partial(files.read_bends, path))
         bends = {int(numbers[arc]): points for arc, points in found.items() if arc < len(kept) and kept[arc]}
@@ -322,7 +321,7 @@ class Given(NamedTuple):
 
 
 def numbers_of(name: str, given: Any, measure: measures.Measure) -> NDArray[Any]:
-    """Weights as numbers in the network's unit. Durations are made such."""
+    """Weights as numbers in the network's unit, to which durations are converted."""
     durations = columns.durations_in(name, given)
     if durations is None:
         return columns.numbers_in(name, given)

@@ -1,9 +1,8 @@
-"""Places on roads: each is taken to the nearest point of the nearest road, and leaves and arrives by the road's ends.
+"""Places on roads. Each place is taken to the nearest point of the nearest road, and trips leave and reach it by the ends of this road.
 
-A road is a line that one arc leads along, or two of opposite directions: from `first` to `last` with the weight `forward`, and back with
-`backward`. Where turns are restricted a crossing has several nodes, and several arcs lead along a road between them: which of these nodes one
-comes to says which turns are open.
-"""
+A road is a line with an arc along it, or with two of opposite directions: from `first` to `last` with the weight `forward`, and back with `backward`.
+Where turns are restricted, a crossing has several nodes, and several arcs lead along a road. The node at which a trip arrives then decides which
+turns are open to it. """
 from __future__ import annotations
 
 import itertools
@@ -21,18 +20,18 @@ if TYPE_CHECKING:
     from chtab import files
     from chtab.typing import Column, Floats, Integers, Marks, Point
 
-# No arc leads along a road in this direction; a place doesn't leave or arrive by this end.
+# No arc leads along a road in this direction, or no trip leaves or arrives by this end.
 NONE = -1
-# The directions along a road that a spot may be left and come to in: a set of these.
+# The directions along a road in which trips may leave a spot and arrive at it, as a set of bits.
 FORWARD, BACKWARD = 1, 2
-# A place that is nearer than so many metres to an end of its road stands at the end.
+# A place that is less than this many metres from an end of its road is at the end.
 AT_END = 1.0
-# The part of a road that lies between its end and a spot that is near to it, and does not stand at it.
+# The least part of a road between its end and a spot that is not at the end.
 INSIDE = 1e-9
 
 
 def places_in(longitudes: Column, latitudes: Column) -> list[Floats]:
-    """Two columns of degrees. A number that is no degree, such as NaN, is a ValueError."""
+    """Two columns of degrees. Raises a ValueError if a number is no degree, such as NaN."""
     columns = [numpy.asarray(part, float).reshape(-1) for part in (longitudes, latitudes)]
     if len(columns[0]) != len(columns[1]):
         raise ValueError(f"there are {len(columns[0])} longitudes and {len(columns[1])} latitudes")
@@ -43,14 +42,14 @@ def places_in(longitudes: Column, latitudes: Column) -> list[Floats]:
 
 
 def length_text(metres: float) -> str:
-    """A length as a person tells it: 640 m, 18.6 km, 5,467 km."""
+    """A length as a person would write it: 640 m, 18.6 km, 5,467 km."""
     if metres < 999.5:
         return f"{metres:.0f} m"
     return f"{metres / 1000:.1f}".removesuffix(".0") + " km" if metres < 99_950 else f"{metres / 1000:,.0f} km"
 
 
 def far_text(longitude: float, latitude: float, metres: float, what: str, most: float | None) -> str:
-    """What is told of a place that is too far from each road, or node."""
+    """The message about a place that is too far from each road, or node."""
     return f"{longitude:.6f} {latitude:.6f} is {length_text(metres)} from the nearest {what}, more than {length_text(most or 0)}; " \
         "longitude comes first, then latitude"
 
@@ -59,12 +58,11 @@ def far_text(longitude: float, latitude: float, metres: float, what: str, most: 
 class Spots:
     """Places on roads, in arrays with an item for each place.
 
-    `longitudes`, `latitudes` are the points on the roads in degrees, and `metres` says how far from the places these are. Spot k lies on road
-    `roads[k]` at the part `parts[k]` of it (0 at `first`, 1 at `last`). It leaves by the nodes `out_nodes[k]` at the weights
-    `out_weights[k]`, and arrives by `in_nodes[k]` at `in_weights[k]`, in whole numbers of the graph; `NONE` where there is none. The first half of
-    each of these are nodes of `first`, the second of `last`: one each, or several where turns are restricted. `sides[k]` has the directions in
-    which the road may be driven along at the spot, `FORWARD`, `BACKWARD` or both; the road itself may be closed in one of them.
-    """
+    `longitudes` and `latitudes` are the points on the roads in degrees, and `metres` their distances from the places. Spot k is on road `roads[k]` at
+    the part `parts[k]` of it (0 at `first`, 1 at `last`). Trips leave it by the nodes `out_nodes[k]` at the weights `out_weights[k]`, and arrive by
+    `in_nodes[k]` at `in_weights[k]`, in whole numbers of the graph; `NONE` stands for no node. The first half of each of these are nodes of `first`,
+    the second half nodes of `last`: one each, or several where turns are restricted. `sides[k]` has the directions in which trips may use the road at
+    the spot, `FORWARD`, `BACKWARD` or both; the road itself may be closed in one of them. """
 
     longitudes: Floats
     latitudes: Floats
@@ -88,7 +86,7 @@ class Spots:
 
 
 def one_sided(spots: Spots, sides: Integers) -> Spots:
-    """Spots that are left and come to in some directions of their roads alone."""
+    """The same spots, which trips leave and reach only in some directions of their roads."""
     half = spots.out_nodes.shape[1] // 2
     # Who drives forward comes from `first` and goes to `last`.
     backward, forward = ((sides & side == 0)[:, None] for side in (BACKWARD, FORWARD))
@@ -100,15 +98,15 @@ def one_sided(spots: Spots, sides: Integers) -> Spots:
 
 
 class Ways(NamedTuple):
-    """By which nodes roads are left, or come to, and the weights of the whole road: a row for each, in the order that `Spots` have."""
+    """The nodes by which trips leave roads, or arrive, and the weights of the whole road: a row for each road, in the order that `Spots` have."""
 
     nodes: Integers
     weights: Integers
 
 
 def ways_of(roads: Integers, sides: Integers, nodes: Integers, weights: Integers, count: int) -> Ways:
-    """The ways of so many roads. Given are, for each arc, its road, at which end of it (0 or 1) its node is, the node and the weight; of
-    arcs of one node the least weight counts."""
+    """The ways of `count` roads. Each arc is given by its road, the end of this road (0 or 1) at which its node is, the node, and the weight. Of
+    several arcs with one node, the least weight counts."""
     order = numpy.lexsort([weights, nodes, sides, roads])
     keys = numpy.column_stack([roads, sides, nodes])[order]
     is_new = numpy.append(True, (keys[1:] != keys[:-1]).any(axis=1))[:len(keys)]
@@ -123,7 +121,7 @@ def ways_of(roads: Integers, sides: Integers, nodes: Integers, weights: Integers
 
 
 class Roads:
-    """The roads of a graph. `firsts` and `lasts` are nodes where trips begin, and `lines` how the roads lie between them.
+    """The roads of a graph. `firsts` and `lasts` are the nodes at their ends where trips start, and `lines` their lines.
 
     Parameters
     ----------
@@ -147,13 +145,13 @@ class Roads:
         crossing = numpy.arange(graph.nodes + 1)
         for copy, node in coordinates.copies().items():
             crossing[copy] = node
-        # The road of each arc, NONE of one that leads along none, and whether it leads back.
+        # The road of each arc, or NONE, and whether the arc leads back along it.
         self.road_of, self.is_back = numpy.full(len(self.tails), NONE), crossing[self.tails] > crossing[self.heads]
         self.find_roads(crossing[self.tails], crossing[self.heads], {} if bends is None else bends)
         self.find_ways()
 
     def find_roads(self, tails: Integers, heads: Integers, bends: Mapping[int, Sequence[Point]]) -> None:
-        """The roads by the crossings at both ends of arcs: first those without bends, then those with them."""
+        """Finds the roads by the crossings at both ends of arcs: first those without bends, then the others."""
         bent = {arc: points for arc, points in bends.items() if arc < len(tails)}
         firsts, lasts = self.straight(tails, heads, list(bent))
         more = self.bent(tails, heads, bent, len(firsts))
@@ -176,7 +174,8 @@ class Roads:
     def bent(
         self, tails: Integers, heads: Integers, bends: Mapping[int, Sequence[Point]], before: int,
     ) -> tuple[Integers, Integers, Integers, Floats]:
-        """The roads of arcs with bends: their ends, the numbers of their places, and all bends. Both directions of the same bends are one."""
+        """The roads of arcs with bends: their ends, how many places each has, and all bends. Arcs with the same bends in opposite directions share a
+        road."""
         roads: dict[tuple[Any, ...], int] = {}
         for arc, points in bends.items():
             tail, head, points, back = int(tails[arc]), int(heads[arc]), list(points), list(points)[::-1]
@@ -188,7 +187,7 @@ class Roads:
         return ends[:, 0], ends[:, 1], counts, numpy.array([point for key in roads for point in key[2:]], numpy.float64).reshape(-1, 2)
 
     def find_ways(self) -> None:
-        """By which nodes each road is left and come to, and the least weights of both directions."""
+        """Finds the nodes by which trips leave each road and arrive, and the least weights of both directions."""
         kept = self.road_of != NONE
         roads, is_back, weights = self.road_of[kept], self.is_back[kept], self.weights[kept]
         self.out_ways = ways_of(roads, (~is_back).astype(int), self.heads[kept], weights, len(self))
@@ -204,7 +203,7 @@ class Roads:
     # From places to roads.
 
     def find(self, longitudes: Column, latitudes: Column, max_metres: float = 1_000.0) -> Spots:
-        """The places, taken to roads. Those that are farther from each road than `max_metres` are told by a `TooFar`."""
+        """Takes places to roads. Raises a `TooFar` with the places that are farther than `max_metres` from each road."""
         longitudes, latitudes = places_in(longitudes, latitudes)
         spots = self.find_any(longitudes, latitudes)
         far = numpy.flatnonzero(~(spots.metres <= max_metres)).tolist()
@@ -214,14 +213,14 @@ class Roads:
         return spots
 
     def find_any(self, longitudes: Column, latitudes: Column) -> Spots:
-        """The same of places at any distance from roads, as two arrays."""
+        """Does the same for places at any distance from roads."""
         if not len(self):
             raise ChtabError("the graph has no road between two places")
         x, y = numpy.asarray(longitudes, float), numpy.asarray(latitudes, float)
         return self.spots_at(x, y, *self.lines.nearest(x, y))
 
     def find_some(self, longitude: float, latitude: float, most: int) -> Spots:
-        """One place, taken to each of its nearest roads, at most so many, the nearest first."""
+        """Takes one place to each of its nearest roads, at most `most` of them, the nearest first."""
         if not len(self):
             raise ChtabError("the graph has no road between two places")
         found = self.lines.nearest_some(longitude, latitude, most)
@@ -235,13 +234,13 @@ class Roads:
         return self.spots(xs, ys, metres, roads, numpy.where((1 - parts) * lengths < AT_END, 1.0, parts))
 
     def spots(self, longitudes: Floats, latitudes: Floats, metres: Floats, roads: Integers, parts: Floats) -> Spots:
-        """The ways out of spots and into them, with their weights rounded."""
+        """Makes spots, with the ways out of them and into them, and rounds the weights of these."""
         at_node = numpy.flatnonzero((parts == 0) | (parts == 1))
         begins = numpy.where(parts == 0, self.firsts[roads], self.lasts[roads])[at_node]
         stops = numpy.array([self.ends.get(node, node) for node in begins.tolist()], numpy.int64)
 
         def ways(of_roads: Ways, nodes_there: Integers) -> tuple[Integers, Integers]:
-            """A spot at a node uses the node alone where trips begin or end there, at no weight."""
+            """The ways of spots. A spot at a node has this node alone, at the weight 0."""
             nodes, weights = of_roads.nodes[roads], of_roads.weights[roads]
             half = nodes.shape[1] // 2
             part = numpy.repeat([parts, 1 - parts], half, axis=0).T
@@ -255,8 +254,8 @@ class Roads:
         return Spots(longitudes, latitudes, metres, roads, parts, *ways(self.out_ways, begins), *ways(self.in_ways, stops), sides)
 
     def find_facing(self, longitude: float, latitude: float, bearing: float, within: float) -> Spots:
-        """One place, taken to the nearest point at which one may drive in a direction, in degrees clockwise from north, or at most `within` degrees
-        off it; and it is left and come to in that direction alone. There are no spots where no road leads so."""
+        """Takes one place to the nearest point at which a road leads in a direction, in degrees clockwise from north, or at most `within` degrees off
+        it. Trips leave the spot and arrive at it in that direction alone. If no road leads that way, there are no spots."""
         steps, share, at = self.lines.nearest_facing(longitude, latitude, lambda steps: self.facing(steps, bearing, within) > 0)
         roads = numpy.searchsorted(self.lines.firsts, steps, "right") - 1
         before, after = self.lines.parts[steps], self.lines.parts[steps + 1]
@@ -266,7 +265,7 @@ class Roads:
         return one_sided(self.spots(*at, metres, roads, parts), self.facing(steps, bearing, within))
 
     def facing(self, steps: Integers, bearing: float, within: float) -> Integers:
-        """The directions along its road in which each step of a line may be driven along and leads in a direction."""
+        """For each step of a line, the open directions along its road that lead in a direction."""
         leads = self.lines.bearings(steps)
         roads = numpy.searchsorted(self.lines.firsts, steps, "right") - 1
         found = numpy.zeros(len(steps), numpy.int64)
@@ -276,8 +275,8 @@ class Roads:
         return found
 
     def along(self, starts: Spots, ends: Spots) -> Integers:
-        """The weights from spots to others along the roads on which both lie, `NONE` where they don't, or no arc leads that way. The
-        arrays of both are taken together by numpy's rules."""
+        """The weights from spots to others along the road that both are on, `NONE` if they aren't on one, or if no arc leads that way. The arrays of
+        both are broadcast by numpy's rules."""
         parts = ends.parts - starts.parts
         weights = numpy.where(parts >= 0, self.forward[starts.roads], self.backward[starts.roads])
         may = starts.sides & ends.sides & numpy.where(parts >= 0, FORWARD, BACKWARD)
@@ -287,7 +286,7 @@ class Roads:
     # Which arcs lead along roads.
 
     def are_here(self, spots: Spots) -> Marks:
-        """Whether each spot lies on its road. One of another network may have the number of a road that lies elsewhere, or that isn't there."""
+        """Whether each spot is on its road. A spot of another network may have the number of a road that is elsewhere, or doesn't exist here."""
         is_here = (spots.roads >= 0) & (spots.roads < len(self))
         some = numpy.flatnonzero(is_here)
         is_here[some] = self.lines.are_on(spots.roads[some], spots.longitudes[some], spots.latitudes[some])
@@ -297,15 +296,14 @@ class Roads:
         """Which arcs lead along a road in some directions of it, `FORWARD`, `BACKWARD` or both."""
         return (self.road_of == road) & (numpy.where(self.is_back, BACKWARD, FORWARD) & sides > 0)
 
-    # How roads lie.
+    # The lines of roads.
 
     def stretch(self, road: int, start: float, end: float) -> Floats:
         """The places of a road from one part of it to another, in degrees (n, 2)."""
         return self.lines.stretch(road, start, end)
 
     def lines_of(self, routes: Sequence[files.Answer]) -> list[Floats]:
-        """The places of each of some routes with their nodes and the weights of their arcs, in degrees: a list of (n, 2). A place may follow
-        on itself."""
+        """The places along some routes, given by their nodes and the weights of their arcs, in degrees: a list of (n, 2). Places may be repeated."""
         if not routes:
             return []
         nodes = numpy.fromiter(itertools.chain.from_iterable(each.nodes or () for each in routes), numpy.int64)
@@ -328,7 +326,7 @@ class Roads:
         ]
 
     def arcs_of(self, tails: Integers, heads: Integers, weights: Integers) -> Integers:
-        """The arcs between nodes with these weights, of several the first; a route has the least of its ends."""
+        """The arcs between nodes with these weights, the first of several. The arcs of a route have the least weights between their ends."""
         if self.ordered is None:
             keys = self.tails << 32 | self.heads
             order = numpy.lexsort([self.weights, keys])
@@ -358,7 +356,7 @@ class Roads:
     # What can be reached.
 
     def pace(self) -> float:
-        """The least weight of a metre that lies straight between the ends of an arc; 0 where a node of an arc has no place."""
+        """The least weight of an arc for each metre of the straight line between its ends; 0 if a node of an arc has no place."""
         if self.least_pace is None:
             tails, heads = self.places[self.tails - 1], self.places[self.heads - 1]
             metres = metres_between(*tails.T, *heads.T)
@@ -368,12 +366,13 @@ class Roads:
         return self.least_pace
 
     def nodes_near(self, starts: Integers, limits: Integers) -> Integers:
-        """All nodes that are reached from a node of `starts` within its limit, and others: no arc is quicker than the least pace."""
+        """All nodes that are reached from a node of `starts` within its limit, and some others: those within the straight line that the least pace
+        allows."""
         pace = self.pace()
         is_near = numpy.zeros(len(self.places), bool)
         for start, limit in zip(starts, limits):
             if limit >= 0:
                 metres = metres_between(*self.places.T, *numpy.broadcast_to(self.places[start - 1], self.places.shape).T)
-                # A rounded length must not leave out a node that is just within the limit.
+                # The margin keeps nodes that are exactly at the limit in spite of rounding.
                 is_near |= ~(metres * pace > limit * (1 + 1e-9) + pace)
         return numpy.flatnonzero(is_near) + 1

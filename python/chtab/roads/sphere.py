@@ -1,4 +1,4 @@
-"""Lengths on the earth, a sphere of 6,371,008.8 metres as the converter of maps takes it."""
+"""Lengths on the earth, taken as a sphere with a radius of 6,371,008.8 metres, as in the converter of maps."""
 from __future__ import annotations
 
 import math
@@ -26,12 +26,12 @@ def points(longitudes: ArrayLike, latitudes: ArrayLike) -> Floats:
 
 
 def metres(chord: float) -> float:
-    """Along the sphere between two points of the sphere of radius 1 whose straight distance is `chord`."""
+    """The metres along the earth between two points whose straight distance on a sphere of radius 1 is `chord`."""
     return 2 * RADIUS * math.asin(min(1.0, chord / 2))
 
 
 def metres_of(chords: Floats) -> Floats:
-    """The same of an array of straight distances."""
+    """The same for an array of straight distances."""
     import numpy
 
     return 2 * RADIUS * numpy.arcsin(numpy.minimum(1, chords / 2))

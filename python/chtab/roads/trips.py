@@ -1,7 +1,4 @@
-"""Trips between spots beside roads, and what is reached from one.
-
-`legs.py` says which ways lead from spot to spot.
-"""
+"""Trips between spots on roads, and what is reached from a spot. `legs.py` has the ways from spot to spot."""
 from __future__ import annotations
 
 from collections.abc import Sequence
@@ -22,7 +19,7 @@ if TYPE_CHECKING:
     from chtab.roads.snapping import Roads
     from chtab.typing import Integers
 
-# Trips whose routes are asked for together.
+# How many routes of trips are asked for together.
 BATCH = 256
 
 
@@ -32,9 +29,9 @@ class Trips:
     Parameters
     ----------
     queries : NodeQueries
-        What is asked between nodes.
+        The questions between nodes.
     layers : Layers
-        The files of the network: its roads, and what its nodes are called.
+        The files of the network: its roads, and the labels of its nodes.
     """
 
     def __init__(self, queries: NodeQueries, layers: Layers) -> None:
@@ -45,7 +42,7 @@ class Trips:
         return self.layers.roads
 
     def weights(self, starts: Spots, ends: Spots) -> Integers:
-        """What `Network.trips` answers."""
+        """The answer of `Network.trips`."""
         pairs, added = ways_between(starts, ends)
         is_there = (pairs > 0).all(axis=2)
         between = self.queries.distances(pairs[is_there])
@@ -53,12 +50,12 @@ class Trips:
         return numpy.where(best < FAR, best, NO_WALK)
 
     def table(self, starts: Spots, ends: Spots, within: int | None = None) -> Integers:
-        """What `Network.trip_table` answers, with a limit of the graph."""
+        """The answer of `Network.trip_table`, with a limit in the unit of the graph."""
         best, _ = table_ways(self, starts, ends, within)
         return numpy.where(best < FAR, best, NO_WALK)
 
     def routes(self, starts: Spots, ends: Spots) -> list[Trip]:
-        """What `Network.trip_routes` answers, with weights of the graph."""
+        """The answer of `Network.trip_routes`, with weights in the unit of the graph."""
         found: list[Trip] = []
         for first in range(0, len(starts), BATCH):
             some = slice(first, first + BATCH)
@@ -66,7 +63,7 @@ class Trips:
         return found
 
     def some_routes(self, starts: Spots, ends: Spots) -> list[Trip]:
-        """The same of so many trips that they are asked for together."""
+        """The same for trips that are asked for together."""
         found = legs_between(self, starts, ends)
         there = numpy.flatnonzero(found.weights >= 0).tolist()
         traces, listed = found.traces(there), self.layers.labels.listed
@@ -77,7 +74,7 @@ class Trips:
         return trips
 
     def reach(self, spot: Spots, within: int | None = None) -> Integers:
-        """What `Network.reach` answers, with a limit of the graph."""
+        """The answer of `Network.reach`, with a limit in the unit of the graph."""
         see_that_one(spot)
         outs = spot.out_nodes[0] > 0
         nodes, added = spot.out_nodes[0][outs], spot.out_weights[0][outs]
@@ -86,20 +83,20 @@ class Trips:
         return numpy.where(found <= limit, found, NO_WALK)
 
     def by_either(self, nodes: Integers, added: Integers, within: int | None) -> Integers:
-        """What `by_table` gives: by near rows of all nodes, or by a table with the nodes that may be near."""
+        """The weights of `by_table`, from near rows of all nodes or from a table with the nodes that may be near."""
         near = numpy.arange(1, len(self.roads.places) + 1) if within is None else self.roads.nodes_near(nodes, within - added)
         return self.by_near(nodes, added, within) if self.queries.is_near_best(len(near)) else self.by_table(nodes, added, near, within)
 
     def by_table(self, nodes: Integers, added: Integers, near: Integers, within: int | None) -> Integers:
-        """The least weights at which all nodes are reached by way of some nodes, with what is added to each of these; `FAR` where one is not.
-        Asked for are those that may be near."""
+        """The least weights at which all nodes are reached over some nodes, each with an added weight; `FAR` if a node is not reached. The table has
+        the nodes that may be near."""
         found = numpy.full(len(self.roads.places), FAR)
         table = self.queries.table(nodes, near, within)
         found[near - 1] = numpy.where(table >= 0, table + added[:, None], FAR).min(axis=0, initial=FAR)
         return found
 
     def by_near(self, nodes: Integers, added: Integers, within: int | None) -> Integers:
-        """The same by near rows of all nodes."""
+        """The same from near rows of all nodes."""
         found = numpy.full(len(self.roads.places), FAR)
         own = None if within is None else within - int(added.min(initial=0))
         if not len(nodes) or own is not None and own < 0:
@@ -112,15 +109,15 @@ class Trips:
         return found
 
     def isochrones(self, spot: Spots, limits: Sequence[int]) -> list[Any]:
-        """What `Network.isochrones` answers, a list of polygons for limits of the graph in descending order."""
+        """The answer of `Network.isochrones`: polygons for limits in the unit of the graph, in descending order."""
         from chtab.roads import reach
 
         return reach.polygons(self.roads, spot, self.reach(spot, limits[0]), limits)
 
 
 def see_that_one(spot: Spots) -> None:
-    """Refuses what is not one spot."""
+    """Refuses anything but a single spot."""
     if not isinstance(spot, Spots):
-        raise TypeError(f"reach begins at a spot, as `snap` gives one, not at {type(spot).__name__}")
+        raise TypeError(f"reach starts at a spot, as `snap` gives one, not at {type(spot).__name__}")
     if len(spot) != 1:
-        raise ValueError(f"reach begins at one spot, not at {len(spot)}: take one of them, as spots[:1]")
+        raise ValueError(f"reach starts at one spot, not at {len(spot)}: take one of them, as spots[:1]")

@@ -158,8 +158,8 @@ class Steps:
         return text
 
     def look_around(self, node: int) -> tuple[list[float], list[int], list[int], list[bool]]:
-        """Where a node lies, the directions of the ends that meet there, clockwise from north, the ends, and whether the node may be left by each. They
-        are kept."""
+        """Where a node lies, the directions of the ends that meet there, clockwise from north, the ends, and whether the node may be left by each.
+        They are kept."""
         ends = self.known.meeting(numpy.array([node])).ends
         is_open = self.known.is_open(numpy.full(len(ends), node), ends)
         self.around[node] = self.known.roads.places[node - 1].round(6).tolist(), self.known.leads[ends].tolist(), ends.tolist(), is_open.tolist()
