@@ -7,7 +7,8 @@
 
 `Network` answers questions, and needs numpy. Its calls return `Routes`, `Near` and `Spots` among others, and all errors are `ChtabError`s.
 `chtab.files` reads and writes each kind of file; it and most commands of `tools/` need no other package. `chtab.typing` has the types of arguments
-and results. All other modules are internal. """
+and results. All other modules are internal.
+"""
 from __future__ import annotations
 
 import importlib

@@ -45,7 +45,8 @@ class Network(Scenarios, BetweenNodes, BetweenPlaces, Accessibility):
 
     Threads and forked processes may share a network, and it can be pickled. A process that was forked, or that unpickles it, loads it once for
     itself. The network is closed by `close`, at the end of a `with`, when it is no longer used, and at the end of the interpreter. A process keeps
-    the last four networks that it unpickled. """
+    the last four networks that it unpickled.
+    """
 
     def __init__(self, opened: opening.Opening, folder: Folder | None = None, known: dict[str, Any] | None = None) -> None:
         if not isinstance(opened, opening.Opening):

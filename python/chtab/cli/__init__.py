@@ -1,7 +1,7 @@
 """The commands of `tools/`, each in a module of its own with `main(words)`, and how a command ends.
 
 A fault is one line on standard error and status 1. Ctrl-C, SIGTERM and a closed pipe end a command as they end any other, by the signal and without a
-message, after it has ended its children and removed incomplete files.
+message. Before that, the command ends its children and removes incomplete files.
 """
 from __future__ import annotations
 
@@ -69,7 +69,8 @@ def parser_of(name: str, about: str | None) -> Parser:
     """The parser of a command.
 
     Its help is made from a text: a line on what the command does, lines with the forms of the command line, and further paragraphs. It uses the name
-    that the command was called by: NAME.py in tools/, or chtab-NAME where it is installed, together with the documents. """
+    that the command was called by: NAME.py in tools/, or chtab-NAME where it is installed, together with the documents.
+    """
     called = os.path.basename(sys.argv[0])
     if not called.startswith("chtab-"):
         called = f"{name}.py"

@@ -1,15 +1,18 @@
-"""Makes a table in blocks, so that it may be larger than one run of chtab allows, or than one machine can do.
+"""Makes a table in blocks, so that it may be larger than one run of chtab allows.
 
   blocks.py [OPTIONS] GRAPH SOURCES.ss TARGETS.ss OUT
 
-GRAPH, SOURCES.ss and TARGETS.ss are as for `chtab table`, but the lists may have any length. chtab makes one block of the table after the
-other, and the file OUT appears only when it is whole:
-  OUT.csv   a row for each source, and a column for each target. A cell is empty if there is no path, or none within the limit
-  OUT.npy   a matrix of 64-bit numbers for numpy, with -1 for such a cell. Rows and columns are in the order of the lists
+GRAPH, SOURCES.ss and TARGETS.ss are as for `chtab table`, but the lists may have any length. chtab
+makes one block of the table after the other, and the file OUT appears only when it is whole:
+  OUT.csv   a row for each source, and a column for each target. A cell is empty if there is no
+            path, or none within the limit
+  OUT.npy   a matrix of 64-bit numbers for numpy, with -1 for such a cell. Rows and columns are in
+            the order of the lists
 
-Each process keeps a process of `chtab ask`. With --scheduler the blocks go to a Dask scheduler (Debian's package python3-distributed) and
-its workers, on any number of machines. All of them need GRAPH, the saved hierarchy and the program at the same path. If a worker is lost,
-Dask makes its block again. If a block fails, the fault names it, no more blocks are started, and the status is 1.
+Each process keeps a process of `chtab ask`. With --scheduler the blocks go to a Dask scheduler
+(Debian's package python3-distributed) and its workers, on any number of machines. All of them need
+GRAPH, the saved hierarchy and the program at the same path. If a worker is lost, Dask makes its
+block again. If a block fails, the fault names it, no more blocks are started, and the status is 1.
 
 Example:  tools/blocks.py --processes 2 roads.gr from.ss to.ss table.csv
 """

@@ -2,15 +2,17 @@
 
   nearest.py [OPTIONS] OUT.co [PLACES]
 
-Each line of PLACES is a place: longitude, latitude and, if you like, a name. Without --queries a list is written, with a line `s NODE` for
-each place. The comment before each line has the place's name and its distance to the node in metres. If a place is refused, nothing is
-written.
+Each line of PLACES is a place: longitude, latitude and, if you like, a name. Without --queries a
+list is written, with a line `s NODE` for each place. The comment before each line has the place's
+name and its distance to the node in metres. If a place is refused, nothing is written.
 
-If OUT.co was made with turns (tools/osm_to_gr.py --turns), trips start and end at different nodes of a crossing. With --queries the second
-place of each query becomes the node where trips end. --targets makes a list of such nodes.
+If OUT.co was made with turns (tools/osm_to_gr.py --turns), trips start and end at different nodes
+of a crossing. With --queries the second place of each query becomes the node where trips end.
+--targets makes a list of such nodes.
 
-OUT.co is the coordinate file that tools/osm_to_gr.py writes, or one of the DIMACS challenge, in millionths of a degree. If several nodes
-lie at one point, the one with the least number is taken. From Python, `chtab.Network` also takes places to roads between nodes.
+OUT.co is the coordinate file that tools/osm_to_gr.py writes, or one of the DIMACS challenge, in
+millionths of a degree. If several nodes lie at one point, the one with the least number is taken.
+From Python, `chtab.Network` also takes places to roads between nodes.
 
 Example:  echo "9.5209 47.1410 Vaduz" | tools/nearest.py roads.co
 """

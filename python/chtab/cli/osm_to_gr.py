@@ -1,18 +1,25 @@
-"""Makes a graph for chtab from an OpenStreetMap file: the roads that a car may use, a bicycle, or people on foot.
+"""Makes a graph for chtab from an OpenStreetMap file: roads for cars, bicycles or people on foot.
 
   osm_to_gr.py [OPTIONS] MAP OUT
 
 It writes
-  OUT.gr     the graph: arcs in the order of the map's ways, weights rounded to the nearest whole number
-  OUT.co     the coordinates, in the form of the DIMACS challenge: `v NODE X Y`, longitude and latitude times 1,000,000
-  OUT.nodes  line k has the number on OpenStreetMap's map of node k. Nodes are in the order of these numbers
-  OUT.ways   for each arc, in the order of OUT.gr, a line `w NUMBER` with the number of its way on the map; 0 if it is part of none
-  OUT.bends  with --bends: the points of each arc between its ends, `b ARC X Y`. If no arc has any, an older file is removed
-  OUT.names  with --names: what each arc is called, as signs have it. Without --names an older file is removed
+  OUT.gr     the graph: arcs in the order of the map's ways, weights rounded to the nearest whole
+             number
+  OUT.co     the coordinates, in the form of the DIMACS challenge: `v NODE X Y`, longitude and
+             latitude times 1,000,000
+  OUT.nodes  line k has the number on OpenStreetMap's map of node k. Nodes are in the order of these
+             numbers
+  OUT.ways   for each arc, in the order of OUT.gr, a line `w NUMBER` with the number of its way on
+             the map; 0 if it is part of none
+  OUT.bends  with --bends: the points of each arc between its ends, `b ARC X Y`. If no arc has any,
+             an older file is removed
+  OUT.names  with --names: what each arc is called, as signs have it. Without --names an older file
+             is removed
 
 Standard error has a table of what was left out. Before that, it says how far a long conversion is.
 
-docs/MAPS.md says what becomes a road, for whom and how fast. Lengths are those of great circles on a sphere with a radius of 6,371,008.8 m.
+docs/MAPS.md says what becomes a road, for whom and how fast. Lengths are those of great circles on
+a sphere with a radius of 6,371,008.8 m.
 
 Example:  tools/osm_to_gr.py liechtenstein.osm.bz2 roads
 """

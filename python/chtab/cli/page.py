@@ -1,12 +1,14 @@
-"""Serves networks as a page to click on, and OSRM's interface and JSON for programs (docs/SERVICE.md).
+"""Serves networks as a page, and OSRM's interface and JSON for programs (docs/SERVICE.md).
 
   page.py [OPTIONS] OUT
   page.py [OPTIONS] --network NAME=OUT..
 
-First the networks are read, and their hierarchies are built or, where they are saved, checked. Then standard output has the address. Everybody
-who reaches that address may ask. Roads are drawn from the graph, and no other service is needed. Ctrl-C ends it.
+First the networks are read, and their hierarchies are built or, where they are saved, checked. Then
+standard output has the address. Everybody who reaches that address may ask. Roads are drawn from
+the graph, and no other service is needed. Ctrl-C ends it.
 
-It needs Debian's packages python3-aiohttp, python3-numpy, python3-scipy, python3-shapely and libjs-leaflet.
+It needs Debian's packages python3-aiohttp, python3-numpy, python3-scipy, python3-shapely and
+libjs-leaflet.
 
 Example:  tools/page.py --places places.txt roads
 """

@@ -5,19 +5,24 @@
   picture.py [OPTIONS] reach OUT TARGETS.ss [TEXT]
   picture.py [OPTIONS] near OUT [TEXT]
 
-OUT stands for OUT.gr and OUT.co. TEXT is what chtab wrote (standard input if you leave it out). Arguments may come in any order.
+OUT stands for OUT.gr and OUT.co. TEXT is what chtab wrote (standard input if you leave it out).
+Arguments may come in any order.
   network  the roads alone
-  routes   the text of `chtab dist --routes`. Each route has a colour, a ring where it starts and a dot where it ends. Where routes share
-           a road, the later ones are drawn thin over the wide ones
-  reach    the text of `chtab table` with one source. Roads are coloured by the weights of their nodes, in bands from 0 to the limit.
-           TARGETS.ss has to be a list of all nodes, as `nearest.py --all` writes it. If that is more than a run of chtab takes, let
-           `blocks.py` write the row as OUT.csv, and give that file for TEXT
-  near     the text of `chtab near --all`. Roads are coloured by the weight to the nearest target, in bands from 0 to the limit. Targets are
-           rings. If the text was made with `--from`, give that option here too
+  routes   the text of `chtab dist --routes`. Each route has a colour, a ring where it starts and a
+           dot where it ends. Where routes share a road, the later ones are drawn thin over the wide
+           ones
+  reach    the text of `chtab table` with one source. Roads are coloured by the weights of their
+           nodes, in bands from 0 to the limit. TARGETS.ss has to be a list of all nodes, as
+           `nearest.py --all` writes it. If that is more than a run of chtab takes, let `blocks.py`
+           write the row as OUT.csv, and give that file for TEXT
+  near     the text of `chtab near --all`. Roads are coloured by the weight to the nearest target,
+           in bands from 0 to the limit. Targets are rings. If the text was made with `--from`, give
+           that option here too
 
-The picture has minutes or kilometres if a comment of OUT.gr says that weights are milliseconds or metres.
+The picture has minutes or kilometres if a comment of OUT.gr says that weights are milliseconds or
+metres.
 
-Example:  ./chtab table --within 600000 roads.gr from.ss all.ss | tools/picture.py reach roads --limit 600000 all.ss > reach.svg
+Example:  ./chtab table roads.gr from.ss all.ss | tools/picture.py reach roads all.ss > reach.svg
 """
 from __future__ import annotations
 

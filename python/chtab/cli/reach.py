@@ -2,14 +2,16 @@
 
   reach.py --limits R[,R..] [OPTIONS] OUT [PLACE]
 
-The first line of PLACE has a longitude, a latitude and, if you like, a name. The place is taken to the nearest point of the nearest road.
-The network may have any number of nodes.
+The first line of PLACE has a longitude, a latitude and, if you like, a name. The place is taken to
+the nearest point of the nearest road. The network may have any number of nodes.
 
-Standard output has a MultiPolygon for each limit, the largest first, with the properties `limit` and `from`. A polygon ends 90 metres from
-the roads that are reached. It is made of squares, each a 320th as wide as all that is reached, and it ends one square from the roads if
-that is more. If the graph was made with turns (tools/osm_to_gr.py --turns), no forbidden turn is taken.
+Standard output has a MultiPolygon for each limit, the largest first, with the properties `limit`
+and `from`. A polygon ends 90 metres from the roads that are reached. It is made of squares, each a
+320th as wide as all that is reached, and it ends one square from the roads if that is more. If the
+graph was made with turns (tools/osm_to_gr.py --turns), no forbidden turn is taken.
 
-It needs Debian's packages python3-numpy, python3-scipy and python3-shapely. From Python, `chtab.Network` does the same.
+It needs Debian's packages python3-numpy, python3-scipy and python3-shapely. From Python,
+`chtab.Network` does the same.
 
 Example:  echo "9.5209 47.1410 Vaduz" | tools/reach.py --limits 300000,600000 roads > reach.geojson
 """

@@ -4,12 +4,14 @@
   to_geojson.py [OPTIONS] table TARGETS.ss [TEXT]
 
 TEXT is what chtab wrote (standard input if you leave it out). The result goes to standard output.
-  routes  turns the text of `chtab dist --routes` into GeoJSON (RFC 7946), with a line for each route. Its properties are from, to,
-          weight and arcs, and with names from_name and to_name. A query without a path has no line. A text without routes is refused
-  table   turns the text of `chtab table` into CSV, with a row for each source, and a column for each target in the order of TARGETS.ss.
-          A cell is empty if there is no path. Nodes have their names, if they have any, or else their numbers
+  routes  turns the text of `chtab dist --routes` into GeoJSON (RFC 7946), with a line for each
+          route. Its properties are from, to, weight and arcs, and with names from_name and to_name.
+          A query without a path has no line. A text without routes is refused
+  table   turns the text of `chtab table` into CSV, with a row for each source, and a column for
+          each target in the order of TARGETS.ss. A cell is empty if there is no path. Nodes have
+          their names, if they have any, or else their numbers
 
-Example:  ./chtab dist --routes roads.gr trip.p2p | tools/to_geojson.py routes roads.co > trip.geojson
+Example:  ./chtab dist --routes roads.gr a.p2p | tools/to_geojson.py routes roads.co > a.geojson
 """
 from __future__ import annotations
 

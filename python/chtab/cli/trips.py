@@ -1,17 +1,21 @@
-"""Computes trips between places that lie beside roads: their weights, their lengths and their lines.
+"""Computes trips between places that lie beside roads: their weights, their lengths and their
+lines.
 
   trips.py [OPTIONS] OUT [PLACES]
 
-Each line of PLACES is a place: longitude, latitude and, if you like, a name. It is taken to the nearest point of the nearest road. A trip is
-the best over the ends of both roads, with the parts of these added. If a place is refused, nothing is written.
+Each line of PLACES is a place: longitude, latitude and, if you like, a name. It is taken to the
+nearest point of the nearest road. A trip is the best over the ends of both roads, with the parts of
+these added. If a place is refused, nothing is written.
 
-Without an option the result is CSV with a line for each trip: the first and second place make a trip, the third and fourth, and so on. The
-columns are both names, the weight in the graph's unit (empty if there is no path), and how many metres each place lies from its road. If
-the graph was made with turns (tools/osm_to_gr.py --turns), no forbidden turn is taken.
+Without an option the result is CSV with a line for each trip: the first and second place make a
+trip, the third and fourth, and so on. The columns are both names, the weight in the graph's unit
+(empty if there is no path), and how many metres each place lies from its road. If the graph was
+made with turns (tools/osm_to_gr.py --turns), no forbidden turn is taken.
 
 Example:  tools/trips.py roads places.txt
 
-It needs Debian's packages python3-numpy and python3-scipy. From Python, `chtab.Network` does the same.
+It needs Debian's packages python3-numpy and python3-scipy. From Python, `chtab.Network` does the
+same.
 """
 from __future__ import annotations
 

@@ -1,8 +1,7 @@
 """The library for C in this process, by ctypes: `include/chtab.h` describes its calls.
 
-C trusts its caller. Everything is therefore checked here before a call: each array is one of numpy, with the right type of numbers, contiguous, aligned
-for these numbers, and as long as the call assumes; outputs are writable; and nodes are numbers of 32 bits.
-"""
+C trusts its caller. Everything is therefore checked here before a call: each array is one of numpy, with the right type of numbers, contiguous,
+aligned for these numbers, and as long as the call assumes; outputs are writable; and nodes are numbers of 32 bits. """
 from __future__ import annotations
 
 import ctypes
@@ -308,8 +307,8 @@ class Handle:
         return self.calls.chtab_route(self.at, source, target, ctypes.byref(found), at, len(nodes))
 
     def routes(self, sources: Nodes, targets: Nodes, room: int) -> tuple[Integers, Integers, Nodes]:
-        """The routes from each source to the target beside it, columns of uint32, nodes from 0 on: of as many of the first pairs as fit into `room` nodes.
-        Returns their weights, int64, -1 where there is no walk; the ends of their nodes, int64; and the nodes, uint32."""
+        """The routes from each source to the target beside it, columns of uint32, nodes from 0 on: of as many of the first pairs as fit into `room`
+        nodes. Returns their weights, int64, -1 where there is no walk; the ends of their nodes, int64; and the nodes, uint32."""
         return self.find_many(sources, targets, numpy.empty(room, numpy.uint32), numpy.empty(0, numpy.uint32))[:3]
 
     def routes_with_lines(self, sources: Nodes, targets: Nodes, room: int) -> tuple[Integers, Integers, Nodes, Nodes]:
@@ -333,8 +332,8 @@ class Handle:
         return weights[:count.value], ends, nodes[:end], lines[:end]
 
     def keep_places(self, places: Nodes, limit: int = NO_LIMIT, count: int = ALL, is_from: bool = False) -> None:
-        """Searches from places, a column of uint32, nodes from 0 on, and keeps the result in place of an earlier one: for rows of at most `count` places,
-        within `limit`, by the distances to the places or from them."""
+        """Searches from places, a column of uint32, nodes from 0 on, and keeps the result in place of an earlier one: for rows of at most `count`
+        places, within `limit`, by the distances to the places or from them."""
         if not (0 <= limit <= NO_LIMIT and 0 <= count <= ALL):
             raise ValueError("a limit is a number of 64 bits, and a count one of 32")
         at = address(places, numpy.uint32)
@@ -349,8 +348,8 @@ class Handle:
         see_that_done(status)
 
     def near_rows(self, sources: Nodes, pairs: int) -> tuple[Integers, Integers, Integers]:
-        """The rows of the first sources, a column of uint32, nodes from 0 on, to the kept places: of as many sources as fit into this many pairs. Returns
-        the end of each row, its weights and its places, int64."""
+        """The rows of the first sources, a column of uint32, nodes from 0 on, to the kept places: of as many sources as fit into this many pairs.
+        Returns the end of each row, its weights and its places, int64."""
         rows, ends = ctypes.c_uint64(), numpy.empty(len(sources), numpy.int64)
         weights, places = numpy.empty(pairs, numpy.int64), numpy.empty(pairs, numpy.uint32)
         given: list[Any] = [address(sources, numpy.uint32), len(sources), ctypes.byref(rows)]
@@ -365,8 +364,8 @@ class Handle:
         return ends, weights[:end], places[:end].astype(numpy.int64)
 
     def near_sums(self, sources: Nodes, values: Unsigned, limits: Unsigned) -> Unsigned:
-        """The sums over the rows of sources, a column of uint32, nodes from 0 on, to the kept places: for each source and each limit the sum of the values
-        of the places within the limit, uint64 (n, m). Raises a `ValueError` if a sum is 2^64 or more."""
+        """The sums over the rows of sources, a column of uint32, nodes from 0 on, to the kept places: for each source and each limit the sum of the
+        values of the places within the limit, uint64 (n, m). Raises a `ValueError` if a sum is 2^64 or more."""
         count, sums = ctypes.c_uint64(), numpy.empty(len(sources) * len(limits), numpy.uint64)
         given: list[int] = []
         columns: list[tuple[NDArray[Any], type]] = [(sources, numpy.uint32), (values, numpy.uint64), (limits, numpy.uint64)]

@@ -63,8 +63,8 @@ def see_that_free(folder: str) -> None:
 
 
 def write(arcs: Arcs, folder: str, program: str, running: Running) -> Handle | None:
-    """Writes the files of arcs into a folder, and builds their hierarchy. `running` has the number of workers, the network in whose order it is built, and
-    where progress is reported. Returns a handle of the network if it was built in this process."""
+    """Writes the files of arcs into a folder, and builds their hierarchy. `running` has the number of workers, the network in whose order it is
+    built, and where progress is reported. Returns a handle of the network if it was built in this process."""
     graph, saved, coordinates, bends, labels = (os.path.join(folder, name) for name in (GRAPH, SAVED, COORDINATES, BENDS, LABELS))
     comments = [f"Weights are {arcs.base}."] * bool(arcs.base) + ([] if arcs.scale is None else [files.scale_comment(arcs.scale)])
     with told_of(graph):
@@ -175,8 +175,8 @@ def save(program: str, graph: str, saved: str, running: Running) -> None:
 
 
 def giver_of(program: str, running: Running) -> InProcess | None:
-    """The engine in whose order a network is built in this process; None unless the library answers for both networks, or if progress is wanted, because
-    only a run of the program reports it."""
+    """The engine in whose order a network is built in this process; None unless the library answers for both networks, or if progress is wanted,
+    because only a run of the program reports it."""
     giver = running.giver
     if giver is None or giver.is_closed or running.progress:
         return None

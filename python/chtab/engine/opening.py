@@ -118,8 +118,8 @@ def see_that_readable(*paths: str | None) -> None:
 
 
 def made(arcs: Arcs, folder: Path | None, running: Running) -> tuple[Opening, folders.Folder | None, Handle | None]:
-    """The opening of arcs, whose files are written; the temporary folder that keeps them, None where the caller names one; and a handle of the library
-    in the network, if it was built in this process."""
+    """The opening of arcs, whose files are written; the temporary folder that keeps them, None where the caller names one; and a handle of the
+    library in the network, if it was built in this process."""
     program = program_of(running.program)
     see_to(program)
     if folder is not None:

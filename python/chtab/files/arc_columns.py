@@ -49,7 +49,8 @@ class Arcs:
     `places` are the longitudes and latitudes of the nodes in degrees, or None. `bends` has the points of arcs between their ends, as
     `files.read_bends` gives them. `rows` is the number of the caller's rows; arc k belongs to row `arcs[k]`, or to row k modulo `rows`. `keys` has
     the keys of rows, and `ways` their ways of OpenStreetMap. `base` is the unit of the graph's weights, and `beside` has further files of the network
-    that are copied, or is None. """
+    that are copied, or is None.
+    """
 
     labels: Labels | Numbers
     tails: Integers

@@ -21,7 +21,8 @@ class Labelling(NamedTuple):
 
     If the labels are None, nodes are called by their numbers. `rows` is the number of the caller's rows. `arcs` has the row of each arc, unless that
     is its number modulo `rows`. `keys` has the key of each row, for a graph with several edges between two nodes, and `ways` the numbers of the ways
-    of OpenStreetMap that each row is part of. """
+    of OpenStreetMap that each row is part of.
+    """
 
     labels: Any
     scale: float | None

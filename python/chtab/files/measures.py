@@ -1,7 +1,8 @@
 """Units of weights: the whole numbers of a graph, or numbers in the unit of a caller.
 
 A weight w of the graph is w / factor in the caller's unit, as a float. A limit of the caller admits each answer that is at most the limit, when both
-are compared as these floats. """
+are compared as these floats.
+"""
 from __future__ import annotations
 
 import datetime
@@ -96,7 +97,8 @@ class Measure:
 
     def told(self, weights: Integers, missing: float | None = None) -> Weights:
         """The answers of weights, an array of int64 with -1 where there is no walk. They have `missing` there, by default -1 if answers are whole,
-        and otherwise NaN. """
+        and otherwise NaN.
+        """
         if missing is None and self.is_whole:
             return weights
         is_missing = weights < 0

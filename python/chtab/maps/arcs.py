@@ -1,7 +1,8 @@
 """Roads as arcs between nodes.
 
 A node is where roads meet or end, or each bend of a road. An arc is a road between two nodes, in one direction. At a closed barrier each road ends in
-a node of its own, and so does each road at the border of the map. """
+a node of its own, and so does each road at the border of the map.
+"""
 from __future__ import annotations
 
 import collections
@@ -31,7 +32,8 @@ class Network:
     Node k is the map's node `names[k]`, at `places[k]`; several nodes may be the same one of the map. Arc k leads from `tails[k]` to `heads[k]`, has
     the weight `weights[k]`, and is one direction of piece `pieces[k]`, which is part of way `ways[pieces[k]]`. `bends` has the places between the
     ends of each arc, and `streets` the number of its street or None; both are None unless they are wanted. Where turns are restricted, `ends` has the
-    node where trips to a node end, {end: node}, and `copies` the other copies of a node, {copy: node}. """
+    node where trips to a node end, {end: node}, and `copies` the other copies of a node, {copy: node}.
+    """
 
     def __init__(self, with_bends: bool = False, with_names: bool = False) -> None:
         self.names: list[int] = []

@@ -3,7 +3,8 @@
 At a node with forbidden turns, each arc in that has a forbidden turn leads to its own copy of the node, which has only the arcs out that are open to
 it. All other arcs in lead to the node itself, which has all arcs out, and where trips start. Trips end at one more copy, the end of the node, which
 no arc leaves. The arcs in that lead to copies lead there too, and an arc of weight 0 leads there from the node itself. The node can't be its own end,
-because trips that arrive there could continue by any arc out. """
+because trips that arrive there could continue by any arc out.
+"""
 from __future__ import annotations
 
 import collections

@@ -100,7 +100,8 @@ def values_in(
     """The targets and their values: nodes (l,) and float64 (l, c), with the names of the columns, or None if they have no names.
 
     `nodes_of` gives the nodes of labels, and `count` is the number of nodes. Without targets, the index of a Series, frame or dict has the labels,
-    and an array has a value for each node. """
+    and an array has a value for each node.
+    """
     if targets is None and hasattr(values, "keys"):
         targets, values = (values.index, values) if hasattr(values, "index") else ([*values.keys()], [*values.values()])
     nodes = numpy.arange(1, count + 1) if targets is None else nodes_of("targets", targets)

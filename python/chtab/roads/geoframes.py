@@ -28,7 +28,8 @@ def columns_of_geodataframe(edges: Any, nodes: Any, names: tuple[str, str, str |
     """The columns of a frame with a line for each arc, together with the items of `more` about arcs; and the other items of `more`.
 
     If the frame has no columns or levels of the index with the names of both ends, the nodes are the ends of lines, numbered 1, 2, .. by longitude
-    and latitude. Without a column of weights, a weight is the metres along the line. """
+    and latitude. Without a column of weights, a weight is the metres along the line.
+    """
     source, target, weight = names
     lines = edge_lines.lines_in("geometry", in_degrees(edges).geometry, len(edges))
     if lines is None or any(line is None for line in lines):

@@ -2,7 +2,8 @@
 
 Roads are sampled onto a grid of squares, each with the least weight of the points in it. A polygon consists of the squares up to a weight and of
 those around them, smoothed. Its border is therefore as exact as a square is wide. Making it takes time by the length of the roads, not by their
-bends. """
+bends.
+"""
 from __future__ import annotations
 
 from collections.abc import Sequence

@@ -2,7 +2,8 @@
 
 A road is a line with an arc along it, or with two of opposite directions: from `first` to `last` with the weight `forward`, and back with `backward`.
 Where turns are restricted, a crossing has several nodes, and several arcs lead along a road. The node at which a trip arrives then decides which
-turns are open to it. """
+turns are open to it.
+"""
 from __future__ import annotations
 
 import itertools
@@ -62,7 +63,8 @@ class Spots:
     the part `parts[k]` of it (0 at `first`, 1 at `last`). Trips leave it by the nodes `out_nodes[k]` at the weights `out_weights[k]`, and arrive by
     `in_nodes[k]` at `in_weights[k]`, in whole numbers of the graph; `NONE` stands for no node. The first half of each of these are nodes of `first`,
     the second half nodes of `last`: one each, or several where turns are restricted. `sides[k]` has the directions in which trips may use the road at
-    the spot, `FORWARD`, `BACKWARD` or both; the road itself may be closed in one of them. """
+    the spot, `FORWARD`, `BACKWARD` or both; the road itself may be closed in one of them.
+    """
 
     longitudes: Floats
     latitudes: Floats
