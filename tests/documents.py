@@ -395,7 +395,7 @@ def check_parts(tally):
     for test in sorted([*(ROOT / "tests").glob("*.py"), *(ROOT / "tests").glob("*.sh"), *(ROOT / "tests" / "python").glob("test_*.py")]):
         found = [line for line in page.splitlines() if line.startswith("|") and f"`{told(test)}`" in line]
         is_run = re.search(rf'"{re.escape(str(told(test)))}[" ]', check) or any("by hand" in row for row in found)
-        is_other = test.name in ("believe.py", "packages.sh")
+        is_other = test.name in ("believe.py", "conftest.py", "packages.sh")
         tally.expect(is_other or found and is_run, f"{told(test)} is no part of ./check, or has no row in TESTING.md")
     for path in sorted([*(ROOT / "tests" / "oracles").glob("*.*"), *(ROOT / "tests" / "helpers").glob("*.*")]):
         tally.expect(re.match(r'(#!.*\n)?("""|//|/\*)', path.read_text()), f"{told(path)} does not say in its first line what it is")

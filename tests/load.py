@@ -39,7 +39,7 @@ from chtab import files  # noqa: E402
 
 VADUZ, ESCHEN = [9.5209, 47.1410], [9.5450, 47.2200]
 ROUTE = "/route/v1/car/9.5209,47.1410;9.5450,47.2200"
-SECONDS = float(sys.argv[1]) if len(sys.argv) > 1 else 10.0
+SECONDS = 10.0
 CLIENTS = 50
 
 
@@ -428,5 +428,6 @@ GROUPS = (
 )
 
 if __name__ == "__main__":
+    SECONDS = float(sys.argv[1]) if len(sys.argv) > 1 else SECONDS
     running.build()
     run_checks(GROUPS)

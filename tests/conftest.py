@@ -1,5 +1,7 @@
 """What all tests of Python share: the built program, the library for C, random graphs, the folder and the packages of a test, and the last line.
 
+The scripts that test the service and its page are files of tests here too: each check of their `GROUPS` is a test by its own name.
+
 The last line is 'N passed, N failed', as of each other part of ./check. A test that broke down outside of its own code has failed; one that
 was left out counts as neither, and its reason is printed above.
 """
@@ -12,6 +14,31 @@ import tempfile
 import pytest
 
 from helpers import columns, in_process, packages, running
+
+
+# Each can also be run by itself, as `./check` does.
+SCRIPTS = "service", "osrm", "load", "operating", "page", "looks", "steps"
+
+
+class Script(pytest.Module):
+    """A script whose checks are tests."""
+
+    def setup(self):
+        super().setup()
+        running.build()
+
+    def collect(self):
+        for needed, checks in self.obj.GROUPS:
+            for check in checks:
+                test = pytest.Function.from_parent(self, name=check.__name__, callobj=check)
+                test.add_marker(pytest.mark.needs(*needed))
+                yield test
+
+
+def pytest_collect_file(file_path, parent):
+    if file_path.parent == running.ROOT / "tests" and file_path.stem in SCRIPTS:
+        return Script.from_parent(parent, path=file_path)
+    return None
 
 
 @pytest.fixture(scope="module")
