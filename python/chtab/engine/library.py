@@ -1,7 +1,8 @@
 """The library for C in this process, by ctypes: `include/chtab.h` describes its calls.
 
 C trusts its caller. Everything is therefore checked here before a call: each array is one of numpy, with the right type of numbers, contiguous,
-aligned for these numbers, and as long as the call assumes; outputs are writable; and nodes are numbers of 32 bits. """
+aligned for these numbers, and as long as the call assumes; outputs are writable; and nodes are numbers of 32 bits.
+"""
 from __future__ import annotations
 
 import ctypes
