@@ -77,12 +77,10 @@ class FromArcs:
             A new or empty folder for the files and the hierarchy, which `Network.open(folder)` opens quickly. By default they are in a temporary
             folder until `close`, or until the network is no longer used.
         **running
-            `program`, `workers`, `timeout`, `load`, `routes`, `runs` and `library`, as `Network.open` takes them; and `progress`: True reports on
-            standard error how far the building is, and a callable gets how many steps of a stage are done, and their total.
-
-            `like`: a network of the same nodes. Where the library answers for both networks, the new one is built in its order, in half the time;
-            only the last `fresh` per cent of the nodes, 5 where it is not given, are ordered afresh. Answers are as exact as ever, whatever arcs
-            and weights are. Without `nodes`, those of `like` are taken, with their labels, and with their places where no others are given.
+            `program`, `workers`, `timeout`, `load`, `routes`, `runs` and `library`, as `Network.open` takes them. `progress`: True reports the
+            building on standard error; a callable gets how many steps of a stage are done, and their total. `like`: a network of the same nodes. If
+            the library answers for both, the new network takes its order, in half the time, and only the last `fresh` per cent of the nodes, 5 by
+            default, are ordered afresh. The nodes, labels and places of `like` are taken unless others are given.
 
         Returns
         -------
@@ -91,8 +89,7 @@ class FromArcs:
         Raises
         ------
         DataFault
-            A value is refused, such as a label 1.5, a weight NaN, or a row that is missing; `column` and `row` of the error say where. Nothing was
-            written.
+            A value is refused, such as a label 1.5, a weight NaN, or a missing row; `column` and `row` say where. Nothing was written.
         FileExistsError
             `folder` exists and is not empty.
         ProgramFault, ChtabError, OSError
