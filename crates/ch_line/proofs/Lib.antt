@@ -1,3 +1,4 @@
 pub mod Opening
 pub mod Read
 pub mod Refused
+pub mod Told

@@ -8,10 +8,12 @@ use Rattle.ch_run.specs.declared.fault.RunFault.{RunFault}
 use Rattle.ch_run.specs.declared.options.Options.{Options}
 use Rattle.ch_run.specs.Ask.{IsOfAsk, ServesBy}
 use Rattle.ch_run.specs.DistRun.{HasQueriesRefused, IsAnsweredBy, IsOfDist}
-use Rattle.ch_run.specs.NearRun.{HasNearTargetsRefused, IsNearBy, IsOfNear, listed_in, sources_failures, sources_reading}
-use Rattle.ch_run.specs.Run.{Delivers, IsGraphRefused, IsWrite, Reading, ReadsOnce, reading, ReadingIf, NoInput, OneInput}
+use Rattle.ch_run.specs.NearRun.{HasNearTargetsRefused, IsNearBy, IsOfNear, listed_in, sources_failures, sources_origin, sources_reading}
+use Rattle.ch_run.specs.Run.{Delivers, IsGraphRefused, IsWrite, Reading, ReadsOnce, WritesOnce, reading, ReadingIf, NoInput, OneInput}
+use Rattle.ch_run.specs.Stories.{RunsAsk, RunsDist, RunsNear, RunsSave, RunsTable}
+use Rattle.ch_text.specs.Device.{CountsAtMostOne}
 use Rattle.ch_run.specs.SaveRun.{IsOfSave, IsSavedBy}
-use Rattle.ch_run.specs.Source.{HasCheckRefused, HasSavedRefused, IsOfLoading, saved_in, source_failures, source_reading}
+use Rattle.ch_run.specs.Source.{HasCheckRefused, HasSavedRefused, IsOfLoading, saved_in, source_failures, source_origin, source_reading}
 use Rattle.ch_run.specs.TableRun.{HasCellsRefused, HasSourcesRefused, HasTargetsRefused, IsOfTable, IsTabledBy}
 use Rattle.ch_line.specs.declared.inputs.Asked.{Asked}
 use Rattle.ch_line.specs.declared.inputs.Inputs.{Inputs}
@@ -171,9 +173,49 @@ AreRead origin failed result [] (new ∷ news) = ⊥
 AreRead origin failed result (old ∷ olds) [] = ⊥
 AreRead origin failed result (old ∷ olds) (new ∷ news) = (new.0 ≡ old.0) × IsRead origin failed result old.0 old.1 new.1 × AreRead origin failed result olds news
 
--- what a run over these inputs did: with the files, with the requests and with the output
-pub record RunsOver {I J O : Type 0} (gives : I → List ℕ → Result ℕ DeviceFault → I → Type 0) (origin failed : I → ℕ) (gives_requests : J → List ℕ → Result ℕ DeviceFault → J → Type 0) (failed_requests : J → ℕ)
-    (takes : O → List ℕ → Result ℕ DeviceFault → O → Type 0) (options : Options) (old new : Inputs I) (requests requests' : J) (output output' : O) (result : Result Unit RunFault) : Type 0 where
+-- the run that answers a question about a graph, over the inputs of the question: they are `old` before it and `new` after it. It reads no
+-- requests, unless it answers them. `same_saved` says that the saved hierarchy is as it was
+abbrev pub RunsFor : {I J O : Type 0} → Options → (graph : Reading) → (saved : ReadingIf) → (same_saved : Type 0) → (gives : I → List ℕ → Result ℕ DeviceFault → I → Type 0) → (old new : Asked I)
+    → (gives_requests : J → List ℕ → Result ℕ DeviceFault → J → Type 0) → (requests requests' : J) → (takes : O → List ℕ → Result ℕ DeviceFault → O → Type 0) → (output output' : O) → Result Unit RunFault → Type 0
+RunsFor options graph saved same_saved gives (Asked.Queries old) (Asked.Queries new) gives_requests requests requests' takes output output' result =
+    RunsDist options graph saved (reading gives old new) same_saved (new ≡ old) takes output output' result × (requests' ≡ requests)
+RunsFor options graph saved same_saved gives (Asked.Table sources targets) (Asked.Table sources' targets') gives_requests requests requests' takes output output' result =
+    RunsTable options graph saved (reading gives sources sources') (reading gives targets targets') same_saved (sources' ≡ sources) (targets' ≡ targets) takes output output' result × (requests' ≡ requests)
+RunsFor options graph saved same_saved gives (Asked.Near sources targets) (Asked.Near sources' targets') gives_requests requests requests' takes output output' result =
+    RunsNear options graph saved (sources_reading gives sources sources') (reading gives targets targets') same_saved (sources' ≡ sources) (targets' ≡ targets) takes output output' result × (requests' ≡ requests)
+RunsFor options graph saved same_saved gives Asked.Hierarchy Asked.Hierarchy gives_requests requests requests' takes output output' result =
+    RunsSave options graph takes output output' result × same_saved × (requests' ≡ requests)
+RunsFor options graph saved same_saved gives Asked.Requests Asked.Requests gives_requests requests requests' takes output output' result =
+    RunsAsk options graph saved (reading gives_requests requests requests') same_saved (requests' ≡ requests) takes output output' result
+RunsFor options graph saved same_saved gives _ _ gives_requests requests requests' takes output output' result = ⊥
+
+-- the story of the run that these inputs are for: they are `old` before it and `new` after it
+abbrev pub RunsOver : {I J O : Type 0} → Options → (gives : I → List ℕ → Result ℕ DeviceFault → I → Type 0) → (old new : Inputs I)
+    → (gives_requests : J → List ℕ → Result ℕ DeviceFault → J → Type 0) → (requests requests' : J) → (takes : O → List ℕ → Result ℕ DeviceFault → O → Type 0) → (output output' : O) → Result Unit RunFault → Type 0
+RunsOver options gives old new gives_requests requests requests' takes output output' result =
+    RunsFor options (reading gives old.graph new.graph) (source_reading gives old.source new.source) (new.source ≡ old.source) gives old.asked new.asked gives_requests requests requests' takes output output' result
+
+-- the inputs of a question are still the same ones
+abbrev pub AreSameAsked : {I : Type 0} → (origin : I → ℕ) → (old new : Asked I) → Type 0
+AreSameAsked origin (Asked.Queries old) (Asked.Queries new) = origin new ≡ origin old
+AreSameAsked origin (Asked.Table sources targets) (Asked.Table sources' targets') = (origin sources' ≡ origin sources) × (origin targets' ≡ origin targets)
+AreSameAsked origin (Asked.Near sources targets) (Asked.Near sources' targets') = (sources_origin origin sources' ≡ sources_origin origin sources) × (origin targets' ≡ origin targets)
+AreSameAsked origin Asked.Hierarchy Asked.Hierarchy = ⊤
+AreSameAsked origin Asked.Requests Asked.Requests = ⊤
+AreSameAsked origin _ _ = ⊥
+
+-- each input is still the same one
+pub record AreSame {I : Type 0} (origin : I → ℕ) (old new : Inputs I) : Type 0 where
+  pub graph : origin new.graph ≡ origin old.graph
+  pub source : source_origin origin new.source ≡ source_origin origin old.source
+  pub asked : AreSameAsked origin old.asked new.asked
+
+-- what the story of a run over these inputs tells: of the files, of the requests and of the output. A read or a write that failed is not
+-- tried again, and a failed write is reported
+pub record TellsOver {I J O : Type 0} (gives : I → List ℕ → Result ℕ DeviceFault → I → Type 0) (origin failed : I → ℕ) (gives_requests : J → List ℕ → Result ℕ DeviceFault → J → Type 0) (failed_requests : J → ℕ)
+    (takes : O → List ℕ → Result ℕ DeviceFault → O → Type 0) (failures idle : O → ℕ) (options : Options) (old new : Inputs I) (requests requests' : J) (output output' : O) (result : Result Unit RunFault) : Type 0 where
   pub written : OfTask gives old new (λ task. Writes options task gives_requests failed_requests takes requests requests' output output' result)
   pub ends : OfTask gives old new (λ task. EndsFor task result)
   pub read : AreRead origin failed result (inputs_in old) (inputs_in new)
+  pub requests_once : CountsAtMostOne (failed_requests requests) (failed_requests requests')
+  pub output_told : WritesOnce result failures idle output output'

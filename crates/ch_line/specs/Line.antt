@@ -18,7 +18,7 @@ use Rattle.ch_run.specs.declared.sources.Sources.{Sources}
 use Rattle.ch_line.specs.declared.inputs.Asked.{Asked}
 use Rattle.ch_line.specs.declared.inputs.Inputs.{Inputs}
 use Rattle.ch_line.specs.Files.{FileState, Opens}
-use Rattle.ch_line.specs.Inputs.{RunsOver, inputs_in}
+use Rattle.ch_line.specs.Inputs.{AreSame, RunsOver, inputs_in}
 
 -- the order of contraction that the words choose: `--deep` that of depth, and `--rounds` that by rounds
 abbrev pub order_for : Order → OrderBy
@@ -174,19 +174,19 @@ HaveBytes left known (file ∷ files) (input ∷ inputs) = Opens left (known fil
 -- the run of a line. If one of its files can't be opened, the run ends in that fault, and touches neither the requests nor the output.
 -- Otherwise it opens all of them in turn, and no other file. Then it is the run over these very inputs, with the options of the line. At
 -- the end it closes all of them in turn, each as the run left it
-abbrev pub RunsLine : {F I J O : Type 0} → (opens : F → List ℕ → Result I OpenFault → F → Type 0) → (closes : F → I → F → Type 0) → (gives : I → List ℕ → Result ℕ DeviceFault → I → Type 0) → (origin failed : I → ℕ)
-    → (gives_requests : J → List ℕ → Result ℕ DeviceFault → J → Type 0) → (failed_requests : J → ℕ) → (takes : O → List ℕ → Result ℕ DeviceFault → O → Type 0)
+abbrev pub RunsLine : {F I J O : Type 0} → (opens : F → List ℕ → Result I OpenFault → F → Type 0) → (closes : F → I → F → Type 0) → (gives : I → List ℕ → Result ℕ DeviceFault → I → Type 0) → (origin : I → ℕ)
+    → (gives_requests : J → List ℕ → Result ℕ DeviceFault → J → Type 0) → (takes : O → List ℕ → Result ℕ DeviceFault → O → Type 0)
     → Line → (files files' : F) → (requests requests' : J) → (old new : O) → Result Unit RunFault → Type 0
-RunsLine {F} {I} opens closes gives origin failed gives_requests failed_requests takes line files files' requests requests' old new result =
+RunsLine {F} {I} opens closes gives origin gives_requests takes line files files' requests requests' old new result =
     (IsErrAnd result (StopsOpening opens (line_files line) files files') × (requests' ≡ requests) × (new ≡ old))
     ⊎ ((opened left : Inputs I) × (mid : F) × AreOpened opens (line_files line) (inputs_in opened) files mid × Asks line.tool opened.asked
-    × RunsOver gives origin failed gives_requests failed_requests takes (options_for line.choices) opened left requests requests' old new result
+    × RunsOver (options_for line.choices) gives opened left gives_requests requests requests' takes old new result × AreSame origin opened left
     × AreClosed closes (inputs_in left) mid files')
 
 -- the promises of `run_line`: what the run did, and the failures that were counted
-pub record IsRunOf {F I J O : Type 0} (opens : F → List ℕ → Result I OpenFault → F → Type 0) (closes : F → I → F → Type 0) (gives : I → List ℕ → Result ℕ DeviceFault → I → Type 0) (origin failures : I → ℕ)
+pub record IsRunOf {F I J O : Type 0} (opens : F → List ℕ → Result I OpenFault → F → Type 0) (closes : F → I → F → Type 0) (gives : I → List ℕ → Result ℕ DeviceFault → I → Type 0) (origin : I → ℕ)
     (gives_requests : J → List ℕ → Result ℕ DeviceFault → J → Type 0) (failed_requests : J → ℕ) (takes : O → List ℕ → Result ℕ DeviceFault → O → Type 0) (failed idle : O → ℕ)
     (line : Line) (files files' : F) (requests requests' : J) (old new : O) (result : Result Unit RunFault) : Type 0 where
-  pub went : RunsLine opens closes gives origin failures gives_requests failed_requests takes line files files' requests requests' old new result
+  pub went : RunsLine opens closes gives origin gives_requests takes line files files' requests requests' old new result
   pub requests_once : CountsAtMostOne (failed_requests requests) (failed_requests requests')
   pub output : WritesOnce result failed idle old new

@@ -1,10 +1,8 @@
 //! The opened files of a line, and the run over them.
 
 ghost use Rattle.std.specs.Prelude.{◌≡◌};
-ghost use Rattle.ch_text.specs.Device.{CanCountOneMore, CountsAtMostOne};
-ghost use Rattle.ch_run.specs.Run.{WritesOnce};
 ghost use Rattle.ch_words.specs.Line.{IsAllowed};
-ghost use Rattle.ch_line.specs.Inputs.{AreFresh, AreRead, EndsFor, OfTask, Writes, inputs_in};
+ghost use Rattle.ch_line.specs.Inputs.{AreSame, RunsOver};
 ghost use Rattle.ch_line.specs.Line.{options_for};
 
 use crate::run::options_of;
@@ -50,24 +48,14 @@ pub fn run_inputs<R: Threads + Sync, I: Input + Drop, J: Input, O: Output, G: Ga
     output: &mut O,
     line: &Line,
 ) -> Result<(), RunFault>
-    requires inputs { AreFresh I.failed inputs.old }
-    requires requests { CanCountOneMore (J.failed requests.old) }
-    requires failures { CanCountOneMore (O.failed output.old) }
-    requires zeros { CanCountOneMore (O.idle output.old) }
     requires plan { crew.now.plan ≡ line.now.plan }
     requires allowed { IsAllowed line.now }
 
-    // The output takes the text of the question, whole or its first bytes, or the answers to requests. It takes
-    // nothing else.
-    ensures written { OfTask I.read_gives inputs.old inputs.new (λ task. Writes (options_for line.now.choices) task J.read_gives J.failed O.write_gives requests.old requests.new output.old output.new result) }
+    // The story of the run, with the options of the line.
+    ensures went { RunsOver (options_for line.now.choices) I.read_gives inputs.old inputs.new J.read_gives requests.old requests.new O.write_gives output.old output.new result }
 
-    // A file is refused only for its content. A failed read of a file is reported exactly if there was one.
-    ensures ends { OfTask I.read_gives inputs.old inputs.new (λ task. EndsFor task result) }
-    ensures read { AreRead I.origin I.failed result (inputs_in inputs.old) (inputs_in inputs.new) }
-
-    // A read or a write that failed is not tried again. A failed write is reported.
-    ensures requests_once { CountsAtMostOne (J.failed requests.old) (J.failed requests.new) }
-    ensures output { WritesOnce result O.failed O.idle output.old output.new }
+    // Each input is still the same one.
+    ensures same { AreSame I.origin inputs.old inputs.new }
 {
     let options = &options_of(&line.choices);
     let graph = &mut inputs.graph;

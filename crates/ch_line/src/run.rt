@@ -1,7 +1,7 @@
 //! The run that a line asks for, over files that are opened by their names.
 
 ghost use Rattle.std.specs.Prelude.{◌≡◌, ◌∷◌, [], Ok, IfErr, IfOk, option_map};
-ghost use Rattle.ch_text.specs.Device.{CanCountOneMore, CountsAtMostOne};
+ghost use Rattle.ch_text.specs.Device.{CountsAtMostOne};
 ghost use Rattle.ch_run.specs.NearRun.{listed_in};
 ghost use Rattle.ch_run.specs.Run.{WritesOnce};
 ghost use Rattle.ch_run.specs.Source.{saved_in, source_failures};
@@ -34,13 +34,10 @@ pub fn run_line<R: Threads + Sync, F: Files, J: Input, O: Output, G: Gate>(
     gate: &G,
 ) -> Result<(), RunFault>
     requires allowed { IsAllowed line.now }
-    requires requests { CanCountOneMore (J.failed requests.old) }
-    requires failures { CanCountOneMore (O.failed output.old) }
-    requires zeros { CanCountOneMore (O.idle output.old) }
 
     // The run opens the files of the line, and no other. What it reads of these very files and of the requests, what it
     // writes, and how it ends, is as the line asks for. It closes all files that it opened.
-    ensures went { RunsLine F.opens F.closes F.Input.read_gives F.Input.origin F.Input.failed J.read_gives J.failed O.write_gives line.now files.old files.new requests.old requests.new output.old output.new result }
+    ensures went { RunsLine F.opens F.closes F.Input.read_gives F.Input.origin J.read_gives O.write_gives line.now files.old files.new requests.old requests.new output.old output.new result }
 
     // A read or a write that failed is not tried again. A failed write is reported.
     ensures requests_once { CountsAtMostOne (J.failed requests.old) (J.failed requests.new) }

@@ -11,6 +11,9 @@ pub mod Answered
 pub mod Gathered
 pub mod Served
 pub mod Story
+pub mod Tells
+pub mod Stories
+pub mod AskStory
 pub mod Counted
 pub mod Nears
 pub mod OneNearText

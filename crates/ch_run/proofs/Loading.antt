@@ -9,10 +9,8 @@ use Rattle.ch_text.specs.declared.device.DeviceFault.{DeviceFault}
 use Rattle.ch_run.specs.declared.fault.RunFault.{RunFault}
 use Rattle.ch_run.specs.declared.fault.Which.{Which}
 use Rattle.ch_run.specs.declared.source.Source.{Source}
-use Rattle.ch_run.specs.Lists.{IsOfLists}
-use Rattle.ch_run.specs.NearRun.{IsOfNodeLists}
 use Rattle.ch_run.specs.Run.{IsOf, IsWrite, Reading, ReadsGraph, StopsAt, ReadingIf, NoInput, OneInput}
-use Rattle.ch_run.specs.Source.{AreChecked, AreLoaded, IsOfLoading, ReadsSource, WithLoaded, source_reading}
+use Rattle.ch_run.specs.Source.{AreChecked, AreLoaded, IsOfLoading, WithLoaded, source_origin, source_reading}
 use Rattle.ch_run.proofs.Inputs.{of_one}
 
 -- the graph is within the limits
@@ -29,12 +27,12 @@ loaded_kept graph (OneInput saved) g None is = absurd is
 loaded_kept graph (OneInput saved) g (Some H) is = is.1.names.1
 
 -- if there is no saved hierarchy, the run builds one
-pub loaded_built : {T S : Type 0} (graph : Reading) (r : Result T RunFault) (gives : S → List ℕ → Result ℕ DeviceFault → S → Type 0) (failed : S → ℕ) (old new : Source S) (g : Network) (h : Option LevelsAndLegs) →
-    AreLoaded graph (source_reading gives old new) g h → ReadsSource graph r gives failed old new → IsNone h → old ≡ Source.Built
-loaded_built graph r gives failed Source.Built new g h is reads none = refl
-loaded_built graph r gives failed (Source.Saved old) Source.Built g h is reads none = absurd reads
-loaded_built graph r gives failed (Source.Saved old) (Source.Saved new) g None is reads none = absurd is
-loaded_built graph r gives failed (Source.Saved old) (Source.Saved new) g (Some H) is reads none = cc
+pub loaded_built : {S : Type 0} (graph : Reading) (gives : S → List ℕ → Result ℕ DeviceFault → S → Type 0) (origin : S → ℕ) (old new : Source S) (g : Network) (h : Option LevelsAndLegs) →
+    AreLoaded graph (source_reading gives old new) g h → source_origin origin new ≡ source_origin origin old → IsNone h → old ≡ Source.Built
+loaded_built graph gives origin Source.Built new g h is same none = refl
+loaded_built graph gives origin (Source.Saved old) Source.Built g h is same none = absurd (let other : ⊥ = cc in other)
+loaded_built graph gives origin (Source.Saved old) (Source.Saved new) g None is same none = absurd is
+loaded_built graph gives origin (Source.Saved old) (Source.Saved new) g (Some H) is same none = cc
 
 -- a fault of loading belongs to the graph or to the saved hierarchy
 pub loading_past : (saved : ReadingIf) (e : RunFault) → IsOfLoading saved e → (which : Which) → (which ≡ Which.Graph → ⊥) → (which ≡ Which.Saved → ⊥) → StopsAt which e → ⊥
@@ -75,26 +73,6 @@ loading_no_write (OneInput saved) e (inr own) = of_no_write Which.Saved e own
 pub loading_memory : (saved : ReadingIf) → IsOfLoading saved RunFault.Memory
 loading_memory NoInput = tt
 loading_memory (OneInput saved) = inl tt
-
--- a fault of the lists of a table is no failed write
-pub lists_no_write : (e : RunFault) → IsOfLists e → IsWrite e → ⊥
-lists_no_write e (inl own) write = of_no_write Which.Sources e own write
-lists_no_write e (inr (inl own)) write = of_no_write Which.Targets e own write
-lists_no_write e (inr (inr cells)) write = subst IsWrite cells write
-
--- a fault of the lists of near rows is no failed write
-pub node_lists_no_write : (sources : ReadingIf) (e : RunFault) → IsOfNodeLists sources e → IsWrite e → ⊥
-node_lists_no_write NoInput e (inl own) = absurd own
-node_lists_no_write (OneInput sources) e (inl own) = of_no_write Which.Sources e own
-node_lists_no_write NoInput e (inr own) = of_no_write Which.Targets e own
-node_lists_no_write (OneInput sources) e (inr own) = of_no_write Which.Targets e own
-
--- a fault of the lists of near rows belongs to no other input
-pub past_node_lists : (sources : ReadingIf) (e : RunFault) → IsOfNodeLists sources e → (which : Which) → (which ≡ Which.Sources → ⊥) → (which ≡ Which.Targets → ⊥) → StopsAt which e → ⊥
-past_node_lists NoInput e (inl own) which not_sources not_targets stops = absurd own
-past_node_lists (OneInput sources) e (inl own) which not_sources not_targets stops = not_sources (of_one Which.Sources which e own stops)
-past_node_lists NoInput e (inr own) which not_sources not_targets stops = not_targets (of_one Which.Targets which e own stops)
-past_node_lists (OneInput sources) e (inr own) which not_sources not_targets stops = not_targets (of_one Which.Targets which e own stops)
 
 -- loading ends in no fault of cells
 pub loading_no_cells : (saved : ReadingIf) → IsOfLoading saved RunFault.Cells → ⊥

@@ -1,5 +1,5 @@
 -- A text that is written in parts.
-use Rattle.std.proofs.Common.{◌≡◌, ℕ, ◌+◌, ◌<◌, ◌^◌, ◌-◌, min, vec_len, List, [], ◌∷◌, ◌++◌, length, take, drop, get_or, Option, Vec, Ok, Err, refl, sym, ◌∙◌, ap, subst, append_assoc, arith, inl, inr}
+use Rattle.std.proofs.Common.{◌≡◌, ℕ, ◌+◌, ◌<◌, ◌^◌, ◌-◌, min, vec_len, List, [], ◌∷◌, ◌++◌, length, take, drop, get_or, Vec, Ok, Err, refl, sym, ◌∙◌, ap, subst, append_assoc, arith, inl, inr}
 use Rattle.std.specs.Prelude.{Result, IsErrAnd}
 use Rattle.std.specs.List.{flat_map, sum_by}
 use Rattle.std.specs.declared.alloc.Global.{Global}
@@ -14,13 +14,8 @@ use Rattle.ch_text.specs.Moves.{Took, TookUntilFault}
 use Rattle.ch_text.specs.declared.device.DeviceFault.{DeviceFault}
 use Rattle.ch_text.proofs.Moves.{took-fault-longer, took-fault-then}
 use Rattle.ch_run.specs.declared.fault.RunFault.{RunFault}
-use Rattle.ch_run.specs.Run.{Delivers}
 use Rattle.ch_run.specs.Serving.{WritesMore}
-
--- the count of a failed write
-abbrev count_of : RunFault → ℕ
-count_of (RunFault.Write count) = count
-count_of _ = 0
+use Rattle.ch_run.specs.Story.{Writes}
 
 -- the bytes of all parts, in order
 abbrev pub bytes_of : List (Vec ℕ Global) → List ℕ
@@ -74,15 +69,14 @@ module _ (parts : List (Vec ℕ Global)) (i : ℕ) (d : Vec ℕ Global) (within 
 
   -- a write of the part here failed
   pub part_failed : {S : Type 0} (gives : S → List ℕ → Result ℕ DeviceFault → S → Type 0) (old mid new : S) (before after : ℕ) (e : RunFault) (r : Result Unit RunFault) → length (bytes_of parts) < 2 ^ 64 → Took gives old (bytes_of (take i parts)) mid →
-      before ≡ length (bytes_of (take i parts)) → WritesMore {T = Unit} gives mid new before after (get_or parts i d).items (Err e) → IsErrAnd r (λ y. y ≡ e) → Delivers r gives old new (λ bytes. bytes ≡ bytes_of parts)
+      before ≡ length (bytes_of (take i parts)) → WritesMore {T = Unit} gives mid new before after (get_or parts i d).items (Err e) → IsErrAnd r (λ y. y ≡ e) → Writes gives old new (λ bytes. bytes ≡ bytes_of parts) r
   part_failed gives old mid new before after e (Ok x) fits so_far count wrote is = absurd is
-  part_failed gives old mid new before after (RunFault.Write n) (Err y) fits so_far count wrote is = λ m same.
+  part_failed gives old mid new before after (RunFault.Write n) (Err y) fits so_far count wrote is =
       let found = beginning gives old mid new wrote.0 so_far wrote.1 in
-      let equal : m ≡ n = ap count_of (sym same ∙ is) in
       let most = wrote.2 in
       let low = found.within in
-      let exact : m ≡ length (bytes_of (take i parts)) + wrote.0 = omega arith in
-      (bytes_of parts, refl, subst (λ k. TookUntilFault gives old (bytes_of parts) k new) (sym exact) found)
+      let exact : n ≡ length (bytes_of (take i parts)) + wrote.0 = omega arith in
+      rw is (bytes_of parts, refl, subst (λ k. TookUntilFault gives old (bytes_of parts) k new) (sym exact) found)
   part_failed gives old mid new before after RunFault.Memory (Err y) fits so_far count wrote is = absurd wrote
   part_failed gives old mid new before after RunFault.Cells (Err y) fits so_far count wrote is = absurd wrote
   part_failed gives old mid new before after (RunFault.CellsAt line) (Err y) fits so_far count wrote is = absurd wrote

@@ -133,28 +133,6 @@ given_anyway ended old new xs end e (Err y) h own is = λ more may.
     let step = h more may in
     (step.0, step.1, subst (λ (f : RunFault). IsToldAfter {T = Unit} (Err f) (ahead new more) step.0) (sym is) (told_any e own (ahead new more) step.0))
 
--- a call that gave requests ends only in a fault of serving them
-pub own_fault : (ended : Bool) (old new : Standing) (xs : List Request) (e : RunFault) → GivesUntil {T = Unit} ended old new xs (Err e) → IsOfServing e
-own_fault ended old new xs e h = let step = h [] (λ is. refl) in at e (ahead new []) step.0 step.2
-  where
-    at : (e : RunFault) (next rest : Told) → IsToldAfter {T = Unit} (Err e) next rest → IsOfServing e
-    at (RunFault.Read Which.Requests f) next rest is = inl refl
-    at (RunFault.CellsAt line) next rest is = inl refl
-    at RunFault.Cells next rest is = absurd is
-    at RunFault.Memory next rest is = inl tt
-    at (RunFault.Write count) next rest is = inr tt
-    at (RunFault.Read Which.Graph f) next rest is = absurd is
-    at (RunFault.Read Which.Queries f) next rest is = absurd is
-    at (RunFault.Read Which.Sources f) next rest is = absurd is
-    at (RunFault.Read Which.Targets f) next rest is = absurd is
-    at (RunFault.Read Which.Saved f) next rest is = absurd is
-    at (RunFault.Check f) next rest is = absurd is
-    at (RunFault.Device which) next rest is = absurd is
-
-pub own_passed : (r : Result Unit RunFault) (e : RunFault) → IsErrAnd r (λ y. y ≡ e) → IsOfServing e → IfErr r IsOfServing
-own_passed (Ok x) e is own = absurd is
-own_passed (Err y) e is own = subst IsOfServing (sym is) own
-
 -- the fed bytes come before all others
 fed_ahead : (s : Standing) (bytes more : List ℕ) → ahead s (bytes ++ more) ≡ ahead (fed s bytes) more
 fed_ahead s bytes more = ap (λ xs. told s.nodes s.line s.begun (lines xs)) (sym (append_assoc s.pending bytes more))

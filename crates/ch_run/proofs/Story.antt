@@ -1,11 +1,11 @@
 -- Steps of the story of a run.
-use Rattle.std.proofs.Common.{◌≡◌, ◌⊎◌, ℕ, List, Option, Some, None, Result, Ok, Err, inl, inr, refl, sym, ap, subst}
-use Rattle.std.specs.Prelude.{IfErr, IsErrAnd, IsOkAnd, ⊤}
+use Rattle.std.proofs.Common.{◌≡◌, ℕ, List, Option, Some, None, Result, Ok, Err, inl, inr, refl, sym, ap, ◌∙◌, subst}
+use Rattle.std.specs.Prelude.{IsErrAnd, IsOkAnd, OnErr, ⊤}
 use Rattle.ch_graph.specs.Graph.{IsWithinLimits, Network}
 use Rattle.ch_graph.specs.Saved.{OrderAndLegs}
 use Rattle.ch_hierarchy.specs.Saved.{NamesKept}
 use Rattle.ch_read.specs.declared.form.Form.TheVariants as Form
-use Rattle.ch_read.specs.Names.{NamesGraph, NamesSaved}
+use Rattle.ch_read.specs.Names.{NamesGraph, NamesNodes, NamesSaved}
 use Rattle.ch_hierarchy.specs.Hierarchy.{LevelsAndLegs}
 use Rattle.ch_read.specs.declared.fault.ReadFault.{ReadFault}
 use Rattle.ch_read.specs.declared.fault.ReadError.{ReadError}
@@ -17,9 +17,10 @@ use Rattle.ch_run.specs.declared.run.loading.Checked.{Checked}
 use Rattle.ch_run.specs.declared.source.Source.{Source}
 use Rattle.ch_run.specs.Source.{source_reading}
 use Rattle.ch_run.specs.Fault.{input_fault}
-use Rattle.ch_run.specs.Run.{Delivers, IsUnread, IsWrite, NoInput, OneInput, Reading, ReadingIf, reading}
-use Rattle.ch_run.specs.Story.{EndsAt, IsRefused, IsSavedRefusedOn, Loads, Reads, ReadsIf, Writes}
-use Rattle.ch_run.proofs.Owed.{err_as}
+use Rattle.ch_run.specs.Run.{IsUnread, NoInput, OneInput, Reading, ReadingIf, reading}
+use Rattle.ch_run.specs.Story.{Cells, EndsAt, IsRefused, IsSavedRefusedOn, Loads, Reads, ReadsIf, Writes}
+use Rattle.ch_run.specs.NearRun.{AreSources, sources_among}
+use Rattle.ch_run.proofs.Owed.{ends_as, err_as}
 
 -- what `checked_from` promises of the story
 abbrev pub ChecksStory : (graph saved : Reading) → (unread : Type 0) → Result Checked RunFault → Type 0
@@ -27,6 +28,11 @@ ChecksStory graph saved unread result =
     Reads Which.Graph graph (λ bytes g. NamesGraph bytes g × IsWithinLimits g) (IsRefused Which.Graph Form.Graph) result unread (λ g.
     Reads Which.Saved saved (λ bytes H. (s : OrderAndLegs) × NamesSaved bytes g.nodes s × NamesKept g s H) (IsSavedRefusedOn g) result ⊤ (λ H.
     IsOkAnd result (λ checked. (checked.graph ≡ g) × (checked.hierarchy ≡ H))))
+
+-- a story that holds also holds if the call ended in a fault
+pub at_err : {T : Type 0} (r : Result T RunFault) (story : Type 0) → story → OnErr r story
+at_err (Ok done) story is = tt
+at_err (Err e) story is = is
 
 -- an input that was not read to its end ends the run
 pub unread_ends : (which : Which) (input : Reading) (refuses : List ℕ → RunFault → Type 0) (fault : RunFault) → IsUnread which input fault → EndsAt which input refuses fault
@@ -50,16 +56,55 @@ pub reads_stops : (S : Type 0) {T V : Type 0} (which : Which) (input : Reading) 
 reads_stops S which input names refuses e r before later none next is goes so (inl (ends, at)) = inl (err_as r e (EndsAt which input refuses) is ends, so at)
 reads_stops S which input names refuses e r before later none next is goes so (inr (bytes, value, all, named, on)) = inr (bytes, value, all, named, goes value on)
 
-module _ (S : Type 0) {T : Type 0} (graph : Reading) (saved : ReadingIf) (unread : Type 0) (r : Result T RunFault) (later : Type 0) (next : Network → Option LevelsAndLegs → Type 0) where
-  if_stops : (input : ReadingIf) (names : List ℕ → LevelsAndLegs → Type 0) (refuses : List ℕ → RunFault → Type 0) (e : RunFault) (on : Option LevelsAndLegs → Type 0) → IsErrAnd r (λ other. other ≡ e) → later →
-      ReadsIf {T = S} Which.Saved input names refuses (Err e) ⊤ (λ h. ⊥) → ReadsIf Which.Saved input names refuses r later on
-  if_stops NoInput names refuses e on is rest none = absurd none
-  if_stops (OneInput input) names refuses e on is rest reads = reads_stops S Which.Saved input names refuses e r ⊤ later (λ H. ⊥) (λ H. on (Some H)) is (λ H none. absurd none) (λ at. rest) reads
+-- the same of an input that only some runs have
+pub if_stops : (S : Type 0) {T V : Type 0} (which : Which) (input : ReadingIf) (names : List ℕ → V → Type 0) (refuses : List ℕ → RunFault → Type 0) (e : RunFault) (r : Result T RunFault) (before later : Type 0) (none next : Option V → Type 0) →
+    IsErrAnd r (λ other. other ≡ e) → ((value : Option V) → none value → next value) → (before → later) → ReadsIf {T = S} which input names refuses (Err e) before none → ReadsIf which input names refuses r later next
+if_stops S which NoInput names refuses e r before later none next is goes so reads = goes None reads
+if_stops S which (OneInput input) names refuses e r before later none next is goes so reads =
+    reads_stops S which input names refuses e r before later (λ value. none (Some value)) (λ value. next (Some value)) is (λ value. goes (Some value)) so reads
 
+-- the same of lists that make too many cells
+pub cells_stop : (S : Type 0) {T : Type 0} (from to : List ℕ) (e : RunFault) (r : Result T RunFault) (later next : Type 0) → IsErrAnd r (λ other. other ≡ e) → later → Cells {T = S} from to (Err e) ⊤ ⊥ → Cells from to r later next
+cells_stop S {T} from to e r later next is rest (inl (many, same, at)) = inl (many, ends_as r e is ∙ again same, rest)
+  where
+    again : {e f : RunFault} → ◌≡◌ {A = Result S RunFault} (Err e) (Err f) → ◌≡◌ {A = Result T RunFault} (Err e) (Err f)
+    again same = cc
+cells_stop S from to e r later next is rest (inr (few, none)) = absurd none
+
+-- the run that read the lists of a table in vain stops there
+pub lists_stop : (S : Type 0) {T : Type 0} (sources targets : Reading) (nodes : ℕ) (e : RunFault) (r : Result T RunFault) (unread later : Type 0) (next : List ℕ → List ℕ → Type 0) → IsErrAnd r (λ other. other ≡ e) → later →
+    Reads {T = S} Which.Sources sources (λ bytes from. NamesNodes bytes nodes from) (IsRefused Which.Sources (Form.Nodes nodes)) (Err e) unread (λ from.
+    Reads {T = S} Which.Targets targets (λ bytes to. NamesNodes bytes nodes to) (IsRefused Which.Targets (Form.Nodes nodes)) (Err e) ⊤ (λ to. Cells {T = S} from to (Err e) ⊤ ⊥)) →
+    Reads Which.Sources sources (λ bytes from. NamesNodes bytes nodes from) (IsRefused Which.Sources (Form.Nodes nodes)) r (unread × later) (λ from.
+    Reads Which.Targets targets (λ bytes to. NamesNodes bytes nodes to) (IsRefused Which.Targets (Form.Nodes nodes)) r later (λ to. Cells from to r later (next from to)))
+lists_stop S sources targets nodes e r unread later next is rest (inl (ends, same)) = inl (err_as r e _ is ends, (same, rest))
+lists_stop S sources targets nodes e r unread later next is rest (inr (bytes, from, all, named, inl (ends, at))) = inr (bytes, from, all, named, inl (err_as r e _ is ends, rest))
+lists_stop S sources targets nodes e r unread later next is rest (inr (bytes, from, all, named, inr (others, to, whole, names, cells))) =
+    inr (bytes, from, all, named, inr (others, to, whole, names, cells_stop S from to e r later (next from to) is rest cells))
+
+-- the same of the lists of near rows
+pub node_lists_stop : (S : Type 0) {T : Type 0} (sources : ReadingIf) (targets : Reading) (nodes : ℕ) (e : RunFault) (r : Result T RunFault) (unread later : Type 0) (next : Option (List ℕ) → List ℕ → Type 0) → IsErrAnd r (λ other. other ≡ e) → later →
+    ReadsIf {T = S} Which.Sources sources (λ bytes from. NamesNodes bytes nodes from) (IsRefused Which.Sources (Form.Nodes nodes)) (Err e) unread (λ _.
+    Reads {T = S} Which.Targets targets (λ bytes to. NamesNodes bytes nodes to) (IsRefused Which.Targets (Form.Nodes nodes)) (Err e) ⊤ (λ _. ⊥)) →
+    ReadsIf Which.Sources sources (λ bytes from. NamesNodes bytes nodes from) (IsRefused Which.Sources (Form.Nodes nodes)) r (unread × later) (λ listed.
+    Reads Which.Targets targets (λ bytes to. NamesNodes bytes nodes to) (IsRefused Which.Targets (Form.Nodes nodes)) r later (next listed))
+node_lists_stop S NoInput targets nodes e r unread later next is rest reads =
+    reads_stops S Which.Targets targets (λ bytes to. NamesNodes bytes nodes to) (IsRefused Which.Targets (Form.Nodes nodes)) e r ⊤ later (λ _. ⊥) (next None) is (λ to none. absurd none) (λ at. rest) reads
+node_lists_stop S (OneInput sources) targets nodes e r unread later next is rest (inl (ends, same)) = inl (err_as r e _ is ends, (same, rest))
+node_lists_stop S (OneInput sources) targets nodes e r unread later next is rest (inr (bytes, from, all, named, reads)) =
+    inr (bytes, from, all, named, reads_stops S Which.Targets targets (λ bytes to. NamesNodes bytes nodes to) (IsRefused Which.Targets (Form.Nodes nodes)) e r ⊤ later (λ _. ⊥) (next (Some from)) is (λ to none. absurd none) (λ at. rest) reads)
+
+-- the run goes on with the sources, which were read, or which are all nodes
+pub sources_on : {T : Type 0} (input : ReadingIf) (nodes : ℕ) (from : List ℕ) (refuses : List ℕ → RunFault → Type 0) (r : Result T RunFault) (later : Type 0) (next : Option (List ℕ) → Type 0) → AreSources input nodes from →
+    ((listed : Option (List ℕ)) → sources_among nodes listed ≡ from → next listed) → ReadsIf Which.Sources input (λ bytes listed. NamesNodes bytes nodes listed) refuses r later next
+sources_on NoInput nodes from refuses r later next is goes = goes None (sym is)
+sources_on (OneInput input) nodes from refuses r later next is goes = inr (is.0, from, is.1, is.2, goes (Some from) refl)
+
+module _ (S : Type 0) {T : Type 0} (graph : Reading) (saved : ReadingIf) (unread : Type 0) (r : Result T RunFault) (later : Type 0) (next : Network → Option LevelsAndLegs → Type 0) where
   -- the run that loaded in vain stops there
   pub loads_stops : (e : RunFault) → IsErrAnd r (λ other. other ≡ e) → later → Loads {T = S} graph saved unread (Err e) ⊤ (λ g h. ⊥) → Loads graph saved unread r later next
   loads_stops e is rest (inl (ends, same)) = inl (err_as r e _ is ends, (same.0, rest))
-  loads_stops e is rest (inr (bytes, g, all, named, reads)) = inr (bytes, g, all, named, if_stops saved _ _ e (λ h. next g h) is rest reads)
+  loads_stops e is rest (inr (bytes, g, all, named, reads)) = inr (bytes, g, all, named, if_stops S Which.Saved saved _ _ e r ⊤ later (λ h. ⊥) (λ h. next g h) is (λ h none. absurd none) (λ at. rest) reads)
 
   if_goes : (done : S) (g k : Network) (h : Option LevelsAndLegs) (names : List ℕ → LevelsAndLegs → Type 0) (refuses : List ℕ → RunFault → Type 0) → next g h → (input : ReadingIf) →
       ReadsIf {T = S} Which.Saved input names refuses (Ok done) ⊤ (λ l. (g ≡ k) × (h ≡ l)) → ReadsIf Which.Saved input names refuses r later (λ l. next k l)
@@ -87,17 +132,6 @@ writes_weaker takes old new text P (Err (RunFault.Check f)) so wrote = absurd wr
 pub writes_none : {T S : Type 0} (takes : S → List ℕ → Result ℕ DeviceFault → S → Type 0) (x : S) (P : List ℕ → Type 0) (r : Result T RunFault) → IsErrAnd r (λ other. other ≡ RunFault.Memory) → Writes takes x x P r
 writes_none takes x P (Ok done) is = absurd is
 writes_none {T} takes x P (Err e) is = subst (λ (f : RunFault). Writes {T = T} takes x x P (Err f)) (sym is) refl
-
--- a run that delivered its text, or failed in a write, wrote it
-pub delivers_writes : {T S : Type 0} (takes : S → List ℕ → Result ℕ DeviceFault → S → Type 0) (old new : S) (P : List ℕ → Type 0) (r : Result T RunFault) → IfErr r IsWrite → Delivers r takes old new P → Writes takes old new P r
-delivers_writes takes old new P (Ok done) own wrote = wrote
-delivers_writes takes old new P (Err (RunFault.Write count)) own wrote = wrote count refl
-delivers_writes takes old new P (Err RunFault.Memory) own wrote = absurd own
-delivers_writes takes old new P (Err RunFault.Cells) own wrote = absurd own
-delivers_writes takes old new P (Err (RunFault.CellsAt line)) own wrote = absurd own
-delivers_writes takes old new P (Err (RunFault.Read which f)) own wrote = absurd own
-delivers_writes takes old new P (Err (RunFault.Device which)) own wrote = absurd own
-delivers_writes takes old new P (Err (RunFault.Check f)) own wrote = absurd own
 
 module _ {S : Type 0} (gives : S → List ℕ → Result ℕ DeviceFault → S → Type 0) (graph : Reading) (old new : S) where
   -- a graph and a saved hierarchy were read by one call

@@ -2,6 +2,8 @@ pub mod Fault
 pub mod Lists
 pub mod Run
 pub mod Story
+pub mod Stories
+pub mod Told
 pub mod Source
 pub mod SavedTextLaws
 pub mod TextLaws

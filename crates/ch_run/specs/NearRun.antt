@@ -42,6 +42,11 @@ abbrev pub AreSources : ReadingIf → ℕ → List ℕ → Type 0
 AreSources NoInput nodes from = from ≡ nodes_in_order nodes
 AreSources (OneInput sources) nodes from = ReadsNodes sources nodes from
 
+-- the sources: those of the list that was read, or all nodes in order
+abbrev pub sources_among : ℕ → Option (List ℕ) → List ℕ
+sources_among nodes None = nodes_in_order nodes
+sources_among nodes (Some from) = from
+
 -- the list of sources was accepted, if one is read
 abbrev pub AcceptsAnySources : ReadingIf → ℕ → Type 0
 AcceptsAnySources sources nodes = (from : List ℕ) × AreSources sources nodes from

@@ -43,18 +43,6 @@ WritesMore gives old new before after text (Ok _) = Took gives old text new × (
 WritesMore gives old new before after text (Err (RunFault.Write count)) = (bytes : ℕ) × TookUntilFault gives old text bytes new × (count ≡ capped_number (before + bytes))
 WritesMore gives old new before after text (Err _) = ⊥
 
--- the number of failed writes that a result reports
-abbrev pub refused_writes : {T : Type 0} → Result T RunFault → ℕ
-refused_writes (Ok _) = 0
-refused_writes (Err (RunFault.Write count)) = 1
-refused_writes (Err _) = 0
-
--- neither count of the output's failed writes falls, and together they grow by the number that the result reports
-pub record CountsWrites {T : Type 0} (failed failed' idle idle' : ℕ) (result : Result T RunFault) : Type 0 where
-  pub failed_grows : failed ≤ failed'
-  pub idle_grows : idle ≤ idle'
-  pub together : failed' + idle' ≡ failed + idle + refused_writes result
-
 -- the faults that answering can end in
 abbrev pub IsOfAnswering : RunFault → Type 0
 IsOfAnswering fault = IsWrite fault ⊎ (fault ≡ RunFault.Memory)

@@ -6,7 +6,8 @@
 //!
 //! - After [`run_dist`] and [`run_table`] the output has taken exactly the text that the definitions
 //!   name for the bytes of the inputs. They name only one text ([`laws::one_text`]).
-//! - A run ends only in a fault of its own. It touches no device before all earlier inputs were
+//! - A run's contract tells its story in the order in which it happens. [`laws`] have what follows: a
+//!   run ends only in a fault of its own, and touches no device before all earlier inputs were
 //!   accepted.
 //! - A hierarchy is built, or a saved one of any origin is read. A saved one is first checked for the
 //!   graph ([`Source`]).

@@ -2,6 +2,7 @@
 use Rattle.std.specs.Prelude.{◌≡◌, ◌⊎◌, ℕ, ◌++◌, Bool, List, Result, Ok, Err, IfErr, IsTrue, OnOk, codes}
 use Rattle.std.specs.String.{string_bytes}
 use Rattle.ch_run.specs.declared.fault.RunFault.{RunFault}
+use Rattle.ch_text.specs.Device.{CanCountOneMore}
 use Rattle.ch_text.specs.Moves.{Took, TookUntilFault}
 use Rattle.ch_text.specs.declared.device.DeviceFault.{DeviceFault}
 use Rattle.ch_run.specs.Fault.{status_of, fault_text as run_fault_text}
@@ -29,6 +30,10 @@ abbrev pub fault_text : ProgramFault → List ℕ
 fault_text (ProgramFault.Line fault) = line_fault_text fault
 fault_text (ProgramFault.Run fault) = run_fault_text fault ++ codes "\n"
 
+-- an output can count one more write that fails, and one more that takes none of some bytes
+abbrev pub CanCountWrites : {O : Type 0} → (failed idle : O → ℕ) → O → Type 0
+CanCountWrites failed idle output = CanCountOneMore (failed output) × CanCountOneMore (idle output)
+
 -- an output took a text: the whole text, or its first bytes up to a write that failed. `takes` says what one write may do
 pub record IsWritten {O : Type 0} (takes : O → List ℕ → Result ℕ DeviceFault → O → Type 0) (text : List ℕ) (old new : O) (result : Result Unit ℕ) : Type 0 where
   pub whole : OnOk result (Took takes old text new)
@@ -52,11 +57,11 @@ AnswersFault takes LineFault.NoMemory old new answer = (answer ≡ Err (ProgramF
 
 -- the words give a line, and the answer is the answer of its run. Or the words have a fault, and the program answers it. Then it opens no
 -- file, and the requests are unchanged
-abbrev pub IsAnswer : {F I J O : Type 0} → (F → List ℕ → Result I OpenFault → F → Type 0) → (F → I → F → Type 0) → (gives : I → List ℕ → Result ℕ DeviceFault → I → Type 0) → (I → ℕ) → (I → ℕ)
+abbrev pub IsAnswer : {F I J O : Type 0} → (F → List ℕ → Result I OpenFault → F → Type 0) → (F → I → F → Type 0) → (gives : I → List ℕ → Result ℕ DeviceFault → I → Type 0) → (I → ℕ)
     → (gives_requests : J → List ℕ → Result ℕ DeviceFault → J → Type 0) → (J → ℕ) → (takes : O → List ℕ → Result ℕ DeviceFault → O → Type 0) → (O → ℕ) → (O → ℕ) → List (List ℕ) → F → F → J → J → O → O → Result Unit ProgramFault → Type 0
-IsAnswer opens closes gives origin failures gives_requests failed_requests takes failed idle words files files' requests requests' old new answer =
+IsAnswer opens closes gives origin gives_requests failed_requests takes failed idle words files files' requests requests' old new answer =
     ((line : Line) × (result : Result Unit RunFault) × IsReadFrom words line
-    × IsRunOf opens closes gives origin failures gives_requests failed_requests takes failed idle line files files' requests requests' old new result × (answer ≡ answer_of result))
+    × IsRunOf opens closes gives origin gives_requests failed_requests takes failed idle line files files' requests requests' old new result × (answer ≡ answer_of result))
     ⊎ ((fault : LineFault) × IsFaultOf words fault × (files' ≡ files) × (requests' ≡ requests) × AnswersFault takes fault old new answer)
 
 -- the errors took this text, or its first bytes if a write failed

@@ -3,9 +3,8 @@
 
 ghost use Rattle.std.specs.Prelude.{◌≡◌, ◌↔◌, IfErr, IfOk, IsTrue, MatchResult, Result, map};
 ghost use Rattle.std.specs.String.{string_bytes};
-ghost use Rattle.ch_text.specs.Device.{CanCountOneMore};
 ghost use Rattle.ch_words.specs.Line.{IsAllowed, IsFaultOf, IsReadFrom, line_status_of};
-ghost use Rattle.chtab.specs.Program.{AnswersFault, EndsIn, IsAnswer, IsEnd, IsTold, IsUnheard, answer_of, line_fault_text};
+ghost use Rattle.chtab.specs.Program.{AnswersFault, CanCountWrites, EndsIn, IsAnswer, IsEnd, IsTold, IsUnheard, answer_of, line_fault_text};
 ghost use Rattle.chtab.specs.declared.program.ProgramFault.{ProgramFault as FaultOf};
 
 use ch_line::{Files, run_line};
@@ -54,14 +53,11 @@ pub fn run<R: Threads + Sync, F: Files, J: Input, O: Output, E: Output, G: Watch
     words: Result<Vec<String>, LineFault>,
     gate: &G,
 ) -> u8
-    requires requests { CanCountOneMore (J.failed requests.old) }
-    requires output_failures { CanCountOneMore (O.failed output.old) }
-    requires output_zeros { CanCountOneMore (O.idle output.old) }
-    requires error_failures { CanCountOneMore (E.failed errors.old) }
-    requires error_zeros { CanCountOneMore (E.idle errors.old) }
+    requires output { CanCountWrites O.failed O.idle output.old }
+    requires errors { CanCountWrites E.failed E.idle errors.old }
     ensures { (answer : Result Unit FaultOf)
         × MatchResult words
-        (λ list. IsAnswer F.opens F.closes F.Input.read_gives F.Input.origin F.Input.failed J.read_gives J.failed O.write_gives O.failed O.idle
+        (λ list. IsAnswer F.opens F.closes F.Input.read_gives F.Input.origin J.read_gives J.failed O.write_gives O.failed O.idle
         (map string_bytes list.items) files.old files.new requests.old requests.new output.old output.new answer)
         (λ fault. (files.new ≡ files.old) × (requests.new ≡ requests.old) × AnswersFault O.write_gives fault output.old output.new answer)
         × IsEnd E.write_gives (O.closed output.new) answer errors.old errors.new result }
@@ -79,11 +75,9 @@ fn answer_to<R: Threads + Sync, F: Files, J: Input, O: Output, G: Watch>(
     words: Result<Vec<String>, LineFault>,
     gate: &G,
 ) -> Result<(), ProgramFault>
-    requires requests { CanCountOneMore (J.failed requests.old) }
-    requires failures { CanCountOneMore (O.failed output.old) }
-    requires zeros { CanCountOneMore (O.idle output.old) }
+    requires output { CanCountWrites O.failed O.idle output.old }
     ensures { MatchResult words
-        (λ list. IsAnswer F.opens F.closes F.Input.read_gives F.Input.origin F.Input.failed J.read_gives J.failed O.write_gives O.failed O.idle
+        (λ list. IsAnswer F.opens F.closes F.Input.read_gives F.Input.origin J.read_gives J.failed O.write_gives O.failed O.idle
         (map string_bytes list.items) files.old files.new requests.old requests.new output.old output.new result)
         (λ fault. (files.new ≡ files.old) × (requests.new ≡ requests.old) × AnswersFault O.write_gives fault output.old output.new result) }
 {
@@ -102,10 +96,8 @@ fn answer_words<R: Threads + Sync, F: Files, J: Input, O: Output, G: Watch>(
     words: &[String],
     gate: &G,
 ) -> Result<(), ProgramFault>
-    requires requests { CanCountOneMore (J.failed requests.old) }
-    requires failures { CanCountOneMore (O.failed output.old) }
-    requires zeros { CanCountOneMore (O.idle output.old) }
-    ensures { IsAnswer F.opens F.closes F.Input.read_gives F.Input.origin F.Input.failed J.read_gives J.failed O.write_gives O.failed O.idle
+    requires output { CanCountWrites O.failed O.idle output.old }
+    ensures { IsAnswer F.opens F.closes F.Input.read_gives F.Input.origin J.read_gives J.failed O.write_gives O.failed O.idle
         (map string_bytes words.now) files.old files.new requests.old requests.new output.old output.new result }
 {
     let System { rt, alloc } = *system;
@@ -151,8 +143,7 @@ fn program_answer(run: Result<(), RunFault>) -> Result<(), ProgramFault>
 
 /// Writes the text of help if the words ask for it: that is no fault. Any other fault is the answer.
 fn answer_fault<O: Output>(output: &mut O, fault: LineFault) -> Result<(), ProgramFault>
-    requires failures { CanCountOneMore (O.failed output.old) }
-    requires zeros { CanCountOneMore (O.idle output.old) }
+    requires output { CanCountWrites O.failed O.idle output.old }
     ensures { AnswersFault O.write_gives fault output.old output.new result }
 {
     match fault {
@@ -167,8 +158,7 @@ fn answer_fault<O: Output>(output: &mut O, fault: LineFault) -> Result<(), Progr
 /// Reports the fault of an answer, if it has one, and returns the exit status. A fault is not reported
 /// if [`is_unheard`] says so.
 fn end<E: Output>(errors: &mut E, answer: &Result<(), ProgramFault>, is_closed: bool) -> u8
-    requires failures { CanCountOneMore (E.failed errors.old) }
-    requires zeros { CanCountOneMore (E.idle errors.old) }
+    requires errors { CanCountWrites E.failed E.idle errors.old }
     ensures { IsEnd E.write_gives is_closed answer.now errors.old errors.new result }
 {
     match answer {
@@ -187,8 +177,7 @@ fn is_unheard(fault: &ProgramFault, is_closed: bool) -> bool
 
 /// Reports a fault, and returns the exit status.
 fn tell_fault<E: Output>(errors: &mut E, fault: &ProgramFault) -> u8
-    requires failures { CanCountOneMore (E.failed errors.old) }
-    requires zeros { CanCountOneMore (E.idle errors.old) }
+    requires errors { CanCountWrites E.failed E.idle errors.old }
     ensures { EndsIn E.write_gives fault.now errors.old errors.new result }
 {
     match fault {
@@ -199,8 +188,7 @@ fn tell_fault<E: Output>(errors: &mut E, fault: &ProgramFault) -> u8
 
 /// Reports why no line is run, and returns the exit status.
 fn tell_line_fault<E: Output>(errors: &mut E, fault: &LineFault) -> u8
-    requires failures { CanCountOneMore (E.failed errors.old) }
-    requires zeros { CanCountOneMore (E.idle errors.old) }
+    requires errors { CanCountWrites E.failed E.idle errors.old }
     ensures told { IsTold E.write_gives (line_fault_text fault.now) errors.old errors.new }
     ensures status { result ≡ line_status_of fault.now }
 {
@@ -220,8 +208,7 @@ fn line_text(fault: &LineFault) -> &[u8]
 
 /// Reports the fault of a run, and returns the exit status.
 fn tell_run_fault<E: Output>(errors: &mut E, fault: &RunFault) -> u8
-    requires failures { CanCountOneMore (E.failed errors.old) }
-    requires zeros { CanCountOneMore (E.idle errors.old) }
+    requires errors { CanCountWrites E.failed E.idle errors.old }
     ensures { EndsIn E.write_gives (FaultOf.Run fault.now) errors.old errors.new result }
 {
     tell(errors, fault_line(fault).as_slice());
@@ -230,8 +217,7 @@ fn tell_run_fault<E: Output>(errors: &mut E, fault: &RunFault) -> u8
 
 /// Writes a text to the errors. If that fails, nobody can learn of it.
 fn tell<E: Output>(errors: &mut E, text: &[u8])
-    requires failures { CanCountOneMore (E.failed errors.old) }
-    requires zeros { CanCountOneMore (E.idle errors.old) }
+    requires errors { CanCountWrites E.failed E.idle errors.old }
     ensures { IsTold E.write_gives text.now errors.old errors.new }
 {
     let _ = write_all(errors, text);

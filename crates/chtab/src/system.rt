@@ -11,8 +11,7 @@ ghost use Rattle.std.specs.String.{string_bytes};
 ghost use Rattle.std.specs.declared.io.Error.{Error as IoError};
 ghost use Rattle.std.specs.declared.alloc.Global.{Global as GlobalOf};
 ghost use Rattle.ch_line.specs.Files.{FileState};
-ghost use Rattle.ch_text.specs.Device.{CanCountOneMore};
-ghost use Rattle.chtab.specs.Program.{AnswersFault, IsAnswer, IsEnd};
+ghost use Rattle.chtab.specs.Program.{AnswersFault, CanCountWrites, IsAnswer, IsEnd};
 ghost use Rattle.chtab.specs.System.{AreWords, IsOpening};
 ghost use Rattle.chtab.specs.declared.program.ProgramFault.{ProgramFault as FaultOf};
 ghost use Rattle.ch_words.specs.declared.fault.LineFault.{LineFault as LineFaultOf};
@@ -173,16 +172,13 @@ where
     O: WriteOnce + Drop,
     E: WriteOnce + Drop,
     T: IsTerminal + Lines,
-    requires requests { CanCountOneMore (⟦<ReaderInput<J> as Input>⟧.failed requests.old) }
-    requires output_failures { CanCountOneMore (⟦<WriterOutput<O> as Output>⟧.failed output.old) }
-    requires output_zeros { CanCountOneMore (⟦<WriterOutput<O> as Output>⟧.idle output.old) }
-    requires error_failures { CanCountOneMore (⟦<WriterOutput<E> as Output>⟧.failed errors.old) }
-    requires error_zeros { CanCountOneMore (⟦<WriterOutput<E> as Output>⟧.idle errors.old) }
+    requires output { CanCountWrites ⟦<WriterOutput<O> as Output>⟧.failed ⟦<WriterOutput<O> as Output>⟧.idle output.old }
+    requires errors { CanCountWrites ⟦<WriterOutput<E> as Output>⟧.failed ⟦<WriterOutput<E> as Output>⟧.idle errors.old }
     ensures { (told : Result (VecOf (StringOf GlobalOf) GlobalOf) IoError) × (words : Result (VecOf (StringOf GlobalOf) GlobalOf) LineFaultOf) × (answer : Result Unit FaultOf)
         × R.words_give rt.now told × AreWords told words
         × MatchResult words
         (λ list. IsAnswer ⟦<SystemFiles<P> as Files>⟧.opens ⟦<SystemFiles<P> as Files>⟧.closes
-        ⟦<ReaderInput<P::File> as Input>⟧.read_gives ⟦<ReaderInput<P::File> as Input>⟧.origin ⟦<ReaderInput<P::File> as Input>⟧.failed
+        ⟦<ReaderInput<P::File> as Input>⟧.read_gives ⟦<ReaderInput<P::File> as Input>⟧.origin
         ⟦<ReaderInput<J> as Input>⟧.read_gives ⟦<ReaderInput<J> as Input>⟧.failed
         ⟦<WriterOutput<O> as Output>⟧.write_gives ⟦<WriterOutput<O> as Output>⟧.failed ⟦<WriterOutput<O> as Output>⟧.idle
         (map string_bytes list.items) files.old files.new requests.old requests.new output.old output.new answer)

@@ -6,7 +6,7 @@ ghost use Rattle.ch_hierarchy.specs.Kept.{IsKept};
 ghost use Rattle.ch_read.specs.Requests.{IsRequest};
 ghost use Rattle.ch_run.specs.Ask.{IsTextOfRequest, places_after};
 ghost use Rattle.ch_text.specs.Device.{CanCountOneMore};
-ghost use Rattle.ch_run.specs.Serving.{AnswersInTurn, CountsWrites, IsOfAnswering, IsRoomFor, places_of};
+ghost use Rattle.ch_run.specs.Serving.{AnswersInTurn, IsOfAnswering, IsRoomFor, places_of};
 
 use super::first::answer_first;
 use super::loading::Checked;
@@ -73,7 +73,6 @@ pub(crate) fn answer_requests<'a, R: Threads + Sync, O: Output, G: Gate>(
     ensures places { OnOk result (places_of room.new.near ≡ places_after (places_of room.old.near) requests.now) }
     ensures room { OnOk result (IsRoomFor by.now.options.now.direction by.now.checked.now.hierarchy room.new) }
     ensures own { IfErr result IsOfAnswering }
-    ensures counts { CountsWrites (O.failed output.old) (O.failed output.new) (O.idle output.old) (O.idle output.new) result }
 {
     let mut rest = requests;
     while !rest.is_empty() {

@@ -1,20 +1,16 @@
 //! Runs that answer requests as they come.
-ghost use Rattle.std.specs.Prelude.{◌≡◌, ◌⊎◌, Err, IfErr, IsErrAnd};
+ghost use Rattle.std.specs.Prelude.{◌≡◌, ◌⊎◌, IsErrAnd};
 ghost use Rattle.ch_contract.specs.Legs.{IsHopBound};
-ghost use Rattle.ch_text.specs.Device.{CanCountOneMore};
 ghost use Rattle.ch_run.specs.declared.source.Source.TheVariants as SourceOf;
-ghost use Rattle.ch_run.specs.Ask.{IsOfAsk, ServesBy};
-ghost use Rattle.ch_run.specs.Run.{IsGraphRefused, ReadsOrRefuses, ReadsOnce, WritesOnce, reading};
-ghost use Rattle.ch_run.specs.Source.{IsOfLoading, ReadsSource, source_failures, source_origin, source_reading};
-ghost use Rattle.ch_run.specs.Ask.{IsRequestText, Serves};
-ghost use Rattle.ch_run.specs.Source.{IsServing, order_built};
-ghost use Rattle.ch_run.specs.declared.fault.RunFault.TheVariants as FaultOf;
-ghost use Rattle.ch_run.specs.Story.{Loads};
+ghost use Rattle.ch_run.specs.Stories.{RunsAsk};
+ghost use Rattle.ch_run.specs.Ask.{ServesBy};
+ghost use Rattle.ch_run.specs.Run.{reading};
+ghost use Rattle.ch_run.specs.Source.{IsOfLoading, source_origin, source_reading};
 
 use super::answering::Answering;
 use super::loading::loaded_from;
 use super::serving::serve;
-use crate::fault::{RunFault, Which};
+use crate::fault::RunFault;
 use crate::options::Options;
 use crate::plan::{Crew, Gate};
 use crate::source::Source;
@@ -49,34 +45,19 @@ pub fn run_ask<R: Threads + Sync, I: Input, S: Input + Drop, J: Input, O: Output
     output: &mut O,
     options: &Options,
 ) -> Result<(), RunFault>
-    requires graph { CanCountOneMore (I.failed graph.old) }
-    requires source { CanCountOneMore (source_failures S.failed source.old) }
-    requires requests { CanCountOneMore (J.failed requests.old) }
-    requires failures { CanCountOneMore (O.failed output.old) }
-    requires zeros { CanCountOneMore (O.idle output.old) }
     requires hops { source.old ≡ SourceOf.Built → IsHopBound options.now.hops }
 
-    // The story of the run, in the order in which it happens. There may be no memory for the hierarchy that it builds.
-    ensures went { Loads (reading I.read_gives graph.old graph.new) (source_reading S.read_gives source.old source.new) (source.new ≡ source.old) result ((requests.new ≡ requests.old) × (output.new ≡ output.old)) (λ g h.
-        ((result ≡ Err FaultOf.Memory) × (requests.new ≡ requests.old) × (output.new ≡ output.old))
-        ⊎ Serves (IsRequestText options.now g (IsServing (order_built options.now) options.now.hops g h)) O.write_gives g.nodes (reading J.read_gives requests.old requests.new) output.old output.new result) }
+    // The story of the run, in the order in which it happens.
+    ensures went { RunsAsk options.now (reading I.read_gives graph.old graph.new) (source_reading S.read_gives source.old source.new) (reading J.read_gives requests.old requests.new)
+        (source.new ≡ source.old) (requests.new ≡ requests.old) O.write_gives output.old output.new result }
 
     // The requests are answered in order, or neither they nor the output are touched.
     ensures served { (IsErrAnd result (IsOfLoading (source_reading S.read_gives source.old source.new)) × (requests.new ≡ requests.old) × (output.new ≡ output.old))
         ⊎ ServesBy options.now (reading I.read_gives graph.old graph.new) (source_reading S.read_gives source.old source.new) (reading J.read_gives requests.old requests.new)
         O.write_gives output.old output.new result }
 
-    // A run ends only in a fault of its own. A file is refused only for its first fault, and failures of
-    // devices are reported exactly.
-    ensures own { IfErr result (IsOfAsk (source_reading S.read_gives source.old source.new)) }
-    ensures graph { ReadsOrRefuses Which.Graph result I.read_gives I.failed graph.old graph.new IsGraphRefused }
-    ensures source { ReadsSource (reading I.read_gives graph.old graph.new) result S.read_gives S.failed source.old source.new }
-    ensures requests { ReadsOnce Which.Requests result J.failed requests.old requests.new }
-    ensures output { WritesOnce result O.failed O.idle output.old output.new }
-
     // The graph and the saved hierarchy are still the same inputs.
-    ensures same_graph { I.origin graph.new ≡ I.origin graph.old }
-    ensures same_source { source_origin S.origin source.new ≡ source_origin S.origin source.old }
+    ensures same { (I.origin graph.new ≡ I.origin graph.old) × (source_origin S.origin source.new ≡ source_origin S.origin source.old) }
 {
     let loaded = loaded_from(crew, graph, source)?;
     let order = options.building_order();

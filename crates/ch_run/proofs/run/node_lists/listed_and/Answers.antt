@@ -1,5 +1,13 @@
-use Rattle.std.proofs.Common.{inr}
+use Rattle.std.proofs.Common.{inl, inr, refl}
+use Rattle.ch_run.proofs.Owed.{err_as}
+use Rattle.ch_run.proofs.Story.{at_err}
 use Rattle.ch_run.proofs.run.node_lists.listed_and.Goals as goal
 
-pub returns-clause-targets_unread : goal.returns-clause-targets_unread
-returns-clause-targets_unread g c = inr (tt, (_, c.in_ok-sources.ensures.value))
+-- the story, as far as it went
+pub returns-in_err-sources-clause-ends : goal.returns-in_err-sources-clause-ends
+returns-in_err-sources-clause-ends g c = at_err c.from_residual.result _ (inl (err_as _ _ _ c.from_residual.ensures.1 c.in_err-sources.ensures.ends, refl))
+
+pub returns-in_err-targets-clause-ends : goal.returns-in_err-targets-clause-ends
+returns-in_err-targets-clause-ends g c =
+    let from = c.in_ok-sources.ensures.value in
+    at_err c.from_residual-in_err-targets.result _ (inr (from.0, _, from.1, from.2, inl (err_as _ _ _ c.from_residual-in_err-targets.ensures.1 c.in_err-targets.ensures.ends, tt)))

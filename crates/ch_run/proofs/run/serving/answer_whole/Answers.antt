@@ -1,5 +1,6 @@
 use Rattle.std.proofs.Common.{◌++◌, List, Ok, Err, Result, [], refl, sym, ap, ◌∙◌, subst}
 use Rattle.ch_read.specs.RequestLists.{PlaceList}
+use Rattle.ch_text.proofs.Moves.{took-counts}
 use Rattle.ch_read.specs.declared.request.Request.{Request}
 use Rattle.ch_run.specs.Ask.{IsTextOfRequest, places_after}
 use Rattle.ch_run.specs.Serving.{AnswersInTurn, GivesUntil, end_of, places_of}
@@ -7,7 +8,6 @@ use Rattle.ch_run.specs.declared.fault.RunFault.{RunFault}
 use Rattle.ch_run.proofs.Answered.{answers_end, answers_err, answers_none}
 use Rattle.ch_run.specs.declared.fault.RunFault.TheVariants.{Memory}
 use Rattle.ch_run.specs.declared.run.batch.Then.TheVariants.{Stop}
-use Rattle.ch_run.proofs.Counted.{counted_batch, counted_well}
 use Rattle.ch_run.proofs.Served.{answers_on, given_anyway, given_well, given_without, gives_more, gives_none, gives_on, of_value, passed_err, places_append}
 use Rattle.ch_run.proofs.run.serving.answer_whole.Goals as goal
 
@@ -61,11 +61,6 @@ returns-in-Some-clause-answered g c =
       of_value _ c.in-Some.end (held ∙ ap (λ (p : PlaceList). places_after p these) so_far.3 ∙ sym (places_append places so_far.0 these)),
     )
 
-pub returns-in-Some-clause-counts : goal.returns-in-Some-clause-counts
-returns-in-Some-clause-counts g c =
-    counted_batch _ _ _ _ _ _ c.gather-batch.result.then c.in-Some.end c.gather-batch.ensures.batch.after c.loop.invariant.failed c.loop.invariant.idle
-    c.in_ok-answer_requests.ensures.counts c.in-Some.ensures.0
-
 pub loop-preserved : goal.loop-preserved
 loop-preserved g c =
     let P = IsTextOfRequest c.args.by.now.options.now c.args.by.now.checked.now.graph c.args.by.now.checked.now.hierarchy in
@@ -73,9 +68,9 @@ loop-preserved g c =
     let so_far = c.loop.invariant.answered in
     let these = c.gather-batch.result.requests.items in
     let goes = rw c.in_default.is at c.end.ensures in
-    let same = counted_well _ _ _ _ c.in_ok-answer_requests.ensures.counts in
     let told = rw c.deref.ensures.value at c.in_ok-answer_requests.ensures.answers in
     let held = rw c.deref.ensures.value at c.in_ok-answer_requests.ensures.places in
+    let same = took-counts g.O.Output.write_gives g.O.Output.failed g.O.Output.idle g.met.O.Output.counts _ _ [] _ told.2 in
     record {
       nodes = c.gather-batch.ensures.nodes ∙ c.loop.invariant.nodes;
       room = c.in_ok-answer_requests.ensures.room;

@@ -9,8 +9,14 @@ use Rattle.ch_run.specs.declared.fault.RunFault.TheVariants.{Memory}
 use Rattle.ch_run.proofs.Served.{passes_end, served_unread}
 use Rattle.ch_run.proofs.run.serving.serve.Goals as goal
 
-pub returns-in_err-buffer-clause-served : goal.returns-in_err-buffer-clause-served
-returns-in_err-buffer-clause-served g c =
+-- a device has no room for one more failure
+pub returns-then-not-counts_one_more : goal.returns-then-not-counts_one_more
+returns-then-not-counts_one_more g c =
+    let P = IsTextOfRequest c.args.by.now.options.now c.args.by.now.checked.now.graph c.args.by.now.checked.now.hierarchy in
+    served_unread P c.args.by.now.checked.now.graph.nodes g.J.Input.read_gives g.O.Output.write_gives c.args.requests.now c.args.output.now
+
+pub returns-in_err-buffer : goal.returns-in_err-buffer
+returns-in_err-buffer g c =
     let P = IsTextOfRequest c.args.by.now.options.now c.args.by.now.checked.now.graph c.args.by.now.checked.now.hierarchy in
     let n = c.args.by.now.checked.now.graph.nodes in
     passes_end P n (reading g.J.Input.read_gives c.args.requests.now c.args.requests.now) g.O.Output.write_gives _ _ c.from_residual.result Memory c.from_residual.ensures.1

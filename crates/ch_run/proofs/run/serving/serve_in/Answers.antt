@@ -1,4 +1,4 @@
-use Rattle.std.proofs.Common.{◌≡◌, ◌<◌, ◌==◌, length, refl, ◌∙◌, subst, arith}
+use Rattle.std.proofs.Common.{◌≡◌, ◌<◌, ◌==◌, [], length, refl, ◌∙◌, subst, arith}
 use Rattle.std.specs.Prelude.{IsErrAnd}
 use Rattle.std.proofs.lemmas.Bool.{eq-eqb, ne_eqb}
 use Rattle.ch_run.specs.Ask.{IsTextOfRequest}
@@ -7,8 +7,8 @@ use Rattle.ch_run.specs.Serving.{places_of}
 use Rattle.ch_run.specs.declared.fault.RunFault.{RunFault}
 use Rattle.ch_run.specs.declared.fault.RunFault.TheVariants.{Device, Memory}
 use Rattle.ch_run.specs.declared.fault.Which.TheVariants.{Requests}
-use Rattle.ch_run.proofs.Counted.{counted_passed, counted_well}
-use Rattle.ch_run.proofs.Served.{fed_done, fed_more, fed_refused, fed_served, own_fault, own_passed, passes_end, served_long, served_none, served_refused, served_unfed}
+use Rattle.ch_text.proofs.Moves.{took-counts}
+use Rattle.ch_run.proofs.Served.{fed_done, fed_more, fed_refused, fed_served, passes_end, served_long, served_none, served_refused, served_unfed}
 use Rattle.ch_run.proofs.run.serving.serve_in.Goals as goal
 
 pub loop-init : goal.loop-init
@@ -32,7 +32,7 @@ loop-preserved g c =
     let had = fed_more P n g.J.Input.read_gives g.O.Output.write_gives c.args.requests.now c.loop.requests c.read_once.new.requests c.args.output.now c.loop.output
     c.loop.written c.loop.reader c.feed.new.self (places_of c.loop.room.near) c.read_once.new.buffer _ c.in_ok-count.count c.in_ok-feed.ensures.fed refl c.loop.invariant.served c.in_ok-count.ensures.given c.in_ok-count.ensures.fits room in
     let answered = c.in_ok-answer_whole.ensures.answered in
-    let same = counted_well _ _ _ _ c.in_ok-answer_whole.ensures.counts in
+    let same = took-counts g.O.Output.write_gives g.O.Output.failed g.O.Output.idle g.met.O.Output.counts _ _ [] _ answered.2.2 in
     record {
       room = room;
       kept = c.in_ok-answer_whole.ensures.room;
@@ -43,8 +43,8 @@ loop-preserved g c =
       idle = same.1 ∙ c.loop.invariant.idle;
     }
 
-pub returns-in_err-count-clause-served : goal.returns-in_err-count-clause-served
-returns-in_err-count-clause-served g c =
+pub returns-in_err-count : goal.returns-in_err-count
+returns-in_err-count g c =
     let P = IsTextOfRequest c.args.by.now.options.now c.args.by.now.checked.now.graph c.args.by.now.checked.now.hierarchy in
     let n = c.args.by.now.checked.now.graph.nodes in
     let r = c.from_residual.result in
@@ -53,8 +53,8 @@ returns-in_err-count-clause-served g c =
     (served_refused P n g.J.Input.read_gives g.O.Output.write_gives c.args.requests.now c.loop.requests c.read_once.new.requests c.args.output.now c.loop.output
     c.loop.written c.loop.reader (places_of c.loop.room.near) c.read_once.new.buffer c.in_err-count.ensures.failed.0 c.loop.invariant.served c.in_err-count.ensures.failed.1)
 
-pub returns-in_err-feed-clause-served : goal.returns-in_err-feed-clause-served
-returns-in_err-feed-clause-served g c =
+pub returns-in_err-feed : goal.returns-in_err-feed
+returns-in_err-feed g c =
     let P = IsTextOfRequest c.args.by.now.options.now c.args.by.now.checked.now.graph c.args.by.now.checked.now.hierarchy in
     let n = c.args.by.now.checked.now.graph.nodes in
     let room : 0 < length c.read_once.new.buffer = (let some = c.loop.invariant.room in omega arith) in
@@ -62,8 +62,8 @@ returns-in_err-feed-clause-served g c =
     (served_unfed P n g.J.Input.read_gives g.O.Output.write_gives c.args.requests.now c.loop.requests c.read_once.new.requests c.args.output.now c.loop.output
     c.loop.written c.loop.reader (places_of c.loop.room.near) c.read_once.new.buffer c.in_ok-count.count c.loop.invariant.served c.in_ok-count.ensures.given c.in_ok-count.ensures.fits room)
 
-pub returns-in_err-answer_whole-clause-served : goal.returns-in_err-answer_whole-clause-served
-returns-in_err-answer_whole-clause-served g c =
+pub returns-in_err-answer_whole : goal.returns-in_err-answer_whole
+returns-in_err-answer_whole g c =
     let P = IsTextOfRequest c.args.by.now.options.now c.args.by.now.checked.now.graph c.args.by.now.checked.now.hierarchy in
     let n = c.args.by.now.checked.now.graph.nodes in
     let room : 0 < length c.read_once.new.buffer = (let some = c.loop.invariant.room in omega arith) in
@@ -75,20 +75,8 @@ returns-in_err-answer_whole-clause-served g c =
     (fed_refused P n g.J.Input.read_gives g.O.Output.write_gives c.args.requests.now c.read_once.new.requests c.args.output.now c.loop.output c.answer_whole.new.output c.loop.written c.answer_whole.new.written
     c.feed.new.self c.answer_whole.new.reader (places_of c.loop.room.near) answered.0 (c.in_ok-count.count == 0) e had answered.1 answered.2)
 
-pub returns-in_err-answer_whole-clause-own : goal.returns-in_err-answer_whole-clause-own
-returns-in_err-answer_whole-clause-own g c =
-    let answered = c.in_err-answer_whole.ensures.answered in
-    let e = c.in_err-answer_whole.field-0.0 in
-    own_passed c.from_residual-in_err-answer_whole.result e c.from_residual-in_err-answer_whole.ensures.1
-    (own_fault (c.in_ok-count.count == 0) c.feed.new.self c.answer_whole.new.reader answered.0 e answered.1)
-
-pub returns-in_err-answer_whole-clause-counts : goal.returns-in_err-answer_whole-clause-counts
-returns-in_err-answer_whole-clause-counts g c =
-    counted_passed _ _ _ _ _ _ c.in_err-answer_whole.field-0.0 c.from_residual-in_err-answer_whole.result c.from_residual-in_err-answer_whole.ensures.1
-    c.loop.invariant.failed c.loop.invariant.idle c.in_err-answer_whole.ensures.counts
-
-pub returns-then-ended-clause-served : goal.returns-then-ended-clause-served
-returns-then-ended-clause-served g c =
+pub returns-then-ended : goal.returns-then-ended
+returns-then-ended g c =
     let P = IsTextOfRequest c.args.by.now.options.now c.args.by.now.checked.now.graph c.args.by.now.checked.now.hierarchy in
     let n = c.args.by.now.checked.now.graph.nodes in
     let room : 0 < length c.read_once.new.buffer = (let some = c.loop.invariant.room in omega arith) in
@@ -98,8 +86,8 @@ returns-then-ended-clause-served g c =
     fed_done P n g.J.Input.read_gives g.O.Output.write_gives c.args.requests.now c.read_once.new.requests _ _ _ _ _ c.feed.new.self c.answer_whole.new.reader (places_of c.loop.room.near) answered.0 (c.in_ok-count.count == 0) (eq-eqb c.in_ok-count.count 0 c.if-ended.true) had answered.1 answered.2
     c.in_ok-answer_whole.ensures.used_up
 
-pub returns-clause-served : goal.returns-clause-served
-returns-clause-served g c =
+pub returns : goal.returns
+returns g c =
     let P = IsTextOfRequest c.args.by.now.options.now c.args.by.now.checked.now.graph c.args.by.now.checked.now.hierarchy in
     let n = c.args.by.now.checked.now.graph.nodes in
     served_long P n g.J.Input.read_gives g.O.Output.write_gives c.args.requests.now c.loop.requests _ _ c.loop.written c.loop.reader (places_of c.loop.room.near) c.loop.invariant.served
