@@ -228,7 +228,7 @@ def processes_are_begun_anew():
         while (first in (below := processes_below(child.pid)) or len(below) < count) and time.monotonic() < until:
             time.sleep(0.1)
         assert all(ask(address, f"{ROUTE}?overview=false")[0] == 200 for _ in range(10))
-        assert "is begun anew" in open("told").read()
+        assert "is restarted" in open("told").read()
         below = processes_below(child.pid)
         assert second in below and len(below) == count, below
         child.kill()

@@ -1,15 +1,15 @@
-"""The service of a network over HTTP, for the page and for programs: docs/SERVICE.md has its forms.
+"""The service of networks over HTTP, for the page and for programs. docs/SERVICE.md describes its requests and answers.
 
 | module | what it holds |
 |---|---|
 | `service` | the answers to requests |
-| `serving` | the processes of the service, and what listens |
-| `queue` | whose turn it is |
+| `serving` | the processes of the service, and listening |
+| `queue` | the order in which requests are answered |
 | `requests` | requests in JSON, and their limits |
-| `faults` | what is told of a request that can't be answered |
+| `faults` | the answers to requests that can't be answered |
 | `connections` | clients and their connections |
-| `web_policy` | what browsers are told |
-| `recording`, `metrics` | the access log, and what is counted |
+| `web_policy` | headers for browsers |
+| `recording`, `metrics` | the access log, and the counts |
 | `tiles` | the roads as a map |
 | `osrm` | OSRM's interface |
 """

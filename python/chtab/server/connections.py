@@ -1,8 +1,8 @@
-"""Connections of the service: how many there may be, which client asks, and those that are closed because their clients do nothing.
+"""Connections of the service: how many are allowed, which client asks, and when idle ones are closed.
 
-aiohttp closes a connection that is idle after a request. It waits for ever for one that sends no request, or half of one, or that reads no
-answer. Here each connection is closed on which no request is being answered and no byte moves. Where there are as many as there may be, the one
-that has been idle longest makes way for a new one.
+aiohttp closes a connection that is idle after a request, but waits for ever if a client sends no request or half of one, or reads no answer. Here a
+connection is closed if no request on it is being answered and no byte moves. Once there are as many as allowed, the one that has been idle longest is
+closed for a new one.
 """
 from __future__ import annotations
 
@@ -18,21 +18,21 @@ from aiohttp import web
 if TYPE_CHECKING:
     from chtab.server.recording import Recorder
 
-# Files that a service opens beside connections: those of networks, pipes to runs, and the log.
+# Files that a service opens besides connections: those of networks, pipes to runs, and the log.
 RESERVE = 64
-# An address with a port behind it, as some proxies name clients.
+# An address with a port, as some proxies name clients.
 WITH_PORT = re.compile(r"\[(?P<six>[^\]]*)\](?::\d+)?|(?P<four>[^:]*):\d+")
 
 
 class Caps(NamedTuple):
-    """How many connections there may be in all, and from one address that is not the proxy's."""
+    """How many connections are allowed in all, and from one address that is not the proxy's."""
 
     total: int
     of_address: int
 
 
 def caps_of(total: int, of_address: int) -> Caps:
-    """The caps that are asked for, at most as many as there may be files. The limit of files is raised as far as it may be."""
+    """The requested caps, reduced to what the limit of open files allows. That limit is raised as far as possible."""
     low, high = resource.getrlimit(resource.RLIMIT_NOFILE)
     if high == resource.RLIM_INFINITY or low < high:
         resource.setrlimit(resource.RLIMIT_NOFILE, (high if high != resource.RLIM_INFINITY else max(low, total + RESERVE), high))
@@ -41,9 +41,9 @@ def caps_of(total: int, of_address: int) -> Caps:
 
 
 class Connection(asyncio.Protocol):
-    """A connection: it hands on what comes to the protocol of aiohttp, and remembers since when it is idle."""
+    """A connection, which passes data on to the protocol of aiohttp, and remembers since when it is idle."""
 
-    # What the connection is made of, once it is made.
+    # Set once the connection is made.
     transport: asyncio.Transport
 
     def __init__(self, inner: Handler, connections: Connections) -> None:
@@ -73,7 +73,7 @@ class Connection(asyncio.Protocol):
         self.inner.resume_writing()
 
     def is_idle_since(self, moment: float) -> bool:
-        """Whether no request has been answered since then, and no byte of an answer was taken."""
+        """Whether no request has been underway since a moment, and the client has taken no byte of an answer."""
         unsent = self.transport.get_write_buffer_size()
         if self.underway or unsent != self.unsent:
             self.unsent, self.since = unsent, self.connections.now()
@@ -81,7 +81,7 @@ class Connection(asyncio.Protocol):
 
 
 class Handler(web.RequestHandler):
-    """The protocol of aiohttp. What is no request of HTTP gets JSON with a line, in the forms of both interfaces."""
+    """The protocol of aiohttp, which answers anything but a request of HTTP by JSON with a line, for both interfaces."""
 
     __slots__ = ("recorder",)
     recorder: Recorder
@@ -99,7 +99,7 @@ class Handler(web.RequestHandler):
 
 
 class Connections:
-    """The connections of a service, of which each is closed that is idle for so many seconds. Those of the address `proxy` are of many clients."""
+    """The connections of a service. Those that are idle for `seconds` are closed. Connections from the address `proxy` belong to many clients."""
 
     def __init__(self, seconds: float, caps: Caps, recorder: Recorder, proxy: str | None = None) -> None:
         self.seconds, self.caps, self.recorder, self.proxy = seconds, caps, recorder, proxy
@@ -111,7 +111,7 @@ class Connections:
         return len(self.by_transport)
 
     def watched(self, server: web.Server, **more: Any) -> Callable[[], Connection]:
-        """The factory of protocols of such a server, with more words for each, all of them watched."""
+        """A factory of protocols for a server, with these further arguments, whose connections are watched."""
         loop = asyncio.get_running_loop()
 
         def make() -> Connection:
@@ -122,7 +122,7 @@ class Connections:
         return make
 
     def add(self, connection: Connection) -> None:
-        """Takes a new connection in, where need be in the place of another one; if each of the others is busy the new one is closed."""
+        """Adds a new connection, if necessary in the place of another one. If all others are busy, the new one is closed."""
         address = connection.address
         self.by_transport[connection.transport] = connection
         own = self.of_addresses.setdefault(address, {})
@@ -133,7 +133,7 @@ class Connections:
             self.make_way(max(self.of_addresses.values(), key=len), connection)
 
     def make_way(self, crowd: dict[Connection, None], new: Connection) -> None:
-        """Closes the connection of a crowd that has been idle longest, or the new one where each is busy."""
+        """Closes the connection of a crowd that has been idle longest, or the new one if all are busy."""
         idle = min((one for one in crowd if not one.underway and one is not new), key=lambda one: one.since, default=new)
         self.recorder.note_event("connections", idle.address, 0, "more connections than there may be")
         self.remove(idle)
@@ -147,7 +147,7 @@ class Connections:
                 del self.of_addresses[connection.address]
 
     def begin(self, request: web.BaseRequest) -> Connection | None:
-        """The connection of a request that begins to be answered; None where it was closed."""
+        """The connection of a request that is going to be answered; None if it was closed."""
         connection = self.by_transport.get(request.transport)
         if connection is not None:
             connection.underway += 1
@@ -170,18 +170,18 @@ class Connections:
                     connection.transport.abort()
 
     async def empty(self, seconds: float) -> None:
-        """Waits until each connection is closed, at most so many seconds. Those that are idle by then are left."""
+        """Waits until all connections are closed, but not longer than `seconds`."""
         until = self.now() + seconds
         while self.by_transport and self.now() < until:
             await asyncio.sleep(0.02)
 
 
-# Who asks.
+# Clients.
 
 
 def client_of(request: web.BaseRequest, proxy: str | None) -> str:
-    """The address that a request counts for: that of the client, and of one that comes by the proxy the one that it names, which is the last of the
-    last line: what stands before is from whoever came to the proxy."""
+    """The address of the client that a request counts for. For a request from the proxy it is the last entry of the last header: only the proxy
+    writes that one, and anybody could have written the others."""
     address = request.remote or ""
     if proxy is not None and address == proxy:
         lines = request.headers.getall("X-Forwarded-For", [""])
@@ -191,13 +191,13 @@ def client_of(request: web.BaseRequest, proxy: str | None) -> str:
 
 
 def without_port(address: str) -> str:
-    """An address without the port that stands behind it, and without brackets."""
+    """An address without its port and without brackets."""
     found = WITH_PORT.fullmatch(address)
     return (found["six"] or found["four"] or "") if found else address
 
 
 def network_of(address: str) -> str:
-    """The address, of version 6 the first half of it: a client has all addresses that begin so."""
+    """The address, or the first half of an address of IPv6, because a client has all addresses with the same first half."""
     if ":" not in address:
         return address[:64]
     try:
@@ -208,5 +208,5 @@ def network_of(address: str) -> str:
 
 
 def is_gone(request: web.BaseRequest) -> bool:
-    """Whether the client of a request went away."""
+    """Whether the client of a request has closed its connection."""
     return request.transport is None or request.transport.is_closing()

@@ -1,7 +1,7 @@
-"""What a service counts, as Prometheus reads it: requests by their status, their seconds, refusals by their reasons, and what waits.
+"""The counts of a service in the text of Prometheus: requests by status, their seconds, refusals by reason, and waiting requests.
 
-The counts stand in memory that all processes of a service share. Each has a row of its own, which it alone changes, so that no lock is needed;
-the sums are those of all rows.
+The counts are in memory that all processes of a service share. Each process has its own row, which no other process changes, so that no lock is
+needed. The text has the sums of all rows.
 """
 from __future__ import annotations
 
@@ -17,22 +17,22 @@ if TYPE_CHECKING:
 
 SERVICES = "route", "table", "nearest", "trip", "match", "api", "page"
 STATUSES = 200, 204, 206, 304, 400, 403, 404, 405, 408, 413, 415, 416, 499, 500, 503, 504
-# Why requests are refused: OSRM's codes, then those of requests in JSON and of the service, and what is done to connections.
+# The reasons of refusals: OSRM's codes, those of requests in JSON and of the service, and those of connections.
 CODES = (
     "InvalidUrl", "InvalidService", "InvalidVersion", "InvalidQuery", "InvalidOptions", "InvalidValue", "NoSegment", "NoRoute", "NoTrips", "NoMatch",
     "TooBig",
 )
 REASONS = *CODES, "form", "page", "size", "sending", "gone", "busy", "time", "program", "fault", "http", "idle", "connections", "system"
-# The upper ends of the ranges of seconds, beside the last one, which has no end.
+# The upper ends of the ranges of seconds; the last range has no end.
 EDGES = 0.001, 0.0025, 0.005, 0.01, 0.025, 0.05, 0.1, 0.25, 0.5, 1.0, 2.5, 5.0, 10.0, 25.0, 60.0
 STATES = "waiting", "engines", "begun", "memory", "connections"
-# What stands in a row: requests by service and status, microseconds of each service, ranges of each service, refusals, and the states.
+# The parts of a row: requests by service and status, microseconds of each service, ranges of each service, refusals, and states.
 PARTS = len(SERVICES) * (len(STATUSES) + 1), len(SERVICES), len(SERVICES) * (len(EDGES) + 1), len(REASONS), len(STATES)
 WIDTH = sum(PARTS)
 
 
 class Metrics:
-    """The counts of a service of so many processes. It is made before they are forked."""
+    """The counts of a service with this many processes. It has to be made before they are forked."""
 
     def __init__(self, processes: int = 1) -> None:
         self.shared = mmap.mmap(-1, 8 * WIDTH * processes)
@@ -55,7 +55,7 @@ class Metrics:
         return "\n".join(lines) + "\n"
 
     def seconds(self, rows: Sequence[Row]) -> list[str]:
-        """The seconds from requests to their answers: a histogram for each service that was asked."""
+        """The lines of the seconds from requests to their answers: a histogram for each service that was asked."""
         name = "chtab_request_seconds"
         lines = head(name, "histogram", "Seconds from a request to its answer.")
         for service, ranges, micros in zip(SERVICES, sum_of(row.ranges for row in rows), sum_of(row.micros for row in rows).tolist()):
@@ -87,7 +87,7 @@ def head(name: str, kind: str, about: str) -> list[str]:
 
 
 class Row:
-    """What one process counts."""
+    """The counts of one process."""
 
     def __init__(self, row: Integers) -> None:
         counts, self.micros, ranges, self.refusals, self.states = numpy.split(row, numpy.cumsum(PARTS)[:-1])
@@ -108,10 +108,10 @@ class Row:
         self.refusals[self.reasons[reason]] += 1
 
     def of(self, state: str) -> int:
-        """What was noted last of a state."""
+        """The last noted value of a state."""
         return int(self.states[self.names[state]])
 
     def note(self, **states: int) -> None:
-        """Notes how things stand now; a process that ended has nothing."""
+        """Notes the current values of states."""
         for name, value in states.items():
             self.states[self.names[name]] = value

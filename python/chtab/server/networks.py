@@ -1,7 +1,7 @@
-"""The networks that a service answers by, and their files.
+"""The networks of a service, and their files.
 
-Files are opened when the service begins, and are open as long as it goes on: whatever is read later, by a process that is begun anew or by a run
-of the program, is what was there at first, also where another file has taken the name since.
+Files are opened when the service starts, and stay open. Whatever is read later, by a restarted process or by a run of the program, is therefore the
+original file, even if another file has its name by then.
 """
 from __future__ import annotations
 
@@ -18,13 +18,13 @@ if TYPE_CHECKING:
     from chtab.engine.asking import Engine
     from chtab.engine.in_process import InProcess
 
-# What a network has besides its graph and its coordinates, where it is there.
+# The optional files of a network, besides its graph and its coordinates.
 OPTIONAL = "bends", "names", "nodes"
 
 
 class Named(NamedTuple):
-    """A network as the command line names it: what clients call it, empty where they may call it anything, the start of the names of its files, and
-    its saved hierarchy or None."""
+    """A network of the command line: its name for clients, empty if they may use any name, the start of the names of its files, and its saved
+    hierarchy or None."""
 
     name: str
     out: str
@@ -32,14 +32,14 @@ class Named(NamedTuple):
 
 
 class Kept:
-    """Files that are open, each with a path that leads to what was opened, in this process and in those beside it."""
+    """Open files, each with a path that leads to the opened file, in this process and in others."""
 
     def __init__(self) -> None:
         self.paths: dict[str, str] = {}
         self.open: list[IO[bytes]] = []
 
     def path(self, name: str) -> str:
-        """The path of a file that is opened now."""
+        """Opens a file, and returns a path that leads to it."""
         file = open(name, "rb")
         self.open.append(file)
         path = f"/proc/{os.getpid()}/fd/{file.fileno()}"
@@ -47,8 +47,8 @@ class Kept:
         return path
 
     def told(self, text: str) -> str:
-        """A text in which files have the names that they were opened by."""
-        # The longest first, because one path may begin another.
+        """A text with the original names of files."""
+        # The longest first, because one path may be the start of another.
         for path in sorted(self.paths, key=len, reverse=True):
             text = text.replace(path, self.paths[path])
         return text
@@ -59,7 +59,7 @@ class Kept:
 
 
 class Served:
-    """A network with what its arcs are called, `files.Streets` or None, and what the map calls its nodes, or None."""
+    """A network with the streets of its arcs, `files.Streets` or None, and the map's numbers of its nodes, or None."""
 
     def __init__(self, named: Named, kept: Kept, **running: Any) -> None:
         paths = {suffix: kept.path(f"{named.out}.{suffix}") for suffix in ("gr", "co")}
@@ -77,7 +77,7 @@ class Served:
 
 
 class Networks:
-    """The networks of a service, each opened with these options of `Network.open`. The first one is that of the page and of requests in JSON."""
+    """The networks of a service, opened with the same options of `Network.open`. The page and requests in JSON use the first one."""
 
     def __init__(self, named: Sequence[Named], **running: Any) -> None:
         self.kept = Kept()
@@ -100,16 +100,16 @@ class Networks:
         return self.served[0]
 
     def told(self, text: str) -> str:
-        """A text in which files have the names that the command line gave them."""
+        """A text with the names of files from the command line."""
         return self.kept.told(text)
 
     def load(self) -> None:
-        """Begins what answers, where it is not there."""
+        """Starts the engines that are not there."""
         for each in self.served:
             each.engine.load()
 
     def are_ready(self) -> bool:
-        """Whether something is there that answers by each network."""
+        """Whether each network has a living engine."""
         return all(each.engine.living() for each in self.served)
 
     def close(self) -> None:

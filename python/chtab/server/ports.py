@@ -1,7 +1,7 @@
-"""What a service listens on, and how another one takes it over: the second service gets the socket itself, so that no connection is lost that waits
-in it.
+"""The port of a service, and how another service takes it over. The second service gets the socket itself, so that no waiting connection is lost.
 
-The owner of a port answers at an abstract address of Unix that has the name of the port. Whoever runs as the same user gets the sockets there.
+The owner of a port also listens at an abstract Unix address that is named after the port, and gives its sockets to any process of the same user that
+asks there.
 """
 from __future__ import annotations
 
@@ -14,19 +14,19 @@ from typing import Any
 
 from chtab.errors import ChtabError
 
-# Seconds that a service has to hand over its port.
+# The seconds within which a service has to hand over its port.
 PATIENCE = 10.0
 CREDENTIALS = struct.Struct("3i")
 
 
 class Listening(socket.socket):
-    """A socket that gives one connection at a time. asyncio takes as many as there are, one after the other, and one process would have all of those
-    that come together."""
+    """A socket that accepts one connection at a time. asyncio accepts as many as are waiting, so that one process would get all connections that
+    arrive together."""
 
     is_next = True
 
     def accept(self) -> tuple[socket.socket, Any]:
-        """The next connection; none is there each time after one was."""
+        """Accepts the next connection, and pretends after each that no other is waiting."""
         self.is_next = not self.is_next
         if self.is_next:
             raise BlockingIOError
@@ -34,7 +34,7 @@ class Listening(socket.socket):
 
 
 class Port:
-    """A port that is listened on, and the socket at which it can be asked for."""
+    """A port with its listening socket, and the socket at which other services ask for it."""
 
     def __init__(self, listening: socket.socket, control: socket.socket) -> None:
         self.listening, self.control = listening, control
@@ -46,7 +46,7 @@ class Port:
         return f"http://{f'[{host}]' if ':' in host else host}:{port}/"
 
     def hand_over(self) -> bool:
-        """Gives the port to the service that asks for it; whether one did. It goes on here until this service ends."""
+        """Gives the port to a service that asks for it, and returns whether one did. This service goes on until it is ended."""
         try:
             asking, _ = self.control.accept()
         except OSError:
@@ -66,18 +66,18 @@ class Port:
 
 
 def user_of(connection: socket.socket) -> int:
-    """The number of the user at the other end."""
+    """The number of the user at the other end of a connection."""
     _, user, _ = CREDENTIALS.unpack(connection.getsockopt(socket.SOL_SOCKET, socket.SO_PEERCRED, CREDENTIALS.size))
     return user
 
 
 def name_of(listening: socket.socket) -> str:
-    """The address of Unix at which a port is asked for."""
+    """The Unix address at which a port is asked for."""
     return "\0chtab-page/{}/{}".format(*listening.getsockname()[:2])
 
 
 def port_at(host: str, port: int, takes_over: bool = False) -> Port:
-    """The port of an address: that of the service that listens there, where it is to be taken over, and else one that nobody has."""
+    """The port of an address: taken over from the service that listens there if `takes_over`, and otherwise a new one."""
     family, kind, protocol, _, address = socket.getaddrinfo(host, port, type=socket.SOCK_STREAM, flags=socket.AI_PASSIVE)[0]
     listening = Listening(family, kind, protocol)
     listening.setsockopt(socket.SOL_SOCKET, socket.SO_REUSEADDR, 1)
@@ -94,14 +94,14 @@ def port_at(host: str, port: int, takes_over: bool = False) -> Port:
     try:
         control.bind(name_of(listening))
     except OSError:
-        # Another service still has the name of a port that it has left. This one can't be asked for its port, which is served all the same.
+        # Another service still has the Unix address of a port that it has left. This service works, but its port can't be taken over.
         control.bind("")
     control.listen()
     return Port(listening, control)
 
 
 def taken_over(address: tuple[Any, ...]) -> Port:
-    """The port of a service that runs, which it gives to this one."""
+    """Asks a running service for its port."""
     host, port = address[:2]
     try:
         with socket.socket(socket.AF_UNIX) as asking:
@@ -120,7 +120,7 @@ def taken_over(address: tuple[Any, ...]) -> Port:
 
 
 def notify(state: str) -> None:
-    """Tells systemd how the service stands, where it waits for that (`Type=notify`)."""
+    """Reports a state of the service to systemd, if it waits for that (`Type=notify`)."""
     name = os.environ.get("NOTIFY_SOCKET")
     if name:
         with socket.socket(socket.AF_UNIX, socket.SOCK_DGRAM) as there, contextlib.suppress(OSError):

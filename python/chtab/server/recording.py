@@ -1,4 +1,4 @@
-"""What is noted of each request: its counts, and a line of the access log."""
+"""Records each request: its counts, and a line of the access log."""
 from __future__ import annotations
 
 import logging
@@ -15,14 +15,15 @@ if TYPE_CHECKING:
     from chtab.server.metrics import Row
 
 ACCESS, LOG = logging.getLogger("chtab.access"), logging.getLogger("chtab.service")
-# Seconds between two lines on standard error about one kind of event.
+# The seconds between two lines on standard error about one kind of event.
 MINUTE = 60.0
-# What is told of events that come often, and that one who runs the service has to know of.
+# The messages about frequent events that an operator has to know of.
 TOLD = {"connections": "connections were closed because there were more than there may be", "system": "times the system refused a connection"}
 
 
 def log_to(path: str) -> None:
-    """Writes the access log to the end of a file, `-` standard output. A file that was moved is begun anew, so that it can be rotated."""
+    """Writes the access log to the end of a file, or to standard output for `-`. If the file is moved, a new one is started, so that logs can be
+    rotated."""
     handler = logging.StreamHandler(open(1, "w", closefd=False)) if path == "-" else logging.handlers.WatchedFileHandler(path)
     handler.setFormatter(logging.Formatter("%(message)s"))
     ACCESS.addHandler(handler)
@@ -39,22 +40,21 @@ def service_of(path: str) -> str:
 
 
 def escaped(text: str) -> str:
-    """A text as it stands between quotes in the log: ASCII, without quotes, blanks of other kinds or ends of lines."""
+    """A text for the quotes of the log: ASCII, without quotes, ends of lines and other control characters."""
     plain = text.encode("ascii", "backslashreplace").decode()
     return "".join(letter if letter.isprintable() and letter != '"' else f"\\x{ord(letter):02x}" for letter in plain)
 
 
 class Recorder:
-    """Counts what is answered in a row of metrics, and logs it where a log was asked for. Requests of the address `proxy` are those of the clients
-    that it names."""
+    """Counts answers in a row of metrics, and logs them if a log is wanted. Requests from the address `proxy` count for the clients that it names."""
 
     def __init__(self, row: Row, proxy: str | None = None) -> None:
         self.row, self.proxy = row, proxy
-        # For each kind of event how often it came since it was told, and when that was.
+        # For each kind of event how often it happened since it was last reported, and when that was.
         self.events: dict[str, list[float]] = {kind: [0, -MINUTE] for kind in TOLD}
 
     def note(self, request: web.BaseRequest, response: web.StreamResponse, seconds: float) -> None:
-        """Notes a request that was answered. `request["refused"]` is the reason of a refusal with its line, where there is one."""
+        """Records an answered request. `request["refused"]` has the reason and the message of a refusal."""
         reason, why = request.get("refused", ("", ""))
         self.row.add(service_of(request.path), response.status, seconds)
         if reason:
@@ -64,13 +64,13 @@ class Recorder:
             self.log(client_of(request, self.proxy), f"{request.method} {request.raw_path}", response.status, size, seconds, f"{reason}: {why}" if reason else "")
 
     def log(self, address: str, asked: str, status: int, size: int, seconds: float, why: str) -> None:
-        """When, who, what, the status, the bytes of the answer, the milliseconds that it took, and why it was refused."""
+        """Writes a line with the time, the client, the request, the status, the bytes and milliseconds of the answer, and the reason of a refusal."""
         now = time.strftime("%Y-%m-%dT%H:%M:%SZ", time.gmtime())
         more = f' "{escaped(why)}"' if why else ""
         ACCESS.info("%s", f'{now} {escaped(address) or "-"} "{escaped(asked)}" {status} {size} {1000 * seconds:.1f}{more}')
 
     def note_event(self, kind: str, address: str, status: int, why: str) -> None:
-        """Notes what happened to a connection that has no request."""
+        """Records what happened to a connection without a request."""
         if kind in REASONS:
             self.row.refuse(kind)
         if ACCESS.handlers:
@@ -79,7 +79,7 @@ class Recorder:
             self.tell(kind)
 
     def tell(self, kind: str) -> None:
-        """Tells of an event on standard error, where that was not done within the last minute."""
+        """Reports an event on standard error, at most once a minute."""
         event, now = self.events[kind], time.monotonic()
         event[0] += 1
         if now - event[1] >= MINUTE:

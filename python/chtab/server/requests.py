@@ -1,4 +1,4 @@
-"""Requests in JSON: their limits, and their fields, which are judged before anything is looked up."""
+"""Requests in JSON: their limits, and their fields, which are checked before anything is looked up."""
 from __future__ import annotations
 
 import json
@@ -10,13 +10,13 @@ from typing import TYPE_CHECKING, Any
 if TYPE_CHECKING:
     from chtab.typing import Point
 
-# What zlib calls the forms of bodies that are packed.
+# The window sizes by which zlib knows the compressed forms of bodies.
 PACKED = {"gzip": 31, "x-gzip": 31, "deflate": 15}
 
 
 @dataclass(frozen=True)
 class Limits:
-    """What one client may ask for, and how many may ask."""
+    """The limits of requests, and of how many are answered."""
 
     # Bytes of a request.
     body: int = 1 << 20
@@ -26,19 +26,19 @@ class Limits:
     bands: int = 12
     # Metres from a place to the nearest road.
     metres: float = 1_000.0
-    # Requests that are answered at once, and that wait; what is answered together, in legs of routes.
+    # Requests that are answered at a time, and that wait; and how many legs of routes are answered together.
     at_once: int = 2
     waiting: int = 200
     together: int = 64
-    # Seconds for the body of a request, those after which a connection is closed on which nothing happens, and those in which what is
-    # underway has to end when the service does.
+    # The seconds for the body of a request, those after which an idle connection is closed, and those for requests that are underway when the service
+    # ends.
     sending: float = 30.0
     idle: float = 60.0
     ending: float = 30.0
 
 
 class Refused(Exception):
-    """A request that is refused, with the status and the line for the client."""
+    """A refused request, with the status and the message for the client."""
 
     def __init__(self, text: str, status: int = 400) -> None:
         super().__init__(text)
@@ -46,7 +46,7 @@ class Refused(Exception):
 
 
 def bytes_in(body: bytes, encoding: str, most: int) -> bytes:
-    """The bytes of a body, unpacked where it says that it is packed; never more than `most`."""
+    """The bytes of a body, decompressed if its encoding says so; never more than `most`."""
     encoding = encoding.strip().lower()
     if encoding in ("", "identity"):
         return body
@@ -84,7 +84,7 @@ def places_in(value: Any, name: str, most: int) -> list[Point]:
 
 
 def fields_of(body: bytes, needed: Sequence[str], optional: Sequence[str] = ()) -> dict[str, Any]:
-    """The fields of a request, which is an object of JSON with these and no others."""
+    """The fields of a request, which has to be an object of JSON with these fields and no others."""
     try:
         fields = json.loads(body)
     except (ValueError, RecursionError):

@@ -1,7 +1,7 @@
-"""The service as processes of the system: how several of them answer at one port, and how they end.
+"""The processes of the service: how several of them answer at one port, and how they end.
 
-With several processes the first one reads the networks and looks after the others, which are forked from it. Each has a run of its own. All of
-them take connections from one socket, so that what waits there is lost by none that ends. One that ends by itself is begun anew.
+With several processes, the first one reads the networks and supervises the others, which are forked from it. Each has its own engine. All of them
+accept connections from one socket, so that no waiting connection is lost when a process ends. A process that ends by itself is restarted.
 """
 from __future__ import annotations
 
@@ -30,24 +30,24 @@ if TYPE_CHECKING:
 
 LOG = logging.getLogger("chtab.service")
 ENDING = signal.SIGINT, signal.SIGTERM
-# The signal by which a process learns that another service has its port too.
+# The signal for a process whose port another service has taken over.
 SUCCEEDED = signal.SIGUSR1
-# Seconds between two notes on how things stand, and between two looks at what answers.
+# The seconds between two notes of states, and between two checks of the engines.
 NOTES, LOOKS = 5.0, 1.0
-# Seconds before a process that ended by itself is begun anew: at first, and at most where each try fails.
+# The seconds before a process that ended by itself is restarted: at first, and at most after repeated failures.
 PAUSE, LONGEST_PAUSE = 1.0, 60.0
-# Tries after which what answers is given up, and the status of a service that ends for it (EX_SOFTWARE of sysexits.h).
+# The number of tries to start an engine or a process, and the exit status of a service that has no more (EX_SOFTWARE of sysexits.h).
 TRIES, GIVEN_UP = 3, 70
-# Seconds that clients of a service that was succeeded have for one more request on each connection.
+# The seconds in which clients of a replaced service may send one more request on each connection.
 GRACE = 5.0
-# Seconds in which what was taken from the system becomes a connection.
+# The seconds in which an accepted socket becomes a connection.
 SETTLING = 0.1
-# Connections that wait in the system.
+# How many connections may wait in the system.
 BACKLOG = 1_024
 
 
 class Serving:
-    """A service that listens, until a signal comes, or what answers can't be begun."""
+    """A service that listens until a signal arrives, or until its engines can't be started."""
 
     def __init__(self, service: Service, port: Port) -> None:
         self.service, self.port = service, port
@@ -57,8 +57,8 @@ class Serving:
         self.is_succeeded, self.status = False, 0
 
     async def run(self, tell: Callable[[], object], parent: int | None = None) -> int:
-        """Serves, and ends once what is underway is answered; the status of the process. It ends too when the process that looks after this one
-        has ended, which closes the pipe `parent`."""
+        """Serves, ends once the requests that are underway are answered, and returns the exit status. It also ends when the supervising process has
+        ended, which closes the pipe `parent`."""
         service, limits = self.service, self.service.limits
         runner = web.AppRunner(service.application(self.connections, self.recorder), access_log=None)
         await runner.setup()
@@ -81,7 +81,7 @@ class Serving:
             if parent is None:
                 notify("STOPPING=1")
                 self.loop.remove_reader(self.port.control)
-            # asyncio drops what it has taken from a server that is closed before it is a connection.
+            # When its server is closed, asyncio drops accepted sockets that are no connections yet.
             self.loop.remove_reader(self.port.listening)
             await asyncio.sleep(SETTLING)
             server.close()
@@ -95,7 +95,7 @@ class Serving:
         return self.status
 
     def hear(self, parent: int | None) -> None:
-        """Hears of what ends the service, and of another one that takes the port over."""
+        """Listens for signals that end the service, and for another service that takes the port over."""
         for number in ENDING:
             self.loop.add_signal_handler(number, self.ended.set)
         self.loop.add_signal_handler(SUCCEEDED, self.succeeded)
@@ -113,20 +113,20 @@ class Serving:
         self.is_succeeded = True
 
     def told_fault(self, loop: asyncio.AbstractEventLoop, context: dict[str, Any]) -> None:
-        """Tells of a connection that the system refused once a minute, and of any other fault as ever."""
+        """Reports connections that the system refused once a minute, and any other error as usual."""
         if isinstance(context.get("exception"), OSError):
             self.recorder.note_event("system", "", 0, str(context["exception"]))
         else:
             loop.default_exception_handler(context)
 
     async def keep_notes(self) -> None:
-        """Notes how things stand, as long as the service goes on."""
+        """Notes the states of the process regularly, as long as the service runs."""
         while True:
             self.service.note(len(self.connections))
             await asyncio.sleep(NOTES)
 
     async def keep_answering(self) -> None:
-        """Looks whether what answers is there, begins it where it is not, and ends the service where that fails again and again."""
+        """Checks that the engines are there, starts those that are not, and ends the service if that fails repeatedly."""
         tries = 0
         while True:
             with contextlib.suppress(asyncio.TimeoutError):
@@ -142,7 +142,7 @@ class Serving:
                 tries += 1
                 LOG.error("%s", self.service.networks.told(str(fault)))
                 if tries >= TRIES:
-                    LOG.error("what answers could not be begun %d times: the service ends", TRIES)
+                    LOG.error("the engine could not be started %d times: the service ends", TRIES)
                     self.status = GIVEN_UP
                     self.ended.set()
                     return
@@ -150,12 +150,12 @@ class Serving:
 
 
 async def serve(service: Service, port: Port, tell: Callable[[], object], parent: int | None = None) -> int:
-    """Serves at a port until a signal comes; the status of the process."""
+    """Serves at a port until a signal arrives, and returns the exit status."""
     return await Serving(service, port).run(tell, parent)
 
 
 class Child:
-    """A process that serves: its number, its place among the others, and the pipe that it tells by once it serves."""
+    """A process that serves: its number, its place among the others, and the pipe by which it reports that it serves."""
 
     def __init__(self, number: int, place: int, told: int) -> None:
         self.number, self.place, self.told, self.is_serving = number, place, told, False
@@ -167,25 +167,25 @@ class Child:
 
 
 class Family:
-    """The processes of a service, and the one that looks after them.
+    """The processes of a service, and the one that supervises them.
 
-    `make` gives the service of a process by its place; it is called in the process that was forked. `metrics` are what all of them count, and `told`
-    gives files the names that the user knows.
+    `make` makes the service of a process by its place, and is called in the forked process. `metrics` has the counts of all processes. `told`
+    replaces names of files by those that the user knows.
     """
 
     def __init__(self, count: int, make: Callable[[int], Service], metrics: Metrics, port: Port, told: Callable[[str], str]) -> None:
         self.count, self.make, self.metrics, self.port, self.told = count, make, metrics, port, told
         self.children: dict[int, Child] = {}
         self.is_ending, self.status = False, 0
-        # For each place how often a process failed to serve there, and when the next one is begun.
+        # For each place how often a process failed to serve there, and when the next one is started.
         self.failures, self.due = [0] * count, {place: 0.0 for place in range(count)}
         self.life, self.parent_end = os.pipe()
 
     def run(self, tell: Callable[[], object]) -> int:
-        """Begins the processes, tells when all of them serve, and looks after them until a signal comes; the status of the process."""
+        """Starts the processes, calls `tell` when all of them serve, supervises them until a signal arrives, and returns the exit status."""
         for number in ENDING:
             signal.signal(number, self.end)
-        # A process that can't hear this signal yet must not be ended by it.
+        # This signal must not end a process that doesn't handle it yet.
         signal.signal(SUCCEEDED, signal.SIG_IGN)
         is_told = False
         while self.children or not self.is_ending:
@@ -198,26 +198,27 @@ class Family:
         return self.status
 
     def judge(self, was_ready: bool) -> None:
-        """Ends all where no process has served at first, or none serves and tries fail again and again."""
+        """Ends the service if no process could serve at first, or if none serves and restarts fail repeatedly."""
         if self.is_ending:
             return
         if not was_ready and any(self.failures):
             self.status = 1
             self.end()
         elif min(self.failures) >= TRIES and not any(child.is_serving for child in self.children.values()):
-            LOG.error("no process could be begun, %d times for each: the service ends", TRIES)
+            LOG.error("no process could be started, %d times for each: the service ends", TRIES)
             self.status = GIVEN_UP
             self.end()
 
     def begin_due(self) -> None:
-        """Begins the processes whose time has come."""
+        """Starts the processes that are due."""
         for place, due in list(self.due.items()):
             if due <= time.monotonic() and not self.is_ending:
                 del self.due[place]
                 self.begin(place)
 
     def begin(self, place: int) -> None:
-        """Forks a process, which ends without coming back. Signals wait meanwhile, so that none is missed by both or heard by the wrong one."""
+        """Forks a process, which never returns from here. Signals are blocked meanwhile, so that neither process misses one or handles the
+        other's."""
         told, tell = os.pipe()
         signal.pthread_sigmask(signal.SIG_BLOCK, ENDING)
         number = os.fork()
@@ -237,7 +238,7 @@ class Family:
             for number in ENDING:
                 signal.signal(number, signal.SIG_DFL)
             signal.pthread_sigmask(signal.SIG_UNBLOCK, ENDING)
-            # The first process alone gives the port away.
+            # Only the first process hands the port over.
             self.port.control.close()
             status = asyncio.run(serve(self.make(place), self.port, lambda: os.write(tell, b"."), self.life))
         except BaseException as fault:
@@ -248,7 +249,7 @@ class Family:
             os._exit(status)
 
     def look(self) -> None:
-        """Waits until something happens, and sees to it."""
+        """Waits for the next event, and handles it."""
         poll, control = select.poll(), self.port.control
         poll.register(control, select.POLLIN)
         for child in self.children.values():
@@ -268,7 +269,7 @@ class Family:
                 self.bury(child)
 
     def bury(self, child: Child) -> None:
-        """Notes that a process has ended, and when another is begun in its place."""
+        """Notes that a process has ended, and when another one is started in its place."""
         _, status = os.waitpid(child.number, 0)
         del self.children[child.number]
         child.close()
@@ -278,10 +279,10 @@ class Family:
         self.failures[child.place] += not child.is_serving or os.waitstatus_to_exitcode(status) == GIVEN_UP
         pause = min(PAUSE * 2 ** max(0, self.failures[child.place] - TRIES), LONGEST_PAUSE)
         self.due[child.place] = time.monotonic() + pause
-        print(f"chtab-page: process {child.number} ended, and is begun anew", file=sys.stderr)
+        print(f"chtab-page: process {child.number} ended, and is restarted", file=sys.stderr)
 
     def end(self, *_: object) -> None:
-        """Ends all processes, each once it has answered what is underway."""
+        """Ends all processes, each once it has answered the requests that are underway."""
         if not self.is_ending:
             notify("STOPPING=1")
         self.is_ending = True

@@ -1,4 +1,4 @@
-"""The roads of a network as a map: square tiles of SVG in the numbering that web maps have, drawn from the graph alone."""
+"""The roads of a network as a map: square tiles of SVG in the numbering of web maps, drawn from the graph alone."""
 from __future__ import annotations
 
 import functools
@@ -12,26 +12,26 @@ if TYPE_CHECKING:
     from chtab.roads.snapping import Roads
     from chtab.typing import Floats, Integers
 
-# Pixels of a tile, units of the drawing for each, and how far beyond its border roads are looked for, in pixels.
+# The pixels of a tile, the units of the drawing for each pixel, and how many pixels beyond its border roads are drawn.
 SIDE, FINE, BEYOND = 256, 4, 8
-# Roads by speed, the slowest first: from how many km/h on, the first zoom that shows them, their colour, border and width in pixels at
-# zoom 14. A graph whose weights are not times has roads of the second kind alone. Borders stand out from the ground and from each band
-# of reach by three to one at least (`page/map.css` has these).
+# The kinds of roads by speed, the slowest first: the least km/h, the first zoom that shows them, their colour, border and width in pixels at zoom 14.
+# If weights are not times, all roads are of the second kind. The contrast of borders with the ground and with each band of reach is at least three to
+# one (`page/map.css` has these colours).
 KINDS = (
     (0, 13, "#ffffff", "#605e57", 2.0),
     (25, 11, "#ffffff", "#605e57", 3.0),
     (48, 9, "#ffe9a3", "#6e5210", 4.2),
     (75, 0, "#ffc47d", "#84430b", 5.2),
 )
-# A road narrower than so many pixels is one line of its border's colour, of so many pixels at least; others have a border at both sides.
+# A road narrower than the first number of pixels is a line in its border's colour, at least as wide as the second; others have two borders.
 NARROW, LEAST, BORDER = 2.6, 1.4, 1.0
-# No more than so many pieces of road are drawn in a tile: of more, the slowest kinds are left out.
+# A tile has at most this many pieces of roads. If there are more, the slowest kinds are left out.
 MOST = 60_000
 KEPT_TILES = 512
 
 
 def world(places: Floats) -> Floats:
-    """Longitudes and latitudes (n, 2) as parts of the map's square, from its north-west corner."""
+    """Longitudes and latitudes (n, 2) as fractions of the map's square, from its north-west corner."""
     x = places[:, 0] / 360 + 0.5
     y = 0.5 - numpy.arcsinh(numpy.tan(numpy.radians(numpy.clip(places[:, 1], -85, 85)))) / (2 * numpy.pi)
     return numpy.column_stack([x, y])
@@ -80,7 +80,7 @@ class Tiles:
         ])
 
     def line(self, places: Integers, scale: float, corner: Integers) -> str:
-        """These pieces of road as an SVG path, in a tile's units."""
+        """These pieces of roads as an SVG path, in the units of a tile."""
         ends = numpy.round((self.ends[places] * scale - numpy.tile(corner, 2)) * SIDE * FINE).astype(int)
         ends = numpy.unique(ends, axis=0).tolist() if len(ends) else []
         return picture.path([((a, b), (c, d)) for a, b, c, d in ends])

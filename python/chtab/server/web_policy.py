@@ -1,5 +1,5 @@
-"""What the service tells browsers about its answers: what a page may load and run, what they tell others of it, and which pages of other sites
-may ask (CORS: the Fetch standard of WHATWG).
+"""The headers for browsers: what a page may load and run, which addresses browsers may pass on, and which pages of other sites may ask (CORS, by the
+Fetch standard of WHATWG).
 """
 from __future__ import annotations
 
@@ -10,22 +10,22 @@ from aiohttp import web
 
 from chtab.errors import ChtabError
 
-# An address with a scheme or a server of its own, and the server of one that a policy can name.
+# An address with a scheme or a server, and the server of an address that a policy can name.
 ABSOLUTE = re.compile(r"[a-z][a-z0-9+.-]*:|//", re.IGNORECASE)
 SERVER = re.compile(r"(https?://[a-z0-9.-]+(?::[0-9]+)?)/", re.IGNORECASE)
-# What Leaflet puts for `{s}`.
+# The letters that Leaflet puts in the place of `{s}`.
 LETTERS = "abc"
-# Requests of OSRM's interface: its services, and whatever else has its form.
+# The paths of OSRM's interface: its services, and whatever else has the same form.
 FORM = r"(?:route|table|nearest|match|trip|tile)(?:/.*)?|\w+/v\d+/.*"
 OSRM, IS_OSRM = f"/{{words:{FORM}}}", re.compile(f"/(?:{FORM})", re.DOTALL)
-# What pages of other sites may ask for, and the seconds for which a browser remembers that it may.
+# The paths that pages of other sites may ask for, and the seconds for which browsers remember this.
 OPEN_TO_OTHERS = ("/api/", "/health", "/roads/")
 REMEMBERED = 86_400
 
 
 def tile_sources(tiles: str | None) -> list[str]:
-    """The servers of a layer of map tiles, as a policy names them: none where it is None or the service's own. An address of no such server is
-    a `ChtabError`."""
+    """The servers of a layer of map tiles, as a policy names them; none if there is no layer, or if it is the service's own. Raises a `ChtabError`
+    for an address without a server."""
     if tiles is None or not ABSOLUTE.match(tiles):
         return []
     addresses = [tiles.replace("{s}", letter) for letter in LETTERS] if "{s}" in tiles else [tiles]
@@ -36,7 +36,7 @@ def tile_sources(tiles: str | None) -> list[str]:
 
 
 def headers(tiles: str | None) -> dict[str, str]:
-    """The headers of each answer, for a page with this layer of map tiles or None. No script runs but those that are served as files."""
+    """The headers of each answer, for a page with this layer of map tiles or None. Only scripts that are served as files run."""
     images = " ".join(["'self'", "data:", *tile_sources(tiles)])
     policy = {
         "default-src": "'none'", "script-src": "'self'", "style-src": "'self'", "img-src": images, "connect-src": "'self'",
@@ -45,15 +45,15 @@ def headers(tiles: str | None) -> dict[str, str]:
     return {
         "Content-Security-Policy": "; ".join(f"{name} {value}" for name, value in policy.items()),
         "X-Content-Type-Options": "nosniff",
-        # Servers of map tiles refuse requests that don't say from which site they come.
+        # Servers of map tiles refuse requests without the name of the site.
         "Referrer-Policy": "no-referrer" if tiles is None else "strict-origin",
     }
 
 
 def add_headers(response: web.StreamResponse, added: Mapping[str, str]) -> None:
-    """Adds headers to an answer that is not sent yet."""
+    """Adds headers to an answer before it is sent."""
     response.headers.update(added)
-    # The page's files are asked for anew each time, because files of two versions don't fit together.
+    # Browsers ask for the page's files each time, because files of two versions don't fit together.
     response.headers.setdefault("Cache-Control", "no-cache")
 
 
@@ -69,8 +69,7 @@ def is_open(request: web.BaseRequest) -> bool:
 
 
 def allower(origins: Collection[str]) -> Callable[[web.BaseRequest, web.StreamResponse], None] | None:
-    """A call for a request and its answer, which names the origin that asks where it is one of these; `*` stands for all. None where there is no
-    origin."""
+    """A function of a request and its answer, which allows the answer for one of these origins; `*` stands for all. None if there are no origins."""
     def allow(request: web.BaseRequest, response: web.StreamResponse) -> None:
         if not is_open(request):
             return
@@ -86,12 +85,12 @@ def allower(origins: Collection[str]) -> Callable[[web.BaseRequest, web.StreamRe
 
 
 def is_preflight(request: web.BaseRequest) -> bool:
-    """Whether a browser asks what a page of another site may send."""
+    """Whether a browser asks which requests a page of another site may send."""
     return request.method == "OPTIONS" and is_open(request)
 
 
 def preflight(request: web.BaseRequest) -> web.Response:
-    """The answer to that."""
+    """The answer to such a request."""
     return web.Response(status=204, headers={
         "Access-Control-Allow-Methods": "GET, POST", "Access-Control-Allow-Headers": "Content-Type", "Access-Control-Max-Age": str(REMEMBERED),
     })

@@ -1,1 +1,1 @@
-"""The interface of OSRM over HTTP, version 1, as its public description has it: docs/SERVICE.md says option by option what is the same."""
+"""The interface of OSRM over HTTP, version 1, by its public description. docs/SERVICE.md compares the two option by option."""

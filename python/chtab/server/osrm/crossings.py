@@ -1,7 +1,8 @@
-"""Crossings: the ends of roads that meet there, where each leads, and which of them are open from which node.
+"""Crossings: the ends of roads that meet there, the direction of each, and which of them are open from which node.
 
-An end of a road is numbered: 2k is the end of road k at its first place, and 2k + 1 the one at its last. Who drives along road k leaves by the
-end 2k and comes to the crossing by 2k + 1, and the other way round who drives back. So the number of an end is also that of leaving by it.
+The ends of roads are numbered: 2k is the end of road k at its first place, and 2k + 1 the one at its last. A driver along road k leaves by the end 2k
+and arrives by the end 2k + 1, and a driver back along it does the opposite. The number of an end therefore also says which way along the road one
+leaves.
 """
 from __future__ import annotations
 
@@ -20,20 +21,20 @@ if TYPE_CHECKING:
     from chtab.roads.snapping import Roads
     from chtab.typing import Floats, Integers, Marks
 
-# The direction in which a road leads away is that of the point so many metres along it.
+# The direction of a road at its end is that of the point this many metres along it.
 AHEAD = 10.0
 RAMPS, FAST, FERRY = ("motorway_link", "trunk_link"), ("motorway", "trunk"), "ferry"
 
 
 class Meeting(NamedTuple):
-    """The ends of roads that meet at some crossings, one after the other: to which of the crossings each belongs, and the end."""
+    """The ends of roads that meet at some crossings: for each end the place of its crossing, and the number of the end."""
 
     owners: Integers
     ends: Integers
 
 
 def bearings(starts: Floats, ends: Floats) -> Integers:
-    """The directions from places to others (n, 2) in whole degrees, clockwise from north; 0 where they are the same."""
+    """The directions from places to others (n, 2) in whole degrees, clockwise from north; 0 if both are the same."""
     (x, y), (u, v) = numpy.radians(starts).T, numpy.radians(ends).T
     east = numpy.sin(u - x) * numpy.cos(v)
     north = numpy.cos(y) * numpy.sin(v) - numpy.sin(y) * numpy.cos(v) * numpy.cos(u - x)
@@ -46,10 +47,10 @@ def turned(bearing: Integers, other: Integers) -> Integers:
 
 
 def leading(lines: Lines) -> Integers:
-    """For each end of each line the direction in which the line leads away from there."""
+    """For each end of each line the direction in which the line leads away from it."""
     count = len(lines)
     shares = numpy.minimum(1.0, AHEAD / numpy.where(lines.metres > 0, lines.metres, 1.0))
-    # The parts of a line's places lie from 2k to 2k + 1, so that all lines are looked up at once.
+    # The keys of the places of line k are from 2k to 2k + 1, so that one search serves all lines.
     keys = numpy.repeat(2.0 * numpy.arange(count), numpy.diff(lines.firsts)) + lines.parts
     found = numpy.empty((count, 2), numpy.int64)
     for side, parts, ends in (0, shares, lines.firsts[:-1]), (1, 1 - shares, lines.firsts[1:] - 1):
@@ -62,7 +63,7 @@ def leading(lines: Lines) -> Integers:
 
 
 class Crossings:
-    """The crossings of some roads, whose arcs have streets, `files.Streets` or None. `copies` are the nodes that stand for others."""
+    """The crossings of some roads, whose arcs have streets, `files.Streets` or None. `copies` are the nodes that are copies of others."""
 
     def __init__(self, roads: Roads, copies: Mapping[int, int], streets: files.Streets | None = None) -> None:
         self.roads = roads
@@ -78,14 +79,14 @@ class Crossings:
         self.judge_streets()
 
     def find_ends(self) -> None:
-        """The ends at each crossing, clockwise from north: those of crossing c are `ends[firsts[c]:firsts[c + 1]]`."""
+        """Finds the ends at each crossing, clockwise from north: those of crossing c are `ends[firsts[c]:firsts[c + 1]]`."""
         nodes = numpy.column_stack([self.roads.firsts, self.roads.lasts]).reshape(-1)
         self.ends = numpy.lexsort([numpy.arange(len(nodes)), self.leads, nodes])
         self.firsts = numpy.searchsorted(nodes[self.ends], numpy.arange(len(self.crossing) + 1))
 
     def find_open(self) -> None:
-        """By which ends each node is left, and the street of leaving by each: that of the lightest arc, or where the road is closed that way
-        that of coming back."""
+        """Finds the ends by which each node can be left, and the street of each end: that of the arc of least weight, or if the road is closed that
+        way the street of the opposite direction."""
         kept = numpy.flatnonzero(self.roads.road_of != NONE)
         ends = 2 * self.roads.road_of[kept] + self.roads.is_back[kept]
         self.open_keys = numpy.unique(self.roads.tails[kept] << 32 | ends)
@@ -95,8 +96,8 @@ class Crossings:
         self.street_of = numpy.where(known < 0, known.reshape(-1, 2)[:, ::-1].reshape(-1), known).clip(0)
 
     def judge_streets(self) -> None:
-        """What has to be known of streets: rings, ramps, fast roads, ferries, and numbers by which those of one kind, or that are called alike, are
-        the same."""
+        """Finds which streets are rings, ramps, links, fast roads and ferries, and numbers that are equal for streets of the same kind, or with the
+        same name."""
         def flags(test: Callable[[Street], bool]) -> Marks:
             return numpy.array([test(street) for street in self.streets], bool)
 
@@ -119,7 +120,7 @@ class Crossings:
         return Meeting(numpy.repeat(numpy.arange(len(nodes)), counts), self.ends[ranges(self.firsts[crossings], counts)])
 
     def is_open(self, nodes: Integers, ends: Integers) -> Marks:
-        """Whether a node may be left by an end, of each pair."""
+        """Whether each node can be left by the end beside it."""
         keys = nodes << 32 | ends
         at = numpy.searchsorted(self.open_keys, keys).clip(0, max(len(self.open_keys) - 1, 0))
         return self.open_keys[at] == keys if len(self.open_keys) else numpy.zeros(len(keys), bool)

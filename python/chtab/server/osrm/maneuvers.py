@@ -1,6 +1,6 @@
 """Maneuvers: what a driver does at the crossings of routes, by the rules of docs/MAPS.md, for many legs at once in flat arrays.
 
-A leg is cut into pieces, each a road or a part of one that is driven along in one direction. Between two pieces lies a passage of a crossing.
+A leg is cut into pieces, each a road, or a part of a road, in one direction. Between two pieces the driver passes a crossing.
 """
 from __future__ import annotations
 
@@ -17,7 +17,7 @@ if TYPE_CHECKING:
     from chtab.server.osrm.crossings import Crossings
     from chtab.typing import Integers, Marks
 
-# Degrees up to which a way leads straight on, slightly to a side, and to a side; beyond it the turn is sharp.
+# The degrees up to which a way is straight, a slight turn, and a turn; beyond them the turn is sharp.
 STRAIGHT, SLIGHT, SQUARE = 20, 40, 120
 SILENT, CONTINUE, TURN, NEW_NAME, END_OF_ROAD, FORK, MERGE, ON_RAMP, OFF_RAMP, NOTIFICATION, ENTER, EXIT = range(12)
 TYPES = "", "continue", "turn", "new name", "end of road", "fork", "merge", "on ramp", "off ramp", "notification", "roundabout", "exit roundabout"
@@ -25,8 +25,8 @@ LEFT, RIGHT = "left", "right"
 
 
 class Pieces(NamedTuple):
-    """The pieces of legs, one leg after the other: the place of the leg in the list of those that were asked for, the end that is left by, the
-    street, the node that it comes to, and the place of its end in the leg's trace."""
+    """The pieces of legs, one leg after the other: the place of the leg in the question, the end of the road by which the piece starts, its street,
+    the node at its end, and the place of its end in the trace of the leg."""
 
     legs: Integers
     ends: Integers
@@ -47,7 +47,7 @@ def pieces_of(crossings: Crossings, legs: Legs, which: Integers, traces: Traces)
     every = Pieces(numpy.repeat(numpy.arange(len(which)), counts), *numpy.zeros((4, counts.sum()), numpy.int64))
     every.stops[:] = traces.stops
     starts, ends = legs.starts, legs.ends
-    # Who leaves by the end 0 of a road, or arrives by the end 1, drives back.
+    # To leave by the end 0 of a road, or to arrive by the end 1, is to drive back along it.
     goes_back = numpy.where(is_walk, legs.leaves[which] == 0, ends.parts[which] < starts.parts[which])
     every.ends[firsts], every.heads[firsts] = 2 * starts.roads[which] + goes_back, legs.first_nodes[which]
     lasts = (firsts + counts - 1)[is_walk]
@@ -66,9 +66,9 @@ def pieces_of(crossings: Crossings, legs: Legs, which: Integers, traces: Traces)
 
 
 class Passages(NamedTuple):
-    """The passages of crossings between pieces: the pieces before, the ends by which one comes and goes, the nodes, the directions in which one
-    comes and goes, what is done there, the number of the exit where a ring is entered or left, whether three roads meet, and where a ring is
-    entered or left the piece of its beginning and the one behind it, -1 where there is none; to which side one goes."""
+    """The passages of crossings between pieces: the piece before, the ends by which the driver arrives and leaves, the node, the directions of
+    arriving and leaving, the maneuver, the number of the exit if a ring is entered or left, whether three roads meet, the piece by which a ring
+    starts and the one after it, -1 if there is none, and the modifier."""
 
     before: Integers
     ins: Integers
@@ -85,7 +85,7 @@ class Passages(NamedTuple):
 
 
 class Judge:
-    """Judges the passages between pieces of legs."""
+    """Finds the maneuvers between the pieces of legs."""
 
     def __init__(self, crossings: Crossings, pieces: Pieces) -> None:
         self.crossings, self.pieces = crossings, pieces
@@ -105,7 +105,7 @@ class Judge:
         return numpy.bincount(owners, minlength=len(self)) > 0
 
     def look_around(self) -> None:
-        """What there is beside the way that is taken: how many roads meet, and the others, by which one may leave or not."""
+        """Finds what there is besides the way that is taken: how many roads meet, and the other ends, which may be open or not."""
         owners, ends = self.crossings.meeting(self.nodes)
         angles = turned(self.came[owners], self.crossings.leads[ends])
         is_other = (ends != self.ins[owners]) & (ends != self.outs[owners])
@@ -120,7 +120,8 @@ class Judge:
         return self.any_of(owners[abs(angles) < abs(self.angles[owners])])
 
     def forks(self) -> tuple[Marks, Marks]:
-        """Whether two ways of one kind lead on, neither of which turns off, nor is it alone the same street; and whether ours is the left one."""
+        """Whether the road forks into two ways of the same kind, neither of which is a turn or alone continues the street; and whether the route
+        takes the left one."""
         owners, ends, angles = self.others
         is_one = numpy.bincount(owners, minlength=len(self)) == 1
         owner, end, angle = (column[is_one[owners]] for column in (owners, ends, angles))
@@ -133,11 +134,11 @@ class Judge:
         return found, is_left
 
     def are_same(self, streets: Integers, others: Integers) -> Marks:
-        """Whether streets are called alike, and not by nothing."""
+        """Whether streets have the same name, and have one."""
         return (self.crossings.called[streets] == self.crossings.called[others]) & self.crossings.is_called[streets]
 
     def ends_of_roads(self) -> Marks:
-        """Whether the road ends at another: three meet, and one goes on to the left and one to the right."""
+        """Whether the road ends at another one: three ends meet, and one of the others is to the left and one to the right."""
         owners, _, angles = self.all_others
         is_three = (self.meet == 3) & ~self.is_back
         owner, angle = owners[is_three[owners]], angles[is_three[owners]]
@@ -147,7 +148,7 @@ class Judge:
         return found
 
     def is_merged_to_the_left(self) -> Marks:
-        """Whether the fast road that is joined comes from the left; where that is not seen, it does so where one drives on the right."""
+        """Whether the fast road that the route joins comes from the left. If its direction doesn't show this, the driving side decides."""
         owners, ends, _ = self.all_others
         is_fast = self.crossings.is_fast[self.crossings.street_of[ends]]
         owner, end = owners[is_fast], ends[is_fast]
@@ -156,7 +157,7 @@ class Judge:
         return is_left | ~is_right & (self.crossings.side != LEFT)
 
     def kinds(self) -> tuple[Integers, Marks]:
-        """What is done at each passage, new names aside, and whether it leads to the left where a fork or a merge says so."""
+        """The maneuver at each passage, except for new names, and whether a fork or a merge leads to the left."""
         known = self.crossings
         is_crossing = self.meet > 2
         size, is_same = abs(self.angles), self.are_same(self.old, self.new)
@@ -175,7 +176,7 @@ class Judge:
         return found, numpy.where(merges, self.is_merged_to_the_left(), is_left)
 
     def with_new_names(self, kinds: Integers) -> Integers:
-        """The same with what is told for its name alone: the street has another one than the last that had any since the maneuver before."""
+        """The maneuvers together with new names: the name of the street differs from the last name since the previous maneuver."""
         pieces, known = self.pieces, self.crossings
         begins = numpy.ones(len(pieces.legs), bool)
         begins[self.before + 1] = kinds != SILENT
@@ -186,8 +187,8 @@ class Judge:
         return numpy.where(is_new, NEW_NAME, kinds)
 
     def exits(self, kinds: Integers) -> tuple[Integers, Integers, Integers]:
-        """The number of the exit by which each ring is left, at the passage that enters it and at the one that leaves it, 0 elsewhere; and for each
-        passage that enters a ring or leaves it the piece by which it is entered, and the one behind it, -1 where there is none."""
+        """The number of the exit of each ring, at the passages that enter it and leave it, and 0 elsewhere; and for these passages the piece by which
+        the ring is entered, and the one after it, -1 if there is none."""
         owners, ends, _ = self.others
         leads_off = self.any_of(owners[~self.crossings.is_ring[self.crossings.street_of[ends]]]) | (kinds == EXIT)
         counts = numpy.cumsum(leads_off & self.crossings.is_ring[self.old] & ~self.is_back)
@@ -208,7 +209,7 @@ class Judge:
 
 
 def modifier_of(angle: int) -> str:
-    """The word for a turn by so many degrees to the right."""
+    """The modifier for a turn by this angle, in degrees to the right."""
     size, side = abs(angle), RIGHT if angle > 0 else LEFT
     if size <= STRAIGHT:
         return "straight"

@@ -1,7 +1,7 @@
-"""Tracks taken to roads: the likeliest points of roads for the places of a track, by a hidden Markov model (Newson and Krumm 2009).
+"""Matches tracks to roads: finds the likeliest points of roads for the places of a track, by a hidden Markov model (Newson and Krumm 2009).
 
-A place is likelier to lie near its road, and the way between two points to be about as long as the straight line between the places. A place
-to which no way leads that is about as long is left out. Where many are, the track is parted, and so it is where much time passes.
+A point is likelier the nearer it is to its place, and a way between two points the closer its length is to the straight line between the places. A
+place is left out if no way to it has about that length. The track is split if many places in a row are left out, or if much time passes.
 """
 from __future__ import annotations
 
@@ -18,22 +18,22 @@ if TYPE_CHECKING:
     from chtab.roads.trips import Trips
     from chtab.typing import Floats, Integers
 
-# The metres by which a place lies off its road, where none are told, and within how many times as many roads are looked for; and how many.
+# The default precision of a place in metres, the multiple of it within which roads are candidates, and the most candidates.
 PRECISION, TIMES, MOST_ROADS = 5.0, 3.0, 6
-# Metres by which ways and straight lines differ in the mean, and at most; legs that are looked for together.
+# The mean and the largest difference in metres between ways and straight lines, and how many legs are asked for together.
 BETA, MOST_OFF, BATCH = 10.0, 1_000.0, 1_024
-# Places that may be left out one after the other before the track is parted, and the seconds after which it is.
+# How many places in a row may be left out before the track is split, and the seconds of a gap.
 MOST_LEFT_OUT, GAP = 10, 60
-# Metres and seconds from the place before within which a place says little.
+# The metres and seconds from the place before within which a place adds little.
 TIDY_METRES, TIDY_SECONDS = 15.0, 5
-# The means and widths of Laplace's distributions of the logarithm of a right and of a wrong match's length by the track's, and how many are
-# right, as OSRM has measured them.
+# The means and widths of Laplace distributions of the logarithm of a match's length divided by the track's, for right and for wrong matches, and the
+# share of right ones, as OSRM has measured them.
 RIGHT, WRONG, SHARE_RIGHT = (0.005986, 0.016646), (0.054385, 0.458432), 0.696774
 
 
 class Track(NamedTuple):
-    """A track: its places in degrees (n, 2), the metres of `radiuses` by which each lies off its road, infinite where that is not told, and the
-    seconds of each, or None."""
+    """A track: its places in degrees (n, 2), the precision of each in metres (`radiuses`), infinite if it isn't given, and the seconds of each, or
+    None."""
 
     places: Floats
     radiuses: Sequence[float]
@@ -41,8 +41,8 @@ class Track(NamedTuple):
 
 
 class Part(NamedTuple):
-    """A part of a track that hangs together: the numbers of its places, the points on roads that they were taken to, how many other roads were
-    near each, and how sure it is, from 0 to 1."""
+    """A connected part of a track: the numbers of its places, their points on roads, how many other roads were near each, and its confidence, from 0
+    to 1."""
 
     places: list[int]
     spots: Spots
@@ -64,7 +64,7 @@ def matched(trips: Trips, track: Track, is_parted: bool = True, is_tidied: bool 
 
 
 def begun(model: Model, places: list[int], is_parted: bool) -> tuple[Chain, list[int]]:
-    """The chain from the first of some places on, and the places from which the next one begins."""
+    """The chain that starts at the first of some places, and the places that are left for the next one."""
     chain = Chain(model, places[0])
     for at, place in enumerate(places[1:], 1):
         if is_parted and is_gap(model.track, places[at - 1], place):
@@ -75,7 +75,7 @@ def begun(model: Model, places: list[int], is_parted: bool) -> tuple[Chain, list
 
 
 def tidied(track: Track) -> list[int]:
-    """The places but those that lie near the one before, in place or in time."""
+    """The places without those that are near the one before, in space or time."""
     kept, steps = [0], track.places
     for place in range(1, len(steps)):
         (x, y), (u, v) = steps[kept[-1]], steps[place]
@@ -91,7 +91,7 @@ def is_gap(track: Track, before: int, place: int) -> bool:
 
 
 class Model:
-    """What is known of the places of a track: the points on roads near each, and the ways between those of two places."""
+    """The candidates of a track: the points on roads near each place, and the ways between those of two places."""
 
     def __init__(self, trips: Trips, track: Track) -> None:
         self.trips, self.track = trips, track
@@ -105,16 +105,16 @@ class Model:
         return found[found.metres <= TIMES * self.spreads[place]]
 
     def emission(self, place: int) -> Floats:
-        """The logarithms of how likely each point is, by its distance."""
+        """The logarithms of the likelihood of each point, by its distance."""
         return -0.5 * (self.spots[place].metres / self.spreads[place]) ** 2
 
     def look_up(self, kept: Iterable[int]) -> None:
-        """Looks up the ways between each two places that follow on each other and have roads near them."""
+        """Finds the ways between consecutive places with roads near them."""
         there = [place for place in kept if len(self.spots[place])]
         self.find(list(zip(there, there[1:])))
 
     def find(self, pairs: Sequence[tuple[int, int]]) -> None:
-        """Looks up the metres of the ways between the points of pairs of places, infinite where there is none."""
+        """Finds the metres of the ways between the points of pairs of places, infinite if there is no way."""
         of_starts: list[Spots] = []
         of_ends: list[Spots] = []
         for before, place in pairs:
@@ -136,8 +136,7 @@ class Model:
             at += shape[0] * shape[1]
 
     def transition(self, before: int, place: int) -> Floats:
-        """The logarithms of how likely each way between two places is; minus infinity where there is none that is about as long as the straight
-        line."""
+        """The logarithms of the likelihood of each way between two places; minus infinity if its length is too different from the straight line."""
         if (before, place) not in self.ways:
             self.find([(before, place)])
         off = abs(self.ways[before, place] - self.straight(before, place))
@@ -150,7 +149,7 @@ class Model:
 
 
 class Chain:
-    """Places that follow on each other by ways of roads, with the best way to each point of each (Viterbi 1967)."""
+    """Places that are connected by ways, with the best way to each point of each place (Viterbi 1967)."""
 
     def __init__(self, model: Model, place: int) -> None:
         self.model, self.places = model, [place]
@@ -159,7 +158,7 @@ class Chain:
         self.before: list[Integers] = []
 
     def take(self, place: int) -> bool:
-        """Adds a place, where a way leads to it; whether one does."""
+        """Adds a place if a way leads to it, and returns whether one does."""
         total = self.scores[-1][:, None] + self.model.transition(self.places[-1], place)
         best = total.max(axis=0)
         if not numpy.isfinite(best).any():
@@ -186,7 +185,7 @@ class Chain:
 
 
 def confidence(straight: float, metres: float) -> float:
-    """How likely a match of so many metres is right for a track of so many."""
+    """The likelihood that a match with this length is right for a track with that length."""
     if not straight or not metres:
         return 1.0 if straight == metres else 0.0
 
@@ -198,5 +197,5 @@ def confidence(straight: float, metres: float) -> float:
 
 
 def together(parts: Sequence[Spots]) -> Spots:
-    """Several spots, one after the other."""
+    """Joins spots, one after the other."""
     return Spots(*(numpy.concatenate(columns) for columns in zip(*(vars(part).values() for part in parts))))

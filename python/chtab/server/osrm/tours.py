@@ -1,7 +1,7 @@
-"""Orders of places in which a trip over all of them is short (the travelling salesman's problem, with costs that differ by direction).
+"""Finds short orders of places for a trip over all of them (the asymmetric travelling salesman problem).
 
-Few places are tried in each order. Of more the nearest one comes next, and then the order is improved, as long as that helps, by turning a
-stretch of it round (Croes 1958) or by moving a stretch of up to three places (Or 1976). That is a heuristic: a shorter order may exist.
+For few places each order is tried. For more, the nearest place comes next, and then the order is improved as long as that helps, by reversing a
+stretch (Croes 1958) or by moving a stretch of up to three places (Or 1976). This is a heuristic, so a shorter order may exist.
 """
 from __future__ import annotations
 
@@ -14,24 +14,24 @@ import numpy
 if TYPE_CHECKING:
     from chtab.typing import Integers
 
-# By how much a change lengthens a round trip, and a call that gives the order then.
+# The length that a change adds to a round trip, and a function that makes the changed order.
 Change: TypeAlias = "tuple[int, Callable[[], Integers]]"
 
-# Places, one of which is fixed, of which each order is tried; and places that are moved together at most.
+# The most places, one of them fixed, for which each order is tried; and the most places that are moved together.
 FEW, STRETCH = 8, 3
-# What stands for no way: the sum over all places is below the largest number.
+# The cost of a missing way, small enough that the sum over all places fits into 64 bits.
 NONE = 1 << 48
 
 
 def tour(costs: Integers, is_round: bool = True, is_first_fixed: bool = False, is_last_fixed: bool = False) -> Integers:
-    """An order of all places, 0 to n - 1.
+    """Finds an order of all places, 0 to n - 1.
 
     Parameters
     ----------
     costs : array of int64, shape (n, n)
-        What it costs to go from one to another, from 0 on; below 0 where no way leads.
+        The cost from each place to each other, from 0 on; below 0 if there is no way.
     is_round : bool
-        Whether the way from the last back to the first counts.
+        Whether the way from the last place back to the first counts.
     is_first_fixed, is_last_fixed : bool
         Whether place 0 comes first, and place n - 1 last.
 
@@ -48,7 +48,7 @@ def tour(costs: Integers, is_round: bool = True, is_first_fixed: bool = False, i
         found = circle(links)
         first = found.tolist().index(count - 1) + 1 if is_last_fixed else found.tolist().index(0)
         return numpy.roll(found, -first)
-    # One more place, which costs nothing, lies between the end and the beginning.
+    # An additional place without costs connects the end to the start.
     wider = numpy.zeros((count + 1, count + 1), numpy.int64)
     wider[:-1, :-1] = links
     if is_first_fixed:
@@ -60,7 +60,7 @@ def tour(costs: Integers, is_round: bool = True, is_first_fixed: bool = False, i
 
 
 def circle(links: Integers) -> Integers:
-    """A round trip over all places, of any beginning."""
+    """A round trip over all places, from any start."""
     count = len(links)
     if count <= FEW:
         return best_of_all(links)
@@ -68,13 +68,13 @@ def circle(links: Integers) -> Integers:
 
 
 def best_of_all(links: Integers) -> Integers:
-    """The shortest one, of all orders that begin with place 0."""
+    """The shortest of all orders that start with place 0."""
     orders = numpy.array([(0, *rest) for rest in itertools.permutations(range(1, len(links)))], numpy.int64)
     return orders[links[orders, numpy.roll(orders, -1, axis=1)].sum(axis=1).argmin()]
 
 
 def nearest_next(links: Integers) -> Integers:
-    """The order in which the nearest place that is left comes next."""
+    """The order in which the nearest remaining place comes next."""
     left, order = numpy.ones(len(links), bool), [0]
     for _ in range(len(links) - 1):
         left[order[-1]] = False
@@ -84,7 +84,7 @@ def nearest_next(links: Integers) -> Integers:
 
 
 def improved(links: Integers, order: Integers) -> Integers:
-    """The order after each change that makes it shorter, the best one first."""
+    """Improves an order by the best change each time, until none helps."""
     while True:
         changes = [turned_round(links, order), *(moved(links, order, length) for length in range(1, STRETCH + 1))]
         gain, better = min(changes, key=lambda change: change[0])
@@ -94,7 +94,7 @@ def improved(links: Integers, order: Integers) -> Integers:
 
 
 def turned_round(links: Integers, order: Integers) -> Change:
-    """By how much the best stretch that is turned round lengthens a round trip, and a call that gives the order then. The first place stays."""
+    """The best reversal of a stretch: the length that it adds, and a function that makes the order. The first place stays."""
     count, ahead = len(order), numpy.roll(order, -1)
     forth, back = (numpy.append(0, numpy.cumsum(column)) for column in (links[order, ahead], links[ahead, order]))
     places = numpy.arange(1, count)
@@ -110,7 +110,7 @@ def turned_round(links: Integers, order: Integers) -> Change:
 
 
 def moved(links: Integers, order: Integers, length: int) -> Change:
-    """The same of a stretch of so many places that is moved between two others."""
+    """The best move of a stretch with this many places between two others, in the same form."""
     count, ahead = len(order), numpy.roll(order, -1)
     first = numpy.arange(1, count - length + 1)[:, None]
     last, into = first + length - 1, numpy.arange(count)[None, :]
