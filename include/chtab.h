@@ -142,12 +142,13 @@ uint32_t chtab_version(void);
 uint32_t chtab_open(chtab *handle, const uint8_t *graph, size_t graph_len, const uint8_t *saved, size_t saved_len,
                     chtab_fault *fault);
 
-/* Opens the closed handle `handle` with a graph, as chtab_open does without a saved hierarchy, but in about half the time. It
- * serves new weights on known roads: the hierarchy is built in the order of the nodes that the network of the open handle
- * `other` has, and only the last `fresh` per cent of them are ordered afresh, by depth (CHTAB_FRESH is mostly right). The
- * graph has as many nodes as that network. Its arcs and weights may differ in any way: answers are exact in each order, and
- * only times depend on it. With 100 per cent the hierarchy is that of chtab_open. `other` keeps its network, its weights
- * and its places. Another thread may ask that network meanwhile with a handle of its own, but not with one of these two.
+/* Opens the closed handle `handle` with a graph, as chtab_open does without a saved hierarchy, but in little more than half
+ * the time. It serves new weights on known roads: the hierarchy is built in the order of the nodes that the network of the
+ * open handle `other` has, and only the last `fresh` per cent of them are ordered afresh, by depth. CHTAB_FRESH is mostly
+ * right. If the weights are of another kind, such as metres in place of seconds, 25 is better. The graph has as many nodes as
+ * that network. Its arcs and weights may differ in any way: answers are exact in each order, and only times depend on it.
+ * With 100 per cent the hierarchy is that of chtab_open. `other` keeps its network, its weights and its places. Another
+ * thread may ask that network meanwhile with a handle of its own, but not with one of these two.
  * Errors: CHTAB_IS_OPEN for `handle`, CHTAB_CLOSED for `other`; then CHTAB_BAD_GRAPH, CHTAB_OTHER_NODES, CHTAB_FRESH_RANGE,
  * in this order, and CHTAB_NO_MEMORY. All of these except the first two write `fault`; it is all 0 except for
  * CHTAB_BAD_GRAPH. Otherwise `fault` stays. */
