@@ -12,7 +12,7 @@ import concurrent.futures
 import time
 from collections.abc import Callable, Sequence
 from dataclasses import dataclass, field
-from typing import Any, TypeAlias
+from typing import Any, NamedTuple, TypeAlias
 
 from chtab.errors import ProgramFault
 
@@ -21,7 +21,9 @@ from chtab.errors import ProgramFault
 Call: TypeAlias = Callable[[list[Any]], Sequence[Any]]
 # The CPU seconds in which the loop may answer questions itself, while it does nothing else; and the share by which the last answers change what
 # is reckoned for the next ones.
-MOMENT, LATEST = 0.005, 0.25
+MOMENT, LATEST = 0.02, 0.25
+# Turns of the loop without a further request after which those are there that came at the same time.
+TURNS = 3
 
 
 class Busy(Exception):
@@ -30,6 +32,21 @@ class Busy(Exception):
 
 class Gone(Exception):
     """The client went away while its request waited."""
+
+
+class Pace(NamedTuple):
+    """How long the last answers of a call took together, in CPU seconds, and the size of their questions."""
+
+    seconds: float
+    size: float
+
+    def after(self, seconds: float, size: float) -> Pace:
+        """The pace after further answers."""
+        return Pace(self.seconds + LATEST * (seconds - self.seconds), self.size + LATEST * (size - self.size))
+
+    def reckoned(self, size: int) -> float:
+        """The seconds for a question of this size, with those that are answered together with it."""
+        return self.seconds * max(1, size / self.size)
 
 
 @dataclass(eq=False)
@@ -86,9 +103,10 @@ class Turns:
         self.lines: collections.OrderedDict[str, collections.deque[Job]] = collections.OrderedDict()
         self.underway: collections.Counter[str] = collections.Counter()
         self.unanswered = 0
-        # The CPU seconds that a question of size 1 takes, by its call; and whether it will soon be looked whose turn it is.
-        self.paces: dict[Call, float] = {}
-        self.is_due = False
+        # How long answers take, by their call; whether it will soon be looked whose turn it is; how many turns of the loop no request came; and
+        # how many questions the loop answered last.
+        self.paces: dict[Call, Pace] = {}
+        self.is_due, self.turns, self.answered = False, 0, 1
 
     @property
     def is_full(self) -> bool:
@@ -102,6 +120,7 @@ class Turns:
         if self.is_full:
             self.make_room(job.address)
         self.unanswered += 1
+        self.turns = 0
         self.lines.setdefault(job.address, collections.deque()).append(job)
         try:
             self.begin_soon()
@@ -133,7 +152,7 @@ class Turns:
     def is_moment(self, address: str) -> bool:
         """Whether the first job of an address takes a moment."""
         job = self.lines[address][0]
-        return job.is_quick and job.size * self.paces.get(job.call, MOMENT) < MOMENT
+        return job.is_quick and job.call in self.paces and self.paces[job.call].reckoned(job.size) < MOMENT
 
     def may_begin(self, address: str) -> bool:
         """One thread is kept for others than any address."""
@@ -143,11 +162,19 @@ class Turns:
         """Begins what can begin, once the requests are there that came together with this one."""
         if not self.is_due:
             self.is_due = True
-            asyncio.get_running_loop().call_soon(self.begin)
+            asyncio.get_running_loop().call_soon(self.look)
+
+    def look(self) -> None:
+        """Begins what can begin. Where requests come together, they are waited for as long as others come."""
+        self.turns += 1
+        if self.answered > 1 and self.turns <= TURNS and self.unanswered < self.together:
+            asyncio.get_running_loop().call_soon(self.look)
+        else:
+            self.is_due = False
+            self.begin()
 
     def begin(self) -> None:
         """Begins what can begin."""
-        self.is_due = False
         while self.underway.total() < self.at_once:
             address = next(filter(self.may_begin, self.lines), None)
             if address is None:
@@ -169,28 +196,25 @@ class Turns:
             found = self.noted(jobs, *answers_to(jobs[0].call, [job.question for job in jobs]))
         except Exception as fault:
             found = [fault] * len(jobs)
+        self.answered = len(jobs)
         for job, each in zip(jobs, found):
             job.end(each)
 
     def noted(self, jobs: list[Job], found: Sequence[Any], seconds: float) -> Sequence[Any]:
         """The answers to jobs. It is noted how long they took."""
-        pace, call = seconds / sum(job.size for job in jobs), jobs[0].call
-        self.paces[call] = pace + (1 - LATEST) * (self.paces.get(call, pace) - pace)
+        call, size = jobs[0].call, sum(job.size for job in jobs)
+        self.paces[call] = self.paces.get(call, Pace(seconds, size)).after(seconds, size)
         return found
 
     def taken(self, address: str) -> list[Job]:
-        """The next job of an address, and those that are answered together with it; none where the clients went away. What the loop answers takes
-        a moment together."""
-        most = self.together
-        if self.is_moment(address):
-            most = min(most, int(MOMENT / max(self.paces[self.lines[address][0].call], MOMENT / most)))
+        """The next job of an address, and those that are answered together with it; none where the clients went away."""
         first = self.next_of(address)
         if first is None:
             return []
         jobs, size = [first], first.size
-        while first.is_shared and size < most:
+        while first.is_shared and size < self.together:
             other = next((name for name, line in self.lines.items() if line[0].is_shared and line[0].call == first.call), None)
-            if other is None or size + self.lines[other][0].size > most:
+            if other is None or size + self.lines[other][0].size > self.together:
                 break
             job = self.next_of(other)
             if job is not None:
