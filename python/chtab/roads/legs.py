@@ -164,14 +164,14 @@ def traced(roads: Roads, pieces: Pieces, totals: Integers) -> Traces:
     cuts = numpy.append(0, stops + 1)[pieces.firsts]
     weights[cuts[:-1]], weights[cuts[1:] - 1] = 0, totals
     # Of repeated places the last is kept, which includes the weight of pieces without a length.
-    is_kept = numpy.ones(len(piece), bool)
-    is_kept[:-1] = (found.places[1:] != found.places[:-1]).any(axis=1)
+    places, is_kept = found.places.round(6), numpy.ones(len(piece), bool)
+    is_kept[:-1] = (places[1:] != places[:-1]).any(axis=1)
     is_kept[cuts[1:] - 1] = True
     kept_before = numpy.append(0, numpy.cumsum(is_kept))
     firsts = kept_before[cuts]
     # A piece ends at the kept one of its repeated places.
     kept_stops = kept_before[stops] - numpy.repeat(firsts[:-1], numpy.diff(pieces.firsts))
-    return Traces(found.places[is_kept].round(6), weights[is_kept], metres[is_kept], kept_stops, firsts, pieces.firsts)
+    return Traces(places[is_kept], weights[is_kept], metres[is_kept], kept_stops, firsts, pieces.firsts)
 
 
 def sums_before(column: Any, firsts: Integers) -> Any:

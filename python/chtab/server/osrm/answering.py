@@ -12,6 +12,7 @@ from chtab.roads.legs import FAR, legs_between, metres_by, table_ways
 from chtab.roads.snapping import length_text
 from chtab.server.osrm import cells, matching, options, telling, tours, url
 from chtab.server.osrm.crossings import Crossings
+from chtab.server.osrm.drawing import Drawing
 from chtab.server.osrm.options import Refusal
 from chtab.server.osrm.steps import Steps
 
@@ -81,7 +82,8 @@ class Answers:
         coordinates = network.coordinates
         self.network, self.limits, self.profiles = network, limits, profiles
         steps = Steps(Crossings(network.roads, coordinates.copies(), streets))
-        self.voice = telling.Voice(steps, numbers, MODES.get(profile_of(coordinates.comments), "driving"))
+        drawings = {form: Drawing(network.roads.lines, form) for form in options.FORMS}
+        self.voice = telling.Voice(steps, numbers, MODES.get(profile_of(coordinates.comments), "driving"), drawings)
 
     def question(self, words: url.Words) -> Question:
         """The question of a request's words, which is read before anything is looked up."""

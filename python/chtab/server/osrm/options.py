@@ -18,6 +18,8 @@ ANNOTATIONS = "duration", "distance", "nodes", "weight", "speed", "datasources"
 ALTERNATIVES = re.compile(r"true|false|\d{1,9}", re.ASCII)
 BEARING = re.compile(r"(\d{1,3}),(\d{1,3})", re.ASCII)
 TIMESTAMP = re.compile(r"\d{1,18}", re.ASCII)
+# The forms of lines.
+FORMS = "polyline", "polyline6", "geojson"
 # How many cells take as long as the distance of one.
 DISTANCE = 8
 # Queries that were read last are kept, of so many characters and for so many coordinates at most.
@@ -85,9 +87,9 @@ class Route(NamedTuple):
     annotations: tuple[str, ...]
 
     @property
-    def has_lines(self) -> bool:
-        """Whether it has to be known how the route lies."""
-        return self.has_steps or self.overview != "false" or any(name != "nodes" for name in self.annotations)
+    def has_traces(self) -> bool:
+        """Whether the places of the route have to be known, and what lies between them."""
+        return self.has_steps or self.overview == "simplified" or any(name != "nodes" for name in self.annotations)
 
 
 class Trip(NamedTuple):
@@ -231,7 +233,7 @@ def route(reader: Reader) -> Route:
 
 def told_route(reader: Reader) -> Route:
     """What routes of all services are told with."""
-    geometries = reader.choice("geometries", "polyline", "polyline6", "geojson")
+    geometries = reader.choice("geometries", *FORMS)
     overview = reader.choice("overview", "simplified", "full", "false")
     return Route(geometries, overview, reader.boolean("steps", False), route_annotations(reader.take("annotations", "false")))
 

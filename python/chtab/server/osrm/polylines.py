@@ -17,6 +17,8 @@ MOST_GROUPS = 7
 SHIFTS = 5 * numpy.arange(MOST_GROUPS, dtype=numpy.int32)
 # The digits behind the point of each form of lines that is a polyline.
 DIGITS = {"polyline": 5, "polyline6": 6}
+# The text of a place that is where the one before is.
+SAME = "??"
 
 
 def texts(places: Floats, firsts: Integers, form: str) -> list[str]:
@@ -35,23 +37,31 @@ def encoded(places: Floats, precision: int) -> str:
 
 def encoded_each(places: Floats, firsts: Sequence[int] | Integers, precision: int) -> list[str]:
     """The texts of several lines of at least one place each, which stand one after the other and begin at `firsts`."""
-    whole = numpy.floor(places[:, ::-1] * 10.0**precision + 0.5).astype(numpy.int32)
-    steps = whole.copy()
-    steps[1:] -= whole[:-1]
-    steps[firsts] = whole[firsts]
-    steps = steps.reshape(-1)
-    numbers = (steps << 1) ^ (steps >> 31)
+    numbers = whole(places, precision)
+    steps = numbers.copy()
+    steps[1:] -= numbers[:-1]
+    steps[firsts] = numbers[firsts]
+    return letters(steps, numpy.append(firsts, len(places)))
+
+
+def whole(places: Floats, precision: int) -> Integers:
+    """Latitudes and longitudes of places (n, 2) as whole numbers with so many digits behind the point: int32 (n, 2)."""
+    return numpy.floor(places[:, ::-1] * 10.0**precision + 0.5).astype(numpy.int32)
+
+
+def letters(steps: Integers, cuts: Integers) -> list[str]:
+    """The texts of lines by the differences of their places, int32 (n, 2): line k has those from `cuts[k]` to before `cuts[k + 1]`."""
+    flat = steps.reshape(-1)
+    numbers = (flat << 1) ^ (flat >> 31)
     # A column for each group, of all numbers as many as the largest one has.
-    groups = numbers[:, None] >> SHIFTS[:max(1, -(-int(numbers.max()).bit_length() // 5))]
-    letters = ((groups & 31) + numpy.where(groups >= 32, 32 + 63, 63)).astype(numpy.uint8)
+    groups = numbers[:, None] >> SHIFTS[:max(1, -(-int(numbers.max(initial=0)).bit_length() // 5))]
+    found = ((groups & 31) + numpy.where(groups >= 32, 32 + 63, 63)).astype(numpy.uint8)
     is_there = groups > 0
     is_there[:, 0] = True
-    text = letters[is_there].tobytes().decode("ascii")
-    if len(firsts) == 1:
-        return [text]
+    text = found[is_there].tobytes().decode("ascii")
     before = numpy.append(0, numpy.cumsum(is_there.sum(axis=1)))
-    cuts = before[2 * numpy.append(firsts, len(places))].tolist()
-    return [text[start:end] for start, end in zip(cuts, cuts[1:])]
+    ends = before[2 * cuts].tolist()
+    return [text[start:end] for start, end in zip(ends, ends[1:])]
 
 
 def decoded(text: str, precision: int, most: int) -> list[Point]:

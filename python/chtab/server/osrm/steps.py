@@ -26,6 +26,8 @@ if TYPE_CHECKING:
 MOST_TEXTS = 1 << 18
 # A passage of a crossing, as `rows_of` gives it.
 Row: TypeAlias = tuple[Any, ...]
+# What is known of a node, as `look_around` gives it.
+Around: TypeAlias = tuple[list[float], list[Any], list[Any], list[Any]]
 # What rings are called that have names of their own.
 ROTARIES = {ENTER: "rotary", EXIT: "exit rotary"}
 
@@ -55,7 +57,7 @@ class Steps:
     def __init__(self, crossings: Crossings) -> None:
         self.known = crossings
         self.texts: dict[tuple[int, int, int], str] = {}
-        self.around: dict[int, tuple[list[float], list[int], list[int], list[bool]]] = {}
+        self.around: dict[int, Around] = {}
         self.streets = crossings.streets
         self.called = [called(street) for street in crossings.streets]
         self.names = [json.dumps(street.name) for street in crossings.streets]
@@ -70,6 +72,7 @@ class Steps:
         pieces = pieces_of(self.known, legs, which, traces)
         passages = passages_of(self.known, pieces)
         numbers, streets = numpy.arange(len(which) + 1), pieces.streets.tolist()
+        self.see_to(passages)
         rows = rows_of(passages, lines.firsts[pieces.legs[passages.before]] + pieces.stops[passages.before], lines)
         of_rows = pieces.legs[passages.before][(passages.kinds != SILENT) | passages.is_crossing]
         cuts, firsts = (numpy.searchsorted(column, numbers).tolist() for column in (of_rows, pieces.legs))
@@ -81,6 +84,15 @@ class Steps:
             found.append(self.steps_of(rows[cuts[leg]:cuts[leg + 1]], streets, first, begun, departure))
             ended.append(end)
         return self.told(found, ended, lines, mode, geometries)
+
+    def see_to(self, passages: Passages) -> None:
+        """Looks around at the nodes where that was not done. What is kept is thrown away before it is too much."""
+        if len(self.texts) >= MOST_TEXTS:
+            self.texts.clear()
+            self.around.clear()
+        missing = [node for node in set(passages.nodes.tolist()) if node not in self.around]
+        if missing:
+            self.look_around(numpy.array(missing))
 
     def steps_of(self, rows: Iterable[Row], streets: list[int], first: int, begun: int, departure: tuple[int, list[float], int]) -> list[Step]:
         """The steps of a leg by its passages, the last one aside. Its first piece is `first`, on the street `begun`."""
@@ -148,22 +160,26 @@ class Steps:
 
     def crossing(self, node: int, came: int, goes: int) -> str:
         """The text of a crossing that is passed from one end of a road to another. It is kept."""
-        if len(self.texts) >= MOST_TEXTS:
-            self.texts.clear()
-            self.around.clear()
-        location, bearings_there, ends, is_open = self.around.get(node) or self.look_around(node)
+        location, bearings_there, ends, is_open = self.around.get(node) or self.look_around(numpy.array([node]))[node]
         entries = ", ".join("true" if may and end != came or end == goes else "false" for end, may in zip(ends, is_open))
         text = f'{{"location": {location}, "bearings": {bearings_there}, "entry": [{entries}], "in": {ends.index(came)}, "out": {ends.index(goes)}}}'
         self.texts[node, came, goes] = text
         return text
 
-    def look_around(self, node: int) -> tuple[list[float], list[int], list[int], list[bool]]:
-        """Where a node lies, the directions of the ends that meet there, clockwise from north, the ends, and whether the node may be left by each.
-        They are kept."""
-        ends = self.known.meeting(numpy.array([node])).ends
-        is_open = self.known.is_open(numpy.full(len(ends), node), ends)
-        self.around[node] = self.known.roads.places[node - 1].round(6).tolist(), self.known.leads[ends].tolist(), ends.tolist(), is_open.tolist()
-        return self.around[node]
+    def look_around(self, nodes: Integers) -> dict[int, Around]:
+        """Where nodes lie, the directions of the ends that meet at each, clockwise from north, the ends, and whether the node may be left by each. They
+        are kept."""
+        owners, ends = self.known.meeting(nodes)
+        columns = self.known.leads[ends].tolist(), ends.tolist(), self.known.is_open(nodes[owners], ends).tolist()
+        cuts = numpy.searchsorted(owners, numpy.arange(len(nodes) + 1)).tolist()
+        locations = self.known.roads.places[nodes - 1].round(6).tolist()
+        found: dict[int, Around] = {}
+        for node, location, first, last in zip(nodes.tolist(), locations, cuts, cuts[1:]):
+            leads, those, is_open = (column[first:last] for column in columns)
+            found[node] = location, leads, those, is_open
+        # Another thread may throw away what is kept.
+        self.around.update(found)
+        return found
 
 
 def called(street: Street) -> str:

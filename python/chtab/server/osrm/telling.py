@@ -9,6 +9,7 @@ import numpy
 
 from chtab.roads.legs import Traces
 from chtab.server.osrm import polylines
+from chtab.server.osrm.drawing import Drawing
 from chtab.server.osrm.steps import Steps, Told
 
 if TYPE_CHECKING:
@@ -24,12 +25,13 @@ METADATA = {"datasource_names": ["graph"]}
 
 
 class Voice(NamedTuple):
-    """What the routes of a network are told by: the steps of its crossings, the map's numbers of nodes or None, and OSRM's word for the way of
-    travelling."""
+    """What the routes of a network are told by: the steps of its crossings, the map's numbers of nodes or None, OSRM's word for the way of
+    travelling, and what draws lines in each form."""
 
     steps: Steps
     numbers: Integers | None
     mode: str
+    drawings: Mapping[str, Drawing]
 
 
 class OfLegs(NamedTuple):
@@ -45,10 +47,10 @@ class OfLegs(NamedTuple):
 
 def routes(voice: Voice, legs: Legs, parts: Sequence[list[int]], options: Sequence[Route]) -> list[str]:
     """The texts of routes, each over some legs, one after the other: `parts` has the numbers of each, and `options` what it is told with."""
-    wanted = [leg for part, option in zip(parts, options) if option.has_lines for leg in part]
+    wanted = [leg for part, option in zip(parts, options) if option.has_traces for leg in part]
     traces, places = legs.traces(wanted), {leg: place for place, leg in enumerate(wanted)}
     told = OfLegs(legs.weights.tolist(), legs.metres.tolist(), steps_of(voice, legs, parts, options, traces, places), traces, places)
-    lines = geometries(parts, options, traces, places)
+    lines = geometries(voice, legs, parts, options, traces, places)
     return [route(voice, legs, part, option, told, lines.get(number)) for number, (part, option) in enumerate(zip(parts, options))]
 
 
@@ -113,7 +115,9 @@ def between(column: Any) -> list[Any]:
 # How routes lie.
 
 
-def geometries(parts: Sequence[list[int]], options: Sequence[Route], traces: Traces, places: Mapping[int, int]) -> dict[int, str]:
+def geometries(
+    voice: Voice, legs: Legs, parts: Sequence[list[int]], options: Sequence[Route], traces: Traces, places: Mapping[int, int],
+) -> dict[int, str]:
     """The lines of routes that are told with one, as texts of JSON, by the numbers of the routes."""
     groups: dict[tuple[str, str], list[int]] = {}
     found: dict[int, str] = {}
@@ -122,12 +126,13 @@ def geometries(parts: Sequence[list[int]], options: Sequence[Route], traces: Tra
             groups.setdefault((option.overview, option.geometries), []).append(number)
     for (overview, form), some in groups.items():
         counts = numpy.array([len(parts[number]) for number in some])
-        own = traces.chosen(numpy.array([places[leg] for number in some for leg in parts[number]]))
-        lines = own.places, own.firsts
-        if overview == "simplified":
-            lines = simplified(*lines, counts)
-        line, cuts = joined(*lines, counts)
-        found |= zip(some, polylines.texts(line, cuts[:-1], form))
+        which = [leg for number in some for leg in parts[number]]
+        if overview == "full":
+            found |= zip(some, voice.drawings[form].lines_of(legs, numpy.array(which), counts))
+        else:
+            own = traces.chosen(numpy.array([places[leg] for leg in which]))
+            line, cuts = joined(*simplified(own.places, own.firsts, counts), counts)
+            found |= zip(some, polylines.texts(line, cuts[:-1], form))
     return found
 
 
