@@ -79,8 +79,8 @@ class FromArcs:
         **running
             `program`, `workers`, `timeout`, `load`, `routes`, `runs` and `library`, as `Network.open` takes them. `progress`: True reports the
             building on standard error; a callable gets how many steps of a stage are done, and their total. `like`: a network of the same nodes. If
-            the library answers for both, the new network takes its order, in half the time, and only the last `fresh` per cent of the nodes, 5 by
-            default, are ordered afresh. The nodes, labels and places of `like` are taken unless others are given.
+            the library answers for both, the new network takes its order, in two thirds of the time; only the last `fresh` per cent of the nodes, 5
+            by default, are ordered afresh. The nodes, labels and places of `like` are taken unless others are given.
 
         Returns
         -------

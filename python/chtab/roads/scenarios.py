@@ -74,7 +74,7 @@ class Scenarios(FromArcs):
         Returns
         -------
         Network
-            The changed network. The library builds it in the order of this one, in half the time of a new network; runs build it anew.
+            The changed network. The library builds it in the order of this one, in two thirds of the time of a new network; runs build it anew.
 
         Raises
         ------
