@@ -7,7 +7,7 @@ turns are open to it.
 from __future__ import annotations
 
 import itertools
-from collections.abc import Mapping, Sequence
+from collections.abc import Iterator, Mapping, Sequence
 from dataclasses import dataclass, replace
 from typing import TYPE_CHECKING, Any, NamedTuple
 
@@ -85,6 +85,10 @@ class Spots:
         if isinstance(which, int | numpy.integer):
             which = [range(len(self))[which]]
         return Spots(*(column[which] for column in vars(self).values()))
+
+    def __iter__(self) -> Iterator[Spots]:
+        """One spot after the other."""
+        return (self[place] for place in range(len(self)))
 
 
 def one_sided(spots: Spots, sides: Integers) -> Spots:
