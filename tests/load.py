@@ -261,6 +261,24 @@ def the_library_answers_where_it_fits():
     assert done.returncode == 2 and "not allowed with" in done.stderr, done
 
 
+def the_library_answers_for_networks_with_names():
+    """Where each of them has its saved hierarchy beside it; one that lacks it is named. The help says so."""
+    os.mkdir("beside")
+    shutil.copy(PROGRAM, "beside/chtab")
+    shutil.copy(make(), "beside/libchtab.so.1")
+    for suffix in "gr", "co":
+        shutil.copy(f"{COUNTRY}.{suffix}", f"roads.{suffix}")
+    line = [PYTHON, ROOT / "tools" / "page.py", "--port", 0, "--program", "beside/chtab", "--library", "--network", "car=roads"]
+    done = subprocess.run(list(map(str, line)), capture_output=True, text=True, timeout=60)
+    assert done.returncode == 1 and "roads.ch is missing" in done.stderr and done.stderr.count("\n") == 1, done
+    for runs in 1, 0:
+        with service(None, "--network", "car=roads", program="beside/chtab") as (child, address):
+            assert ask(address, f"{ROUTE}?overview=false")[0] == 200 and len(runs_below(child.pid)) == runs
+        shutil.copy(saved_for(f"{COUNTRY}.gr"), "roads.ch")
+    done = subprocess.run([PYTHON, ROOT / "tools" / "page.py", "--help"], capture_output=True, text=True)
+    assert "each network has a saved hierarchy (--saved, or OUT.ch of --network)" in " ".join(done.stdout.split()), done.stdout
+
+
 def what_takes_too_long_is_broken_off():
     """The library is asked in parts, and its time is looked at between them: a client is told, and the next one has its answer."""
     coordinates, draw = files.read_coordinates(f"{COUNTRY}.co"), random.Random("too long")
@@ -420,7 +438,7 @@ def check_command(words):
 GROUPS = (
     (SERVICE, [
         *by_both(fifty_clients_while_runs_are_killed, also_by_several_processes, processes_are_begun_anew), an_address_takes_its_share,
-        it_ends_once_it_has_answered, the_library_answers_where_it_fits, what_takes_too_long_is_broken_off,
+        it_ends_once_it_has_answered, the_library_answers_where_it_fits, the_library_answers_for_networks_with_names, what_takes_too_long_is_broken_off,
     ]),
     ((*SERVICE, "python3-prometheus-client"), by_both(requests_are_counted_and_logged)),
     ((*SERVICE, "nginx", "openssl", "curl"), [nginx_stands_before_it]),

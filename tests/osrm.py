@@ -260,6 +260,8 @@ def addresses_are_read():
         status, value = get(address, f"/route/v1/car/{plain}?over%76iew=ful%6c&steps=false")
         assert (status, value) == (200, wanted)
         assert get(address, f"/route/v1/car/{plain}?")[0] == 200
+        # HTTP lets a request name the server in its address.
+        assert get(address, f"http://routes.example.org/route/v1/car/{plain}?overview=full") == (200, wanted)
         nodes, many = some_nodes(500, "many")
         route = answer(address, "route", many, overview="false")
         assert len(route["routes"][0]["legs"]) == 499 and len(route["waypoints"]) == 500

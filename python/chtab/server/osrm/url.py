@@ -14,6 +14,8 @@ SERVICES = "route", "table", "nearest", "trip", "match"
 # A service that OSRM has besides.
 OTHERS = ("tile",)
 VERSION = "v1"
+# What an address begins with that names the server too, as proxies send it.
+ABSOLUTE = re.compile("^https?://[^/?]*(?=/)", re.IGNORECASE)
 # No exponent, no NaN and no infinity, as OSRM reads numbers.
 NUMBER = r"[+-]?(?:\d+(?:\.\d*)?|\.\d+)"
 COORDINATE = re.compile(f"({NUMBER}),({NUMBER})", re.ASCII)
@@ -34,7 +36,7 @@ def words_of(target: str, most: int) -> Words:
     """The words of a request's target, which has at most so many characters."""
     if len(target) > most:
         raise Refusal("TooBig", f"an address has at most {most:,} characters")
-    path, _, query = target.partition("?")
+    path, _, query = ABSOLUTE.sub("", target, 1).partition("?")
     before, *parts = path.split("/")
     service = text_of(parts[0]) if parts else ""
     if before or service not in (*SERVICES, *OTHERS):
