@@ -26,7 +26,9 @@ with chtab.Network.open(Path("roads.gr"), saved="roads.ch", timeout=5.0) as netw
     places: Integers = network.nearest_of(None, nodes, count=2, direction="from").places
     sums = network.sum_within({1: 2.5}, [600_000, 900_000], decay=lambda weights: numpy.exp(-weights / 3)).sum()
     spots: chtab.Spots = network.snap(9.5, 47.1)
-    polygons = network.isochrones(spots[:1], [300_000])["features"]
+    polygons = network.isochrones(spots[0], [300_000])["features"]
+    with network.changed({"way/5": 3}, closed=spots, added=[(1, 2, 3)]) as other, other.changed(closed=[0, (1, 2), *spots]) as again:
+        weights = again.distances([(1, 3)])
     near: chtab.Near = network.near([1], [2], workers=2)
     routes: chtab.Routes = network.routes([(1, 3)])
     print(len(routes), near.offsets.sum(), routes.to_geojson()["features"], network.trip_routes(spots, spots)[0].metres)

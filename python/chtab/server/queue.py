@@ -1,4 +1,4 @@
-"""Whose turn it is: requests wait in a line for each address, and the addresses take turns, so that none keeps the others waiting.
+"""The order in which requests are answered: each client address has a queue, and the addresses take turns, so that none keeps the others waiting.
 
 A few requests are answered at once, in threads, and never all of them for one address. Questions that can be answered together are taken
 together, from all addresses in turn. Those whose answers take a moment are answered in the loop itself, once all are there that came at the same
@@ -27,11 +27,11 @@ TURNS = 3
 
 
 class Busy(Exception):
-    """Too many requests wait."""
+    """Too many requests are waiting."""
 
 
 class Gone(Exception):
-    """The client went away while its request waited."""
+    """The client closed its connection while its request was waiting."""
 
 
 class Pace(NamedTuple):
@@ -64,7 +64,7 @@ class Job:
     answer: asyncio.Future = field(default_factory=lambda: asyncio.get_running_loop().create_future())
 
     def end(self, found: Any) -> None:
-        """Gives the answer, or the fault, to the client that waits for it."""
+        """Passes the answer, or the error, to the waiting client."""
         if self.answer.done():
             return
         if isinstance(found, BaseException):
@@ -89,11 +89,11 @@ class Turns:
     Parameters
     ----------
     at_once : int
-        Threads that answer.
+        The number of threads that answer.
     most : int
-        Requests that may wait or be underway.
+        The most requests that may wait or be underway.
     together : int
-        The size of questions that are answered together.
+        The most that questions which are answered together may measure in all.
     """
 
     def __init__(self, at_once: int, most: int, together: int) -> None:
@@ -116,7 +116,7 @@ class Turns:
         self.threads.shutdown(wait=False, cancel_futures=True)
 
     async def answer(self, job: Job) -> Any:
-        """The answer to a job, once it was its turn."""
+        """Waits for the turn of a job, and returns its answer."""
         if self.is_full:
             self.make_room(job.address)
         self.unanswered += 1
@@ -130,7 +130,7 @@ class Turns:
             self.forget(job)
 
     def make_room(self, address: str) -> None:
-        """Sends away the last request of the address of which the most wait, where more of it wait than of this one."""
+        """Rejects the newest request of the address with the most waiting requests, if it has more than this address."""
         greedy, line = max(self.lines.items(), key=lambda item: len(item[1]), default=(address, collections.deque()))
         if len(line) <= len(self.lines.get(address, ())) + 1:
             raise Busy
@@ -139,7 +139,7 @@ class Turns:
         job.end(Busy())
 
     def forget(self, job: Job) -> None:
-        """Takes away a job that still waits, whose client waits no longer."""
+        """Removes a waiting job whose client no longer waits."""
         line = self.lines.get(job.address)
         if line and job in line:
             line.remove(job)
@@ -155,7 +155,7 @@ class Turns:
         return job.is_quick and job.call in self.paces and self.paces[job.call].reckoned(job.size) < MOMENT
 
     def may_begin(self, address: str) -> bool:
-        """One thread is kept for others than any address."""
+        """Whether an address may use another thread. One thread is always kept for the other addresses."""
         return self.underway[address] < max(1, self.at_once - 1) and not self.is_moment(address)
 
     def begin_soon(self) -> None:
@@ -174,7 +174,7 @@ class Turns:
             self.begin()
 
     def begin(self) -> None:
-        """Begins what can begin."""
+        """Starts the jobs that can be started."""
         while self.underway.total() < self.at_once:
             address = next(filter(self.may_begin, self.lines), None)
             if address is None:
@@ -223,7 +223,7 @@ class Turns:
         return jobs
 
     def next_of(self, address: str) -> Job | None:
-        """Takes the next job of an address, whose turn comes again after those of all others; None where its client went away."""
+        """Takes the next job of an address, whose next turn then comes after those of all others; None if its client has gone."""
         job = self.lines[address].popleft()
         self.lines.move_to_end(address)
         self.drop_line(address)

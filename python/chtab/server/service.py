@@ -1,7 +1,7 @@
-"""A service of networks over HTTP, for the page and for programs: docs/SERVICE.md has its forms.
+"""A service of networks over HTTP, for the page and for programs. docs/SERVICE.md describes its requests and answers.
 
-Requests wait for their turn in lines of bounded length, and a few are answered at once, in threads. Whatever goes wrong, a client gets JSON
-with a line that says what, and never a traceback.
+Requests wait in queues of bounded length, and a few are answered at a time. Whatever goes wrong, a client gets JSON with a line that says what, and
+never a traceback.
 """
 from __future__ import annotations
 
@@ -45,21 +45,21 @@ if TYPE_CHECKING:
 PAGE = pathlib.Path(__file__).parent / "page"
 # Debian's package libjs-leaflet.
 LEAFLET = pathlib.Path("/usr/share/javascript/leaflet")
-# What the places of a route are called, as on the page.
+# The names of the places of a route, as on the page.
 ENDS = "A", "B"
-# The least and the most characters of an address, and of a header, that are read; the service refuses shorter ones with a line.
+# The least and the most characters of an address, and of a header, that aiohttp reads; the service itself refuses shorter ones by a message.
 LONGEST, LONGEST_OF_ALL = 1 << 16, 1 << 24
 # The headers of an answer in JSON.
 JSON = CIMultiDict({hdrs.CONTENT_TYPE: "application/json; charset=utf-8"})
-# A pair of nodes whose distance is asked for to see whether something answers.
+# A pair of nodes whose distance is asked for to check an engine.
 PROBE = numpy.array([[1, 1]])
 
 
 @dataclass(frozen=True)
 class Choices:
-    """What who runs the service chose: the title of the page, places with names, the address of a layer of map tiles or None, the limits of
-    requests in JSON and of OSRM's interface, how many connections there may be, the origins whose pages may ask too, the names by which clients
-    of OSRM's interface may call the network, none where by any, and the address of the proxy or None."""
+    """The operator's choices: the title of the page, places with names, the address of a layer of map tiles or None, the limits of requests in JSON
+    and of OSRM's interface, how many connections are allowed, the origins whose pages may ask too, the names by which clients of OSRM's interface may
+    call the network, empty for any name, and the address of the proxy or None."""
 
     title: str = ""
     places: tuple[Place, ...] = ()
@@ -81,19 +81,19 @@ class Service:
         self.title, self.caps, self.proxy = choices.title or first.title, choices.caps, choices.proxy
         self.metrics = metrics or Metrics()
         self.row = self.metrics.of_processes[row]
-        # What was begun by a process that ended, and that this one stands in for.
+        # How many runs were started by an earlier process at this place.
         self.begun_before = self.row.of("begun")
         self.tiles = Tiles(self.network.roads, self.network.unit == "milliseconds")
         self.osrm = [
             answering.Answers(each.network, (each.name,) if each.name else choices.profiles, choices.osrm, each.streets, each.numbers) for each in networks
         ]
         self.by_name = {each.name: answers for each, answers in zip(networks, self.osrm) if each.name}
-        # What places are looked for in is made now, and not while the first client waits.
+        # The index of roads is made now, and not while the first client waits.
         for each in networks:
             each.network.roads.find_any([0.0], [0.0])
         self.turns = Turns(self.limits.at_once, self.limits.waiting, self.limits.together)
         self.headers, self.longest_address = web_policy.headers(choices.tiles), choices.osrm.address
-        # Whether what answers failed, since when it has to be looked at; and whether the service ends.
+        # Whether an engine failed, an event that makes it be checked, and whether the service is ending.
         self.is_failing, self.doubt, self.is_ending = False, asyncio.Event(), False
 
     @property
@@ -121,7 +121,7 @@ class Service:
         return app
 
     def middleware(self, connections: Connections, recorder: Recorder) -> Any:
-        """What surrounds each answer: a fault is told as JSON with a line, headers are added, and the request is recorded."""
+        """The middleware around each answer: it turns errors into JSON with a line, adds headers, and records the request."""
         allow = web_policy.allower(self.choices.allowed)
 
         @web.middleware
@@ -144,7 +144,7 @@ class Service:
         return around
 
     def fault(self, request: web.Request, raised: Exception) -> web.Response:
-        """The answer that tells of a fault. Where what answers failed, it is looked at."""
+        """The answer for an exception. If an engine failed, it is checked."""
         response = fault_of(request, raised, self.limits.body, self.networks.told)
         if request.get("refused", ("",))[0] == "program":
             self.is_failing = True
@@ -157,7 +157,7 @@ class Service:
     async def answer(
         self, request: web.Request, call: Call, question: Any, is_shared: bool = False, size: int = 1, is_quick: bool = False,
     ) -> Any:
-        """The answer to a question of a client, once it is its turn: `call` answers a list of questions."""
+        """Waits for the client's turn, and returns the answer to its question. `call` answers a list of questions."""
         job = Job(client_of(request, self.proxy), call, question, lambda: is_gone(request), is_shared, size, is_quick)
         return await self.turns.answer(job)
 
@@ -182,7 +182,7 @@ class Service:
         return handle
 
     async def answer_route(self, request: web.Request) -> web.Response:
-        """Answers a request for a route, together with those that wait beside it: one question to the program serves them all."""
+        """Answers a request for a route, together with others that are waiting: one question to the engine serves them all."""
         fields = fields_of(await self.body_of(request), ("from", "to"))
         places = [place_in(fields[name], name) for name in ("from", "to")]
         return json_of(await self.answer(request, self.route_texts, places, is_shared=True))
@@ -203,7 +203,7 @@ class Service:
         return json_of(await self.answer_alone(request, getattr(answers, question.service), question))
 
     def answers_for(self, profile: str) -> Answers:
-        """The answers of the network that a profile names; where one network is served, they know by which names it is called."""
+        """The answers of the network that a profile names. If there is only one network, its answers check the name."""
         if len(self.osrm) == 1:
             return self.osrm[0]
         if profile not in self.by_name:
@@ -215,24 +215,24 @@ class Service:
         return web.FileResponse(PAGE / "index.html")
 
     async def health(self, request: web.Request) -> web.Response:
-        """Whether a request that comes now is taken and can be answered. It is told at once, whatever waits."""
+        """Whether a request that arrives now would be taken and answered. This answer doesn't wait for others."""
         state = "ending" if self.is_ending else "failing" if self.is_failing else "busy" if self.turns.is_full else "ready"
         return web.json_response({"status": state, "waiting": self.turns.unanswered}, status=200 if state == "ready" else 503)
 
     def try_engines(self) -> None:
-        """Begins what answers, where it is not there, and asks it a question. What fails is a `ChtabError`."""
+        """Starts the engines that are not there, and asks each a question. Raises a `ChtabError` if one fails."""
         for each in self.networks:
             each.engine.load()
             if each.network.nodes and each.engine.distances(PROBE).tolist() != [0]:
-                raise ChtabError("what answers says that a node is not at itself")
+                raise ChtabError("the engine says that a node is not at itself")
 
     async def tell_metrics(self, request: web.Request) -> web.Response:
-        """What all processes of the service counted."""
+        """The counts of all processes of the service."""
         self.note()
         return web.Response(body=self.metrics.text().encode(), headers={"Content-Type": "text/plain; version=0.0.4; charset=utf-8"})
 
     def note(self, connections: int | None = None) -> None:
-        """Notes how things stand in this process, for whichever process tells the metrics."""
+        """Notes the states of this process, for whichever process answers with the metrics."""
         engines = [each.engine for each in self.networks]
         living, begun = sum(engine.living() for engine in engines), sum(engine.begun for engine in engines)
         self.row.note(waiting=self.turns.unanswered, engines=living, begun=self.begun_before + begun, memory=resident_bytes())
@@ -240,7 +240,7 @@ class Service:
             self.row.note(connections=connections)
 
     async def describe(self, request: web.Request) -> web.Response:
-        """What the page has to know."""
+        """The description of the network for the page."""
         coordinates, limits, choices = self.network.coordinates, self.limits, self.choices
         xs, ys = ([x for x in column if not math.isnan(x)] for column in (coordinates.longitudes, coordinates.latitudes))
         notes = "© OpenStreetMap contributors" if any("OpenStreetMap" in comment for comment in coordinates.comments) else ""
@@ -259,21 +259,21 @@ class Service:
         return web.Response(text=text, content_type="image/svg+xml", headers={"Cache-Control": "max-age=3600"})
 
     def spots(self, places: Sequence[Point], names: Sequence[str]) -> tuple[Spots, dict[int, str]]:
-        """The places on roads, and what is told of those that are too far from each: {index: line}. `names` are the places'."""
+        """The spots of places, and the messages for places that are too far from each road: {index: message}. `names` are those of the places."""
         spots = self.network.roads.find_any(*zip(*places))
         far = {place: metres for place, metres in enumerate(spots.metres.tolist()) if not metres <= self.limits.metres}
         return spots, {place: f"{names[place]} is {length_text(metres)} from the nearest road" for place, metres in far.items()}
 
     def near_spots(self, places: Sequence[Point], names: Sequence[str]) -> Spots:
-        """The same of places that are all near enough."""
+        """The spots of places. Refuses the request if one is too far from each road."""
         spots, far = self.spots(places, names)
         if far:
             raise Refused("; ".join(far.values()))
         return spots
 
     def route_texts(self, pairs: Sequence[Sequence[Point]]) -> list[str | Refused]:
-        """For each pair of places a Feature of GeoJSON, as text: the line of the way, or null where there is none. Where a place is too far
-        from each road, that is the error in its place."""
+        """For each pair of places a Feature of GeoJSON as text, with the line of the route, or null if there is none. If a place is too far from each
+        road, the item is the refusal."""
         spots, far = self.spots([place for pair in pairs for place in pair], ENDS * len(pairs))
         starts, ends = spots[0::2], spots[1::2]
         told = {pair: [far[place] for place in (2 * pair, 2 * pair + 1) if place in far] for pair in range(len(pairs))}
@@ -287,7 +287,7 @@ class Service:
         return trip.to_text({"unit": self.network.unit, "from": spot_of(starts, pair), "to": spot_of(ends, pair)})
 
     def table(self, body: bytes) -> dict[str, Any]:
-        """The weights, a row for each source, null for a source that is too far from each road; and which places are."""
+        """The weights, a row for each source, or null for a source that is too far from each road; and the faults of such places."""
         fields = fields_of(body, ("sources", "targets"), ("within",))
         lists = {name: places_in(fields[name], name, self.limits.list) for name in ("sources", "targets")}
         sources, targets = lists.values()
@@ -321,7 +321,7 @@ class Service:
 
 
 def spot_of(spots: Spots, place: int) -> dict[str, Any]:
-    """Where a place was taken to, and how far that is."""
+    """The point on a road that a place was taken to, and its distance."""
     return {
         "at": [round(float(spots.longitudes[place]), 6), round(float(spots.latitudes[place]), 6)],
         "metres": round(float(spots.metres[place]), 1),
@@ -333,6 +333,6 @@ def json_of(text: str) -> web.Response:
 
 
 def resident_bytes() -> int:
-    """The memory of this process."""
+    """The resident memory of this process in bytes."""
     pages = pathlib.Path("/proc/self/statm").read_text().split()[1]
     return int(pages) * resource.getpagesize()

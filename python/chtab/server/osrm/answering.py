@@ -23,9 +23,9 @@ if TYPE_CHECKING:
     from chtab.roads.snapping import Roads, Spots
     from chtab.typing import Floats, Integers, Marks, Point
 
-# OSRM's words for ways of travelling.
+# OSRM's names of the ways of travelling.
 MODES = {"car": "driving", "bicycle": "cycling", "foot": "walking"}
-# Cells of a table whose routes are asked for together.
+# How many cells of a table have their routes asked for together.
 BATCH = 2_048
 # What metres are multiplied by to have the one digit behind the point that is told.
 TENTHS = 10
@@ -64,7 +64,7 @@ class Question(NamedTuple):
 
 
 def profile_of(comments: Sequence[str]) -> str:
-    """The way of travelling that a graph was made for, by its comments; empty where they don't say so."""
+    """The way of travelling that a graph was made for, from its comments; empty if they don't say."""
     for name in profiles.NAMES:
         if any(comment.startswith(f"Roads for {profiles.profile(name).people},") for comment in comments):
             return name
@@ -86,7 +86,7 @@ class Answers:
         self.voice = telling.Voice(steps, numbers, MODES.get(profile_of(coordinates.comments), "driving"), drawings)
 
     def question(self, words: url.Words) -> Question:
-        """The question of a request's words, which is read before anything is looked up."""
+        """The question of a request, which is read before anything is looked up."""
         if self.network.unit != "milliseconds":
             raise Refusal("InvalidService", "the weights of this network are not milliseconds, so that it has no durations")
         if self.profiles and words.profile not in self.profiles:
@@ -129,7 +129,7 @@ class Answers:
         return spots, faults
 
     def own_spots(self, question: Question) -> Spots:
-        """The spots of one question. What lies near no road is a fault."""
+        """The spots of one question. Raises a refusal if a coordinate is too far from each road."""
         spots, faults = self.spots_of([question])
         for fault in faults.values():
             raise fault
@@ -145,7 +145,7 @@ class Answers:
     # Routes.
 
     def routes(self, questions: Sequence[Question]) -> list[str | Refusal]:
-        """The answers to questions for routes, as texts or faults, found together."""
+        """The answers to questions for routes, found together, as texts or refusals."""
         spots, faults = self.spots_of(questions)
         waypoints = self.waypoints(spots)
         cuts = numpy.cumsum([0, *(len(question.coordinates) for question in questions)]).tolist()
@@ -171,7 +171,7 @@ class Answers:
     # Round trips and tracks.
 
     def trip(self, question: Question) -> str:
-        """A trip over all coordinates, in an order that is short."""
+        """The answer to a question for a trip over all coordinates, in a short order."""
         own, general = question.own, question.general
         spots = self.own_spots(question)
         best, _ = table_ways(self.network._trips, spots, spots)
@@ -186,7 +186,7 @@ class Answers:
         return answer_of("trips", text, "waypoints", objects(told, general))
 
     def match(self, question: Question) -> str:
-        """The likeliest roads of a track."""
+        """The answer to a question for the likeliest roads of a track."""
         own, general = question.own, question.general
         track = matching.Track(numpy.array(question.coordinates), general.radiuses, own.timestamps)
         parts = matching.matched(self.network._trips, track, own.is_parted, own.is_tidied)
@@ -237,7 +237,7 @@ class Answers:
         return f'{{"code": "Ok", {", ".join(parts)}}}'
 
     def metres(self, starts: Spots, ends: Spots, best: Integers, ways: Integers) -> Floats:
-        """The metres of the route of each cell that has one."""
+        """The metres of the route of each cell, if it has one."""
         rows, columns = numpy.nonzero(best < FAR)
         metres = numpy.zeros(best.shape)
         for first in range(0, len(rows), BATCH):
@@ -248,7 +248,7 @@ class Answers:
     # The nearest roads.
 
     def nearest(self, question: Question) -> str:
-        """As many of the nearest roads as are asked for."""
+        """The answer to a question for the nearest roads."""
         [(longitude, latitude)] = question.coordinates
         spots = self.network.roads.find_some(longitude, latitude, question.own)
         see_that_near(spots[:1], question.general.radiuses)
@@ -330,13 +330,13 @@ def facing_spots(roads: Roads, spots: Spots, question: Question, first: int) -> 
 
 
 def far_fault(metres: Floats, radiuses: Sequence[float]) -> Refusal | None:
-    """The refusal of a coordinate that has no road within its radius, None where each has one."""
+    """The refusal of a coordinate without a road within its radius; None if each has one."""
     far = numpy.flatnonzero(~(metres <= radiuses))[:1].tolist()
     return Refusal("NoSegment", f"coordinate {far[0]} is {length_text(metres[far[0]])} from the nearest road, more than its radius") if far else None
 
 
 def see_that_near(spots: Spots, radiuses: Sequence[float]) -> None:
-    """Refuses a coordinate that has no road within its radius."""
+    """Refuses a coordinate without a road within its radius."""
     fault = far_fault(spots.metres, radiuses)
     if fault:
         raise fault

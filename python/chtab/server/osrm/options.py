@@ -1,4 +1,4 @@
-"""The options of each service. One that would change the answer, and that this service doesn't have, is refused by its name."""
+"""The options of each service. An option that would change the answer, and that isn't supported, is refused by its name."""
 from __future__ import annotations
 
 import functools
@@ -12,7 +12,7 @@ from typing import Any, NamedTuple
 BROKEN = re.compile("%(?![0-9A-Fa-f]{2})")
 NUMBER = re.compile(r"\d+(?:\.\d*)?|\.\d+", re.ASCII)
 INDEX = re.compile(r"\d{1,9}", re.ASCII)
-# By greater factors durations might be no numbers of JSON.
+# With larger factors, durations might be no numbers of JSON.
 MOST_SCALE = 1_000_000_000
 ANNOTATIONS = "duration", "distance", "nodes", "weight", "speed", "datasources"
 ALTERNATIVES = re.compile(r"true|false|\d{1,9}", re.ASCII)
@@ -27,7 +27,7 @@ QUERIES_KEPT, LONGEST_KEPT, MOST_KEPT = 1_024, 256, 64
 
 
 class Refusal(Exception):
-    """A request that is refused. Its status is 400, as OSRM has it."""
+    """A refused request. Its status is 400, as in OSRM."""
 
     def __init__(self, code: str, text: str) -> None:
         super().__init__(text)
@@ -35,7 +35,7 @@ class Refusal(Exception):
 
 
 def unsupported(name: str) -> Refusal:
-    """The refusal of an option that this service doesn't have, and that would change the answer."""
+    """The refusal of an option that isn't supported, and that would change the answer."""
     return Refusal("InvalidOptions", f"{name}: not supported")
 
 
@@ -79,7 +79,7 @@ class General(NamedTuple):
 
 
 class Route(NamedTuple):
-    """What a route is told with."""
+    """The options of a route."""
 
     geometries: str
     overview: str
@@ -93,8 +93,8 @@ class Route(NamedTuple):
 
 
 class Trip(NamedTuple):
-    """What a round trip is told with; whether it leads back to its beginning, and whether the first coordinate is its beginning, and the last one
-    its end."""
+    """The options of a trip: those of its route, whether it leads back to its start, whether the first coordinate is the start, and whether the last
+    one is the end."""
 
     route: Route
     is_round: bool
@@ -103,8 +103,8 @@ class Trip(NamedTuple):
 
 
 class Match(NamedTuple):
-    """What a matched track is told with: the seconds of its coordinates, or None; whether it is parted where much time passes; and whether
-    coordinates are left out that say little."""
+    """The options of a matched track: those of its routes, the seconds of its coordinates or None, whether it is split at gaps, and whether
+    coordinates that add little are left out."""
 
     route: Route
     timestamps: list[int] | None
@@ -113,7 +113,7 @@ class Match(NamedTuple):
 
 
 class Table(NamedTuple):
-    """The coordinates that rows and columns belong to, and what cells tell."""
+    """The options of a table: the coordinates of its rows and columns, and what its cells have."""
 
     sources: list[int]
     destinations: list[int]
@@ -128,7 +128,7 @@ class Table(NamedTuple):
 
 
 class Reader:
-    """The options of one request, each taken by its name. `finish` refuses those that nothing took."""
+    """Reads the options of one request by their names. `finish` refuses those that were not read."""
 
     def __init__(self, service: str, given: Mapping[str, str], count: int) -> None:
         self.service, self.given, self.count = service, dict(given), count
@@ -137,7 +137,7 @@ class Reader:
         return self.given.pop(name, default)
 
     def choice(self, name: str, *words: str) -> str:
-        """One of these words, the first where none is given."""
+        """One of these words, by default the first."""
         word = self.take(name, words[0])
         if word not in words:
             raise Refusal("InvalidQuery", f"{name}: one of {', '.join(words)}")
@@ -147,7 +147,7 @@ class Reader:
         return self.choice(name, *(("true", "false") if default else ("false", "true"))) == "true"
 
     def elements(self, name: str) -> list[str]:
-        """A list with an element for each coordinate, which is empty where the default holds."""
+        """A list with an element for each coordinate, which is empty for the default."""
         if name not in self.given:
             return [""] * self.count
         found = self.take(name, "").split(";")
@@ -156,7 +156,7 @@ class Reader:
         return found
 
     def only(self, name: str, *harmless: str) -> None:
-        """Refuses an option with any element but these, or none."""
+        """Refuses an option with any other non-empty element than these."""
         if set(self.elements(name)) - {"", *harmless}:
             raise unsupported(name)
 
@@ -166,7 +166,7 @@ class Reader:
                 raise unsupported(name)
 
     def number(self, name: str, text: str) -> float:
-        """A number above or equal to 0."""
+        """A number from 0 on."""
         value = float(text) if NUMBER.fullmatch(text) else math.inf
         if math.isinf(value):
             raise Refusal("InvalidQuery", f"{name}: a number from 0 on, as 1.5")
@@ -178,7 +178,7 @@ class Reader:
         return int(text)
 
     def indices(self, name: str) -> list[int]:
-        """Indices of coordinates, or all of them."""
+        """The indices of coordinates, by default all."""
         text = self.take(name, "all")
         if text == "all":
             return list(range(self.count))
@@ -195,14 +195,14 @@ class Reader:
 
 
 def general(reader: Reader) -> General:
-    """What all services take."""
+    """The options of all services."""
     texts = reader.elements("radiuses")
     radiuses = tuple(math.inf if text in ("", "unlimited") else reader.number("radiuses", text) for text in texts)
     bearings = tuple(bearing_in(text) for text in reader.elements("bearings"))
-    # Hints, which other servers give, would only make the search for a road shorter.
+    # Hints of other servers would only shorten the search for a road.
     reader.take("hints", "")
     reader.only("approaches", "unrestricted")
-    # A trip may begin on each road of a graph, so that these are the same.
+    # Trips may start on each road of a graph, so that both are the same.
     reader.choice("snapping", "default", "any")
     reader.refuse("exclude")
     hints, waypoints = reader.boolean("generate_hints", True), not reader.boolean("skip_waypoints", False)
@@ -210,7 +210,7 @@ def general(reader: Reader) -> General:
 
 
 def bearing_in(text: str) -> tuple[int, int] | None:
-    """A direction from 0 to 360 degrees and how many degrees off it are taken, from 0 to 180; None where none is given."""
+    """A direction from 0 to 360 degrees and the allowed deviation, from 0 to 180; None for an empty element."""
     if not text:
         return None
     found = BEARING.fullmatch(text)
@@ -222,7 +222,7 @@ def bearing_in(text: str) -> tuple[int, int] | None:
 def route(reader: Reader) -> Route:
     if reader.count < 2:
         raise Refusal("InvalidOptions", "a route has at least two coordinates")
-    # One route is a right answer where others are asked for too: OSRM doesn't promise them.
+    # One route is a correct answer even if alternatives are asked for, because OSRM doesn't promise any.
     if not ALTERNATIVES.fullmatch(reader.take("alternatives", "false")):
         raise Refusal("InvalidQuery", "alternatives: true, false or a number")
     reader.refuse("waypoints")
@@ -232,7 +232,7 @@ def route(reader: Reader) -> Route:
 
 
 def told_route(reader: Reader) -> Route:
-    """What routes of all services are told with."""
+    """The options of routes in all services."""
     geometries = reader.choice("geometries", *FORMS)
     overview = reader.choice("overview", "simplified", "full", "false")
     return Route(geometries, overview, reader.boolean("steps", False), route_annotations(reader.take("annotations", "false")))
@@ -248,7 +248,7 @@ def route_annotations(text: str) -> tuple[str, ...]:
 
 
 def trip(reader: Reader) -> Trip:
-    """A trip over all coordinates, in whichever order is short."""
+    """The options of a trip over all coordinates, in a short order."""
     if reader.count < 2:
         raise Refusal("InvalidOptions", "a trip has at least two coordinates")
     is_round = reader.boolean("roundtrip", True)
@@ -266,7 +266,7 @@ def match(reader: Reader) -> Match:
 
 
 def timestamps(reader: Reader) -> list[int] | None:
-    """The seconds of a track's coordinates, each later than the one before or as late; None where none are given."""
+    """The seconds of a track's coordinates, in ascending order; None if there are none."""
     if "timestamps" not in reader.given:
         return None
     found = []
@@ -291,7 +291,7 @@ def table(reader: Reader) -> Table:
 
 
 def nearest(reader: Reader) -> int:
-    """How many roads are looked for."""
+    """The number of roads to find."""
     if reader.count != 1:
         raise Refusal("InvalidOptions", "nearest has one coordinate")
     number = reader.whole("number", reader.take("number", "1"))

@@ -1,4 +1,4 @@
-"""Lines of places as text (Google's encoded polyline): each number is a difference, in groups of five bits, the least first."""
+"""Lines as text, by Google's encoded polyline format: each number is a difference, in groups of five bits, the least significant first."""
 from __future__ import annotations
 
 import json
@@ -31,7 +31,7 @@ def texts(places: Floats, firsts: Integers, form: str) -> list[str]:
 
 
 def encoded(places: Floats, precision: int) -> str:
-    """The text of places (n, 2), longitude and latitude in degrees, with so many digits behind the point."""
+    """The text of places (n, 2), longitude and latitude in degrees, rounded to `precision` decimal digits."""
     return encoded_each(places, [0], precision)[0] if len(places) else ""
 
 
@@ -65,7 +65,7 @@ def letters(steps: Integers, cuts: Integers) -> list[str]:
 
 
 def decoded(text: str, precision: int, most: int) -> list[Point]:
-    """The places of a text, (longitude, latitude) in degrees. More than `most` are refused before they are read."""
+    """The places of a text, (longitude, latitude) in degrees. Refuses more than `most` before it reads them."""
     numbers: list[int] = []
     value = shift = 0
     for letter in text.encode("ascii"):

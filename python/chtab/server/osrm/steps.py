@@ -1,4 +1,4 @@
-"""Steps of legs as OSRM tells them: the maneuvers of each leg, with streets, lines and crossings, as texts of JSON.
+"""Steps of legs in OSRM's form: the maneuvers of each leg, with streets, lines and crossings, as texts of JSON.
 
 What is told of a crossing depends on it alone, and on how it is passed, so that its text is kept.
 """
@@ -22,13 +22,13 @@ if TYPE_CHECKING:
     from chtab.server.osrm.maneuvers import Passages
     from chtab.typing import Integers
 
-# Texts of crossings that are kept, some 200 bytes each.
+# How many texts of crossings are kept, of some 200 bytes each.
 MOST_TEXTS = 1 << 18
 # A passage of a crossing, as `rows_of` gives it.
 Row: TypeAlias = tuple[Any, ...]
 # What is known of a node, as `look_around` gives it.
 Around: TypeAlias = tuple[list[float], list[Any], list[Any], list[Any]]
-# What rings are called that have names of their own.
+# The types of maneuvers at rings with names of their own.
 ROTARIES = {ENTER: "rotary", EXIT: "exit rotary"}
 
 
@@ -52,7 +52,7 @@ class Step(NamedTuple):
 
 
 class Steps:
-    """Tells steps by the crossings of a network."""
+    """Makes steps from the crossings of a network."""
 
     def __init__(self, crossings: Crossings) -> None:
         self.known = crossings
@@ -142,13 +142,13 @@ class Steps:
         return found
 
     def text_of(self, step: Step, length: float, duration: float, line: str, mode: str) -> str:
-        """The text of a step, so many metres and seconds long."""
+        """The text of a step with this length in metres and duration in seconds."""
         mode = FERRY if self.streets[step.along].highway == FERRY else mode
         return f'{{"distance": {length}, "duration": {duration}, "weight": {duration}, {self.called[step.street]}{step.more}, "mode": "{mode}"{self.side}, ' \
             f'"geometry": {line}, "maneuver": {{{step.maneuver}}}, "intersections": [{", ".join(step.crossings)}]}}'
 
     def summary(self, steps: Sequence[Step], metres: Sequence[float]) -> str:
-        """The names or numbers of the two longest streets, in the order in which they are come to."""
+        """The names or numbers of the two longest streets, in their order on the leg."""
         lengths: dict[str, float] = {}
         for step, length in zip(steps, metres):
             street = self.streets[step.along]
@@ -167,8 +167,8 @@ class Steps:
         return text
 
     def look_around(self, nodes: Integers) -> dict[int, Around]:
-        """Where nodes lie, the directions of the ends that meet at each, clockwise from north, the ends, and whether the node may be left by each. They
-        are kept."""
+        """Where nodes lie, the directions of the ends that meet at each, clockwise from north, the ends, and whether the node may be left by each.
+        They are kept."""
         owners, ends = self.known.meeting(nodes)
         columns = self.known.leads[ends].tolist(), ends.tolist(), self.known.is_open(nodes[owners], ends).tolist()
         cuts = numpy.searchsorted(owners, numpy.arange(len(nodes) + 1)).tolist()

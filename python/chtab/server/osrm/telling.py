@@ -1,4 +1,4 @@
-"""Routes as OSRM tells them: `routes` with their legs, steps and annotations."""
+"""Routes in OSRM's form: `routes` with their legs, steps and annotations."""
 from __future__ import annotations
 
 import json
@@ -20,7 +20,7 @@ if TYPE_CHECKING:
 # A point of a simplified line is left out where it lies off the line by less than so much of the longer side of the route.
 COARSE = 1 / 1_000
 MILLISECONDS = 1_000
-# Where the durations of all arcs are from.
+# The source of all durations.
 METADATA = {"datasource_names": ["graph"]}
 
 
@@ -108,7 +108,7 @@ def annotation(legs: Legs, leg: int, trace: Trace | None, wanted: Sequence[str],
 
 
 def between(column: Any) -> list[Any]:
-    """The differences along a line. A line of one place is told as two."""
+    """The differences along a line. A line of a single place counts as two."""
     return (numpy.diff(column) if len(column) > 1 else column).tolist()
 
 

@@ -11,12 +11,12 @@ if TYPE_CHECKING:
     from chtab.typing import Point
 
 SERVICES = "route", "table", "nearest", "trip", "match"
-# A service that OSRM has besides.
+# A service of OSRM that isn't supported.
 OTHERS = ("tile",)
 VERSION = "v1"
 # What an address begins with that names the server too, as proxies send it.
 ABSOLUTE = re.compile("^https?://[^/?]*(?=/)", re.IGNORECASE)
-# No exponent, no NaN and no infinity, as OSRM reads numbers.
+# OSRM reads numbers without exponents, NaN and infinity.
 NUMBER = r"[+-]?(?:\d+(?:\.\d*)?|\.\d+)"
 COORDINATE = re.compile(f"({NUMBER}),({NUMBER})", re.ASCII)
 COORDINATES = re.compile(f"{NUMBER},{NUMBER}(?:;{NUMBER},{NUMBER})*", re.ASCII)
@@ -54,7 +54,7 @@ def words_of(target: str, most: int) -> Words:
 
 
 def coordinates_of(text: str, most: int) -> list[Point]:
-    """The coordinates of an address, at most so many: (longitude, latitude) in degrees."""
+    """The coordinates of an address, at most `most`: (longitude, latitude) in degrees."""
     line = POLYLINE.fullmatch(text)
     found = decoded(line[2], 6 if line[1] else 5, most) if line else listed(text, most)
     for index, (longitude, latitude) in enumerate(found):
