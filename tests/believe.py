@@ -6,7 +6,7 @@
 
 The clause `written` of `run_dist` is where the list starts. A definition of `crates/*/specs` belongs to it if the clause, or a definition
 of the list, mentions its name. The names of ROUTES are left out: they count only where routes are written. Those of SAVED count only where
-a hierarchy was saved.
+a hierarchy was saved or an order is given.
 
 It only reads files, and needs no built program. The last line is 'N passed, N failed'.
 """
@@ -19,7 +19,7 @@ from helpers.running import ROOT, Count
 PAGE = ROOT / "docs" / "BELIEVE.md"
 CONTRACT = ROOT / "crates/ch_run/src/run/dist.rt"
 ROUTES = {"IsRouteText", "IsOfRoutes", "LevelsAndLegs"}
-SAVED = {"source_reading", "ReadingIf", "NoInput", "OneInput", "AreChecked", "OrderAndLegs"}
+SAVED = {"source_reading", "SourceReading", "NoFile", "SavedFile", "OrderFile", "ComesFromFile", "AreChecked", "AreBuiltLike", "OrderAndLegs"}
 IMPORT = re.compile(r"^(?:ghost )?use Rattle\.([\w.]+)\.\{([^}]*)\};?$", re.MULTILINE)
 MODULE = re.compile(r"^use Rattle\.([\w.]+) as (\w+)$", re.MULTILINE)
 HEAD = re.compile(r"(?:unfoldable )?(?:abbrev )?pub (?:(?:record|data) )?(\w+)")

@@ -4,8 +4,8 @@
   files.py [COUNT [SEED]]
 
 COUNT runs, 2,000 where it is left out, are drawn from the seed: small files that are cut, doubled, swapped and mutated by
-lines and bytes, with huge numbers, without line feeds, with CR, NUL and bytes beyond ASCII; and saved hierarchies with legs that are
-left out, doubled or changed. For each the fault line and the status are compared, and where all files are accepted the text, by
+lines and bytes, with huge numbers, without line feeds, with CR, NUL and bytes beyond ASCII; saved hierarchies with legs that are
+left out, doubled or changed; and orders, with legs of other weights or without. For each the fault line and the status are compared, and where all files are accepted the text, by
 Dijkstra's algorithm. Then files of 50 and 100 MB are read, in
 linear time and bounded memory. The last line is 'N passed, N failed', where each run of the program is counted.
 """
@@ -36,10 +36,13 @@ KINDS = [
     (["table"], ["graph", "saved", "sources", "targets"]),
     (["near"], ["graph", "saved", "sources", "targets"]),
     (["near", "--all"], ["graph", "saved", "targets"]),
+    (["dist"], ["graph", "order", "queries"]),
+    (["table"], ["graph", "order", "sources", "targets"]),
+    (["near", "--all"], ["graph", "order", "targets"]),
 ]
 
-# The faults of files, those of saved hierarchies, and that none is found.
-HOW_MANY_FAULTS = 10 + 7 + 1
+# The faults of files, those of saved hierarchies, that of orders, and that none is found.
+HOW_MANY_FAULTS = 10 + 7 + 1 + 1
 
 # A graph of more nodes than this is not run where it is accepted: it would take long to prepare.
 MOST_NODES_RUN = 1000
@@ -59,6 +62,16 @@ def draw_sound(draw, name, nodes):
         numbers += [draw.randint(0, 9) for _ in range(part.size - part.node_count)]
         lines.append(b" ".join([part.letter, *(b"%d" % value for value in numbers)]))
     return with_comment(draw, lines)
+
+
+def draw_order(draw, graph):
+    """An order of the nodes of this graph: a saved hierarchy of other weights, or its nodes alone."""
+    nodes, (arcs,) = read("graph", graph)
+    if draw.random() < 0.5:
+        order = draw.sample(range(1, nodes + 1), nodes)
+        return with_comment(draw, saved_text_of(nodes, order, []).encode().splitlines())
+    lines = [b"p sp %d %d" % (nodes, len(arcs)), *(b"a %d %d %d" % (start, end, draw.randint(0, 9)) for start, end, _ in arcs)]
+    return draw_saved(draw, b"\n".join(lines) + b"\n")
 
 
 def draw_saved(draw, graph):
@@ -124,6 +137,9 @@ def swap_levels(draw, lines):
         lines[one], lines[other] = lines[other], lines[one]
 
 
+# How the files are drawn that are for one graph.
+DRAWN_FOR = {"saved": draw_saved, "order": draw_order}
+
 # Mutations of saved hierarchies that leave the grammar of their files alone.
 SAVED_MUTATIONS = list(map(with_lines, [drop_leg, double_leg, change_saved, change_saved, swap_levels]))
 
@@ -134,11 +150,12 @@ def draw_case(draw):
     nodes = draw.randint(0, 5)
     files = {}
     for name in names:
-        files[name] = draw_saved(draw, files["graph"]) if name == "saved" else draw_sound(draw, name, nodes)
+        files[name] = DRAWN_FOR[name](draw, files["graph"]) if name in DRAWN_FOR else draw_sound(draw, name, nodes)
     for _ in range(draw.choice([1, 1, 1, 2, 3])):
         name, mutations = draw.choice(names), MUTATIONS
-        if "saved" in files and draw.random() < 0.5:
-            name, mutations = "saved", SAVED_MUTATIONS
+        drawn = [each for each in files if each in DRAWN_FOR]
+        if drawn and draw.random() < 0.5:
+            name, mutations = drawn[0], SAVED_MUTATIONS
         files[name] = draw.choice(mutations)(draw, files[name])
     return words, files
 
@@ -175,6 +192,8 @@ def owed(words, files):
         word = check_fault(nodes, *items["graph"], *items["saved"]) if name == "saved" else None
         if word:
             return Answer(1, b"", f"chtab: saved hierarchy refused: {word}\n".encode()), word
+        if name == "order" and len({node for node, in items[name][0]}) < nodes:
+            return Answer(1, b"", b"chtab: order refused: a node occurs twice\n"), "a node occurs twice"
     return Answer(0, text_of(words, nodes, items).encode(), b""), "accepted"
 
 

@@ -10,6 +10,7 @@ and `dist --plain`. Distances are those of Dijkstra's algorithm over
 pairs of weight and number of arcs, each route is a walk of the graph of that weight and that number of arcs, and the one that the rules
 name, all runs of one kind write the same bytes, what is saved is the hierarchy that the rules name, and an independent checker finds no
 fault in it. A hierarchy that an independent program makes by an order of its own is accepted, and gives the same distances.
+With `--like`, that order and the hierarchy by it of other weights give the hierarchy that the rules name, and the same distances.
 
 The same holds by rounds, with 1, 2, 3, 4 and 64 workers and with pieces of 1 and 64 nodes. Workers share a job of building only if it has
 64 nodes, so a graph of up to 300 nodes is drawn for each tenth of the others. The last line is 'N passed, N failed', of graphs.
@@ -24,7 +25,7 @@ from helpers.running import Count, build, side_by_side
 from oracles.checking import first_fault
 from oracles.contracting import contract_in_order, text_of
 from oracles.reading import read
-from oracles.rules import hierarchy_text, routes_text
+from oracles.rules import hierarchy_text, routes_text, text_like
 
 # The words for each order of contraction.
 WORDS = {"difference": (), "depth": ("--deep",), "rounds": ("--rounds",)}
@@ -35,7 +36,12 @@ SHARES = [("--workers", str(workers), "--piece", str(piece)) for workers, piece 
 
 def check_saved(case, hops, order, text):
     """The text is that of the graph's hierarchy in this order, and an independent checker finds no fault in it. Gives the routes by it."""
-    assert text == hierarchy_text(case.nodes, case.arcs, hops, order), text
+    return check_text(case, text, hierarchy_text(case.nodes, case.arcs, hops, order))
+
+
+def check_text(case, text, wanted):
+    """The text of a saved hierarchy is this one, and an independent checker finds no fault in it. Gives the routes by it."""
+    assert text == wanted, text
     _, (order, legs) = read("saved", text.encode(), case.nodes)
     order = [node for node, in order]
     assert first_fault(case.nodes, case.arcs, order, legs) is None, text
@@ -78,12 +84,30 @@ def check_rounds(case, folder):
     assert check_runs(case, folder, "--saved", "saved.ch") == routes
 
 
+def check_like(case, folder):
+    """In an order like a given one, runs save the hierarchy that the rules name, and write the routes by it. The order is a list of nodes, or that
+    of a saved hierarchy of other weights."""
+    hops = case.hops[0]
+    legs_of_ones = contract_in_order(case.nodes, [(start, end, 1) for start, end, _ in case.arcs], case.order)
+    folder.save("order.ch", text_of(case.nodes, case.order, []))
+    folder.save("ones.ch", text_of(case.nodes, case.order, legs_of_ones))
+    fresh = [] if case.fresh == 5 else ["--fresh", str(case.fresh)]
+    wanted = text_like(case.nodes, case.arcs, hops, case.order, case.fresh)
+    texts = set()
+    for file, workers in ("order.ch", 1), ("ones.ch", 1), ("ones.ch", 3):
+        options = ["--like", file, *fresh, "--hops", str(hops), "--workers", str(workers), "--piece", "3"]
+        texts.add(check_text(case, folder.run("save", *options, "graph.gr"), wanted))
+        texts.add(check_runs(case, folder, *options))
+    assert len(texts) == 1, "routes are not those of the rules, or depend on the number of workers, or on the legs of the file"
+
+
 def check_wide_graph(seed):
     case = WideCase(seed)
     with tempfile.TemporaryDirectory() as kept:
         folder = Folder(kept)
         case.write(folder)
         check_rounds(case, folder)
+        check_like(case, folder)
 
 
 def check_graph(seed):
@@ -103,6 +127,7 @@ def check_graph(seed):
             texts.add((hops, saved, check_runs(case, folder, *options, "--saved", "saved.ch")))
         assert len(texts) == 2, "routes are not those of the rules, or depend on the number of workers, or on whether the hierarchy was saved"
         check_rounds(case, folder)
+        check_like(case, folder)
         own = contract_in_order(case.nodes, case.arcs, case.order)
         folder.save("own.ch", text_of(case.nodes, case.order, own))
         check_runs(case, folder, "--saved", "own.ch")

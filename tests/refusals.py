@@ -32,7 +32,7 @@ from itertools import count, pairwise
 from helpers.asking import answers_after, answers_of, requests_of
 from helpers.refusing import Refusing
 from helpers.running import PROGRAM, ROOT, SECONDS, Answer, Count, agrees, build, side_by_side, with_files
-from oracles.rules import hierarchy_text
+from oracles.rules import hierarchy_text, text_like
 
 # Requests on a line and on a star, each with its answer.
 LINE_ASKED = [(b"q 1 3\n", b"d 1 3 9\n"), (b"q 3 1\n", b"d 3 1 -\n"), (b"c\nt 2 2\ns 1\ns 3\n\ns 3\ns 2\n", b"t 1 9 4\nt 3 0 -\n"),
@@ -44,6 +44,8 @@ STAR_ASKED = [(b"q 3 4\n", b"d 3 4 2\nr 2\na 3 1 1\na 1 4 1\n"), (b"t 1 2\ns 3\n
 ASKED = {"line.txt": LINE_ASKED, "star.txt": STAR_ASKED}
 # 66 rings of three nodes each. Workers share a job of building only if it has 64 nodes, and here each round has one of each ring.
 RINGS = [(ring + place, ring + (place + 1) % 3, 1) for ring in range(1, 199, 3) for place in range(3)]
+# The arcs of a star.
+STAR = [(1, 2, 1), (2, 1, 1), (1, 3, 1), (3, 1, 1), (1, 4, 1), (4, 1, 1)]
 FILES = {
     **{name: requests_of(asked).decode() for name, asked in ASKED.items()},
     "line.gr": "p sp 3 2\na 1 2 4\na 2 3 5\n",
@@ -90,6 +92,10 @@ KINDS = {
     "a table by a saved hierarchy": (["table", "--saved", "line.ch", "line.gr", "from.ss", "to.ss"], Answer(0, LINE_TABLE, b"")),
     "near rows by a saved hierarchy": (["near", "--count", "1", "--saved", "line.ch", "line.gr", "from.ss", "to.ss"],
                                        Answer(0, LINE_NEAREST, b"")),
+    "a hierarchy like an order": (["save", "--like", "star.ch", "--fresh", "50", "star.gr"],
+                                  Answer(0, text_like(4, STAR, 5, [2, 1, 3, 4], 50).encode(), b"")),
+    "routes like an order by two workers": (["dist", "--routes", *TWO_WORKERS, "--like", "star.ch", "star.gr", "star.p2p"], Answer(0, STAR_ROUTES, b"")),
+    "a table like an order": (["table", "--like", "line.ch", "line.gr", "from.ss", "to.ss"], Answer(0, LINE_TABLE, b"")),
     "help": (["--help"], Answer(0, None, b"")),
     "refused words": (["dist", "--fast", "line.gr", "line.p2p"], Answer(2, b"", None)),
     "refused lists": (["near", "--all", "line.gr", "from.ss", "to.ss"], Answer(2, b"", None)),
@@ -98,6 +104,8 @@ KINDS = {
     "a refused hierarchy": (["dist", "--saved", "wrong.ch", "line.gr", "line.p2p"],
                             Answer(1, b"", b"chtab: saved hierarchy refused: lower\n")),
     "a missing hierarchy": (["dist", "--saved", "none.ch", "line.gr", "line.p2p"], Answer(3, b"", b"chtab: cannot read saved\n")),
+    "a refused order": (["dist", "--like", "star.ch", "line.gr", "line.p2p"], Answer(1, b"", b"chtab: order line 1: size too large\n")),
+    "a refused mix of orders": (["dist", "--like", "line.ch", "--deep", "line.gr", "line.p2p"], Answer(2, b"", None)),
     "a missing file": (["table", "line.gr", "from.ss", "none.ss"], Answer(3, b"", b"chtab: cannot read targets\n")),
 }
 
@@ -107,6 +115,7 @@ ASKS = {
     "requests by two workers": (["ask", *TWO_WORKERS, "line.gr"], LINE_ASKED),
     "requests by a saved hierarchy": (["ask", "--saved", "line.ch", "line.gr"], LINE_ASKED),
     "requests for routes": (["ask", "--routes", "star.gr"], STAR_ASKED),
+    "requests like an order": (["ask", "--like", "line.ch", "line.gr"], LINE_ASKED),
     "requests for routes by a saved hierarchy": (["ask", "--routes", "--saved", "star.ch", "star.gr"], STAR_ASKED),
 }
 
@@ -130,6 +139,12 @@ RUNS = {
     "routes by a saved hierarchy": (["dist", "--routes"], {"graph": "star.gr", "saved": "star.ch", "queries": "star.p2p"}, STAR_ROUTES),
     "a table by a saved hierarchy": (["table"], {"graph": "line.gr", "saved": "line.ch", "sources": "from.ss", "targets": "to.ss"},
                                      LINE_TABLE),
+    "a hierarchy like an order": (["save", "--fresh", "0"], {"graph": "star.gr", "order": "star.ch"}, text_like(4, STAR, 5, [2, 1, 3, 4], 0).encode()),
+    "a table like an order": (["table"], {"graph": "line.gr", "order": "line.ch", "sources": "from.ss", "targets": "to.ss"}, LINE_TABLE),
+    "near rows of all nodes like an order": (["near", "--count", "1", "--all"], {"graph": "line.gr", "order": "line.ch", "targets": "to.ss"},
+                                             LINE_NEAREST_OF_ALL),
+    "routes like an order": (["dist", "--routes"], {"graph": "star.gr", "order": "star.ch", "queries": "star.p2p"}, STAR_ROUTES),
+    "requests like an order": (["ask"], {"graph": "line.gr", "order": "line.ch", "requests": "line.txt"}, answers_of(LINE_ASKED)),
     "requests": (["ask"], {"graph": "line.gr", "requests": "line.txt"}, answers_of(LINE_ASKED)),
     "requests by a saved hierarchy": (["ask"], {"graph": "line.gr", "saved": "line.ch", "requests": "line.txt"}, answers_of(LINE_ASKED)),
     "requests for routes": (["ask", "--routes"], {"graph": "star.gr", "requests": "star.txt"}, answers_of(STAR_ASKED)),

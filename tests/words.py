@@ -31,6 +31,8 @@ FILES = {
     "rounds.gr": ROUNDS,
     "rounds.p2p": "p aux sp p2p 1\nq 4 1\n",
     "rounds.txt": "r 4 1\n",
+    "order.ch": "p ch 3 0\no 1\no 3\no 2\n",
+    "twice.ch": "p ch 3 0\no 1\no 3\no 1\n",
 }
 DISTANCES = "d 1 3 9\nd 3 1 -\n"
 ROUTES = "d 1 3 9\nr 2\na 1 2 4\na 2 3 5\nd 3 1 -\n"
@@ -49,6 +51,8 @@ SAVED_BY_DEPTH = "p ch 3 2\no 1\no 3\no 2\nl 1 2 4 1 0\nl 2 3 5 1 0\n"
 ONE_BY_ONE = "d 4 1 2\nr 2\na 4 3 1\na 3 1 1\n"
 BY_ROUNDS = "d 4 1 2\nr 2\na 4 2 1\na 2 1 1\n"
 SAVED_BY_ROUNDS = "p ch 4 6\no 3\no 2\no 1\no 4\nl 3 1 1 1 0\nl 4 3 1 1 0\nl 2 1 1 1 0\nl 4 2 1 1 0\nl 1 4 1 1 0\nl 4 1 2 2 2\n"
+# The same nodes one after the other, in that order.
+SAVED_IN_THAT_ORDER = "p ch 4 6\no 3\no 2\no 1\no 4\nl 3 1 1 1 0\nl 4 3 1 1 0\nl 2 1 1 1 0\nl 4 2 1 1 0\nl 1 4 1 1 0\nl 4 1 2 2 3\n"
 ASKED = "d 1 3 9\nt 2 5 -\n"
 ASKED_FOR_ROUTES = "d 1 3 9\nr 2\na 1 2 4\na 2 3 5\nt 2 5 -\n"
 
@@ -73,6 +77,12 @@ READ = [
     ("dist --rounds rounds.gr rounds.p2p", "d 4 1 2\n"),
     ("dist --rounds --plain line.gr --routes line.p2p", DISTANCES),
     ("dist --rounds --saved deep.ch rounds.gr --routes rounds.p2p", ONE_BY_ONE),
+    ("dist --like order.ch line.gr line.p2p", DISTANCES),
+    ("dist --routes --like first.ch ties.gr ties.p2p", BY_DIFFERENCE),
+    ("dist ties.gr --fresh 24 ties.p2p --like=first.ch --routes", BY_DIFFERENCE),
+    ("dist --routes --fresh=+100 --like first.ch ties.gr ties.p2p", BY_DEPTH),
+    ("dist --routes --like ties.ch --workers 64 --piece 1 --hops 16 ties.gr ties.p2p", BY_DEPTH),
+    ("dist --plain --like none.ch --fresh 7 line.gr line.p2p", DISTANCES),
     ("table line.gr from.ss to.ss", TABLE),
     ("table line.gr to.ss from.ss", "t 3 - 0\nt 2 - 5\n"),
     ("table --workers 2 line.gr --hops 1 from.ss to.ss --piece 1048576", TABLE),
@@ -82,6 +92,8 @@ READ = [
     ("table --within 1152921504606846976 line.gr from.ss to.ss", TABLE),
     ("table line.gr --within +004 from.ss to.ss", WITHIN_4),
     ("table line.gr --saved line.ch from.ss --within 0 to.ss", WITHIN_0),
+    ("table --like line.ch --within 8 line.gr from.ss to.ss", WITHIN_4),
+    ("table line.gr --fresh 0 from.ss to.ss --like line.ch", TABLE),
     ("near line.gr from.ss to.ss", NEAR),
     ("near line.gr to.ss from.ss", "n 3 1 3 0\nn 2 1 3 5\n"),
     ("near line.gr from.ss --from to.ss", NEAR_FROM),
@@ -96,12 +108,22 @@ READ = [
     ("near line.gr --all --saved=line.ch to.ss", NEAR_ALL),
     ("near --from --all line.gr to.ss", "n 1 0\nn 2 1 2 0\nn 3 2 3 0 2 5\n"),
     ("near --all line.gr -- from.ss", "n 1 2 1 0 3 9\nn 2 1 3 5\nn 3 1 3 0\n"),
+    ("near --like order.ch line.gr from.ss to.ss --from", NEAR_FROM),
+    ("near --all --like=line.ch line.gr to.ss --fresh 34", NEAR_ALL),
     ("save line.gr", SAVED),
     ("save line.gr --deep", SAVED_BY_DEPTH),
     ("save --workers 64 line.gr --piece 1 --hops 16", SAVED),
     ("save --rounds line.gr", SAVED_BY_DEPTH),
     ("save rounds.gr --rounds", SAVED_BY_ROUNDS),
     ("save --workers 64 rounds.gr --rounds --piece 1 --hops 16", SAVED_BY_ROUNDS),
+    ("save --like line.ch line.gr", SAVED),
+    ("save line.gr --like order.ch", SAVED_BY_DEPTH),
+    ("save --like line.ch --fresh 33 line.gr", SAVED),
+    ("save --fresh 100 line.gr --like line.ch", SAVED_BY_DEPTH),
+    ("save --like rounds.ch --fresh 0 --hops 1 --workers 2 rounds.gr", SAVED_IN_THAT_ORDER),
+    ("ask --like order.ch line.gr < requests.txt", ASKED),
+    ("ask --routes ties.gr --like first.ch < ties.txt", BY_DIFFERENCE),
+    ("ask --routes ties.gr --fresh 100 --like first.ch < ties.txt", BY_DEPTH),
     ("ask line.gr < requests.txt", ASKED),
     ("ask --saved line.ch line.gr --workers 2 --piece 3 < requests.txt", ASKED),
     ("ask --routes --within 5 --hops 1 line.gr < requests.txt", ASKED_FOR_ROUTES),
@@ -128,6 +150,14 @@ ELSEWHERE = [
     ("near --all line.gr line.p2p", 1, "chtab: targets line 1: bad problem line\n"),
     ("near --all --saved none.ch line.gr to.ss", 3, "chtab: cannot read saved\n"),
     ("near --all line.p2p none.ss", 3, "chtab: cannot read targets\n"),
+    ("dist line.gr line.p2p --like line.gr", 1, "chtab: order line 1: bad problem line\n"),
+    ("dist --like none.ch line.gr line.p2p", 3, "chtab: cannot read order\n"),
+    ("table --like twice.ch line.gr from.ss to.ss", 1, "chtab: order refused: a node occurs twice\n"),
+    ("near --all --like ties.ch line.gr to.ss", 1, "chtab: order line 1: size too large\n"),
+    ("save --like= line.gr", 3, "chtab: cannot read order\n"),
+    ("save --like order.ch line.p2p", 1, "chtab: graph line 1: bad problem line\n"),
+    ("ask --like twice.ch line.gr", 1, "chtab: order refused: a node occurs twice\n"),
+    ("dist --like twice.ch line.gr line.gr", 1, "chtab: order refused: a node occurs twice\n"),
     ("dist line.p2p none.p2p", 3, "chtab: cannot read queries\n"),
     ("table line.p2p from.ss none.ss", 3, "chtab: cannot read targets\n"),
 ]
@@ -142,6 +172,8 @@ NUMBERS = [
     ("--hops", "0", "0 is not in 1..=16"),
     ("--hops", "x", "invalid value 'x'"),
     ("--workers", "1.5", "invalid value '1.5'"),
+    ("--fresh", "101", "101 is not in 0..=100"),
+    ("--fresh", "x", "invalid value 'x'"),
 ]
 LIMITS = [
     ("--within=1152921504606846977", "1152921504606846977 is not in 0..=1152921504606846976"),
@@ -160,6 +192,12 @@ COUNTS = [
 
 # What is told where `near` has other lists than it reads.
 OTHER_LISTS = "SOURCES and TARGETS are needed, or with --all TARGETS alone"
+
+# What is told where an order is mixed with other options.
+WITH_SAVED = "error: the argument '--like' cannot be used with '--saved'\n"
+WITH_DEEP = "error: the argument '--like' cannot be used with '--deep'\n"
+WITH_ROUNDS = "error: the argument '--like' cannot be used with '--rounds'\n"
+FRESH_ALONE = "error: the argument '--fresh' cannot be used without '--like'\n"
 
 # What is told where both orders are given, the first of them first.
 DEEP_FIRST = "error: the argument '--deep' cannot be used with '--rounds'\n"
@@ -231,6 +269,28 @@ REFUSED = [
     ("ask g --deep --rounds", DEEP_FIRST),
     ("ask --rounds --deep g", ROUNDS_FIRST),
     ("ask --rounds --deep g", "\n\nUsage: chtab ask [OPTIONS] <GRAPH>\n"),
+    ("dist --like o --saved h g q", WITH_SAVED),
+    ("dist --saved h g q --like o --plain", WITH_SAVED),
+    ("dist --deep --like o g q", WITH_DEEP),
+    ("dist --like o --routes --rounds g q", WITH_ROUNDS),
+    ("dist --deep --like o --rounds g q", DEEP_FIRST),
+    ("dist --fresh 5 g q", FRESH_ALONE),
+    ("dist --fresh 5 --saved h g q", FRESH_ALONE),
+    ("dist --fresh 5 --saved h g q", "\n\nUsage: chtab dist [OPTIONS] <GRAPH> <QUERIES>\n"),
+    ("dist --like o --like o g q", "cannot be used multiple times"),
+    ("dist g q --like", "a value is required"),
+    ("table g --saved h --like o s t", WITH_SAVED),
+    ("table g s t --fresh 0", FRESH_ALONE),
+    ("table g s t --fresh 0", "\n\nUsage: chtab table [OPTIONS] <GRAPH> <SOURCES> <TARGETS>\n"),
+    ("near g --saved h --like o s t", WITH_SAVED),
+    ("near --all g --fresh 100 t", FRESH_ALONE),
+    ("near --all g --fresh 100 t", "Usage: chtab near [OPTIONS] <GRAPH> <SOURCES> <TARGETS>"),
+    ("save --like o --deep g", WITH_DEEP),
+    ("save --rounds --like o g", WITH_ROUNDS),
+    ("save g --fresh 1", FRESH_ALONE),
+    ("ask --like o --saved h g", WITH_SAVED),
+    ("ask --like o --deep g", WITH_DEEP),
+    ("ask g --rounds --like o", WITH_ROUNDS),
 ]
 
 # Words that ask for help, and parts of what it says.
@@ -245,7 +305,8 @@ HELPS = {
         "Usage: chtab dist [OPTIONS] <GRAPH> <QUERIES>", "`d S T X`", "--plain", "All other options but --progress then have no effect", "--routes",
         "--deep", "halves the time of building", "another may be written", "--rounds", "Cannot be combined with --deep", "--saved <FILE>",
         "`chtab save` or any other program wrote it", "refused, often by `saved line 1: size too large`",
-        "Options on how to build one then have no effect [default: none]", "--workers <N>", "no answer depends on N [default: 1]",
+        "Options on how to build one then have no effect [default: none]", "--like <FILE>", "less than half the time", "or only its lines `p` and `o`",
+        "Cannot be combined with --saved, --deep or --rounds [default: none]", "--fresh <P>", "from 0 to 100 [default: 5]", "--workers <N>", "no answer depends on N [default: 1]",
         "--piece <K>", "from 1 to 1048576 [default: 64]", "--hops <H>", "from 1 to 16 [default: 5]", "--progress",
         "Example: chtab dist --routes roads.gr pairs.p2p",
     ],
@@ -264,7 +325,7 @@ HELPS = {
     "save --help": [
         "Usage: chtab save [OPTIONS] <GRAPH>", "--deep", "halves the time of building", "--rounds", "Cannot be combined with --deep",
         "--workers <N>", "--piece <K>", "--hops <H>", "--progress", "chtab save --deep roads.gr >roads.ch",
-        "chtab save --rounds --workers 4 roads.gr >roads.ch",
+        "chtab save --rounds --workers 4 roads.gr >roads.ch", "--like <FILE>", "--fresh <P>", "chtab save --like roads.ch roads-at-noon.gr >roads-at-noon.ch",
     ],
     "ask --help": [
         "Usage: chtab ask [OPTIONS] <GRAPH>", "  q S T      the distance", "  r S T ", "  t K L [R]  ", "  p L K ", "  n S [R] ",
@@ -360,7 +421,9 @@ def main():
         folder = Path(place)
         for name, text in FILES.items():
             (folder / name).write_text(text)
-        (folder / "line.ch").write_text(SAVED)
+        for name, text in ("line.ch", SAVED), ("rounds.ch", SAVED_BY_ROUNDS):
+            (folder / name).write_text(text)
+        (folder / "first.ch").write_bytes(run(["save", "ties.gr"], folder).out)
         for name, graph in ("ties.ch", "ties.gr"), ("deep.ch", "rounds.gr"):
             (folder / name).write_bytes(run(["save", "--deep", graph], folder).out)
         for check in check_read, check_refused, check_help, check_version, check_full:

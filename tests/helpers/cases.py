@@ -47,6 +47,7 @@ class Case:
         self.order = draw.sample(range(1, self.nodes + 1), self.nodes)
         self.hops = draw.sample(range(1, 17), 2)
         self.count = draw.choice((1, 2, 3, 65_536))
+        self.fresh = draw.choice((0, 5, 100, draw.randint(0, 100)))
 
     def answers(self):
         """Each query with the least weight and the least number of arcs of a walk of that weight, or twice None where there is no walk."""

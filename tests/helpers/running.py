@@ -42,8 +42,9 @@ def agrees(answer, wanted):
 def with_files(words, files):
     """The words of a run over these files, each named by what it is to the program, in the order in which they are read. That of requests is
     no word: it comes to standard input."""
-    saved = ["--saved", files["saved"]] if "saved" in files else []
-    return [*words, *saved, *(file for which, file in files.items() if which not in ("saved", "requests"))]
+    options = {"saved": "--saved", "order": "--like"}
+    named = [word for which, option in options.items() if which in files for word in (option, files[which])]
+    return [*words, *named, *(file for which, file in files.items() if which not in (*options, "requests"))]
 
 
 def side_by_side(call, items):

@@ -21,6 +21,7 @@ FORMS = {
     "targets": Form([b"p", b"aux", b"sp", b"ss"], 1, [Part(b"s", 1, 1, 65_536)]),
     "saved": Form([b"p", b"ch"], 2, [Part(b"o", 1, 1, MOST_NODES), Part(b"l", 5, 2, MOST_LEGS)]),
 }
+FORMS["order"] = FORMS["saved"]
 
 # Past every limit. Longer numbers are taken for it, since to read them by their value takes long.
 HUGE = 10**40
@@ -95,7 +96,7 @@ def read(name, data, nodes=None):
             if name == "graph":
                 nodes = numbers[0]
             declared = numbers[-len(form.parts):]
-            is_other = name == "saved" and numbers[0] != nodes
+            is_other = name in ("saved", "order") and numbers[0] != nodes
             if is_other or nodes > MOST_NODES or any(count > part.most for count, part in zip(declared, form.parts)):
                 raise Fault(place, "size too large")
         elif found:

@@ -19,8 +19,8 @@ use Rattle.ch_run.proofs.Tells.{CountsCalls, CountsReads}
 use Rattle.ch_line.specs.declared.inputs.Asked.{Asked}
 use Rattle.ch_line.specs.declared.inputs.Inputs.{Inputs}
 use Rattle.ch_line.specs.Inputs.{AreRead, AreSame, AreSameAsked, RunsFor, RunsOver, TellsOver, input_if}
-use Rattle.ch_line.proofs.Read.{source-read, source-unread, sources-read}
-use Rattle.ch_line.proofs.Refused.{list-refused, none-refused, saved-refused}
+use Rattle.ch_line.proofs.Read.{source-read, sources-read}
+use Rattle.ch_line.proofs.Refused.{list-refused, source-refused}
 
 -- requests that were left alone counted no failed read
 none_counted : {J : Type 0} (failed : J → ℕ) (requests requests' : J) → requests' ≡ requests → CountsAtMostOne (failed requests) (failed requests')
@@ -41,7 +41,7 @@ module _ {I J O : Type 0} (gives : Calls I) (origin failed : I → ℕ) (counts 
       let read : AreRead origin failed r old new = (refl, record { same = same; once = e.queries.reads.once }, tt) in
       record {
         written = record { unasked = unasked; delivers = dist_delivers options _ _ _ _ _ takes output output' r went; unwritten = ⊎_map (λ still. still) (λ refused. refused.0) e.output.unwritten };
-        ends = record { own = e.own; graph_refused = e.graph.refused; saved_refused = saved-refused _ r _ _ _ _ e.source; asked_refused = e.queries.reads.refused };
+        ends = record { own = e.own; graph_refused = e.graph.refused; source_refused = source-refused _ r _ _ _ _ e.source; asked_refused = e.queries.reads.refused };
         read = (refl, record { same = same_graph; once = e.graph.once }, source-read gives origin failed r old new read _ source source' e.source same_source);
         requests_once = none_counted failed_requests requests requests' unasked;
         output_told = e.output.writes;
@@ -60,7 +60,7 @@ module _ {I J O : Type 0} (gives : Calls I) (origin failed : I → ℕ) (counts 
         ends = record {
           own = e.own;
           graph_refused = e.graph.refused;
-          saved_refused = saved-refused _ r _ _ _ _ e.source;
+          source_refused = source-refused _ r _ _ _ _ e.source;
           asked_refused = record { sources_refused = e.sources.reads.refused; targets_refused = e.targets.reads.refused; cells_refused = e.cells };
         };
         read = (refl, record { same = same_graph; once = e.graph.once }, source-read gives origin failed r old new read _ source source' e.source same_source);
@@ -82,7 +82,7 @@ module _ {I J O : Type 0} (gives : Calls I) (origin failed : I → ℕ) (counts 
         ends = record {
           own = e.own;
           graph_refused = e.graph.refused;
-          saved_refused = saved-refused _ r _ _ _ _ e.source;
+          source_refused = source-refused _ r _ _ _ _ e.source;
           asked_refused = record { sources_refused = list-refused _ _ _ _ r _ _ _ _ e.sources; targets_refused = e.targets.reads.refused };
         };
         read = (
@@ -94,13 +94,13 @@ module _ {I J O : Type 0} (gives : Calls I) (origin failed : I → ℕ) (counts 
         output_told = e.output.writes;
       }
 
-  save_told : RunsSave options (reading gives graph graph') takes output output' r → source' ≡ source → requests' ≡ requests → Tells Asked.Hierarchy Asked.Hierarchy
-  save_told went same unasked =
-      let e = save_tells options gives failed counts graph graph' takes failures idle counts_output output output' r went in
+  save_told : RunsSave options (reading gives graph graph') (source_reading gives source source') (source' ≡ source) takes output output' r → requests' ≡ requests → Tells Asked.Hierarchy Asked.Hierarchy
+  save_told went unasked =
+      let e = save_tells options gives failed counts graph graph' gives failed counts origin source source' takes failures idle counts_output output output' r same_source went in
       record {
-        written = record { unasked = unasked; delivers = save_delivers options _ takes output output' r went; unwritten = ⊎_map (λ still. still) (λ refused. refused.0) e.output.unwritten };
-        ends = record { own = e.own; graph_refused = e.graph.refused; saved_refused = none-refused _ _ r e.own; asked_refused = tt };
-        read = (refl, record { same = same_graph; once = e.graph.once }, rw same (source-unread origin failed r [] [] tt e.own source));
+        written = record { unasked = unasked; delivers = save_delivers options _ _ _ takes output output' r went; unwritten = ⊎_map (λ still. still) (λ refused. refused.0) e.output.unwritten };
+        ends = record { own = e.own; graph_refused = e.graph.refused; source_refused = source-refused _ r _ _ _ _ e.source; asked_refused = tt };
+        read = (refl, record { same = same_graph; once = e.graph.once }, source-read gives origin failed r [] [] tt _ source source' e.source same_source);
         requests_once = none_counted failed_requests requests requests' unasked;
         output_told = e.output.writes;
       }
@@ -110,7 +110,7 @@ module _ {I J O : Type 0} (gives : Calls I) (origin failed : I → ℕ) (counts 
       let e = ask_tells options gives failed counts graph graph' gives failed counts origin source source' gives_requests failed_requests counts_requests requests requests' takes failures idle counts_output output output' r same_source went in
       record {
         written = record { served = ask_served options _ _ _ _ _ takes output output' r went; device = e.requests.device };
-        ends = record { own = e.own; graph_refused = e.graph.refused; saved_refused = saved-refused _ r _ _ _ _ e.source; asked_refused = tt };
+        ends = record { own = e.own; graph_refused = e.graph.refused; source_refused = source-refused _ r _ _ _ _ e.source; asked_refused = tt };
         read = (refl, record { same = same_graph; once = e.graph.once }, source-read gives origin failed r [] [] tt _ source source' e.source same_source);
         requests_once = e.requests.once;
         output_told = e.output;
@@ -131,7 +131,7 @@ run_tells {I} gives origin failed counts gives_requests failed_requests counts_r
     at (Asked.Near from to) (Asked.Near from' to') still run =
         near_told gives origin failed counts gives_requests failed_requests counts_requests takes failures idle counts_output options old.graph new.graph old.source new.source requests requests' output output' r same.graph same.source from from' to to' still.0 still.1 run.0 run.1
     at Asked.Hierarchy Asked.Hierarchy still run =
-        save_told gives origin failed counts gives_requests failed_requests counts_requests takes failures idle counts_output options old.graph new.graph old.source new.source requests requests' output output' r same.graph same.source run.0 run.1 run.2
+        save_told gives origin failed counts gives_requests failed_requests counts_requests takes failures idle counts_output options old.graph new.graph old.source new.source requests requests' output output' r same.graph same.source run.0 run.1
     at Asked.Requests Asked.Requests still run =
         ask_told gives origin failed counts gives_requests failed_requests counts_requests takes failures idle counts_output options old.graph new.graph old.source new.source requests requests' output output' r same.graph same.source run
     at (Asked.Queries a) (Asked.Table d e) still run = absurd still

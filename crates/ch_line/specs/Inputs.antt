@@ -8,12 +8,13 @@ use Rattle.ch_run.specs.declared.fault.RunFault.{RunFault}
 use Rattle.ch_run.specs.declared.options.Options.{Options}
 use Rattle.ch_run.specs.Ask.{IsOfAsk, ServesBy}
 use Rattle.ch_run.specs.DistRun.{HasQueriesRefused, IsAnsweredBy, IsOfDist}
+use Rattle.ch_run.specs.declared.source.Source.{Source}
 use Rattle.ch_run.specs.NearRun.{HasNearTargetsRefused, IsNearBy, IsOfNear, listed_in, sources_failures, sources_origin, sources_reading}
-use Rattle.ch_run.specs.Run.{Delivers, IsGraphRefused, IsWrite, Reading, ReadsOnce, WritesOnce, reading, ReadingIf, NoInput, OneInput}
+use Rattle.ch_run.specs.Run.{Delivers, IsGraphRefused, IsWrite, Reading, ReadsOnce, WritesOnce, reading, ReadingIf, NoInput, OneInput, SourceReading, NoFile, SavedFile, OrderFile}
 use Rattle.ch_run.specs.Stories.{RunsAsk, RunsDist, RunsNear, RunsSave, RunsTable}
 use Rattle.ch_text.specs.Device.{CountsAtMostOne}
 use Rattle.ch_run.specs.SaveRun.{IsOfSave, IsSavedBy}
-use Rattle.ch_run.specs.Source.{HasCheckRefused, HasSavedRefused, IsOfLoading, saved_in, source_failures, source_origin, source_reading}
+use Rattle.ch_run.specs.Source.{HasCheckRefused, HasOrderRefused, HasSavedRefused, IsOfLoading, source_failures, source_origin, source_reading}
 use Rattle.ch_run.specs.TableRun.{HasCellsRefused, HasSourcesRefused, HasTargetsRefused, IsOfTable, IsTabledBy}
 use Rattle.ch_line.specs.declared.inputs.Asked.{Asked}
 use Rattle.ch_line.specs.declared.inputs.Inputs.{Inputs}
@@ -26,10 +27,10 @@ pub data Question : Type 1 where
   Hierarchy : Question
   Requests : Question
 
--- a question, with the readings of the graph and of a saved hierarchy, if there is one
+-- a question, with the readings of the graph and of the source of the hierarchy
 pub record Task : Type 1 where
   pub graph : Reading
-  pub saved : ReadingIf
+  pub source : SourceReading
   pub question : Question
 
 -- a question, if there is one
@@ -47,10 +48,10 @@ question_of gives Asked.Hierarchy Asked.Hierarchy = OneQuestion Hierarchy
 question_of gives Asked.Requests Asked.Requests = OneQuestion Requests
 question_of gives _ _ = NoQuestion
 
--- the task with this graph, this saved hierarchy and this question, if there is one, has P
-abbrev pub IfAsked : Reading → ReadingIf → QuestionIf → (Task → Type 0) → Type 0
-IfAsked graph saved NoQuestion P = ⊥
-IfAsked graph saved (OneQuestion question) P = P (record { graph = graph; saved = saved; question = question })
+-- the task with this graph, this source and this question, if there is one, has P
+abbrev pub IfAsked : Reading → SourceReading → QuestionIf → (Task → Type 0) → Type 0
+IfAsked graph source NoQuestion P = ⊥
+IfAsked graph source (OneQuestion question) P = P (record { graph = graph; source = source; question = question })
 
 -- the task that inputs are for, with what a run did with each of them, has P
 abbrev pub OfTask : {I : Type 0} → (gives : I → List ℕ → Result ℕ DeviceFault → I → Type 0) → (old new : Inputs I) → (Task → Type 0) → Type 0
@@ -71,64 +72,70 @@ pub record WritesAnswers {J O : Type 0} (IsBefore : RunFault → Type 0) (Serves
   pub device : (result ≡ Err (RunFault.Device Which.Requests)) ↔ (failed requests < failed requests')
 
 -- what the run for a question reads of the requests, and what it writes, with these options
-abbrev pub WritesFor : {J O : Type 0} → Options → Reading → ReadingIf → Question → (gives : J → List ℕ → Result ℕ DeviceFault → J → Type 0) → (failed : J → ℕ) → (takes : O → List ℕ → Result ℕ DeviceFault → O → Type 0) → (requests requests' : J) → (old new : O) → Result Unit RunFault → Type 0
-WritesFor options graph saved (Answers queries) gives failed = WritesText (IsAnsweredBy options graph saved queries)
-WritesFor options graph saved (Table sources targets) gives failed = WritesText (IsTabledBy options graph saved sources targets)
-WritesFor options graph saved (Near sources targets) gives failed = WritesText (IsNearBy options graph saved sources targets)
-WritesFor options graph saved Hierarchy gives failed = WritesText (IsSavedBy options graph)
-WritesFor options graph saved Requests gives failed = WritesAnswers (IsOfLoading saved) (ServesBy options graph saved) gives failed
+abbrev pub WritesFor : {J O : Type 0} → Options → Reading → SourceReading → Question → (gives : J → List ℕ → Result ℕ DeviceFault → J → Type 0) → (failed : J → ℕ) → (takes : O → List ℕ → Result ℕ DeviceFault → O → Type 0) → (requests requests' : J) → (old new : O) → Result Unit RunFault → Type 0
+WritesFor options graph source (Answers queries) gives failed = WritesText (IsAnsweredBy options graph source queries)
+WritesFor options graph source (Table sources targets) gives failed = WritesText (IsTabledBy options graph source sources targets)
+WritesFor options graph source (Near sources targets) gives failed = WritesText (IsNearBy options graph source sources targets)
+WritesFor options graph source Hierarchy gives failed = WritesText (IsSavedBy options graph source)
+WritesFor options graph source Requests gives failed = WritesAnswers (IsOfLoading source) (ServesBy options graph source) gives failed
 
 abbrev pub Writes : {J O : Type 0} → Options → Task → (gives : J → List ℕ → Result ℕ DeviceFault → J → Type 0) → (failed : J → ℕ) → (takes : O → List ℕ → Result ℕ DeviceFault → O → Type 0) → (requests requests' : J) → (old new : O) → Result Unit RunFault → Type 0
-Writes options task gives failed = WritesFor options task.graph task.saved task.question gives failed
+Writes options task gives failed = WritesFor options task.graph task.source task.question gives failed
 
 -- the faults that the run for a question can end in
-abbrev pub IsOwn : ReadingIf → Question → RunFault → Type 0
-IsOwn saved (Answers queries) = IsOfDist saved
-IsOwn saved (Table sources targets) = IsOfTable saved
-IsOwn saved (Near sources targets) = IsOfNear saved sources
-IsOwn saved Hierarchy = IsOfSave
-IsOwn saved Requests = IsOfAsk saved
+abbrev pub IsOwn : SourceReading → Question → RunFault → Type 0
+IsOwn source (Answers queries) = IsOfDist source
+IsOwn source (Table sources targets) = IsOfTable source
+IsOwn source (Near sources targets) = IsOfNear source sources
+IsOwn source Hierarchy = IsOfSave source
+IsOwn source Requests = IsOfAsk source
 
 -- a saved hierarchy is refused only for a fault of its lines, or for its first fault on the graph
 pub record RefusesHierarchy (graph saved : Reading) (result : Result Unit RunFault) : Type 0 where
   pub lines : (fault : ReadFault) → result ≡ Err (RunFault.Read Which.Saved fault) → HasSavedRefused graph saved fault
   pub check : (fault : CheckFault) → result ≡ Err (RunFault.Check fault) → HasCheckRefused graph saved fault
 
--- the same, if there is a saved hierarchy
-abbrev pub RefusesSaved : Reading → ReadingIf → Result Unit RunFault → Type 0
-RefusesSaved graph NoInput result = ⊤
-RefusesSaved graph (OneInput saved) result = RefusesHierarchy graph saved result
+-- an order is refused only for a fault of its lines, or if it does not have each node of the graph once
+pub record RefusesOrder (graph order : Reading) (result : Result Unit RunFault) : Type 0 where
+  pub lines : (fault : ReadFault) → result ≡ Err (RunFault.Read Which.Order fault) → HasSavedRefused graph order fault
+  pub nodes : result ≡ Err RunFault.Order → HasOrderRefused graph order
+
+-- the source of a hierarchy is refused only for a fault that it has
+abbrev pub RefusesSource : Reading → SourceReading → Result Unit RunFault → Type 0
+RefusesSource graph NoFile result = ⊤
+RefusesSource graph (SavedFile saved) result = RefusesHierarchy graph saved result
+RefusesSource graph (OrderFile order fresh hops) result = RefusesOrder graph order result
 
 -- the lists of a table are refused only for faults that they have
-pub record RefusesTable (graph : Reading) (saved : ReadingIf) (sources targets : Reading) (result : Result Unit RunFault) : Type 0 where
-  pub sources_refused : (fault : ReadFault) → result ≡ Err (RunFault.Read Which.Sources fault) → HasSourcesRefused graph saved sources fault
-  pub targets_refused : (fault : ReadFault) → result ≡ Err (RunFault.Read Which.Targets fault) → HasTargetsRefused graph saved sources targets fault
-  pub cells_refused : result ≡ Err RunFault.Cells → HasCellsRefused graph saved sources targets
+pub record RefusesTable (graph : Reading) (source : SourceReading) (sources targets : Reading) (result : Result Unit RunFault) : Type 0 where
+  pub sources_refused : (fault : ReadFault) → result ≡ Err (RunFault.Read Which.Sources fault) → HasSourcesRefused graph source sources fault
+  pub targets_refused : (fault : ReadFault) → result ≡ Err (RunFault.Read Which.Targets fault) → HasTargetsRefused graph source sources targets fault
+  pub cells_refused : result ≡ Err RunFault.Cells → HasCellsRefused graph source sources targets
 
 -- a list of sources is refused only for a fault that it has, if one is read
-abbrev pub RefusesSources : Reading → ReadingIf → ReadingIf → Result Unit RunFault → Type 0
-RefusesSources graph saved NoInput result = ⊤
-RefusesSources graph saved (OneInput sources) result = (fault : ReadFault) → result ≡ Err (RunFault.Read Which.Sources fault) → HasSourcesRefused graph saved sources fault
+abbrev pub RefusesSources : Reading → SourceReading → ReadingIf → Result Unit RunFault → Type 0
+RefusesSources graph source NoInput result = ⊤
+RefusesSources graph source (OneInput sources) result = (fault : ReadFault) → result ≡ Err (RunFault.Read Which.Sources fault) → HasSourcesRefused graph source sources fault
 
 -- the lists of near rows are refused only for faults that they have
-pub record RefusesNear (graph : Reading) (saved sources : ReadingIf) (targets : Reading) (result : Result Unit RunFault) : Type 0 where
-  pub sources_refused : RefusesSources graph saved sources result
-  pub targets_refused : (fault : ReadFault) → result ≡ Err (RunFault.Read Which.Targets fault) → HasNearTargetsRefused graph saved sources targets fault
+pub record RefusesNear (graph : Reading) (source : SourceReading) (sources : ReadingIf) (targets : Reading) (result : Result Unit RunFault) : Type 0 where
+  pub sources_refused : RefusesSources graph source sources result
+  pub targets_refused : (fault : ReadFault) → result ≡ Err (RunFault.Read Which.Targets fault) → HasNearTargetsRefused graph source sources targets fault
 
 -- the files of a question are refused only for faults that they have. For refused requests, see `Serves`
-abbrev pub RefusesAsked : Reading → ReadingIf → Question → Result Unit RunFault → Type 0
-RefusesAsked graph saved (Answers queries) result = (fault : ReadFault) → result ≡ Err (RunFault.Read Which.Queries fault) → HasQueriesRefused graph saved queries fault
-RefusesAsked graph saved (Table sources targets) result = RefusesTable graph saved sources targets result
-RefusesAsked graph saved (Near sources targets) result = RefusesNear graph saved sources targets result
-RefusesAsked graph saved Hierarchy result = ⊤
-RefusesAsked graph saved Requests result = ⊤
+abbrev pub RefusesAsked : Reading → SourceReading → Question → Result Unit RunFault → Type 0
+RefusesAsked graph source (Answers queries) result = (fault : ReadFault) → result ≡ Err (RunFault.Read Which.Queries fault) → HasQueriesRefused graph source queries fault
+RefusesAsked graph source (Table sources targets) result = RefusesTable graph source sources targets result
+RefusesAsked graph source (Near sources targets) result = RefusesNear graph source sources targets result
+RefusesAsked graph source Hierarchy result = ⊤
+RefusesAsked graph source Requests result = ⊤
 
 -- the run for a task ends in a fault of its own, and refuses a file only for a fault of this file
 pub record EndsFor (task : Task) (result : Result Unit RunFault) : Type 0 where
-  pub own : IfErr result (IsOwn task.saved task.question)
+  pub own : IfErr result (IsOwn task.source task.question)
   pub graph_refused : (fault : ReadFault) → result ≡ Err (RunFault.Read Which.Graph fault) → IsGraphRefused task.graph fault
-  pub saved_refused : RefusesSaved task.graph task.saved result
-  pub asked_refused : RefusesAsked task.graph task.saved task.question result
+  pub source_refused : RefusesSource task.graph task.source result
+  pub asked_refused : RefusesAsked task.graph task.source task.question result
 
 -- no read of a file of the question has failed
 abbrev pub AreFreshAsked : {I : Type 0} → (I → ℕ) → Asked I → Type 0
@@ -149,6 +156,12 @@ abbrev pub input_if : {I : Type 0} → Which → Option I → List (Which × I)
 input_if which None = []
 input_if which (Some input) = (which, input) ∷ []
 
+-- the input that is read for the hierarchy, and which input it is, or nothing if there is none
+abbrev pub source_inputs : {I : Type 0} → Source I → List (Which × I)
+source_inputs Source.Built = []
+source_inputs (Source.Saved input) = (Which.Saved, input) ∷ []
+source_inputs (Source.Like order fresh hops) = (Which.Order, order) ∷ []
+
 -- the inputs of a question, each with which input it is, in the order in which the run opens them
 abbrev pub asked_inputs : {I : Type 0} → Asked I → List (Which × I)
 asked_inputs (Asked.Queries queries) = (Which.Queries, queries) ∷ []
@@ -159,7 +172,7 @@ asked_inputs Asked.Requests = []
 
 -- all inputs of a line, in the order in which the run opens them
 abbrev pub inputs_in : {I : Type 0} → Inputs I → List (Which × I)
-inputs_in inputs = ((Which.Graph, inputs.graph) ∷ input_if Which.Saved (saved_in inputs.source)) ++ asked_inputs inputs.asked
+inputs_in inputs = ((Which.Graph, inputs.graph) ∷ source_inputs inputs.source) ++ asked_inputs inputs.asked
 
 -- the input is still the same one. The run reports a failed read of it exactly if there was one, and does not try it again
 pub record IsRead {I : Type 0} (origin failed : I → ℕ) (result : Result Unit RunFault) (which : Which) (old new : I) : Type 0 where
@@ -174,20 +187,20 @@ AreRead origin failed result (old ∷ olds) [] = ⊥
 AreRead origin failed result (old ∷ olds) (new ∷ news) = (new.0 ≡ old.0) × IsRead origin failed result old.0 old.1 new.1 × AreRead origin failed result olds news
 
 -- the run that answers a question about a graph, over the inputs of the question: they are `old` before it and `new` after it. It reads no
--- requests, unless it answers them. `same_saved` says that the saved hierarchy is as it was
-abbrev pub RunsFor : {I J O : Type 0} → Options → (graph : Reading) → (saved : ReadingIf) → (same_saved : Type 0) → (gives : I → List ℕ → Result ℕ DeviceFault → I → Type 0) → (old new : Asked I)
+-- requests, unless it answers them. `same_source` says that the source of the hierarchy is as it was
+abbrev pub RunsFor : {I J O : Type 0} → Options → (graph : Reading) → (source : SourceReading) → (same_source : Type 0) → (gives : I → List ℕ → Result ℕ DeviceFault → I → Type 0) → (old new : Asked I)
     → (gives_requests : J → List ℕ → Result ℕ DeviceFault → J → Type 0) → (requests requests' : J) → (takes : O → List ℕ → Result ℕ DeviceFault → O → Type 0) → (output output' : O) → Result Unit RunFault → Type 0
-RunsFor options graph saved same_saved gives (Asked.Queries old) (Asked.Queries new) gives_requests requests requests' takes output output' result =
-    RunsDist options graph saved (reading gives old new) same_saved (new ≡ old) takes output output' result × (requests' ≡ requests)
-RunsFor options graph saved same_saved gives (Asked.Table sources targets) (Asked.Table sources' targets') gives_requests requests requests' takes output output' result =
-    RunsTable options graph saved (reading gives sources sources') (reading gives targets targets') same_saved (sources' ≡ sources) (targets' ≡ targets) takes output output' result × (requests' ≡ requests)
-RunsFor options graph saved same_saved gives (Asked.Near sources targets) (Asked.Near sources' targets') gives_requests requests requests' takes output output' result =
-    RunsNear options graph saved (sources_reading gives sources sources') (reading gives targets targets') same_saved (sources' ≡ sources) (targets' ≡ targets) takes output output' result × (requests' ≡ requests)
-RunsFor options graph saved same_saved gives Asked.Hierarchy Asked.Hierarchy gives_requests requests requests' takes output output' result =
-    RunsSave options graph takes output output' result × same_saved × (requests' ≡ requests)
-RunsFor options graph saved same_saved gives Asked.Requests Asked.Requests gives_requests requests requests' takes output output' result =
-    RunsAsk options graph saved (reading gives_requests requests requests') same_saved (requests' ≡ requests) takes output output' result
-RunsFor options graph saved same_saved gives _ _ gives_requests requests requests' takes output output' result = ⊥
+RunsFor options graph source same_source gives (Asked.Queries old) (Asked.Queries new) gives_requests requests requests' takes output output' result =
+    RunsDist options graph source (reading gives old new) same_source (new ≡ old) takes output output' result × (requests' ≡ requests)
+RunsFor options graph source same_source gives (Asked.Table sources targets) (Asked.Table sources' targets') gives_requests requests requests' takes output output' result =
+    RunsTable options graph source (reading gives sources sources') (reading gives targets targets') same_source (sources' ≡ sources) (targets' ≡ targets) takes output output' result × (requests' ≡ requests)
+RunsFor options graph source same_source gives (Asked.Near sources targets) (Asked.Near sources' targets') gives_requests requests requests' takes output output' result =
+    RunsNear options graph source (sources_reading gives sources sources') (reading gives targets targets') same_source (sources' ≡ sources) (targets' ≡ targets) takes output output' result × (requests' ≡ requests)
+RunsFor options graph source same_source gives Asked.Hierarchy Asked.Hierarchy gives_requests requests requests' takes output output' result =
+    RunsSave options graph source same_source takes output output' result × (requests' ≡ requests)
+RunsFor options graph source same_source gives Asked.Requests Asked.Requests gives_requests requests requests' takes output output' result =
+    RunsAsk options graph source (reading gives_requests requests requests') same_source (requests' ≡ requests) takes output output' result
+RunsFor options graph source same_source gives _ _ gives_requests requests requests' takes output output' result = ⊥
 
 -- the story of the run that these inputs are for: they are `old` before it and `new` after it
 abbrev pub RunsOver : {I J O : Type 0} → Options → (gives : I → List ℕ → Result ℕ DeviceFault → I → Type 0) → (old new : Inputs I)

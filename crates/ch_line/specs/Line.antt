@@ -14,6 +14,7 @@ use Rattle.ch_words.specs.declared.line.Order.{Order}
 use Rattle.ch_words.specs.declared.line.Tool.{Tool}
 use Rattle.ch_line.specs.declared.files.OpenFault.{OpenFault}
 use Rattle.ch_text.specs.declared.device.DeviceFault.{DeviceFault}
+use Rattle.ch_run.specs.declared.source.Source.{Source}
 use Rattle.ch_run.specs.declared.sources.Sources.{Sources}
 use Rattle.ch_line.specs.declared.inputs.Asked.{Asked}
 use Rattle.ch_line.specs.declared.inputs.Inputs.{Inputs}
@@ -42,6 +43,10 @@ options_for choices = record {
 abbrev pub saved_name : Line → Option (List ℕ)
 saved_name line = option_map string_bytes line.saved
 
+-- the name of the order, if there is one
+abbrev pub order_name : Line → Option (List ℕ)
+order_name line = option_map string_bytes line.like
+
 -- the name of the graph of a tool
 abbrev pub graph_name : Tool → List ℕ
 graph_name (Tool.Dist graph queries) = string_bytes graph
@@ -64,10 +69,17 @@ saved_for (Tool.Ask graph) saved = saved
 abbrev pub File : Type 0
 File = Which × List ℕ
 
--- the file of a saved hierarchy, if there is one
-abbrev pub saved_files : Option (List ℕ) → List File
-saved_files None = []
-saved_files (Some saved) = (Which.Saved, saved) ∷ []
+-- the file that is read for the hierarchy, if there is one: that of a saved hierarchy, or else that of an order
+abbrev pub source_files : (saved order : Option (List ℕ)) → List File
+source_files (Some saved) order = (Which.Saved, saved) ∷ []
+source_files None (Some order) = (Which.Order, order) ∷ []
+source_files None None = []
+
+-- an order is used with the per cent and the bound on the legs of a witness that the words choose
+abbrev pub IsUsedWith : {I : Type 0} → Choices → Source I → Type 0
+IsUsedWith choices Source.Built = ⊤
+IsUsedWith choices (Source.Saved input) = ⊤
+IsUsedWith choices (Source.Like order fresh hops) = (fresh ≡ choices.fresh) × (hops ≡ choices.hops)
 
 -- the files of a list of sources and a list of targets
 abbrev pub list_files : List ℕ → List ℕ → List File
@@ -82,13 +94,13 @@ asked_files (Tool.NearAll graph targets) = (Which.Targets, string_bytes targets)
 asked_files (Tool.Save graph) = []
 asked_files (Tool.Ask graph) = []
 
--- the files that a tool opens, in order: the graph, the saved hierarchy if it reads one, and the files of its question
-abbrev pub tool_files : Tool → Option (List ℕ) → List File
-tool_files tool saved = ((Which.Graph, graph_name tool) ∷ saved_files (saved_for tool saved)) ++ asked_files tool
+-- the files that a tool opens, in order: the graph, the file for its hierarchy if it reads one, and the files of its question
+abbrev pub tool_files : Tool → (saved order : Option (List ℕ)) → List File
+tool_files tool saved order = ((Which.Graph, graph_name tool) ∷ source_files (saved_for tool saved) order) ++ asked_files tool
 
 -- the files that the run of a line opens, in order
 abbrev pub line_files : Line → List File
-line_files line = tool_files line.tool (saved_name line)
+line_files line = tool_files line.tool (saved_name line) (order_name line)
 
 -- a file of this state may exist
 abbrev pub MayBeThere : FileState → Type 0
@@ -179,7 +191,7 @@ abbrev pub RunsLine : {F I J O : Type 0} → (opens : F → List ℕ → Result 
     → Line → (files files' : F) → (requests requests' : J) → (old new : O) → Result Unit RunFault → Type 0
 RunsLine {F} {I} opens closes gives origin gives_requests takes line files files' requests requests' old new result =
     (IsErrAnd result (StopsOpening opens (line_files line) files files') × (requests' ≡ requests) × (new ≡ old))
-    ⊎ ((opened left : Inputs I) × (mid : F) × AreOpened opens (line_files line) (inputs_in opened) files mid × Asks line.tool opened.asked
+    ⊎ ((opened left : Inputs I) × (mid : F) × AreOpened opens (line_files line) (inputs_in opened) files mid × Asks line.tool opened.asked × IsUsedWith line.choices opened.source
     × RunsOver (options_for line.choices) gives opened left gives_requests requests requests' takes old new result × AreSame origin opened left
     × AreClosed closes (inputs_in left) mid files')
 

@@ -3,7 +3,7 @@
 ghost use Rattle.std.specs.Prelude.{◌≡◌};
 ghost use Rattle.ch_words.specs.Line.{IsAllowed};
 ghost use Rattle.ch_line.specs.Inputs.{AreSame, RunsOver};
-ghost use Rattle.ch_line.specs.Line.{options_for};
+ghost use Rattle.ch_line.specs.Line.{IsUsedWith, options_for};
 
 use crate::run::options_of;
 use ch_run::{
@@ -13,7 +13,7 @@ use ch_run::{
 use ch_words::Line;
 use std::thread::Threads;
 
-/// The opened files of a line: the graph, a saved hierarchy if there is one, and the files of the question.
+/// The opened files of a line: the graph, a saved hierarchy or an order if there is one, and the files of the question.
 #[derive(Drop)]
 pub struct Inputs<I: Drop> {
     pub graph: I,
@@ -30,7 +30,7 @@ pub enum Asked<I: Drop> {
     Table { sources: I, targets: I },
     /// The near rows of these lists.
     Near { sources: Sources<I>, targets: I },
-    /// The hierarchy of the graph. The run builds it, even if a saved one is given.
+    /// The text of the hierarchy.
     Hierarchy,
     /// The answers to the requests.
     Requests,
@@ -50,6 +50,7 @@ pub fn run_inputs<R: Threads + Sync, I: Input + Drop, J: Input, O: Output, G: Ga
 ) -> Result<(), RunFault>
     requires plan { crew.now.plan ≡ line.now.plan }
     requires allowed { IsAllowed line.now }
+    requires source { IsUsedWith line.now.choices inputs.old.source }
 
     // The story of the run, with the options of the line.
     ensures went { RunsOver (options_for line.now.choices) I.read_gives inputs.old inputs.new J.read_gives requests.old requests.new O.write_gives output.old output.new result }
@@ -70,7 +71,7 @@ pub fn run_inputs<R: Threads + Sync, I: Input + Drop, J: Input, O: Output, G: Ga
             sources: from,
             targets: to,
         } => run_near(crew, graph, source, from, to, output, options),
-        Asked::Hierarchy => run_save(crew, graph, output, options),
+        Asked::Hierarchy => run_save(crew, graph, source, output, options),
         Asked::Requests => run_ask(crew, graph, source, requests, output, options),
     }
 }

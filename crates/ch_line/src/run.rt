@@ -4,10 +4,10 @@ ghost use Rattle.std.specs.Prelude.{◌≡◌, ◌∷◌, [], Ok, IfErr, IfOk, o
 ghost use Rattle.ch_text.specs.Device.{CountsAtMostOne};
 ghost use Rattle.ch_run.specs.NearRun.{listed_in};
 ghost use Rattle.ch_run.specs.Run.{WritesOnce};
-ghost use Rattle.ch_run.specs.Source.{saved_in, source_failures};
+ghost use Rattle.ch_run.specs.Source.{source_failures};
 ghost use Rattle.ch_words.specs.Line.{IsAllowed};
-ghost use Rattle.ch_line.specs.Inputs.{AreFresh, AreFreshAsked, asked_inputs, input_if, inputs_in};
-ghost use Rattle.ch_line.specs.Line.{AreClosed, AreOpened, Asks, IsRefused, RunsLine, StopsOpening, asked_files, graph_name, line_files, list_files, options_for, order_for, saved_files, saved_for, saved_name};
+ghost use Rattle.ch_line.specs.Inputs.{AreFresh, AreFreshAsked, asked_inputs, input_if, inputs_in, source_inputs};
+ghost use Rattle.ch_line.specs.Line.{AreClosed, AreOpened, Asks, IsRefused, IsUsedWith, RunsLine, StopsOpening, asked_files, graph_name, line_files, list_files, options_for, order_for, order_name, saved_for, saved_name, source_files};
 
 use crate::files::{Files, OpenFault};
 use crate::inputs::{Asked, Inputs, run_inputs};
@@ -85,19 +85,20 @@ fn order_by(order: Order) -> OrderBy
     }
 }
 
-/// Opens the files of a line. The graph comes first, then the saved hierarchy if there is one, and then the
-/// other files in the order of the arguments.
+/// Opens the files of a line. The graph comes first, then the saved hierarchy or the order if there is one, and then
+/// the other files in the order of the arguments.
 ///
 /// # Errors
 /// `Device` of the first file that can't be opened, or `Memory`.
 pub fn open_inputs<F: Files>(files: &mut F, line: &Line) -> Result<Inputs<F::Input>, RunFault>
     ensures fresh { IfOk result (AreFresh F.Input.failed) }
     ensures asks { IfOk result (λ inputs. Asks line.now.tool inputs.asked) }
+    ensures source { IfOk result (λ inputs. IsUsedWith line.now.choices inputs.source) }
     ensures opened { IfOk result (λ inputs. AreOpened F.opens (line_files line.now) (inputs_in inputs) files.old files.new) }
     ensures stopped { IfErr result (StopsOpening F.opens (line_files line.now) files.old files.new) }
 {
     let graph = open_input(files, graph_of(&line.tool), Which::Graph)?;
-    let source = open_source(files, saved_of(line))?;
+    let source = open_source(files, saved_of(line), order_of(line), &line.choices)?;
     let asked = open_asked(files, &line.tool)?;
     Ok(Inputs {
         graph,
@@ -130,16 +131,39 @@ fn saved_of(line: &Line) -> Option<&str>
     }
 }
 
-/// Opens a saved hierarchy, if one is named.
-fn open_source<F: Files>(files: &mut F, saved: Option<&str>) -> Result<Source<F::Input>, RunFault>
-    ensures fresh { IfOk result (λ source. source_failures F.Input.failed source ≡ 0) }
-    ensures opened { IfOk result (λ source. AreOpened F.opens (saved_files (option_map (λ name. name.now) saved.entry)) (input_if Which.Saved (saved_in source)) files.old files.new) }
-    ensures stopped { IfErr result (StopsOpening F.opens (saved_files (option_map (λ name. name.now) saved.entry)) files.old files.new) }
+/// Returns the name of the order like which the run of a line builds its hierarchy, if it names one.
+fn order_of(line: &Line) -> Option<&str>
+    ensures { option_map (λ name. name.now) result ≡ order_name line.now }
 {
-    match saved {
-        Some(name) => Ok(Source::Saved(open_input(files, name, Which::Saved)?)),
-        None => Ok(Source::Built),
+    match &line.like {
+        Some(name) => Some(name.as_str()),
+        None => None,
     }
+}
+
+/// Opens a saved hierarchy if one is named, or else an order if one is named.
+fn open_source<F: Files>(
+    files: &mut F,
+    saved: Option<&str>,
+    order: Option<&str>,
+    choices: &Choices,
+) -> Result<Source<F::Input>, RunFault>
+    ensures fresh { IfOk result (λ source. source_failures F.Input.failed source ≡ 0) }
+    ensures used { IfOk result (IsUsedWith choices.now) }
+    ensures opened { IfOk result (λ source. AreOpened F.opens (source_files (option_map (λ name. name.now) saved.entry) (option_map (λ name. name.now) order.entry)) (source_inputs source) files.old files.new) }
+    ensures stopped { IfErr result (StopsOpening F.opens (source_files (option_map (λ name. name.now) saved.entry) (option_map (λ name. name.now) order.entry)) files.old files.new) }
+{
+    if let Some(name) = saved {
+        return Ok(Source::Saved(open_input(files, name, Which::Saved)?));
+    }
+    let Some(name) = order else {
+        return Ok(Source::Built);
+    };
+    Ok(Source::Like {
+        order: open_input(files, name, Which::Order)?,
+        fresh: choices.fresh,
+        hops: choices.hops,
+    })
 }
 
 /// Opens the files of a tool's question, in the order of the arguments.
@@ -232,12 +256,13 @@ fn close_inputs<F: Files>(files: &mut F, inputs: Inputs<F::Input>)
     close_asked(files, asked);
 }
 
-/// Closes a saved hierarchy, if there is one.
+/// Closes a saved hierarchy or an order, if there is one.
 fn close_source<F: Files>(files: &mut F, source: Source<F::Input>)
-    ensures { AreClosed F.closes (input_if Which.Saved (saved_in source)) files.old files.new }
+    ensures { AreClosed F.closes (source_inputs source) files.old files.new }
 {
     match source {
         Source::Saved(saved) => files.close(saved),
+        Source::Like { order, .. } => files.close(order),
         Source::Built => {}
     }
 }

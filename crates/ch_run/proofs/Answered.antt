@@ -120,6 +120,7 @@ module _ (IsTextOf : TextOf) {S : Type 0} (gives : S → List ℕ → Result ℕ
   written_answers places old new before after requests text (Err (RunFault.Write count)) is h = (requests, [], text, h.0, sym (append-nil requests), is, h.1, h.2)
   written_answers places old new before after requests text (Err RunFault.Memory) is h = absurd h
   written_answers places old new before after requests text (Err RunFault.Cells) is h = absurd h
+  written_answers places old new before after requests text (Err RunFault.Order) is h = absurd h
   written_answers places old new before after requests text (Err (RunFault.CellsAt line)) is h = absurd h
   written_answers places old new before after requests text (Err (RunFault.Device which)) is h = absurd h
   written_answers places old new before after requests text (Err (RunFault.Read which f)) is h = absurd h
@@ -130,6 +131,7 @@ module _ (IsTextOf : TextOf) {S : Type 0} (gives : S → List ℕ → Result ℕ
   more_own T old new before after text (RunFault.Write count) h = inl tt
   more_own T old new before after text RunFault.Memory h = absurd h
   more_own T old new before after text RunFault.Cells h = absurd h
+  more_own T old new before after text RunFault.Order h = absurd h
   more_own T old new before after text (RunFault.CellsAt line) h = absurd h
   more_own T old new before after text (RunFault.Device which) h = absurd h
   more_own T old new before after text (RunFault.Read which f) h = absurd h
@@ -149,6 +151,7 @@ module _ (IsTextOf : TextOf) {S : Type 0} (gives : S → List ℕ → Result ℕ
   answers_front places old new before after xs ys (RunFault.Write count) own h =
       (h.0, h.1 ++ ys, h.2, h.3, ap (λ zs. zs ++ ys) h.4 ∙ append_assoc h.0 h.1 ys, h.5, h.6, h.7)
   answers_front places old new before after xs ys RunFault.Cells own h = absurd h
+  answers_front places old new before after xs ys RunFault.Order own h = absurd h
   answers_front places old new before after xs ys (RunFault.CellsAt line) own h = not_own line own
     where
       not_own : {X : Type 0} (line : ℕ) → IsOfAnswering (RunFault.CellsAt line) → X
@@ -165,6 +168,7 @@ module _ (IsTextOf : TextOf) {S : Type 0} (gives : S → List ℕ → Result ℕ
   answers_front places old new before after xs ys (RunFault.Read Which.Sources f) own h = absurd h
   answers_front places old new before after xs ys (RunFault.Read Which.Targets f) own h = absurd h
   answers_front places old new before after xs ys (RunFault.Read Which.Saved f) own h = absurd h
+  answers_front places old new before after xs ys (RunFault.Read Which.Order f) own h = absurd h
   answers_front places old new before after xs ys (RunFault.Check f) own h = absurd h
 
   -- a fault that is passed on keeps the promise on the answered requests
@@ -206,12 +210,14 @@ module _ (IsTextOf : TextOf) {S : Type 0} (gives : S → List ℕ → Result ℕ
   answers_more places old mid new before between after xs ys (Err (RunFault.CellsAt line)) h k = took_append places old mid new before between xs ys h k
   answers_more places old mid new before between after xs ys (Err (RunFault.Read Which.Requests f)) h k = took_append places old mid new before between xs ys h k
   answers_more places old mid new before between after xs ys (Err RunFault.Cells) h k = absurd k
+  answers_more places old mid new before between after xs ys (Err RunFault.Order) h k = absurd k
   answers_more places old mid new before between after xs ys (Err (RunFault.Device which)) h k = absurd k
   answers_more places old mid new before between after xs ys (Err (RunFault.Read Which.Graph f)) h k = absurd k
   answers_more places old mid new before between after xs ys (Err (RunFault.Read Which.Queries f)) h k = absurd k
   answers_more places old mid new before between after xs ys (Err (RunFault.Read Which.Sources f)) h k = absurd k
   answers_more places old mid new before between after xs ys (Err (RunFault.Read Which.Targets f)) h k = absurd k
   answers_more places old mid new before between after xs ys (Err (RunFault.Read Which.Saved f)) h k = absurd k
+  answers_more places old mid new before between after xs ys (Err (RunFault.Read Which.Order f)) h k = absurd k
   answers_more places old mid new before between after xs ys (Err (RunFault.Check f)) h k = absurd k
 
   -- no requests were asked for
@@ -232,6 +238,7 @@ module _ (IsTextOf : TextOf) {S : Type 0} (gives : S → List ℕ → Result ℕ
   answers_end places old new before after requests (Stop RunFault.Memory) is h = (requests, [], sym (append-nil requests), (h.0, h.1, h.2))
   answers_end places old new before after requests (Stop (RunFault.CellsAt line)) is h = (h.0, h.1, h.2)
   answers_end places old new before after requests (Stop RunFault.Cells) is h = absurd is
+  answers_end places old new before after requests (Stop RunFault.Order) is h = absurd is
   answers_end places old new before after requests (Stop (RunFault.Read Which.Requests f)) is h = (h.0, h.1, h.2)
   answers_end places old new before after requests (Stop (RunFault.Write count)) is h = absurd is
   answers_end places old new before after requests (Stop (RunFault.Device which)) is h = absurd is
@@ -240,6 +247,7 @@ module _ (IsTextOf : TextOf) {S : Type 0} (gives : S → List ℕ → Result ℕ
   answers_end places old new before after requests (Stop (RunFault.Read Which.Sources f)) is h = absurd is
   answers_end places old new before after requests (Stop (RunFault.Read Which.Targets f)) is h = absurd is
   answers_end places old new before after requests (Stop (RunFault.Read Which.Saved f)) is h = absurd is
+  answers_end places old new before after requests (Stop (RunFault.Read Which.Order f)) is h = absurd is
   answers_end places old new before after requests (Stop (RunFault.Check f)) is h = absurd is
 
 -- the lists of a request are lists of a table

@@ -11,7 +11,7 @@ use Rattle.ch_run.specs.declared.options.Options.{Options}
 use Rattle.ch_run.specs.declared.source.Source.{Source}
 use Rattle.ch_run.specs.Ask.{IsOfAsk, IsOfServing, IsRequestText, ReadsSome, Serves, ServesBy, TextOf, TookAnswers, no_places}
 use Rattle.ch_read.specs.declared.request.Request.{Request}
-use Rattle.ch_run.specs.Run.{GoesPast, IsWrite, Reading, ReadingIf, ReadsOnce, WritesOnce, reading}
+use Rattle.ch_run.specs.Run.{GoesPast, IsWrite, Reading, ReadsOnce, SourceReading, WritesOnce, reading}
 use Rattle.ch_run.specs.Source.{AreLoaded, IsOfLoading, IsServing, order_built, source_origin, source_reading}
 use Rattle.ch_run.specs.Stories.{RunsAsk}
 use Rattle.ch_run.specs.Told.{AskTells, Calls}
@@ -30,11 +30,13 @@ serves_own IsTextOf takes n requests old new (Err RunFault.Memory) h = inl tt
 serves_own IsTextOf takes n requests old new (Err (RunFault.Device which)) h = inl (sym h.0)
 serves_own IsTextOf takes n requests old new (Err (RunFault.Write count)) h = inr tt
 serves_own IsTextOf takes n requests old new (Err RunFault.Cells) h = absurd h
+serves_own IsTextOf takes n requests old new (Err RunFault.Order) h = absurd h
 serves_own IsTextOf takes n requests old new (Err (RunFault.Read Which.Graph f)) h = absurd h
 serves_own IsTextOf takes n requests old new (Err (RunFault.Read Which.Queries f)) h = absurd h
 serves_own IsTextOf takes n requests old new (Err (RunFault.Read Which.Sources f)) h = absurd h
 serves_own IsTextOf takes n requests old new (Err (RunFault.Read Which.Targets f)) h = absurd h
 serves_own IsTextOf takes n requests old new (Err (RunFault.Read Which.Saved f)) h = absurd h
+serves_own IsTextOf takes n requests old new (Err (RunFault.Read Which.Order f)) h = absurd h
 serves_own IsTextOf takes n requests old new (Err (RunFault.Check f)) h = absurd h
 
 -- a failed read of the requests is reported exactly if there was one
@@ -57,11 +59,13 @@ serves_requests IsTextOf takes n gives failed counts requests requests' old new 
     let more = until-counts gives failed counts requests h.1 requests' h.2 in
     record { device = (λ is. omega arith, λ less. ap (λ (w : Which). Err (RunFault.Device w)) h.0); once = inr more }
 serves_requests IsTextOf takes n gives failed counts requests requests' old new (Err RunFault.Cells) h = absurd h
+serves_requests IsTextOf takes n gives failed counts requests requests' old new (Err RunFault.Order) h = absurd h
 serves_requests IsTextOf takes n gives failed counts requests requests' old new (Err (RunFault.Read Which.Graph f)) h = absurd h
 serves_requests IsTextOf takes n gives failed counts requests requests' old new (Err (RunFault.Read Which.Queries f)) h = absurd h
 serves_requests IsTextOf takes n gives failed counts requests requests' old new (Err (RunFault.Read Which.Sources f)) h = absurd h
 serves_requests IsTextOf takes n gives failed counts requests requests' old new (Err (RunFault.Read Which.Targets f)) h = absurd h
 serves_requests IsTextOf takes n gives failed counts requests requests' old new (Err (RunFault.Read Which.Saved f)) h = absurd h
+serves_requests IsTextOf takes n gives failed counts requests requests' old new (Err (RunFault.Read Which.Order f)) h = absurd h
 serves_requests IsTextOf takes n gives failed counts requests requests' old new (Err (RunFault.Check f)) h = absurd h
 
 -- a failed write is reported exactly if there was one
@@ -87,11 +91,13 @@ module _ {S : Type 0} (IsTextOf : TextOf) (takes : Calls S) (failed idle : S →
       let one = fault-counts takes failed idle counts old took.2 took.3 new took.6 in
       record { device = (λ is. failed_one _ _ _ _ one, λ any. tt); once = failed_once _ _ _ _ one }
   serves_output n requests (Err RunFault.Cells) h = absurd h
+  serves_output n requests (Err RunFault.Order) h = absurd h
   serves_output n requests (Err (RunFault.Read Which.Graph f)) h = absurd h
   serves_output n requests (Err (RunFault.Read Which.Queries f)) h = absurd h
   serves_output n requests (Err (RunFault.Read Which.Sources f)) h = absurd h
   serves_output n requests (Err (RunFault.Read Which.Targets f)) h = absurd h
   serves_output n requests (Err (RunFault.Read Which.Saved f)) h = absurd h
+  serves_output n requests (Err (RunFault.Read Which.Order f)) h = absurd h
   serves_output n requests (Err (RunFault.Check f)) h = absurd h
 
 module _ {T O : Type 0} (options : Options) (g : Network) (h : Option LevelsAndLegs) (requests : Reading) (same_requests : Type 0) (takes : Calls O) (old new : O) (r : Result T RunFault) where
@@ -104,7 +110,7 @@ module _ {T O : Type 0} (options : Options) (g : Network) (h : Option LevelsAndL
   serving_goes_past which not (inr served) = serving_past r which not (serves_own _ takes g.nodes requests old new r served)
 
 -- no memory, or the requests were served
-pub ask_served : {T O : Type 0} (options : Options) (graph : Reading) (saved : ReadingIf) (requests : Reading) (same_saved same_requests : Type 0) (takes : Calls O) (old new : O) (r : Result T RunFault) →
+pub ask_served : {T O : Type 0} (options : Options) (graph : Reading) (saved : SourceReading) (requests : Reading) (same_saved same_requests : Type 0) (takes : Calls O) (old new : O) (r : Result T RunFault) →
     RunsAsk options graph saved requests same_saved same_requests takes old new r → (IsErrAnd r (IsOfLoading saved) × same_requests × (new ≡ old)) ⊎ ServesBy options graph saved requests takes old new r
 ask_served options graph saved requests same_saved same_requests takes old new r went = loads_elim r graph _ _ _ saved _ went (λ own at. inl (own, at.0, at.1)) (λ g h loaded serving. at g h loaded serving)
   where
@@ -126,10 +132,10 @@ ask_tells {T} {I} {S} {J} {O} options graph_gives graph_failed graph_counts grap
       own = loads_elim r loading _ _ _ saved _ went (λ own at. err_own r _ _ own (λ e is. inl is)) (λ g h loaded serving. own_at g h serving);
       graph = loads_graph r graph_gives graph_failed graph_counts graph graph' saved _ _ _ went (λ g h serving. serving_goes_past options g h asked (requests' ≡ requests) takes old new r Which.Graph (λ is. cc) serving);
       source = loads_source r loading saved_gives saved_failed saved_counts _ _
-          (λ g h serving. (serving_goes_past options g h asked (requests' ≡ requests) takes old new r Which.Graph (λ is. cc) serving, serving_goes_past options g h asked (requests' ≡ requests) takes old new r Which.Saved (λ is. cc) serving))
+          (λ g h serving. (serving_goes_past options g h asked (requests' ≡ requests) takes old new r Which.Graph (λ is. cc) serving, serving_goes_past options g h asked (requests' ≡ requests) takes old new r Which.Saved (λ is. cc) serving, serving_goes_past options g h asked (requests' ≡ requests) takes old new r Which.Order (λ is. cc) serving))
           origin source source' same went;
       requests = loads_elim r loading _ _ _ saved _ went
-          (λ own at. unread at.0 (err_past r _ Which.Requests own (λ e is. loading_past saved e is Which.Requests (λ k. cc) (λ k. cc)))) (λ g h loaded serving. requests_at g h serving);
+          (λ own at. unread at.0 (err_past r _ Which.Requests own (λ e is. loading_past saved e is Which.Requests (λ k. cc) (λ k. cc) (λ k. cc)))) (λ g h loaded serving. requests_at g h serving);
       output = loads_elim r loading _ _ _ saved _ went (λ own at. let met = err_of r _ own in unwritten_here at.1 met.0 met.1 (loading_no_write saved met.0 met.2)) (λ g h loaded serving. output_at g h serving);
     }
   where

@@ -1,5 +1,5 @@
 -- The definitions name one text for a hierarchy that is saved, and one text by a saved hierarchy.
-use Rattle.std.proofs.Common.{◌≡◌, ℕ, List, Some, sym, ap, ◌∙◌, subst}
+use Rattle.std.proofs.Common.{◌≡◌, ℕ, List, Some, sym, take, ap, ◌∙◌, subst}
 use Rattle.std.specs.Prelude.{not, ◌&&◌}
 use Rattle.ch_graph.specs.Graph.{Network}
 use Rattle.ch_graph.specs.Saved.{OrderAndLegs}
@@ -9,17 +9,20 @@ use Rattle.ch_hierarchy.specs.Hierarchy.{LevelsAndLegs}
 use Rattle.ch_contract.specs.Built.{IsHierarchyBy}
 use Rattle.ch_hierarchy.specs.Kept.{IsKept}
 use Rattle.ch_hierarchy.specs.Saved.{NamesHierarchy}
+use Rattle.ch_contract.specs.Like.{IsHierarchyLike, given_count}
+use Rattle.ch_contract.specs.declared.measure.OrderBy.TheVariants.{Depth}
+use Rattle.ch_contract.proofs.theory.OneInTurn.{one_hierarchy_from}
 use Rattle.ch_contract.proofs.theory.OneOrder.{one_hierarchy}
 use Rattle.ch_hierarchy.proofs.theory.OneSaved.{one_saved}
 use Rattle.ch_hierarchy.proofs.theory.LevelOrder.{one_level_order}
 use Rattle.ch_run.specs.Run.{GivesOnly, Reading, ReadsNodes, ReadsQueries}
-use Rattle.ch_run.specs.Source.{AreChecked, ReadsSaved}
-use Rattle.ch_run.specs.SavedTextLaws.{SavedAnswersHaveOneText, SavedTablesHaveOneText, HierarchiesHaveOneText}
+use Rattle.ch_run.specs.Source.{AreBuiltLike, AreChecked, ReadsSaved}
+use Rattle.ch_run.specs.SavedTextLaws.{SavedAnswersHaveOneText, SavedTablesHaveOneText, HierarchiesHaveOneText, OrdersHaveOneText}
 use Rattle.ch_hierarchy.specs.Written.{written}
 use Rattle.ch_text.specs.SaveText.{IsHierarchyText, saved_text}
 use Rattle.ch_text.specs.TableText.{IsTableText}
 use Rattle.ch_run.specs.Text.{IsTextBy}
-use Rattle.ch_run.proofs.Loading.{checked}
+use Rattle.ch_run.proofs.Loading.{built, built_like, checked}
 use Rattle.ch_run.proofs.OneText.{one_table_text, one_text_by, same_graph, same_nodes, same_queries}
 
 -- the bytes of a saved hierarchy name only one order with its legs
@@ -73,8 +76,30 @@ one_hierarchy_text H text other h k =
 
 -- an input whose bytes are known has one saved text
 pub one_save_text : (graph : Reading) → HierarchiesHaveOneText graph
-one_save_text graph options graph_bytes text other told_graph h k =
+one_save_text graph options graph_bytes text other told_graph t u =
+    let h = built graph _ t in
+    let k = built graph _ u in
     let same : h.0 ≡ k.0 = same_graph graph graph_bytes h.0 k.0 told_graph h.2 k.2 in
     let on_graph = subst (λ (g : Network). IsHierarchyBy options.order g options.hops k.3.0) (sym same) k.3.1 in
     let hierarchy : h.3.0 ≡ k.3.0 = one_hierarchy options.order h.0 options.hops h.3.0 k.3.0 h.3.1 on_graph in
     one_hierarchy_text h.3.0 text other h.3.2 (subst (λ (H : LevelsAndLegs). IsHierarchyText H other) (sym hierarchy) k.3.2)
+
+-- there is only one hierarchy like an order
+one_like : (graph order : Reading) (fresh hops : ℕ) (graph_bytes order_bytes : List ℕ) → GivesOnly graph graph_bytes → GivesOnly order order_bytes → (g k : Network) (s t : OrderAndLegs) (H K : LevelsAndLegs) →
+    AreBuiltLike graph order fresh hops g s H → AreBuiltLike graph order fresh hops k t K → H ≡ K
+one_like graph order fresh hops graph_bytes order_bytes told_graph told_order g k s t H K a b =
+    let same : g ≡ k = same_graph graph graph_bytes g k told_graph a.reads_graph b.reads_graph in
+    let given : s ≡ t = same_saved order order_bytes g.nodes s t told_order a.reads_order (subst (λ (n : Network). ReadsSaved order n.nodes t) (sym same) b.reads_order) in
+    let on_graph : IsHierarchyLike g hops t.order fresh K = subst (λ (n : Network). IsHierarchyLike n hops t.order fresh K) (sym same) b.like in
+    let here : IsHierarchyLike g hops s.order fresh K = subst (λ (r : OrderAndLegs). IsHierarchyLike g hops r.order fresh K) (sym given) on_graph in
+    one_hierarchy_from Depth g hops (take (given_count g.nodes fresh) s.order) H K a.like here
+
+-- inputs whose bytes are known have one saved text in an order like a given one
+pub one_like_text : (graph order : Reading) → OrdersHaveOneText graph order
+one_like_text graph order options fresh hops graph_bytes order_bytes text other told_graph told_order t u =
+    let h = built_like graph order fresh hops _ t in
+    let k = built_like graph order fresh hops _ u in
+    let same : h.2 ≡ k.2 = one_like graph order fresh hops graph_bytes order_bytes told_graph told_order h.0 k.0 h.1 k.1 h.2 k.2 h.3 k.3 in
+    let first : IsHierarchyText h.2 text = subst (λ (H : LevelsAndLegs). IsHierarchyText H text) h.4.1 h.4.2 in
+    let second : IsHierarchyText h.2 other = subst (λ (H : LevelsAndLegs). IsHierarchyText H other) (k.4.1 ∙ sym same) k.4.2 in
+    one_hierarchy_text h.2 text other first second

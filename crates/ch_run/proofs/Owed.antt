@@ -23,6 +23,9 @@ stops_read which fault = (refl, λ same. cc)
 pub stops_device : (which : Which) → StopsAt which (RunFault.Device which)
 stops_device which = (refl, λ same. cc)
 
+pub stops_order : StopsAt Which.Order RunFault.Order
+stops_order = (refl, λ same. cc)
+
 pub stops_check : (fault : CheckFault) → StopsAt Which.Saved (RunFault.Check fault)
 stops_check fault = (refl, λ same. cc)
 

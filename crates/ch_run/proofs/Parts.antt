@@ -79,6 +79,7 @@ module _ (parts : List (Vec ℕ Global)) (i : ℕ) (d : Vec ℕ Global) (within 
       rw is (bytes_of parts, refl, subst (λ k. TookUntilFault gives old (bytes_of parts) k new) (sym exact) found)
   part_failed gives old mid new before after RunFault.Memory (Err y) fits so_far count wrote is = absurd wrote
   part_failed gives old mid new before after RunFault.Cells (Err y) fits so_far count wrote is = absurd wrote
+  part_failed gives old mid new before after RunFault.Order (Err y) fits so_far count wrote is = absurd wrote
   part_failed gives old mid new before after (RunFault.CellsAt line) (Err y) fits so_far count wrote is = absurd wrote
   part_failed gives old mid new before after (RunFault.Read which f) (Err y) fits so_far count wrote is = absurd wrote
   part_failed gives old mid new before after (RunFault.Check f) (Err y) fits so_far count wrote is = absurd wrote

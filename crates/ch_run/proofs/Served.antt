@@ -116,6 +116,7 @@ told_write : (e : RunFault) → IsWrite e → (next rest : Told) → IsToldAfter
 told_write (RunFault.Write count) is next rest = tt
 told_write RunFault.Memory is next rest = absurd is
 told_write RunFault.Cells is next rest = absurd is
+told_write RunFault.Order is next rest = absurd is
 told_write (RunFault.CellsAt line) is next rest = absurd is
 told_write (RunFault.Read which f) is next rest = absurd is
 told_write (RunFault.Check f) is next rest = absurd is
@@ -296,12 +297,14 @@ module _ (IsTextOf : TextOf) (n : ℕ) {J : Type 0} (reads : J → List ℕ → 
         fed_some ended start now old mid before s held h (λ read left. TookBeginning IsTextOf gives no_places old new 0 count (told_by n (read ++ left)).given)
         (λ left may. let step = gives_them left may in (took.0, took.1 ++ step.0.given, took.2, took.3, first_told ended h left step.0 took.0 took.1 step.1 took.4, took.5, took.6, took.7))
     fed_refused ended RunFault.Cells h gives_them answers = absurd (gives_them [] (λ e. refl)).2
+    fed_refused ended RunFault.Order h gives_them answers = absurd (gives_them [] (λ e. refl)).2
     fed_refused ended (RunFault.Device which) h gives_them answers = absurd (gives_them [] (λ e. refl)).2
     fed_refused ended (RunFault.Read Which.Graph f) h gives_them answers = absurd (gives_them [] (λ e. refl)).2
     fed_refused ended (RunFault.Read Which.Queries f) h gives_them answers = absurd (gives_them [] (λ e. refl)).2
     fed_refused ended (RunFault.Read Which.Sources f) h gives_them answers = absurd (gives_them [] (λ e. refl)).2
     fed_refused ended (RunFault.Read Which.Targets f) h gives_them answers = absurd (gives_them [] (λ e. refl)).2
     fed_refused ended (RunFault.Read Which.Saved f) h gives_them answers = absurd (gives_them [] (λ e. refl)).2
+    fed_refused ended (RunFault.Read Which.Order f) h gives_them answers = absurd (gives_them [] (λ e. refl)).2
     fed_refused ended (RunFault.Check f) h gives_them answers = absurd (gives_them [] (λ e. refl)).2
 
   -- at a failed read, all requests that were whole before it are answered
@@ -363,11 +366,13 @@ module _ (P Q : TextOf) (so : (places : PlaceList) (request : Request) (text : L
   served_weaker n requests old new (Err (RunFault.Write count)) h =
       some_weaker requests _ _ (λ read left took. (took.0, took.1, took.2, took.3, took.4, answered_weaker no_places took.0 took.2 took.5, took.6, took.7)) h
   served_weaker n requests old new (Err RunFault.Cells) h = absurd h
+  served_weaker n requests old new (Err RunFault.Order) h = absurd h
   served_weaker n requests old new (Err (RunFault.Read Which.Graph f)) h = absurd h
   served_weaker n requests old new (Err (RunFault.Read Which.Queries f)) h = absurd h
   served_weaker n requests old new (Err (RunFault.Read Which.Sources f)) h = absurd h
   served_weaker n requests old new (Err (RunFault.Read Which.Targets f)) h = absurd h
   served_weaker n requests old new (Err (RunFault.Read Which.Saved f)) h = absurd h
+  served_weaker n requests old new (Err (RunFault.Read Which.Order f)) h = absurd h
   served_weaker n requests old new (Err (RunFault.Check f)) h = absurd h
 
 -- the hierarchy that answers a list of queries with their routes is built in the order of the options

@@ -16,18 +16,18 @@ use Rattle.ch_run.specs.declared.sources.Sources.{Sources}
 use Rattle.ch_run.specs.DistRun.{HasQueriesRefused, IsAnsweredBy, IsOfDist}
 use Rattle.ch_run.specs.Lists.{HasTooManyCells}
 use Rattle.ch_run.specs.NearRun.{AreSources, HasNearTargetsRefused, IsNearBy, IsOfNear, IsOfSources, ReadsSources, sources_among, sources_origin, sources_reading}
-use Rattle.ch_run.specs.Run.{Delivers, IsGraphRefused, GoesPast, GoesPastAll, IsOf, IsWrite, NoInput, OneInput, Reading, ReadingIf, ReadsAll, ReadsNodes, StopsAt, reading}
+use Rattle.ch_run.specs.Run.{Delivers, IsGraphRefused, GoesPast, GoesPastAll, IsOf, IsWrite, NoInput, OneInput, Reading, ReadingIf, ReadsAll, ReadsNodes, SourceReading, StopsAt, reading}
 use Rattle.ch_run.specs.SaveRun.{IsOfSave, IsSavedBy}
 use Rattle.ch_run.specs.Source.{IsOfRoutes, source_origin, source_reading}
 use Rattle.ch_run.specs.Stories.{RunsDist, RunsNear, RunsSave, RunsTable}
 use Rattle.ch_run.specs.Story.{Cells, IsRefused, Reads, ReadsIf, Writes}
 use Rattle.ch_run.specs.TableRun.{HasSourcesRefused, HasTargetsRefused, IsOfTable, IsTabledBy}
-use Rattle.ch_run.specs.Text.{IsNearTextFor, IsTextBy, writes_routes}
+use Rattle.ch_run.specs.Text.{IsNearTextFor, IsSaveTextOf, IsTextBy, writes_routes}
 use Rattle.ch_run.specs.Told.{Calls, DistTells, NearTells, SaveTells, TableTells}
 use Rattle.ch_run.proofs.Inputs.{of_one}
 use Rattle.ch_run.proofs.Owed.{untouched_sources}
 use Rattle.ch_run.proofs.Writes.{ends_in}
-use Rattle.ch_run.proofs.Loading.{loading_no_cells, loading_no_write, loading_past, of_no_write}
+use Rattle.ch_run.proofs.Loading.{loading_memory, loading_no_cells, loading_no_write, loading_past, of_no_write}
 use Rattle.ch_run.proofs.Tells.{CountsCalls, CountsReads, err_is, err_own, err_past, if_past, loads_elim, loads_graph, loads_source, reads_elim, reads_past, reads_told, refused_of, sources_elim, undelivered_at, unread_at, unwritten_at, writes_delivers, writes_own, writes_past, writes_told}
 
 -- a run that answers queries
@@ -46,7 +46,7 @@ module _ {T O : Type 0} (options : Options) (g : Network) (h : Option LevelsAndL
   answering_past : (which : Which) → (which ≡ Which.Queries → ⊥) → Answering → GoesPast which r
   answering_past which not went = reads_past r Which.Queries queries _ _ _ _ (refused_of Which.Queries (Form.Queries g.nodes)) which not went (λ pairs wrote. writes_past takes old new _ r which wrote)
 
-pub dist_delivers : {T O : Type 0} (options : Options) (graph : Reading) (saved : ReadingIf) (queries : Reading) (same_saved same_queries : Type 0) (takes : Calls O) (old new : O) (r : Result T RunFault) →
+pub dist_delivers : {T O : Type 0} (options : Options) (graph : Reading) (saved : SourceReading) (queries : Reading) (same_saved same_queries : Type 0) (takes : Calls O) (old new : O) (r : Result T RunFault) →
     RunsDist options graph saved queries same_saved same_queries takes old new r → Delivers r takes old new (IsAnsweredBy options graph saved queries)
 dist_delivers options graph saved queries same_saved same_queries takes old new r went =
     loads_elim r graph _ _ _ saved _ went (λ own at. undelivered_at r _ takes old new _ own (loading_no_write saved))
@@ -69,13 +69,13 @@ dist_tells options graph_gives graph_failed graph_counts graph graph' saved_give
           (λ pairs read wrote. writes_own takes old new _ (IsOfDist saved) r wrote (λ count. inr (inr tt)) (inr (inl tt))));
       graph = loads_graph r graph_gives graph_failed graph_counts graph graph' saved _ _ _ went (λ g h answering. answering_past options g h asked takes old new r Which.Graph (λ is. cc) answering);
       source = loads_source r loading saved_gives saved_failed saved_counts _ _
-          (λ g h answering. (answering_past options g h asked takes old new r Which.Graph (λ is. cc) answering, answering_past options g h asked takes old new r Which.Saved (λ is. cc) answering)) origin source source' same went;
+          (λ g h answering. (answering_past options g h asked takes old new r Which.Graph (λ is. cc) answering, answering_past options g h asked takes old new r Which.Saved (λ is. cc) answering, answering_past options g h asked takes old new r Which.Order (λ is. cc) answering)) origin source source' same went;
       queries = loads_elim r loading _ _ _ saved _ went
-          (λ own at. unread_at Which.Queries r queries_gives queries_failed queries queries' _ _ _ at.0 (err_past r _ Which.Queries own (λ e is. loading_past saved e is Which.Queries (λ k. cc) (λ k. cc))))
+          (λ own at. unread_at Which.Queries r queries_gives queries_failed queries queries' _ _ _ at.0 (err_past r _ Which.Queries own (λ e is. loading_past saved e is Which.Queries (λ k. cc) (λ k. cc) (λ k. cc))))
           (λ g h loaded answering. record {
             reads = reads_told r Which.Queries queries_gives queries_failed queries_counts queries queries' _ (IsRefused Which.Queries (Form.Queries g.nodes)) _ _ (HasQueriesRefused loading saved) (λ fault told. (g, h, loaded, (told.0, told.1, told.2.1))) answering
                 (λ pairs wrote. writes_past takes old new _ r Which.Queries wrote);
-            unread = inr ((answering_past options g h asked takes old new r Which.Graph (λ is. cc) answering, (answering_past options g h asked takes old new r Which.Saved (λ is. cc) answering, tt)), (g, h, loaded, tt));
+            unread = inr ((answering_past options g h asked takes old new r Which.Graph (λ is. cc) answering, (answering_past options g h asked takes old new r Which.Saved (λ is. cc) answering, (answering_past options g h asked takes old new r Which.Order (λ is. cc) answering, tt))), (g, h, loaded, tt));
           });
       output = loads_elim r loading _ _ _ saved _ went (λ own at. unwritten_at r _ _ failed idle old new at.1 own (loading_no_write saved))
           (λ g h loaded answering. answering_elim options g h asked takes old new r _ answering (λ own same. unwritten_at r _ _ failed idle old new same own (of_no_write Which.Queries))
@@ -84,21 +84,25 @@ dist_tells options graph_gives graph_failed graph_counts graph graph' saved_give
 
 -- a run that saves a hierarchy
 
-pub save_delivers : {T O : Type 0} (options : Options) (graph : Reading) (takes : Calls O) (old new : O) (r : Result T RunFault) → RunsSave options graph takes old new r → Delivers r takes old new (IsSavedBy options graph)
-save_delivers options graph takes old new r went =
-    reads_elim r Which.Graph graph _ _ _ _ (refused_of Which.Graph Form.Graph) _ went (λ own at. undelivered_at r _ takes old new _ own (of_no_write Which.Graph))
-    (λ g read wrote. writes_delivers takes old new _ _ (λ text is. (g, is.0, read, is.1)) r wrote)
+pub save_delivers : {T O : Type 0} (options : Options) (graph : Reading) (saved : SourceReading) (same_source : Type 0) (takes : Calls O) (old new : O) (r : Result T RunFault) →
+    RunsSave options graph saved same_source takes old new r → Delivers r takes old new (IsSavedBy options graph saved)
+save_delivers options graph saved same_source takes old new r went =
+    loads_elim r graph _ _ _ saved _ went (λ own at. undelivered_at r _ takes old new _ own (loading_no_write saved)) (λ g h loaded wrote. writes_delivers takes old new _ _ (λ text is. (g, h, loaded, is)) r wrote)
 
-pub save_tells : {T I O : Type 0} (options : Options) (graph_gives : Calls I) (graph_failed : I → ℕ) (graph_counts : CountsReads graph_gives graph_failed) (graph graph' : I)
-    (takes : Calls O) (failed idle : O → ℕ) (counts : CountsCalls takes failed idle) (old new : O) (r : Result T RunFault) → RunsSave options (reading graph_gives graph graph') takes old new r →
-    SaveTells graph_gives graph_failed graph graph' failed idle old new r
-save_tells options graph_gives graph_failed graph_counts graph graph' takes failed idle counts old new r went =
+pub save_tells : {T I S O : Type 0} (options : Options) (graph_gives : Calls I) (graph_failed : I → ℕ) (graph_counts : CountsReads graph_gives graph_failed) (graph graph' : I)
+    (saved_gives : Calls S) (saved_failed : S → ℕ) (saved_counts : CountsReads saved_gives saved_failed) (origin : S → ℕ) (source source' : Source S)
+    (takes : Calls O) (failed idle : O → ℕ) (counts : CountsCalls takes failed idle) (old new : O) (r : Result T RunFault) → source_origin origin source' ≡ source_origin origin source →
+    RunsSave options (reading graph_gives graph graph') (source_reading saved_gives source source') (source' ≡ source) takes old new r →
+    SaveTells graph_gives graph_failed graph graph' saved_gives saved_failed source source' failed idle old new r
+save_tells options graph_gives graph_failed graph_counts graph graph' saved_gives saved_failed saved_counts origin source source' takes failed idle counts old new r same went =
     let loading = reading graph_gives graph graph' in
-    let of = refused_of Which.Graph Form.Graph in
+    let saved = source_reading saved_gives source source' in
+    let wrote_past = λ (g : Network) (h : Option LevelsAndLegs) (which : Which) (wrote : Writes takes old new (IsSaveTextOf (IsOfRoutes options g h)) r). writes_past takes old new (IsSaveTextOf (IsOfRoutes options g h)) r which wrote in
     record {
-      own = reads_elim r Which.Graph loading _ _ _ _ of _ went (λ own at. err_own r _ _ own (λ e is. inl is)) (λ g read wrote. writes_own takes old new _ IsOfSave r wrote (λ count. inr tt) (inl tt));
-      graph = reads_told r Which.Graph graph_gives graph_failed graph_counts graph graph' _ (IsRefused Which.Graph Form.Graph) _ _ IsGraphRefused (λ fault told. (told.0, told.1, told.2.1)) went (λ g wrote. writes_past takes old new _ r Which.Graph wrote);
-      output = reads_elim r Which.Graph loading _ _ _ _ of _ went (λ own same. unwritten_at r _ _ failed idle old new same own (of_no_write Which.Graph)) (λ g read wrote. writes_told takes failed idle counts old new _ _ (g, read) r wrote);
+      own = loads_elim r loading _ _ _ saved _ went (λ own at. err_own r _ _ own (λ e is. inl is)) (λ g h loaded wrote. writes_own takes old new _ (IsOfSave saved) r wrote (λ count. inr tt) (inl (loading_memory saved)));
+      graph = loads_graph r graph_gives graph_failed graph_counts graph graph' saved _ _ _ went (λ g h wrote. wrote_past g h Which.Graph wrote);
+      source = loads_source r loading saved_gives saved_failed saved_counts _ _ (λ g h wrote. (wrote_past g h Which.Graph wrote, wrote_past g h Which.Saved wrote, wrote_past g h Which.Order wrote)) origin source source' same went;
+      output = loads_elim r loading _ _ _ saved _ went (λ own at. unwritten_at r _ _ failed idle old new at own (loading_no_write saved)) (λ g h loaded wrote. writes_told takes failed idle counts old new _ _ (g, h, loaded, tt) r wrote);
     }
 
 -- a run that makes a table
@@ -143,7 +147,7 @@ module _ {T O : Type 0} (options : Options) (g : Network) (sources targets : Rea
   listing_past which not_sources not_targets went =
       reads_past r Which.Sources sources _ _ _ _ (refused_of Which.Sources (Form.Nodes g.nodes)) which not_sources went (λ from rest. targeting_past from which not_targets rest)
 
-pub table_delivers : {T O : Type 0} (options : Options) (graph : Reading) (saved : ReadingIf) (sources targets : Reading) (same_saved same_sources same_targets : Type 0) (takes : Calls O) (old new : O) (r : Result T RunFault) →
+pub table_delivers : {T O : Type 0} (options : Options) (graph : Reading) (saved : SourceReading) (sources targets : Reading) (same_saved same_sources same_targets : Type 0) (takes : Calls O) (old new : O) (r : Result T RunFault) →
     RunsTable options graph saved sources targets same_saved same_sources same_targets takes old new r → Delivers r takes old new (IsTabledBy options graph saved sources targets)
 table_delivers options graph saved sources targets same_saved same_sources same_targets takes old new r went =
     loads_elim r graph _ _ _ saved _ went (λ own at. undelivered_at r _ takes old new _ own (loading_no_write saved))
@@ -174,22 +178,22 @@ table_tells options graph_gives graph_failed graph_counts graph graph' saved_giv
           (λ to told many is at. err_own r _ _ is (λ e same. inr (inl (inr (inr same)))))
           (λ to told few wrote. writes_own takes old new _ (IsOfTable saved) r wrote (λ count. inr (inr tt)) (inr (inl (inl tt))))));
       graph = loads_graph r graph_gives graph_failed graph_counts graph graph' saved _ _ _ went (λ g h listing. past g Which.Graph (λ is. cc) (λ is. cc) listing);
-      source = loads_source r loading saved_gives saved_failed saved_counts _ _ (λ g h listing. (past g Which.Graph (λ is. cc) (λ is. cc) listing, past g Which.Saved (λ is. cc) (λ is. cc) listing)) origin source source' same went;
+      source = loads_source r loading saved_gives saved_failed saved_counts _ _ (λ g h listing. (past g Which.Graph (λ is. cc) (λ is. cc) listing, past g Which.Saved (λ is. cc) (λ is. cc) listing, past g Which.Order (λ is. cc) (λ is. cc) listing)) origin source source' same went;
       sources = loads_elim r loading _ _ _ saved _ went
-          (λ own at. unread_at Which.Sources r sources_gives sources_failed sources sources' _ _ _ at.0 (err_past r _ Which.Sources own (λ e is. loading_past saved e is Which.Sources (λ k. cc) (λ k. cc))))
+          (λ own at. unread_at Which.Sources r sources_gives sources_failed sources sources' _ _ _ at.0 (err_past r _ Which.Sources own (λ e is. loading_past saved e is Which.Sources (λ k. cc) (λ k. cc) (λ k. cc))))
           (λ g h loaded listing. record {
             reads = reads_told r Which.Sources sources_gives sources_failed sources_counts sources sources' _ (IsRefused Which.Sources (Form.Nodes g.nodes)) _ _ (HasSourcesRefused loading saved) (λ fault told. (g, h, loaded, (told.0, told.1, told.2.1))) listing
                 (λ from targeting. targeting_past options g first second (targets' ≡ targets) takes old new r from Which.Sources (λ is. cc) targeting);
-            unread = inr ((past g Which.Graph (λ is. cc) (λ is. cc) listing, (past g Which.Saved (λ is. cc) (λ is. cc) listing, tt)), (g, h, loaded, tt));
+            unread = inr ((past g Which.Graph (λ is. cc) (λ is. cc) listing, (past g Which.Saved (λ is. cc) (λ is. cc) listing, (past g Which.Order (λ is. cc) (λ is. cc) listing, tt))), (g, h, loaded, tt));
           });
       targets = loads_elim r loading _ _ _ saved _ went
-          (λ own at. unread_at Which.Targets r targets_gives targets_failed targets targets' _ _ _ at.1 (err_past r _ Which.Targets own (λ e is. loading_past saved e is Which.Targets (λ k. cc) (λ k. cc))))
+          (λ own at. unread_at Which.Targets r targets_gives targets_failed targets targets' _ _ _ at.1 (err_past r _ Which.Targets own (λ e is. loading_past saved e is Which.Targets (λ k. cc) (λ k. cc) (λ k. cc))))
           (λ g h loaded listing. listing_elim options g first second (targets' ≡ targets) takes old new r _ listing
           (λ own at. unread_at Which.Targets r targets_gives targets_failed targets targets' _ _ _ at.0 (err_past r _ Which.Targets own (λ e is stops. let one : Which.Targets ≡ Which.Sources = of_one Which.Sources Which.Targets e is stops in cc)))
           (λ from read targeting. record {
             reads = reads_told r Which.Targets targets_gives targets_failed targets_counts targets targets' _ (IsRefused Which.Targets (Form.Nodes g.nodes)) _ _ (HasTargetsRefused loading saved first) (λ fault told. (g, h, loaded, ((from, read), (told.0, told.1, told.2.1)))) targeting
                 (λ to cells. cells_past options g first second (targets' ≡ targets) takes old new r from to Which.Targets cells);
-            unread = inr ((past g Which.Graph (λ is. cc) (λ is. cc) listing, (past g Which.Saved (λ is. cc) (λ is. cc) listing, (targeting_past options g first second (targets' ≡ targets) takes old new r from Which.Sources (λ is. cc) targeting, tt))), (g, h, loaded, (from, read)));
+            unread = inr ((past g Which.Graph (λ is. cc) (λ is. cc) listing, (past g Which.Saved (λ is. cc) (λ is. cc) listing, (past g Which.Order (λ is. cc) (λ is. cc) listing, (targeting_past options g first second (targets' ≡ targets) takes old new r from Which.Sources (λ is. cc) targeting, tt)))), (g, h, loaded, (from, read)));
           }));
       cells = λ is. loads_elim r loading _ _ _ saved _ went (λ own at. absurd (loading_no_cells saved (err_is r _ RunFault.Cells own is)))
           (λ g h loaded listing. listing_elim options g first second (targets' ≡ targets) takes old new r _ listing (λ own at. absurd (err_is r _ RunFault.Cells own is))
@@ -238,7 +242,7 @@ sources_past : (sources : ReadingIf) (e : RunFault) → IsOfSources sources e �
 sources_past NoInput e own which not stops = own
 sources_past (OneInput list) e own which not stops = not (of_one Which.Sources which e own stops)
 
-pub near_delivers : {T O : Type 0} (options : Options) (graph : Reading) (saved sources : ReadingIf) (targets : Reading) (same_saved same_sources same_targets : Type 0) (takes : Calls O) (old new : O) (r : Result T RunFault) →
+pub near_delivers : {T O : Type 0} (options : Options) (graph : Reading) (saved : SourceReading) (sources : ReadingIf) (targets : Reading) (same_saved same_sources same_targets : Type 0) (takes : Calls O) (old new : O) (r : Result T RunFault) →
     RunsNear options graph saved sources targets same_saved same_sources same_targets takes old new r → Delivers r takes old new (IsNearBy options graph saved sources targets)
 near_delivers options graph saved sources targets same_saved same_sources same_targets takes old new r went =
     loads_elim r graph _ _ _ saved _ went (λ own at. undelivered_at r _ takes old new _ own (loading_no_write saved))
@@ -280,19 +284,19 @@ near_tells options graph_gives graph_failed graph_counts graph graph' saved_give
           (λ from are reaching. reaching_elim options g first second (targets' ≡ targets) takes old new r from _ reaching (λ own at. err_own r _ _ own (λ e is. inr (inl (inr is))))
           (λ to told wrote. writes_own takes old new _ (IsOfNear saved first) r wrote (λ count. inr (inr tt)) (inr (inl (inr tt))))));
       graph = loads_graph r graph_gives graph_failed graph_counts graph graph' saved _ _ _ went (λ g h starting. past g Which.Graph (λ is. cc) (λ is. cc) starting);
-      source = loads_source r loading saved_gives saved_failed saved_counts _ _ (λ g h starting. (past g Which.Graph (λ is. cc) (λ is. cc) starting, past g Which.Saved (λ is. cc) (λ is. cc) starting)) origin source source' same went;
+      source = loads_source r loading saved_gives saved_failed saved_counts _ _ (λ g h starting. (past g Which.Graph (λ is. cc) (λ is. cc) starting, past g Which.Saved (λ is. cc) (λ is. cc) starting, past g Which.Order (λ is. cc) (λ is. cc) starting)) origin source source' same went;
       sources = loads_elim r loading _ _ _ saved _ went
-          (λ own at. rw at.0 (untouched_sources _ _ r sources_gives sources_failed _ (err_past r _ Which.Sources own (λ e is. loading_past saved e is Which.Sources (λ k. cc) (λ k. cc))) sources))
+          (λ own at. rw at.0 (untouched_sources _ _ r sources_gives sources_failed _ (err_past r _ Which.Sources own (λ e is. loading_past saved e is Which.Sources (λ k. cc) (λ k. cc) (λ k. cc))) sources))
           (λ g h loaded starting. near_sources options g r sources_gives sources_failed sources_counts second (targets' ≡ targets) takes old new _ _ (HasSourcesRefused loading saved)
-          (past g Which.Graph (λ is. cc) (λ is. cc) starting, (past g Which.Saved (λ is. cc) (λ is. cc) starting, tt)) (g, h, loaded, tt) (λ list fault told. (g, h, loaded, told)) sources_origins sources sources' same_sources starting);
+          (past g Which.Graph (λ is. cc) (λ is. cc) starting, (past g Which.Saved (λ is. cc) (λ is. cc) starting, (past g Which.Order (λ is. cc) (λ is. cc) starting, tt))) (g, h, loaded, tt) (λ list fault told. (g, h, loaded, told)) sources_origins sources sources' same_sources starting);
       targets = loads_elim r loading _ _ _ saved _ went
-          (λ own at. unread_at Which.Targets r targets_gives targets_failed targets targets' _ _ _ at.1 (err_past r _ Which.Targets own (λ e is. loading_past saved e is Which.Targets (λ k. cc) (λ k. cc))))
+          (λ own at. unread_at Which.Targets r targets_gives targets_failed targets targets' _ _ _ at.1 (err_past r _ Which.Targets own (λ e is. loading_past saved e is Which.Targets (λ k. cc) (λ k. cc) (λ k. cc))))
           (λ g h loaded starting. starting_elim options g first second (targets' ≡ targets) takes old new r _ starting
           (λ own at. unread_at Which.Targets r targets_gives targets_failed targets targets' _ _ _ at.0 (err_past r _ Which.Targets own (λ e is. sources_past first e is Which.Targets (λ k. cc))))
           (λ from are reaching. record {
             reads = reads_told r Which.Targets targets_gives targets_failed targets_counts targets targets' _ (IsRefused Which.Targets (Form.Nodes g.nodes)) _ _ (HasNearTargetsRefused loading saved first) (λ fault told. (g, h, loaded, ((from, are), (told.0, told.1, told.2.1)))) reaching
                 (λ to wrote. writes_past takes old new _ r Which.Targets wrote);
-            unread = inr ((past g Which.Graph (λ is. cc) (λ is. cc) starting, (past g Which.Saved (λ is. cc) (λ is. cc) starting, (reaching_past options g first second (targets' ≡ targets) takes old new r from Which.Sources (λ is. cc) reaching, tt))), (g, h, loaded, (from, are)));
+            unread = inr ((past g Which.Graph (λ is. cc) (λ is. cc) starting, (past g Which.Saved (λ is. cc) (λ is. cc) starting, (past g Which.Order (λ is. cc) (λ is. cc) starting, (reaching_past options g first second (targets' ≡ targets) takes old new r from Which.Sources (λ is. cc) reaching, tt)))), (g, h, loaded, (from, are)));
           }));
       output = loads_elim r loading _ _ _ saved _ went (λ own at. unwritten_at r _ _ failed idle old new at.2 own (loading_no_write saved))
           (λ g h loaded starting. starting_elim options g first second (targets' ≡ targets) takes old new r _ starting (λ own at. unwritten_at r _ _ failed idle old new at.1 own (sources_no_write first))

@@ -17,8 +17,8 @@ use Rattle.ch_run.specs.declared.run.loading.Checked.{Checked}
 use Rattle.ch_run.specs.declared.source.Source.{Source}
 use Rattle.ch_run.specs.Source.{source_reading}
 use Rattle.ch_run.specs.Fault.{input_fault}
-use Rattle.ch_run.specs.Run.{IsUnread, NoInput, OneInput, Reading, ReadingIf, reading}
-use Rattle.ch_run.specs.Story.{Cells, EndsAt, IsRefused, IsSavedRefusedOn, Loads, Reads, ReadsIf, Writes}
+use Rattle.ch_run.specs.Run.{IsUnread, NoFile, NoInput, OneInput, OrderFile, Reading, ReadingIf, SavedFile, SourceReading, reading}
+use Rattle.ch_run.specs.Story.{Cells, EndsAt, IsOrderRefusedOn, IsRefused, IsSavedRefusedOn, Loads, LoadsSource, NamesLike, Reads, ReadsIf, Writes}
 use Rattle.ch_run.specs.NearRun.{AreSources, sources_among}
 use Rattle.ch_run.proofs.Owed.{ends_as, err_as}
 
@@ -34,12 +34,58 @@ pub at_err : {T : Type 0} (r : Result T RunFault) (story : Type 0) → story →
 at_err (Ok done) story is = tt
 at_err (Err e) story is = is
 
+-- what `built_from` promises of the story
+abbrev pub BuildsStory : (graph order : Reading) → (fresh hops : ℕ) → (unread : Type 0) → Result Checked RunFault → Type 0
+BuildsStory graph order fresh hops unread result =
+    Reads Which.Graph graph (λ bytes g. NamesGraph bytes g × IsWithinLimits g) (IsRefused Which.Graph Form.Graph) result unread (λ g.
+    Reads Which.Order order (λ bytes H. NamesLike g fresh hops bytes H) (IsOrderRefusedOn g) result ⊤ (λ H.
+    IsOkAnd result (λ checked. (checked.graph ≡ g) × (checked.hierarchy ≡ H))))
+
+-- an input that ends a run for one reason ends it for another, if the first reason is one of the second kind
+ends_weaker : (which : Which) (input : Reading) (P Q : List ℕ → RunFault → Type 0) (fault : RunFault) → ((bytes : List ℕ) (f : RunFault) → P bytes f → Q bytes f) → EndsAt which input P fault → EndsAt which input Q fault
+ends_weaker which input P Q (RunFault.Device other) to ends = ends
+ends_weaker which input P Q RunFault.Memory to ends = ends
+ends_weaker which input P Q (RunFault.Read other f) to ends = (ends.0, ends.1, to ends.0 (RunFault.Read other f) ends.2)
+ends_weaker which input P Q RunFault.Cells to ends = (ends.0, ends.1, to ends.0 RunFault.Cells ends.2)
+ends_weaker which input P Q (RunFault.CellsAt line) to ends = (ends.0, ends.1, to ends.0 (RunFault.CellsAt line) ends.2)
+ends_weaker which input P Q (RunFault.Write count) to ends = (ends.0, ends.1, to ends.0 (RunFault.Write count) ends.2)
+ends_weaker which input P Q (RunFault.Check f) to ends = (ends.0, ends.1, to ends.0 (RunFault.Check f) ends.2)
+ends_weaker which input P Q RunFault.Order to ends = (ends.0, ends.1, to ends.0 RunFault.Order ends.2)
+
+-- a fault of the lines of a saved hierarchy or of an order is one of its faults on the graph
+saved_lines : (g : Network) (bytes : List ℕ) (f : RunFault) → IsRefused Which.Saved (Form.Saved g.nodes) bytes f → IsSavedRefusedOn g bytes f
+saved_lines g bytes (RunFault.Read input f) refused = refused
+saved_lines g bytes RunFault.Cells refused = absurd refused
+saved_lines g bytes (RunFault.CellsAt line) refused = absurd refused
+saved_lines g bytes RunFault.Memory refused = absurd refused
+saved_lines g bytes (RunFault.Device which) refused = absurd refused
+saved_lines g bytes (RunFault.Write count) refused = absurd refused
+saved_lines g bytes (RunFault.Check f) refused = absurd refused
+saved_lines g bytes RunFault.Order refused = absurd refused
+
+order_lines : (g : Network) (bytes : List ℕ) (f : RunFault) → IsRefused Which.Order (Form.Saved g.nodes) bytes f → IsOrderRefusedOn g bytes f
+order_lines g bytes (RunFault.Read input f) refused = refused
+order_lines g bytes RunFault.Cells refused = absurd refused
+order_lines g bytes (RunFault.CellsAt line) refused = absurd refused
+order_lines g bytes RunFault.Memory refused = absurd refused
+order_lines g bytes (RunFault.Device which) refused = absurd refused
+order_lines g bytes (RunFault.Write count) refused = absurd refused
+order_lines g bytes (RunFault.Check f) refused = absurd refused
+order_lines g bytes RunFault.Order refused = absurd refused
+
+pub saved_ends : (input : Reading) (g : Network) (fault : RunFault) → EndsAt Which.Saved input (IsRefused Which.Saved (Form.Saved g.nodes)) fault → EndsAt Which.Saved input (IsSavedRefusedOn g) fault
+saved_ends input g fault ends = ends_weaker Which.Saved input _ _ fault (saved_lines g) ends
+
+pub order_ends : (input : Reading) (g : Network) (fault : RunFault) → EndsAt Which.Order input (IsRefused Which.Order (Form.Saved g.nodes)) fault → EndsAt Which.Order input (IsOrderRefusedOn g) fault
+order_ends input g fault ends = ends_weaker Which.Order input _ _ fault (order_lines g) ends
+
 -- an input that was not read to its end ends the run
 pub unread_ends : (which : Which) (input : Reading) (refuses : List ℕ → RunFault → Type 0) (fault : RunFault) → IsUnread which input fault → EndsAt which input refuses fault
 unread_ends which input refuses (RunFault.Device other) unread = unread
 unread_ends which input refuses RunFault.Memory unread = (unread.0, inl unread.1)
 unread_ends which input refuses (RunFault.Read other f) unread = absurd unread
 unread_ends which input refuses RunFault.Cells unread = absurd unread
+unread_ends which input refuses RunFault.Order unread = absurd unread
 unread_ends which input refuses (RunFault.CellsAt line) unread = absurd unread
 unread_ends which input refuses (RunFault.Write count) unread = absurd unread
 unread_ends which input refuses (RunFault.Check f) unread = absurd unread
@@ -100,22 +146,32 @@ pub sources_on : {T : Type 0} (input : ReadingIf) (nodes : ℕ) (from : List ℕ
 sources_on NoInput nodes from refuses r later next is goes = goes None (sym is)
 sources_on (OneInput input) nodes from refuses r later next is goes = inr (is.0, from, is.1, is.2, goes (Some from) refl)
 
-module _ (S : Type 0) {T : Type 0} (graph : Reading) (saved : ReadingIf) (unread : Type 0) (r : Result T RunFault) (later : Type 0) (next : Network → Option LevelsAndLegs → Type 0) where
-  -- the run that loaded in vain stops there
-  pub loads_stops : (e : RunFault) → IsErrAnd r (λ other. other ≡ e) → later → Loads {T = S} graph saved unread (Err e) ⊤ (λ g h. ⊥) → Loads graph saved unread r later next
-  loads_stops e is rest (inl (ends, same)) = inl (err_as r e _ is ends, (same.0, rest))
-  loads_stops e is rest (inr (bytes, g, all, named, reads)) = inr (bytes, g, all, named, if_stops S Which.Saved saved _ _ e r ⊤ later (λ h. ⊥) (λ h. next g h) is (λ h none. absurd none) (λ at. rest) reads)
+module _ (S : Type 0) {T : Type 0} (graph : Reading) (source : SourceReading) (unread : Type 0) (r : Result T RunFault) (later : Type 0) (next : Network → Option LevelsAndLegs → Type 0) where
+  source_stops : (g : Network) (input : SourceReading) (e : RunFault) (on : Option LevelsAndLegs → Type 0) → IsErrAnd r (λ other. other ≡ e) → later →
+      LoadsSource {T = S} g input (Err e) ⊤ (λ h. ⊥) → LoadsSource g input r later on
+  source_stops g NoFile e on is rest none = absurd none
+  source_stops g (SavedFile saved) e on is rest reads =
+      reads_stops S Which.Saved saved (λ bytes H. (s : OrderAndLegs) × NamesSaved bytes g.nodes s × NamesKept g s H) (IsSavedRefusedOn g) e r ⊤ later (λ H. ⊥) (λ H. on (Some H)) is (λ H none. absurd none) (λ at. rest) reads
+  source_stops g (OrderFile order fresh hops) e on is rest reads =
+      reads_stops S Which.Order order (λ bytes H. NamesLike g fresh hops bytes H) (IsOrderRefusedOn g) e r ⊤ later (λ H. ⊥) (λ H. on (Some H)) is (λ H none. absurd none) (λ at. rest) reads
 
-  if_goes : (done : S) (g k : Network) (h : Option LevelsAndLegs) (names : List ℕ → LevelsAndLegs → Type 0) (refuses : List ℕ → RunFault → Type 0) → next g h → (input : ReadingIf) →
-      ReadsIf {T = S} Which.Saved input names refuses (Ok done) ⊤ (λ l. (g ≡ k) × (h ≡ l)) → ReadsIf Which.Saved input names refuses r later (λ l. next k l)
-  if_goes done g k h names refuses goes NoInput (same, is) = subst (λ (m : Network). next m None) same (subst (next g) is goes)
-  if_goes done g k h names refuses goes (OneInput input) (inl (ends, rest)) = absurd ends
-  if_goes done g k h names refuses goes (OneInput input) (inr (others, H, whole, named, (same, is))) = inr (others, H, whole, named, subst (λ (m : Network). next m (Some H)) same (subst (next g) is goes))
+  -- the run that loaded in vain stops there
+  pub loads_stops : (e : RunFault) → IsErrAnd r (λ other. other ≡ e) → later → Loads {T = S} graph source unread (Err e) ⊤ (λ g h. ⊥) → Loads graph source unread r later next
+  loads_stops e is rest (inl (ends, same)) = inl (err_as r e _ is ends, (same.0, rest))
+  loads_stops e is rest (inr (bytes, g, all, named, reads)) = inr (bytes, g, all, named, source_stops g source e (λ h. next g h) is rest reads)
+
+  source_goes : (done : S) (g k : Network) (h : Option LevelsAndLegs) → next g h → (input : SourceReading) →
+      LoadsSource {T = S} k input (Ok done) ⊤ (λ l. (g ≡ k) × (h ≡ l)) → LoadsSource k input r later (λ l. next k l)
+  source_goes done g k h goes NoFile (same, is) = subst (λ (m : Network). next m None) same (subst (next g) is goes)
+  source_goes done g k h goes (SavedFile saved) (inl (ends, rest)) = absurd ends
+  source_goes done g k h goes (SavedFile saved) (inr (others, H, whole, named, (same, is))) = inr (others, H, whole, named, subst (λ (m : Network). next m (Some H)) same (subst (next g) is goes))
+  source_goes done g k h goes (OrderFile order fresh hops) (inl (ends, rest)) = absurd ends
+  source_goes done g k h goes (OrderFile order fresh hops) (inr (others, H, whole, named, (same, is))) = inr (others, H, whole, named, subst (λ (m : Network). next m (Some H)) same (subst (next g) is goes))
 
   -- the run that loaded a graph and a hierarchy goes on with them
-  pub loads_on : (done : S) (g : Network) (h : Option LevelsAndLegs) → next g h → Loads {T = S} graph saved unread (Ok done) ⊤ (λ k l. (g ≡ k) × (h ≡ l)) → Loads graph saved unread r later next
+  pub loads_on : (done : S) (g : Network) (h : Option LevelsAndLegs) → next g h → Loads {T = S} graph source unread (Ok done) ⊤ (λ k l. (g ≡ k) × (h ≡ l)) → Loads graph source unread r later next
   loads_on done g h goes (inl (ends, same)) = absurd ends
-  loads_on done g h goes (inr (bytes, k, all, named, reads)) = inr (bytes, k, all, named, if_goes done g k h _ _ goes saved reads)
+  loads_on done g h goes (inr (bytes, k, all, named, reads)) = inr (bytes, k, all, named, source_goes done g k h goes source reads)
 
 -- a text that was written has P, if the text has it
 pub writes_weaker : {T S : Type 0} (takes : S → List ℕ → Result ℕ DeviceFault → S → Type 0) (old new : S) (text : List ℕ) (P : List ℕ → Type 0) (r : Result T RunFault) → P text → Writes takes old new (λ bytes. bytes ≡ text) r → Writes takes old new P r
@@ -123,6 +179,7 @@ writes_weaker takes old new text P (Ok done) so wrote = (wrote.0, subst P (sym w
 writes_weaker takes old new text P (Err (RunFault.Write count)) so wrote = (wrote.0, subst P (sym wrote.1) so, wrote.2)
 writes_weaker takes old new text P (Err RunFault.Memory) so wrote = wrote
 writes_weaker takes old new text P (Err RunFault.Cells) so wrote = absurd wrote
+writes_weaker takes old new text P (Err RunFault.Order) so wrote = absurd wrote
 writes_weaker takes old new text P (Err (RunFault.CellsAt line)) so wrote = absurd wrote
 writes_weaker takes old new text P (Err (RunFault.Read which f)) so wrote = absurd wrote
 writes_weaker takes old new text P (Err (RunFault.Device which)) so wrote = absurd wrote
@@ -145,3 +202,17 @@ module _ {S : Type 0} (gives : S → List ℕ → Result ℕ DeviceFault → S �
   loads_refused e T r is P (inl (ends, same)) = inl (err_as r e _ is ends, (ap (λ (x : S). Source.Saved x) same, tt))
   loads_refused e T r is P (inr (bytes, g, all, named, inl (ends, at))) = inr (bytes, g, all, named, inl (err_as r e _ is ends, tt))
   loads_refused e T r is P (inr (bytes, g, all, named, inr (others, H, whole, names, none))) = absurd none
+
+  -- a graph and an order were read by one call
+  pub loads_built : (fresh hops : ℕ) (checked : Checked) (T : Type 0) (done : T) → BuildsStory graph (reading gives old new) fresh hops (new ≡ old) (Ok checked) →
+      Loads {T = T} graph (source_reading gives (Source.Like old fresh hops) (Source.Like new fresh hops)) (Source.Like new fresh hops ≡ Source.Like old fresh hops) (Ok done) ⊤ (λ g h. (checked.graph ≡ g) × (Some checked.hierarchy ≡ h))
+  loads_built fresh hops checked T done (inl (ends, at)) = absurd ends
+  loads_built fresh hops checked T done (inr (bytes, g, all, named, inl (ends, at))) = absurd ends
+  loads_built fresh hops checked T done (inr (bytes, g, all, named, inr (others, H, whole, names, (same, is)))) = inr (bytes, g, all, named, inr (others, H, whole, names, (same, ap (λ (K : LevelsAndLegs). Some K) is)))
+
+  -- or one of them in vain
+  pub loads_unbuilt : (fresh hops : ℕ) (e : RunFault) (T : Type 0) (r : Result T RunFault) → IsErrAnd r (λ other. other ≡ e) → (P : Network → Option LevelsAndLegs → Type 0) → BuildsStory graph (reading gives old new) fresh hops (new ≡ old) (Err e) →
+      Loads {T = T} graph (source_reading gives (Source.Like old fresh hops) (Source.Like new fresh hops)) (Source.Like new fresh hops ≡ Source.Like old fresh hops) r ⊤ P
+  loads_unbuilt fresh hops e T r is P (inl (ends, same)) = inl (err_as r e _ is ends, (ap (λ (x : S). Source.Like x fresh hops) same, tt))
+  loads_unbuilt fresh hops e T r is P (inr (bytes, g, all, named, inl (ends, at))) = inr (bytes, g, all, named, inl (err_as r e _ is ends, tt))
+  loads_unbuilt fresh hops e T r is P (inr (bytes, g, all, named, inr (others, H, whole, names, none))) = absurd none

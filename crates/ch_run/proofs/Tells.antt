@@ -19,13 +19,13 @@ use Rattle.ch_run.specs.declared.fault.Which.{Which}
 use Rattle.ch_run.specs.declared.source.Source.{Source}
 use Rattle.ch_run.specs.declared.sources.Sources.{Sources}
 use Rattle.ch_run.specs.NearRun.{AreSources, sources_among}
-use Rattle.ch_run.specs.Run.{AcceptsGraph, Delivers, GoesPast, IsGraphRefused, IsOf, IsWrite, NoInput, OneInput, Reading, ReadingIf, ReadsAfter, ReadsAll, ReadsOnce, ReadsOrRefuses, StopsAt, WritesAfter, reading}
-use Rattle.ch_run.specs.Source.{AreLoaded, HasCheckRefused, HasSavedRefused, IsOfLoading, ReadsSource, source_origin, source_reading}
-use Rattle.ch_run.specs.Story.{Cells, EndsAt, IsRefused, IsSavedRefusedOn, Loads, Reads, ReadsIf, Writes}
+use Rattle.ch_run.specs.Run.{AcceptsGraph, Delivers, GoesPast, IsGraphRefused, IsOf, IsWrite, NoFile, NoInput, OneInput, OrderFile, Reading, ReadingIf, ReadsAfter, ReadsAll, ReadsOnce, ReadsOrRefuses, SavedFile, SourceReading, StopsAt, WritesAfter, reading}
+use Rattle.ch_run.specs.Source.{AreLoaded, HasCheckRefused, HasOrderRefused, HasSavedRefused, IsOfLoading, ReadsSource, source_origin, source_reading}
+use Rattle.ch_run.specs.Story.{Cells, EndsAt, IsOrderRefusedOn, IsRefused, IsSavedRefusedOn, Loads, LoadsSource, NamesLike, Reads, ReadsIf, Writes}
 use Rattle.ch_run.specs.Told.{Calls}
 use Rattle.ch_run.proofs.Counted.{failed_once, failed_one, unfailed}
-use Rattle.ch_run.proofs.Inputs.{of_one}
-use Rattle.ch_run.proofs.Owed.{no_end, stops_check, stops_device, stops_read, undelivered, untouched_after, unwritten}
+use Rattle.ch_run.proofs.Inputs.{of_one, same_kind}
+use Rattle.ch_run.proofs.Owed.{no_end, stops_check, stops_device, stops_order, stops_read, undelivered, untouched_after, unwritten}
 
 -- the law of an input that ties its calls to its count of failures
 abbrev pub CountsReads : {I : Type 0} → Calls I → (I → ℕ) → Type 0
@@ -43,6 +43,7 @@ AreOf which refuses = (bytes : List ℕ) → (fault : RunFault) → refuses byte
 pub refused_of : (which : Which) (form : Form) → AreOf which (IsRefused which form)
 refused_of which form bytes (RunFault.Read input f) is = is.0
 refused_of which form bytes RunFault.Cells is = absurd is
+refused_of which form bytes RunFault.Order is = absurd is
 refused_of which form bytes (RunFault.CellsAt line) is = absurd is
 refused_of which form bytes RunFault.Memory is = absurd is
 refused_of which form bytes (RunFault.Device input) is = absurd is
@@ -53,10 +54,21 @@ pub saved_refused_of : (g : Network) → AreOf Which.Saved (IsSavedRefusedOn g)
 saved_refused_of g bytes (RunFault.Read input f) is = is.0
 saved_refused_of g bytes (RunFault.Check f) is = refl
 saved_refused_of g bytes RunFault.Cells is = absurd is
+saved_refused_of g bytes RunFault.Order is = absurd is
 saved_refused_of g bytes (RunFault.CellsAt line) is = absurd is
 saved_refused_of g bytes RunFault.Memory is = absurd is
 saved_refused_of g bytes (RunFault.Device input) is = absurd is
 saved_refused_of g bytes (RunFault.Write count) is = absurd is
+
+pub order_refused_of : (g : Network) → AreOf Which.Order (IsOrderRefusedOn g)
+order_refused_of g bytes (RunFault.Read input f) is = is.0
+order_refused_of g bytes RunFault.Order is = refl
+order_refused_of g bytes (RunFault.Check f) is = absurd is
+order_refused_of g bytes RunFault.Cells is = absurd is
+order_refused_of g bytes (RunFault.CellsAt line) is = absurd is
+order_refused_of g bytes RunFault.Memory is = absurd is
+order_refused_of g bytes (RunFault.Device input) is = absurd is
+order_refused_of g bytes (RunFault.Write count) is = absurd is
 
 -- the fault of a run that stopped at an input belongs to it
 ends_of : (which : Which) (input : Reading) (refuses : List ℕ → RunFault → Type 0) → AreOf which refuses → (fault : RunFault) → EndsAt which input refuses fault → IsOf which fault
@@ -64,6 +76,7 @@ ends_of which input refuses of (RunFault.Device other) is = is.0
 ends_of which input refuses of RunFault.Memory is = tt
 ends_of which input refuses of (RunFault.Read other f) is = of is.0 (RunFault.Read other f) is.2
 ends_of which input refuses of RunFault.Cells is = of is.0 RunFault.Cells is.2
+ends_of which input refuses of RunFault.Order is = of is.0 RunFault.Order is.2
 ends_of which input refuses of (RunFault.CellsAt line) is = of is.0 (RunFault.CellsAt line) is.2
 ends_of which input refuses of (RunFault.Write count) is = of is.0 (RunFault.Write count) is.2
 ends_of which input refuses of (RunFault.Check f) is = of is.0 (RunFault.Check f) is.2
@@ -128,6 +141,15 @@ pub if_past : {T V : Type 0} (r : Result T RunFault) (which : Which) (input : Re
 if_past r which NoInput names refuses later next of other not reads on = on None reads
 if_past r which (OneInput input) names refuses later next of other not reads on = reads_past r which input names refuses later (λ value. next (Some value)) of other not reads (λ value. on (Some value))
 
+-- the same of the file for the hierarchy
+source_past : {T : Type 0} (r : Result T RunFault) (g : Network) (source : SourceReading) (later : Type 0) (next : Option LevelsAndLegs → Type 0) → (other : Which) → (other ≡ Which.Saved → ⊥) → (other ≡ Which.Order → ⊥) →
+    LoadsSource g source r later next → ((h : Option LevelsAndLegs) → next h → GoesPast other r) → GoesPast other r
+source_past r g NoFile later next other not_saved not_order loads on = on None loads
+source_past r g (SavedFile saved) later next other not_saved not_order loads on =
+    reads_past r Which.Saved saved (λ bytes H. (s : OrderAndLegs) × NamesSaved bytes g.nodes s × NamesKept g s H) (IsSavedRefusedOn g) later (λ H. next (Some H)) (saved_refused_of g) other not_saved loads (λ H. on (Some H))
+source_past r g (OrderFile order fresh hops) later next other not_saved not_order loads on =
+    reads_past r Which.Order order (λ bytes H. NamesLike g fresh hops bytes H) (IsOrderRefusedOn g) later (λ H. next (Some H)) (order_refused_of g) other not_order loads (λ H. on (Some H))
+
 -- a run stopped at the list of sources, or went on with the sources
 pub sources_elim : {T : Type 0} (r : Result T RunFault) (input : ReadingIf) (nodes : ℕ) (form : Form) (later : Type 0) (next : Option (List ℕ) → Type 0) (Q : Type 0) →
     ReadsIf Which.Sources input (λ bytes listed. NamesNodes bytes nodes listed) (IsRefused Which.Sources form) r later next →
@@ -144,6 +166,7 @@ module _ {T V I : Type 0} (r : Result T RunFault) (which : Which) (gives : Calls
   counted RunFault.Memory (bytes, inr all) = inr (λ same. cc, all-counts gives failed counts old bytes new all)
   counted (RunFault.Read other f) is = inr (λ same. cc, all-counts gives failed counts old is.0 new is.1)
   counted RunFault.Cells is = inr (λ same. cc, all-counts gives failed counts old is.0 new is.1)
+  counted RunFault.Order is = inr (λ same. cc, all-counts gives failed counts old is.0 new is.1)
   counted (RunFault.CellsAt line) is = inr (λ same. cc, all-counts gives failed counts old is.0 new is.1)
   counted (RunFault.Write count) is = inr (λ same. cc, all-counts gives failed counts old is.0 new is.1)
   counted (RunFault.Check f) is = inr (λ same. cc, all-counts gives failed counts old is.0 new is.1)
@@ -170,24 +193,28 @@ module _ {T V I : Type 0} (r : Result T RunFault) (which : Which) (gives : Calls
 
 module _ {T : Type 0} (r : Result T RunFault) (graph : Reading) (unread later : Type 0) (next : Network → Option LevelsAndLegs → Type 0) where
   -- a run stopped while it loaded, or went on with what it had loaded
-  pub loads_elim : (saved : ReadingIf) (Q : Type 0) → Loads graph saved unread r later next → (IsErrAnd r (IsOfLoading saved) → later → Q) → ((g : Network) (h : Option LevelsAndLegs) → AreLoaded graph saved g h → next g h → Q) → Q
-  loads_elim NoInput Q (inl (ends, (same, at))) stop go = stop (err_weaker r _ _ ends (ends_of Which.Graph graph _ (refused_of Which.Graph Form.Graph))) at
-  loads_elim NoInput Q (inr (bytes, g, all, named, rest)) stop go = go g None (named.1, (bytes, all, named.0), refl) rest
-  loads_elim (OneInput saved) Q (inl (ends, (same, at))) stop go = stop (err_weaker r _ _ ends (λ e is. inl (ends_of Which.Graph graph _ (refused_of Which.Graph Form.Graph) e is))) at
-  loads_elim (OneInput saved) Q (inr (bytes, g, all, named, inl (ends, at))) stop go = stop (err_weaker r _ _ ends (λ e is. inr (ends_of Which.Saved saved _ (saved_refused_of g) e is))) at
-  loads_elim (OneInput saved) Q (inr (bytes, g, all, named, inr (others, H, whole, kept, rest))) stop go =
+  pub loads_elim : (saved : SourceReading) (Q : Type 0) → Loads graph saved unread r later next → (IsErrAnd r (IsOfLoading saved) → later → Q) → ((g : Network) (h : Option LevelsAndLegs) → AreLoaded graph saved g h → next g h → Q) → Q
+  loads_elim NoFile Q (inl (ends, (same, at))) stop go = stop (err_weaker r _ _ ends (ends_of Which.Graph graph _ (refused_of Which.Graph Form.Graph))) at
+  loads_elim NoFile Q (inr (bytes, g, all, named, rest)) stop go = go g None (named.1, (bytes, all, named.0), refl) rest
+  loads_elim (SavedFile saved) Q (inl (ends, (same, at))) stop go = stop (err_weaker r _ _ ends (λ e is. inl (ends_of Which.Graph graph _ (refused_of Which.Graph Form.Graph) e is))) at
+  loads_elim (SavedFile saved) Q (inr (bytes, g, all, named, inl (ends, at))) stop go = stop (err_weaker r _ _ ends (λ e is. inr (ends_of Which.Saved saved _ (saved_refused_of g) e is))) at
+  loads_elim (SavedFile saved) Q (inr (bytes, g, all, named, inr (others, H, whole, kept, rest))) stop go =
       go g (Some H) (kept.0, record { reads_graph = (bytes, all, named.0); limits = named.1; reads_saved = (others, whole, kept.1); names = kept.2 }) rest
+  loads_elim (OrderFile order fresh hops) Q (inl (ends, (same, at))) stop go = stop (err_weaker r _ _ ends (λ e is. inl (ends_of Which.Graph graph _ (refused_of Which.Graph Form.Graph) e is))) at
+  loads_elim (OrderFile order fresh hops) Q (inr (bytes, g, all, named, inl (ends, at))) stop go = stop (err_weaker r _ _ ends (λ e is. inr (ends_of Which.Order order _ (order_refused_of g) e is))) at
+  loads_elim (OrderFile order fresh hops) Q (inr (bytes, g, all, named, inr (others, H, whole, names, rest))) stop go =
+      go g (Some H) (names.0, record { reads_graph = (bytes, all, named.0); limits = named.1; reads_order = (others, whole, names.1); each = names.2; like = names.3; kept = names.4 }) rest
 
 -- the promise on a graph that is loaded
-pub loads_graph : {T I : Type 0} (r : Result T RunFault) (gives : Calls I) (failed : I → ℕ) (counts : CountsReads gives failed) (old new : I) (saved : ReadingIf) (unread later : Type 0) (next : Network → Option LevelsAndLegs → Type 0) →
+pub loads_graph : {T I : Type 0} (r : Result T RunFault) (gives : Calls I) (failed : I → ℕ) (counts : CountsReads gives failed) (old new : I) (saved : SourceReading) (unread later : Type 0) (next : Network → Option LevelsAndLegs → Type 0) →
     Loads (reading gives old new) saved unread r later next → ((g : Network) (h : Option LevelsAndLegs) → next g h → GoesPast Which.Graph r) → ReadsOrRefuses Which.Graph r gives failed old new IsGraphRefused
 loads_graph r gives failed counts old new saved unread later next went on =
     reads_told r Which.Graph gives failed counts old new _ (IsRefused Which.Graph Form.Graph) _ _ IsGraphRefused (λ fault told. (told.0, told.1, told.2.1)) went
-    (λ g rest. if_past r Which.Saved saved _ (IsSavedRefusedOn g) later (next g) (saved_refused_of g) Which.Graph (λ same. cc) rest (on g))
+    (λ g rest. source_past r g saved later (next g) Which.Graph (λ same. cc) (λ same. cc) rest (on g))
 
 module _ {T S : Type 0} (r : Result T RunFault) (graph : Reading) (gives : Calls S) (failed : S → ℕ) (counts : CountsReads gives failed) (later : Type 0) (next : Network → Option LevelsAndLegs → Type 0)
-    (on : (g : Network) (h : Option LevelsAndLegs) → next g h → GoesPast Which.Graph r × GoesPast Which.Saved r) where
-  saved_told : (old new : S) → Loads graph (OneInput (reading gives old new)) (Source.Saved new ≡ Source.Saved old) r later next → ReadsSource graph r gives failed (Source.Saved old) (Source.Saved new)
+    (on : (g : Network) (h : Option LevelsAndLegs) → next g h → GoesPast Which.Graph r × GoesPast Which.Saved r × GoesPast Which.Order r) where
+  saved_told : (old new : S) → Loads graph (SavedFile (reading gives old new)) (Source.Saved new ≡ Source.Saved old) r later next → ReadsSource graph r gives failed (Source.Saved old) (Source.Saved new)
   saved_told old new (inl (ends, (same, at))) =
       let past : GoesPast Which.Saved r = err_past r _ Which.Saved ends (λ e is stops. let other : Which.Saved ≡ Which.Graph = of_one Which.Graph Which.Saved e (ends_of Which.Graph graph _ (refused_of Which.Graph Form.Graph) e is) stops in cc) in
       let still : new ≡ old = cc in
@@ -205,12 +232,36 @@ module _ {T S : Type 0} (r : Result T RunFault) (graph : Reading) (gives : Calls
       at fault is (inl (ends, rest)) = let told = err_is r _ (RunFault.Check fault) ends is in (g, told.2.0, (bytes, all, named.0), (told.0, told.1, told.2.1), told.2.2)
       at fault is (inr (others, H, whole, kept, goes)) = absurd (no_end Which.Saved r (RunFault.Check fault) (on g (Some H) goes).1 (stops_check fault) is)
 
+  order_told : (fresh hops fresh' hops' : ℕ) (old new : S) → Loads graph (OrderFile (reading gives old new) fresh hops) (Source.Like new fresh' hops' ≡ Source.Like old fresh hops) r later next →
+      ReadsSource graph r gives failed (Source.Like old fresh hops) (Source.Like new fresh' hops')
+  order_told fresh hops fresh' hops' old new (inl (ends, (same, at))) =
+      let past : GoesPast Which.Order r = err_past r _ Which.Order ends (λ e is stops. let other : Which.Order ≡ Which.Graph = of_one Which.Graph Which.Order e (ends_of Which.Graph graph _ (refused_of Which.Graph Form.Graph) e is) stops in cc) in
+      let still : new ≡ old = cc in
+      record { lines = unread_at Which.Order r gives failed old new (Which.Graph ∷ []) (AcceptsGraph graph) (HasSavedRefused graph) still past; order = λ is. absurd (no_end Which.Order r RunFault.Order past stops_order is) }
+  order_told fresh hops fresh' hops' old new (inr (bytes, g, all, named, rest)) =
+      record {
+        lines = record {
+          reads = reads_told r Which.Order gives failed counts old new _ (IsOrderRefusedOn g) _ _ (HasSavedRefused graph) (λ fault told. (g, (bytes, all, named.0), (told.0, told.1, told.2.1))) rest (λ H goes. (on g (Some H) goes).2);
+          unread = inr ((reads_past r Which.Order (reading gives old new) _ (IsOrderRefusedOn g) _ _ (order_refused_of g) Which.Graph (λ same. cc) rest (λ H goes. (on g (Some H) goes).0), tt), (g, (bytes, all, named.0)));
+        };
+        order = λ is. at is rest;
+      }
+    where
+      at : r ≡ Err RunFault.Order → Reads Which.Order (reading gives old new) (λ bytes H. NamesLike g fresh hops bytes H) (IsOrderRefusedOn g) r later (λ H. next g (Some H)) → HasOrderRefused graph (reading gives old new)
+      at is (inl (ends, rest)) = let told = err_is r _ RunFault.Order ends is in (g, told.2.0, (bytes, all, named.0), (told.0, told.1, told.2.1), told.2.2)
+      at is (inr (others, H, whole, names, goes)) = absurd (no_end Which.Order r RunFault.Order (on g (Some H) goes).2 stops_order is)
+
   -- the promise on the source of the hierarchy
   pub loads_source : (origin : S → ℕ) (old new : Source S) → source_origin origin new ≡ source_origin origin old → Loads graph (source_reading gives old new) (new ≡ old) r later next → ReadsSource graph r gives failed old new
   loads_source origin Source.Built Source.Built same went = refl
   loads_source origin Source.Built (Source.Saved new) same went = absurd (let none : ⊥ = cc in none)
+  loads_source origin Source.Built (Source.Like new fresh hops) same went = absurd (let none : ⊥ = cc in none)
   loads_source origin (Source.Saved old) Source.Built same went = absurd (let none : ⊥ = cc in none)
+  loads_source origin (Source.Saved old) (Source.Like new fresh hops) same went = absurd (let kinds : Which.Order ≡ Which.Saved = same_kind (Which.Order, origin new) (Which.Saved, origin old) same in let none : ⊥ = cc in none)
   loads_source origin (Source.Saved old) (Source.Saved new) same went = saved_told old new went
+  loads_source origin (Source.Like old fresh hops) Source.Built same went = absurd (let none : ⊥ = cc in none)
+  loads_source origin (Source.Like old fresh hops) (Source.Saved new) same went = absurd (let kinds : Which.Saved ≡ Which.Order = same_kind (Which.Saved, origin new) (Which.Order, origin old) same in let none : ⊥ = cc in none)
+  loads_source origin (Source.Like old fresh hops) (Source.Like new fresh' hops') same went = order_told fresh hops fresh' hops' old new went
 
 -- a run that wrote its answer ends only in a failed write, or for want of memory
 pub writes_own : {T O : Type 0} (takes : Calls O) (old new : O) (answers : List ℕ → Type 0) (Own : RunFault → Type 0) (r : Result T RunFault) → Writes takes old new answers r → ((count : ℕ) → Own (RunFault.Write count)) → Own RunFault.Memory → IfErr r Own
@@ -218,6 +269,7 @@ writes_own takes old new answers Own (Ok done) wrote write memory = tt
 writes_own takes old new answers Own (Err (RunFault.Write count)) wrote write memory = write count
 writes_own takes old new answers Own (Err RunFault.Memory) wrote write memory = memory
 writes_own takes old new answers Own (Err RunFault.Cells) wrote write memory = absurd wrote
+writes_own takes old new answers Own (Err RunFault.Order) wrote write memory = absurd wrote
 writes_own takes old new answers Own (Err (RunFault.CellsAt line)) wrote write memory = absurd wrote
 writes_own takes old new answers Own (Err (RunFault.Read which f)) wrote write memory = absurd wrote
 writes_own takes old new answers Own (Err (RunFault.Device which)) wrote write memory = absurd wrote
@@ -233,6 +285,7 @@ writes_delivers takes old new answers P so (Ok done) (text, is, took) = (text, s
 writes_delivers takes old new answers P so (Err (RunFault.Write count)) (text, is, took) = λ n same. (text, so text is, subst (λ k. TookUntilFault takes old text k new) (let one : count ≡ n = cc in one) took)
 writes_delivers takes old new answers P so (Err RunFault.Memory) same = λ n is. absurd (let none : ⊥ = cc in none)
 writes_delivers takes old new answers P so (Err RunFault.Cells) wrote = absurd wrote
+writes_delivers takes old new answers P so (Err RunFault.Order) wrote = absurd wrote
 writes_delivers takes old new answers P so (Err (RunFault.CellsAt line)) wrote = absurd wrote
 writes_delivers takes old new answers P so (Err (RunFault.Read which f)) wrote = absurd wrote
 writes_delivers takes old new answers P so (Err (RunFault.Device which)) wrote = absurd wrote
@@ -249,6 +302,7 @@ writes_told takes failed idle counts old new answers accepted met (Err (RunFault
     record { writes = record { device = (λ is. failed_one _ _ _ _ one, λ any. tt); once = failed_once _ _ _ _ one }; unwritten = inr (tt, met) }
 writes_told takes failed idle counts old new answers accepted met (Err RunFault.Memory) same = rw same (unwritten (Err RunFault.Memory) RunFault.Memory refl (λ write. write) accepted failed idle old)
 writes_told takes failed idle counts old new answers accepted met (Err RunFault.Cells) wrote = absurd wrote
+writes_told takes failed idle counts old new answers accepted met (Err RunFault.Order) wrote = absurd wrote
 writes_told takes failed idle counts old new answers accepted met (Err (RunFault.CellsAt line)) wrote = absurd wrote
 writes_told takes failed idle counts old new answers accepted met (Err (RunFault.Read which f)) wrote = absurd wrote
 writes_told takes failed idle counts old new answers accepted met (Err (RunFault.Device which)) wrote = absurd wrote

@@ -15,7 +15,7 @@ use Rattle.ch_run.specs.declared.fault.RunFault.{RunFault}
 use Rattle.ch_run.specs.declared.options.Options.{Options}
 use Rattle.ch_text.specs.Moves.{Took, TookUntilFault}
 use Rattle.ch_text.specs.declared.device.DeviceFault.{DeviceFault}
-use Rattle.ch_run.specs.Run.{Reading, ReadsAll, IsOf, IsWrite, ReadingIf}
+use Rattle.ch_run.specs.Run.{Reading, ReadsAll, IsOf, IsWrite, SourceReading}
 use Rattle.ch_run.specs.Source.{IsOfLoading, IsServing, WithLoaded, order_built}
 use Rattle.ch_text.specs.NearText.{IsNearText}
 use Rattle.ch_text.specs.TableText.{IsTableText}
@@ -109,16 +109,16 @@ Serves IsTextOf gives n requests old new (Err (RunFault.Write count)) =
     ReadsSome requests (λ read left. TookBeginning IsTextOf gives no_places old new 0 count (told_by n (read ++ left)).given)
 Serves IsTextOf gives n requests old new (Err _) = ⊥
 
--- the graph was accepted, and so was the saved hierarchy, if one is read. The run answered the requests by this hierarchy, or by
+-- the graph was accepted, and so was the file for the hierarchy, if one is read. The run answered the requests by this hierarchy, or by
 -- the contraction hierarchy that it built
-abbrev pub ServesBy : {T S : Type 0} → Options → Reading → ReadingIf → Reading → (gives : S → List ℕ → Result ℕ DeviceFault → S → Type 0) → (old new : S) → Result T RunFault → Type 0
-ServesBy options graph saved requests gives old new result =
-    WithLoaded graph saved (λ g h. Serves (IsRequestText options g (IsServing (order_built options) options.hops g h)) gives g.nodes requests old new result)
+abbrev pub ServesBy : {T S : Type 0} → Options → Reading → SourceReading → Reading → (gives : S → List ℕ → Result ℕ DeviceFault → S → Type 0) → (old new : S) → Result T RunFault → Type 0
+ServesBy options graph source requests gives old new result =
+    WithLoaded graph source (λ g h. Serves (IsRequestText options g (IsServing (order_built options) options.hops g h)) gives g.nodes requests old new result)
 
 -- the faults that answering requests can end in: they are refused or can't be read, there is no memory, or a write failed
 abbrev pub IsOfServing : RunFault → Type 0
 IsOfServing fault = IsOf Which.Requests fault ⊎ IsWrite fault
 
 -- the faults that a run over requests can end in
-abbrev pub IsOfAsk : ReadingIf → RunFault → Type 0
-IsOfAsk saved fault = IsOfLoading saved fault ⊎ IsOfServing fault
+abbrev pub IsOfAsk : SourceReading → RunFault → Type 0
+IsOfAsk source fault = IsOfLoading source fault ⊎ IsOfServing fault

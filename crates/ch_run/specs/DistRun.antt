@@ -4,24 +4,24 @@ use Rattle.ch_read.specs.declared.fault.ReadFault.{ReadFault}
 use Rattle.ch_run.specs.declared.fault.Which.{Which}
 use Rattle.ch_run.specs.declared.fault.RunFault.{RunFault}
 use Rattle.ch_run.specs.declared.options.Options.{Options}
-use Rattle.ch_run.specs.Run.{Reading, ReadsQueries, IsQueriesRefused, IsOf, IsWrite, ReadingIf}
+use Rattle.ch_run.specs.Run.{Reading, ReadsQueries, IsQueriesRefused, IsOf, IsWrite, SourceReading}
 use Rattle.ch_run.specs.Source.{IsOfLoading, IsOfRoutes, WithLoaded}
 use Rattle.ch_run.specs.Text.{IsTextBy, writes_routes}
 
--- the inputs name a graph and queries on it, and the text answers these with the options. A saved hierarchy, if one is read, is
+-- the inputs name a graph and queries on it, and the text answers these with the options. A hierarchy that is loaded is
 -- right for the graph
-abbrev pub IsAnsweredBy : Options → Reading → ReadingIf → Reading → List ℕ → Type 0
-IsAnsweredBy options graph saved queries text =
-    WithLoaded graph saved (λ g h. (pairs : List (ℕ × ℕ)) × ReadsQueries queries g.nodes pairs × IsTextBy (writes_routes options) g (IsOfRoutes options g h) pairs text)
+abbrev pub IsAnsweredBy : Options → Reading → SourceReading → Reading → List ℕ → Type 0
+IsAnsweredBy options graph source queries text =
+    WithLoaded graph source (λ g h. (pairs : List (ℕ × ℕ)) × ReadsQueries queries g.nodes pairs × IsTextBy (writes_routes options) g (IsOfRoutes options g h) pairs text)
 
--- the graph was accepted, and then the saved hierarchy, if one is read, and then queries on the graph
-abbrev pub AcceptsQueries : Reading → ReadingIf → Reading → Type 0
-AcceptsQueries graph saved queries = WithLoaded graph saved (λ g _. (pairs : List (ℕ × ℕ)) × ReadsQueries queries g.nodes pairs)
+-- the graph was accepted, and then the file for the hierarchy, if one is read, and then queries on the graph
+abbrev pub AcceptsQueries : Reading → SourceReading → Reading → Type 0
+AcceptsQueries graph source queries = WithLoaded graph source (λ g _. (pairs : List (ℕ × ℕ)) × ReadsQueries queries g.nodes pairs)
 
--- the graph and the saved hierarchy, if one is read, were accepted, but the queries have this fault
-abbrev pub HasQueriesRefused : Reading → ReadingIf → Reading → ReadFault → Type 0
-HasQueriesRefused graph saved queries fault = WithLoaded graph saved (λ g _. IsQueriesRefused queries g.nodes fault)
+-- the graph and the file for the hierarchy, if one is read, were accepted, but the queries have this fault
+abbrev pub HasQueriesRefused : Reading → SourceReading → Reading → ReadFault → Type 0
+HasQueriesRefused graph source queries fault = WithLoaded graph source (λ g _. IsQueriesRefused queries g.nodes fault)
 
 -- the faults that the run can end in: an input is refused or can't be read, there is no memory, or a write failed
-abbrev pub IsOfDist : ReadingIf → RunFault → Type 0
-IsOfDist saved fault = IsOfLoading saved fault ⊎ IsOf Which.Queries fault ⊎ IsWrite fault
+abbrev pub IsOfDist : SourceReading → RunFault → Type 0
+IsOfDist source fault = IsOfLoading source fault ⊎ IsOf Which.Queries fault ⊎ IsWrite fault

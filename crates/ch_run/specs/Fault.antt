@@ -11,6 +11,7 @@ use Rattle.ch_run.specs.declared.fault.Which.{Which}
 abbrev pub input_name : Which → List ℕ
 input_name Which.Graph = codes "graph"
 input_name Which.Saved = codes "saved"
+input_name Which.Order = codes "order"
 input_name Which.Queries = codes "queries"
 input_name Which.Sources = codes "sources"
 input_name Which.Targets = codes "targets"
@@ -20,6 +21,7 @@ input_name Which.Requests = codes "requests"
 abbrev pub read_heading : Which → List ℕ
 read_heading Which.Graph = codes "chtab: graph "
 read_heading Which.Saved = codes "chtab: saved "
+read_heading Which.Order = codes "chtab: order "
 read_heading Which.Queries = codes "chtab: queries "
 read_heading Which.Sources = codes "chtab: sources "
 read_heading Which.Targets = codes "chtab: targets "
@@ -34,9 +36,10 @@ fault_text RunFault.Memory = codes "chtab: out of memory"
 fault_text (RunFault.Device which) = codes "chtab: cannot read " ++ input_name which
 fault_text (RunFault.Write count) = codes "chtab: cannot write after " ++ decimal count ++ codes " bytes"
 fault_text (RunFault.Check fault) = codes "chtab: saved hierarchy refused: " ++ check_fault_text fault
+fault_text RunFault.Order = codes "chtab: order refused: a node occurs twice"
 
--- the exit status of a fault. It is 1 if a file, a request, a saved hierarchy or the size of a table was refused. It is 3 if the system
--- refused something
+-- the exit status of a fault. It is 1 if a file, a request, a saved hierarchy, an order or the size of a table was refused. It is 3 if the
+-- system refused something
 abbrev pub status_of : RunFault → ℕ
 status_of (RunFault.Read _ _) = 1
 status_of RunFault.Cells = 1
@@ -45,6 +48,7 @@ status_of RunFault.Memory = 3
 status_of (RunFault.Device _) = 3
 status_of (RunFault.Write _) = 3
 status_of (RunFault.Check _) = 1
+status_of RunFault.Order = 1
 
 -- the fault of a run whose reader refused this input, or had no memory for it
 abbrev pub input_fault : Which → ReadError → RunFault

@@ -8,7 +8,7 @@ use Rattle.ch_run.specs.declared.fault.RunFault.{RunFault}
 use Rattle.ch_run.specs.declared.options.Options.{Options}
 use Rattle.ch_run.specs.declared.sources.Sources.{Sources}
 use Rattle.ch_run.specs.declared.sources.Sources.TheVariants.{All as Each, Listed}
-use Rattle.ch_run.specs.Run.{Reading, ReadsAfter, ReadsNodes, IsListRefused, IsOf, IsWrite, reading_if, ReadingIf, NoInput, OneInput}
+use Rattle.ch_run.specs.Run.{Reading, ReadsAfter, ReadsNodes, IsListRefused, IsOf, IsWrite, reading_if, ReadingIf, NoInput, OneInput, SourceReading}
 use Rattle.ch_run.specs.Source.{IsOfLoading, WithLoaded}
 use Rattle.ch_run.specs.Text.{IsNearTextFor}
 use Rattle.ch_text.specs.NearText.{nodes_in_order}
@@ -59,23 +59,23 @@ ReadsNodeLists sources targets nodes from to = AreSources sources nodes from × 
 abbrev pub HaveNearTargetsRefused : ReadingIf → Reading → ℕ → ReadFault → Type 0
 HaveNearTargetsRefused sources targets nodes fault = AcceptsAnySources sources nodes × IsListRefused targets nodes fault
 
--- the inputs name a graph and the two lists, and the text has their near rows with the options. A saved hierarchy, if one is
--- read, is right for the graph
-abbrev pub IsNearBy : Options → Reading → ReadingIf → ReadingIf → Reading → List ℕ → Type 0
-IsNearBy options graph saved sources targets text =
-    WithLoaded graph saved (λ g _. (from to : List ℕ) × ReadsNodeLists sources targets g.nodes from to × IsNearTextFor options g from to text)
+-- the inputs name a graph and the two lists, and the text has their near rows with the options. A hierarchy that is
+-- loaded is right for the graph
+abbrev pub IsNearBy : Options → Reading → SourceReading → ReadingIf → Reading → List ℕ → Type 0
+IsNearBy options graph source sources targets text =
+    WithLoaded graph source (λ g _. (from to : List ℕ) × ReadsNodeLists sources targets g.nodes from to × IsNearTextFor options g from to text)
 
--- the graph was accepted, and then the saved hierarchy and the list of sources, if they are read
-abbrev pub AcceptsNearSources : Reading → ReadingIf → ReadingIf → Type 0
-AcceptsNearSources graph saved sources = WithLoaded graph saved (λ g _. AcceptsAnySources sources g.nodes)
+-- the graph was accepted, and then the file for the hierarchy and the list of sources, if they are read
+abbrev pub AcceptsNearSources : Reading → SourceReading → ReadingIf → Type 0
+AcceptsNearSources graph source sources = WithLoaded graph source (λ g _. AcceptsAnySources sources g.nodes)
 
 -- all of these were accepted, and then the targets
-abbrev pub AcceptsNodeLists : Reading → ReadingIf → ReadingIf → Reading → Type 0
-AcceptsNodeLists graph saved sources targets = WithLoaded graph saved (λ g _. (from to : List ℕ) × ReadsNodeLists sources targets g.nodes from to)
+abbrev pub AcceptsNodeLists : Reading → SourceReading → ReadingIf → Reading → Type 0
+AcceptsNodeLists graph source sources targets = WithLoaded graph source (λ g _. (from to : List ℕ) × ReadsNodeLists sources targets g.nodes from to)
 
 -- all earlier inputs were accepted, but the targets have this fault
-abbrev pub HasNearTargetsRefused : Reading → ReadingIf → ReadingIf → Reading → ReadFault → Type 0
-HasNearTargetsRefused graph saved sources targets fault = WithLoaded graph saved (λ g _. HaveNearTargetsRefused sources targets g.nodes fault)
+abbrev pub HasNearTargetsRefused : Reading → SourceReading → ReadingIf → Reading → ReadFault → Type 0
+HasNearTargetsRefused graph source sources targets fault = WithLoaded graph source (λ g _. HaveNearTargetsRefused sources targets g.nodes fault)
 
 -- the promise of a run on the input of its sources. If the sources are all nodes, it reads none
 abbrev pub ReadsSources : {T J : Type 0} → (earlier : List Which) → (accepted : Type 0) → Result T RunFault → (gives : J → List ℕ → Result ℕ DeviceFault → J → Type 0) → (J → ℕ) → Sources J → Sources J → (Reading → ReadFault → Type 0) → Type 0
@@ -93,5 +93,5 @@ abbrev pub IsOfNodeLists : ReadingIf → RunFault → Type 0
 IsOfNodeLists sources fault = IsOfSources sources fault ⊎ IsOf Which.Targets fault
 
 -- the faults that the run can end in
-abbrev pub IsOfNear : ReadingIf → ReadingIf → RunFault → Type 0
-IsOfNear saved sources fault = IsOfLoading saved fault ⊎ IsOfNodeLists sources fault ⊎ IsWrite fault
+abbrev pub IsOfNear : SourceReading → ReadingIf → RunFault → Type 0
+IsOfNear source sources fault = IsOfLoading source fault ⊎ IsOfNodeLists sources fault ⊎ IsWrite fault

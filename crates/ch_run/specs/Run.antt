@@ -35,6 +35,16 @@ reading_if gives (Some old) (Some new) = OneInput (reading gives old new)
 reading_if gives (Some old) None = NoInput
 reading_if gives None new = NoInput
 
+-- where the hierarchy of a run comes from, with what the run did with the input that it reads for it
+pub data SourceReading : Type 1 where
+  -- the run builds it, and reads nothing for it
+  NoFile : SourceReading
+  -- the run reads a saved hierarchy
+  SavedFile : (saved : Reading) → SourceReading
+  -- the run reads an order and builds the hierarchy in an order like it: this per cent of the nodes are ordered afresh, and a witness has at
+  -- most this many legs
+  OrderFile : (order : Reading) (fresh hops : ℕ) → SourceReading
+
 -- the input was read to its end, and P holds of its bytes
 abbrev pub ReadsAll : Reading → (List ℕ → Type 0) → Type 0
 ReadsAll input P = (bytes : List ℕ) × input.all bytes × P bytes
@@ -80,6 +90,7 @@ IsUnread which input RunFault.Cells = ⊥
 IsUnread which input (RunFault.CellsAt line) = ⊥
 IsUnread which input (RunFault.Write count) = ⊥
 IsUnread which input (RunFault.Check fault) = ⊥
+IsUnread which input RunFault.Order = ⊥
 
 -- the faults that reading this input can end in: it is refused, it can't be read, or there is no memory
 abbrev pub IsOf : Which → RunFault → Type 0
@@ -90,6 +101,7 @@ IsOf which RunFault.Memory = ⊤
 IsOf which (RunFault.Device input) = which ≡ input
 IsOf which (RunFault.Write count) = ⊥
 IsOf which (RunFault.Check fault) = which ≡ Which.Saved
+IsOf which RunFault.Order = which ≡ Which.Order
 
 -- a write of the output failed
 abbrev pub IsWrite : RunFault → Type 0
@@ -100,6 +112,7 @@ IsWrite (RunFault.CellsAt line) = ⊥
 IsWrite RunFault.Memory = ⊥
 IsWrite (RunFault.Device which) = ⊥
 IsWrite (RunFault.Check fault) = ⊥
+IsWrite RunFault.Order = ⊥
 
 -- this input was refused or couldn't be read
 abbrev pub StopsAt : Which → RunFault → Type 0

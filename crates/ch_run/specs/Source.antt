@@ -1,5 +1,5 @@
--- Where the hierarchy of a run comes from, and the promises on a saved one.
-use Rattle.std.specs.Prelude.{◌≡◌, ◌⊎◌, ℕ, ◌||◌, nat_lt, if◌then◌else◌, [], ◌∷◌, List, Option, Some, None, Result, Err, ⊤, option_map}
+-- Where the hierarchy of a run comes from, and the promises on a saved one and on an order.
+use Rattle.std.specs.Prelude.{◌≡◌, ◌⊎◌, ℕ, ◌≤◌, ◌||◌, nat_lt, if◌then◌else◌, [], ◌∷◌, List, Option, Some, None, Result, Err, ⊤, option_map}
 use Rattle.ch_graph.specs.Graph.{Network, IsWithinLimits}
 use Rattle.ch_graph.specs.Saved.{OrderAndLegs}
 use Rattle.ch_read.specs.declared.fault.ReadFault.{ReadFault}
@@ -8,36 +8,52 @@ use Rattle.ch_read.specs.Checks.{IsFault}
 use Rattle.ch_read.specs.Names.{NamesSaved}
 use Rattle.ch_hierarchy.specs.declared.fault.CheckFault.{CheckFault}
 use Rattle.ch_hierarchy.specs.Hierarchy.{LevelsAndLegs}
-use Rattle.ch_hierarchy.specs.Saved.{NamesKept, IsFirstFault}
+use Rattle.ch_hierarchy.specs.Kept.{IsKept}
+use Rattle.ch_hierarchy.specs.Saved.{NamesKept, IsFirstFault, IsOrderOf}
 use Rattle.ch_contract.specs.declared.measure.OrderBy.{OrderBy}
 use Rattle.ch_contract.specs.declared.measure.OrderBy.TheVariants.{Difference, Depth, Rounds}
+use Rattle.ch_contract.specs.Legs.{IsHopBound}
 use Rattle.ch_contract.specs.Built.{IsHierarchyBy}
+use Rattle.ch_contract.specs.Like.{IsHierarchyLike}
 use Rattle.ch_text.specs.declared.device.DeviceFault.{DeviceFault}
 use Rattle.ch_run.specs.declared.fault.Which.{Which}
 use Rattle.ch_run.specs.declared.fault.RunFault.{RunFault}
 use Rattle.ch_run.specs.declared.options.Options.{Options}
 use Rattle.ch_run.specs.declared.options.TheConstants.{ROUND_NODES}
 use Rattle.ch_run.specs.declared.source.Source.{Source}
-use Rattle.ch_run.specs.declared.source.Source.TheVariants.{Built, Saved}
-use Rattle.ch_run.specs.Run.{AcceptsGraph, Reading, ReadsAfter, ReadsAll, ReadsGraph, IsOf, reading, reading_if, ReadingIf, NoInput, OneInput}
+use Rattle.ch_run.specs.declared.source.Source.TheVariants.{Built, Saved, Like}
+use Rattle.ch_run.specs.Run.{AcceptsGraph, Reading, ReadsAfter, ReadsAll, ReadsGraph, IsOf, reading, SourceReading, NoFile, SavedFile, OrderFile}
 
--- the input of the saved hierarchy, if one is read
-abbrev pub saved_in : {S : Type 0} → Source S → Option S
-saved_in Built = None
-saved_in (Saved input) = Some input
+-- the input of a saved hierarchy or of an order, if one is read
+abbrev pub input_in : {S : Type 0} → Source S → Option S
+input_in Built = None
+input_in (Saved input) = Some input
+input_in (Like input fresh hops) = Some input
 
--- the number of failed reads of the saved hierarchy, if one is read
+-- the number of failed reads of that input
 abbrev pub source_failures : {S : Type 0} → (S → ℕ) → Source S → ℕ
 source_failures failed Built = 0
 source_failures failed (Saved input) = failed input
+source_failures failed (Like input fresh hops) = failed input
 
--- the number of the input of the saved hierarchy, if one is read
-abbrev pub source_origin : {S : Type 0} → (S → ℕ) → Source S → Option ℕ
-source_origin origin source = option_map origin (saved_in source)
+-- which input that is, and its number
+abbrev pub source_origin : {S : Type 0} → (S → ℕ) → Source S → Option (Which × ℕ)
+source_origin origin Built = None
+source_origin origin (Saved input) = Some (Which.Saved, origin input)
+source_origin origin (Like input fresh hops) = Some (Which.Order, origin input)
 
--- the reading of the saved hierarchy, if one is read
-abbrev pub source_reading : {S : Type 0} → (gives : S → List ℕ → Result ℕ DeviceFault → S → Type 0) → Source S → Source S → ReadingIf
-source_reading gives old new = reading_if gives (saved_in old) (saved_in new)
+-- the reading of that input. A run leaves it as what it is: a saved hierarchy or an order
+abbrev pub source_reading : {S : Type 0} → (gives : S → List ℕ → Result ℕ DeviceFault → S → Type 0) → Source S → Source S → SourceReading
+source_reading gives Built new = NoFile
+source_reading gives (Saved old) (Saved new) = SavedFile (reading gives old new)
+source_reading gives (Like old fresh hops) (Like new fresh' hops') = OrderFile (reading gives old new) fresh hops
+source_reading gives _ _ = NoFile
+
+-- the per cent of an order and its bound on the legs of a witness are within their limits
+abbrev pub IsSourceAllowed : {S : Type 0} → Source S → Type 0
+IsSourceAllowed Built = ⊤
+IsSourceAllowed (Saved input) = ⊤
+IsSourceAllowed (Like input fresh hops) = (fresh ≤ 100) × IsHopBound hops
 
 -- the input was read to its end and names this order and these legs, on a graph with this many nodes
 abbrev pub ReadsSaved : Reading → ℕ → OrderAndLegs → Type 0
@@ -50,22 +66,37 @@ pub record AreChecked (graph saved : Reading) (g : Network) (s : OrderAndLegs) (
   pub reads_saved : ReadsSaved saved g.nodes s
   pub names : NamesKept g s H
 
--- the input was read to its end and names this graph, which is within the limits. If a saved hierarchy is read, its input was
--- read to its end and names this one, which is right for the graph
-abbrev pub AreLoaded : (graph : Reading) → (saved : ReadingIf) → Network → Option LevelsAndLegs → Type 0
-AreLoaded graph NoInput g h = IsWithinLimits g × ReadsGraph graph g × (h ≡ None)
-AreLoaded graph (OneInput saved) g None = ⊥
-AreLoaded graph (OneInput saved) g (Some H) = (s : OrderAndLegs) × AreChecked graph saved g s H
+-- the inputs were read to their end. They name a graph within the limits and an order of its nodes. The hierarchy is that of the graph in
+-- an order like it
+pub record AreBuiltLike (graph order : Reading) (fresh hops : ℕ) (g : Network) (s : OrderAndLegs) (H : LevelsAndLegs) : Type 0 where
+  pub reads_graph : ReadsGraph graph g
+  pub limits : IsWithinLimits g
+  pub reads_order : ReadsSaved order g.nodes s
+  pub each : IsOrderOf g.nodes s.order
+  pub like : IsHierarchyLike g hops s.order fresh H
+  pub kept : IsKept g H
 
--- the inputs were loaded, and P holds of the graph and of the saved hierarchy, if there is one
-abbrev pub WithLoaded : Reading → ReadingIf → (Network → Option LevelsAndLegs → Type 0) → Type 0
-WithLoaded graph saved P = (g : Network) × (h : Option LevelsAndLegs) × AreLoaded graph saved g h × P g h
+-- a saved hierarchy was read to its end and is this one, which is right for the graph. Or an order was read to its end, and this is the
+-- hierarchy that was built like it
+abbrev pub ComesFromFile : (graph : Reading) → (source : SourceReading) → Network → Option LevelsAndLegs → Type 0
+ComesFromFile graph (SavedFile saved) g (Some H) = (s : OrderAndLegs) × AreChecked graph saved g s H
+ComesFromFile graph (OrderFile order fresh hops) g (Some H) = (s : OrderAndLegs) × AreBuiltLike graph order fresh hops g s H
+ComesFromFile graph _ g _ = ⊥
+
+-- the input was read to its end and names this graph, which is within the limits. If a file is read for the hierarchy, this one comes from it
+abbrev pub AreLoaded : (graph : Reading) → (source : SourceReading) → Network → Option LevelsAndLegs → Type 0
+AreLoaded graph NoFile g h = IsWithinLimits g × ReadsGraph graph g × (h ≡ None)
+AreLoaded graph source g h = ComesFromFile graph source g h
+
+-- the inputs were loaded, and P holds of the graph and of the hierarchy that was saved or built like an order, if there is one
+abbrev pub WithLoaded : Reading → SourceReading → (Network → Option LevelsAndLegs → Type 0) → Type 0
+WithLoaded graph source P = (g : Network) × (h : Option LevelsAndLegs) × AreLoaded graph source g h × P g h
 
 -- the inputs were loaded
-abbrev pub AcceptsLoaded : Reading → ReadingIf → Type 0
-AcceptsLoaded graph saved = WithLoaded graph saved (λ _ _. ⊤)
+abbrev pub AcceptsLoaded : Reading → SourceReading → Type 0
+AcceptsLoaded graph source = WithLoaded graph source (λ _ _. ⊤)
 
--- the hierarchy that serves: the saved one, if there is one. Otherwise it is the contraction hierarchy of the graph in this
+-- the hierarchy that serves: the one that was loaded, if there is one. Otherwise it is the contraction hierarchy of the graph in this
 -- order, with at most this many legs in a witness
 abbrev pub IsServing : OrderBy → ℕ → Network → Option LevelsAndLegs → LevelsAndLegs → Type 0
 IsServing by hops g None K = IsHierarchyBy by g hops K
@@ -107,22 +138,37 @@ HasSavedRefused graph saved fault = (g : Network) × ReadsGraph graph g × IsSav
 abbrev pub HasCheckRefused : Reading → Reading → CheckFault → Type 0
 HasCheckRefused graph saved fault = (g : Network) × (s : OrderAndLegs) × ReadsGraph graph g × ReadsSaved saved g.nodes s × IsFirstFault g s fault
 
+-- the graph was accepted and the order was read, but it does not have each node of the graph once
+abbrev pub HasOrderRefused : Reading → Reading → Type 0
+HasOrderRefused graph order = (g : Network) × (s : OrderAndLegs) × ReadsGraph graph g × ReadsSaved order g.nodes s × (IsOrderOf g.nodes s.order → ⊥)
+
 -- a run reads a saved hierarchy after the graph. It refuses it only for a fault of its lines, or for its first fault on the graph
 pub record ReadsChecked {T S : Type 0} (graph : Reading) (result : Result T RunFault) (gives : S → List ℕ → Result ℕ DeviceFault → S → Type 0) (failed : S → ℕ) (old new : S) : Type 0 where
   pub lines : ReadsAfter (Which.Graph ∷ []) (AcceptsGraph graph) Which.Saved result gives failed old new (HasSavedRefused graph)
   pub check : (fault : CheckFault) → result ≡ Err (RunFault.Check fault) → HasCheckRefused graph (reading gives old new) fault
 
--- the promise of a run on the source of its hierarchy. If the run builds the hierarchy, it reads none
+-- a run reads an order after the graph. It refuses it only for a fault of its lines, or if it does not have each node once
+pub record ReadsOrder {T S : Type 0} (graph : Reading) (result : Result T RunFault) (gives : S → List ℕ → Result ℕ DeviceFault → S → Type 0) (failed : S → ℕ) (old new : S) : Type 0 where
+  pub lines : ReadsAfter (Which.Graph ∷ []) (AcceptsGraph graph) Which.Order result gives failed old new (HasSavedRefused graph)
+  pub order : result ≡ Err RunFault.Order → HasOrderRefused graph (reading gives old new)
+
+-- the promise of a run on the source of its hierarchy. A source without an input has none afterwards, and the others stay what they are
 abbrev pub ReadsSource : {T S : Type 0} → Reading → Result T RunFault → (gives : S → List ℕ → Result ℕ DeviceFault → S → Type 0) → (S → ℕ) → Source S → Source S → Type 0
 ReadsSource graph result gives failed Built new = new ≡ Built
-ReadsSource graph result gives failed (Saved old) Built = ⊥
 ReadsSource graph result gives failed (Saved old) (Saved new) = ReadsChecked graph result gives failed old new
+ReadsSource graph result gives failed (Like old fresh hops) (Like new fresh' hops') = ReadsOrder graph result gives failed old new
+ReadsSource graph result gives failed _ _ = ⊥
 
 -- the faults that reading the graph and a saved hierarchy can end in: one is refused or can't be read, or there is no memory
 abbrev pub IsOfChecked : RunFault → Type 0
 IsOfChecked fault = IsOf Which.Graph fault ⊎ IsOf Which.Saved fault
 
--- the same faults, if there may be no saved hierarchy
-abbrev pub IsOfLoading : ReadingIf → RunFault → Type 0
-IsOfLoading NoInput fault = IsOf Which.Graph fault
-IsOfLoading (OneInput saved) fault = IsOfChecked fault
+-- the faults that reading the graph and an order can end in
+abbrev pub IsOfOrdered : RunFault → Type 0
+IsOfOrdered fault = IsOf Which.Graph fault ⊎ IsOf Which.Order fault
+
+-- the faults that loading can end in
+abbrev pub IsOfLoading : SourceReading → RunFault → Type 0
+IsOfLoading NoFile fault = IsOf Which.Graph fault
+IsOfLoading (SavedFile saved) fault = IsOfChecked fault
+IsOfLoading (OrderFile order fresh hops) fault = IsOfOrdered fault

@@ -4,7 +4,9 @@ use Rattle.std.specs.Prelude.{◌≡◌, ◌⊎◌, ℕ, List, Option, Some, Non
 use Rattle.ch_graph.specs.Graph.{Network, IsWithinLimits}
 use Rattle.ch_graph.specs.Saved.{OrderAndLegs}
 use Rattle.ch_hierarchy.specs.Hierarchy.{LevelsAndLegs}
-use Rattle.ch_hierarchy.specs.Saved.{NamesKept, IsFirstFault}
+use Rattle.ch_hierarchy.specs.Kept.{IsKept}
+use Rattle.ch_hierarchy.specs.Saved.{NamesKept, IsFirstFault, IsOrderOf}
+use Rattle.ch_contract.specs.Like.{IsHierarchyLike}
 use Rattle.ch_read.specs.declared.form.Form.{Form}
 use Rattle.ch_read.specs.declared.form.Form.TheVariants as Form
 use Rattle.ch_read.specs.Checks.{IsFault}
@@ -14,7 +16,7 @@ use Rattle.ch_text.specs.declared.device.DeviceFault.{DeviceFault}
 use Rattle.ch_run.specs.declared.fault.Which.{Which}
 use Rattle.ch_run.specs.declared.fault.RunFault.{RunFault}
 use Rattle.ch_run.specs.Lists.{HasTooManyCells}
-use Rattle.ch_run.specs.Run.{NoInput, OneInput, Reading, ReadingIf, ReadsAll}
+use Rattle.ch_run.specs.Run.{NoInput, OneInput, Reading, ReadingIf, ReadsAll, SourceReading, NoFile, SavedFile, OrderFile}
 
 -- the bytes of an input of this form are refused, for this fault
 abbrev pub IsRefused : Which → Form → List ℕ → RunFault → Type 0
@@ -26,6 +28,16 @@ abbrev pub IsSavedRefusedOn : Network → List ℕ → RunFault → Type 0
 IsSavedRefusedOn g bytes (RunFault.Read input fault) = (Which.Saved ≡ input) × IsFault (Form.Saved g.nodes) bytes fault.line fault.kind
 IsSavedRefusedOn g bytes (RunFault.Check fault) = (s : OrderAndLegs) × NamesSaved bytes g.nodes s × IsFirstFault g s fault
 IsSavedRefusedOn g bytes _ = ⊥
+
+-- the bytes of an order are refused on this graph, for a fault of their lines, or because they don't have each node once
+abbrev pub IsOrderRefusedOn : Network → List ℕ → RunFault → Type 0
+IsOrderRefusedOn g bytes (RunFault.Read input fault) = (Which.Order ≡ input) × IsFault (Form.Saved g.nodes) bytes fault.line fault.kind
+IsOrderRefusedOn g bytes RunFault.Order = (s : OrderAndLegs) × NamesSaved bytes g.nodes s × (IsOrderOf g.nodes s.order → ⊥)
+IsOrderRefusedOn g bytes _ = ⊥
+
+-- the bytes name an order of the graph's nodes. This hierarchy is that of the graph in an order like it, and right for the graph
+abbrev pub NamesLike : Network → (fresh hops : ℕ) → List ℕ → LevelsAndLegs → Type 0
+NamesLike g fresh hops bytes H = (s : OrderAndLegs) × NamesSaved bytes g.nodes s × IsOrderOf g.nodes s.order × IsHierarchyLike g hops s.order fresh H × IsKept g H
 
 -- the run stopped at this input, for this fault: a read failed, and no read came after it. Or there was no memory. Or the input was read
 -- to its end, and its bytes are refused
@@ -45,12 +57,20 @@ abbrev pub ReadsIf : {T V : Type 0} → Which → ReadingIf → (names : List �
 ReadsIf which NoInput names refuses result later next = next None
 ReadsIf which (OneInput input) names refuses result later next = Reads which input names refuses result later (λ value. next (Some value))
 
--- the run read a graph within the limits, and then a saved hierarchy, if there is one, which is right for the graph. `unread` says that
--- the saved hierarchy is as it was
-abbrev pub Loads : {T : Type 0} → (graph : Reading) → (saved : ReadingIf) → (unread : Type 0) → Result T RunFault → (later : Type 0) → (next : Network → Option LevelsAndLegs → Type 0) → Type 0
-Loads graph saved unread result later next =
+-- the run read a saved hierarchy that is right for the graph, or an order and built the hierarchy in an order like it, if there is one of
+-- these
+abbrev pub LoadsSource : {T : Type 0} → Network → SourceReading → Result T RunFault → (later : Type 0) → (next : Option LevelsAndLegs → Type 0) → Type 0
+LoadsSource g NoFile result later next = next None
+LoadsSource g (SavedFile saved) result later next =
+    Reads Which.Saved saved (λ bytes H. (s : OrderAndLegs) × NamesSaved bytes g.nodes s × NamesKept g s H) (IsSavedRefusedOn g) result later (λ H. next (Some H))
+LoadsSource g (OrderFile order fresh hops) result later next =
+    Reads Which.Order order (λ bytes H. NamesLike g fresh hops bytes H) (IsOrderRefusedOn g) result later (λ H. next (Some H))
+
+-- the run read a graph within the limits, and then what it needs for its hierarchy. `unread` says that this input is as it was
+abbrev pub Loads : {T : Type 0} → (graph : Reading) → (source : SourceReading) → (unread : Type 0) → Result T RunFault → (later : Type 0) → (next : Network → Option LevelsAndLegs → Type 0) → Type 0
+Loads graph source unread result later next =
     Reads Which.Graph graph (λ bytes g. NamesGraph bytes g × IsWithinLimits g) (IsRefused Which.Graph Form.Graph) result (unread × later) (λ g.
-    ReadsIf Which.Saved saved (λ bytes H. (s : OrderAndLegs) × NamesSaved bytes g.nodes s × NamesKept g s H) (IsSavedRefusedOn g) result later (λ h. next g h))
+    LoadsSource g source result later (λ h. next g h))
 
 -- the lists make too many cells for a table, and the run ends for that. Or they don't, and it went on
 abbrev pub Cells : {T : Type 0} → (from to : List ℕ) → Result T RunFault → (later next : Type 0) → Type 0

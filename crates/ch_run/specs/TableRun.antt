@@ -4,36 +4,36 @@ use Rattle.ch_read.specs.declared.fault.ReadFault.{ReadFault}
 use Rattle.ch_run.specs.declared.fault.RunFault.{RunFault}
 use Rattle.ch_run.specs.declared.options.Options.{Options}
 use Rattle.ch_run.specs.Lists.{AcceptsList, HaveCellsRefused, HaveTargetsRefused, IsOfLists, ReadsLists}
-use Rattle.ch_run.specs.Run.{Reading, IsListRefused, IsWrite, ReadingIf}
+use Rattle.ch_run.specs.Run.{Reading, IsListRefused, IsWrite, SourceReading}
 use Rattle.ch_run.specs.Source.{IsOfLoading, WithLoaded}
 use Rattle.ch_text.specs.TableText.{IsTableText}
 
--- the inputs name a graph and two lists of its nodes, and the text is their table within the limit of the options. A saved
--- hierarchy, if one is read, is right for the graph
-abbrev pub IsTabledBy : Options → Reading → ReadingIf → Reading → Reading → List ℕ → Type 0
-IsTabledBy options graph saved sources targets text =
-    WithLoaded graph saved (λ g _. (from to : List ℕ) × ReadsLists sources targets g.nodes from to × IsTableText g options.within from to text)
+-- the inputs name a graph and two lists of its nodes, and the text is their table within the limit of the options. A
+-- hierarchy that is loaded is right for the graph
+abbrev pub IsTabledBy : Options → Reading → SourceReading → Reading → Reading → List ℕ → Type 0
+IsTabledBy options graph source sources targets text =
+    WithLoaded graph source (λ g _. (from to : List ℕ) × ReadsLists sources targets g.nodes from to × IsTableText g options.within from to text)
 
--- the graph was accepted, and then the saved hierarchy, if one is read, and then the sources
-abbrev pub AcceptsSources : Reading → ReadingIf → Reading → Type 0
-AcceptsSources graph saved sources = WithLoaded graph saved (λ g _. AcceptsList sources g.nodes)
+-- the graph was accepted, and then the file for the hierarchy, if one is read, and then the sources
+abbrev pub AcceptsSources : Reading → SourceReading → Reading → Type 0
+AcceptsSources graph source sources = WithLoaded graph source (λ g _. AcceptsList sources g.nodes)
 
 -- all of these were accepted, and then the targets, and the lists don't make too many cells
-abbrev pub AcceptsLists : Reading → ReadingIf → Reading → Reading → Type 0
-AcceptsLists graph saved sources targets = WithLoaded graph saved (λ g _. (from to : List ℕ) × ReadsLists sources targets g.nodes from to)
+abbrev pub AcceptsLists : Reading → SourceReading → Reading → Reading → Type 0
+AcceptsLists graph source sources targets = WithLoaded graph source (λ g _. (from to : List ℕ) × ReadsLists sources targets g.nodes from to)
 
--- the graph and the saved hierarchy, if one is read, were accepted, but the sources have this fault
-abbrev pub HasSourcesRefused : Reading → ReadingIf → Reading → ReadFault → Type 0
-HasSourcesRefused graph saved sources fault = WithLoaded graph saved (λ g _. IsListRefused sources g.nodes fault)
+-- the graph and the file for the hierarchy, if one is read, were accepted, but the sources have this fault
+abbrev pub HasSourcesRefused : Reading → SourceReading → Reading → ReadFault → Type 0
+HasSourcesRefused graph source sources fault = WithLoaded graph source (λ g _. IsListRefused sources g.nodes fault)
 
 -- all earlier inputs were accepted, but the targets have this fault
-abbrev pub HasTargetsRefused : Reading → ReadingIf → Reading → Reading → ReadFault → Type 0
-HasTargetsRefused graph saved sources targets fault = WithLoaded graph saved (λ g _. HaveTargetsRefused sources targets g.nodes fault)
+abbrev pub HasTargetsRefused : Reading → SourceReading → Reading → Reading → ReadFault → Type 0
+HasTargetsRefused graph source sources targets fault = WithLoaded graph source (λ g _. HaveTargetsRefused sources targets g.nodes fault)
 
 -- all inputs were accepted, but the lists make too many cells
-abbrev pub HasCellsRefused : Reading → ReadingIf → Reading → Reading → Type 0
-HasCellsRefused graph saved sources targets = WithLoaded graph saved (λ g _. HaveCellsRefused sources targets g.nodes)
+abbrev pub HasCellsRefused : Reading → SourceReading → Reading → Reading → Type 0
+HasCellsRefused graph source sources targets = WithLoaded graph source (λ g _. HaveCellsRefused sources targets g.nodes)
 
 -- the faults that the run can end in: an input is refused or can't be read, there are too many cells or no memory, or a write failed
-abbrev pub IsOfTable : ReadingIf → RunFault → Type 0
-IsOfTable saved fault = IsOfLoading saved fault ⊎ IsOfLists fault ⊎ IsWrite fault
+abbrev pub IsOfTable : SourceReading → RunFault → Type 0
+IsOfTable source fault = IsOfLoading source fault ⊎ IsOfLists fault ⊎ IsWrite fault

@@ -23,6 +23,10 @@ IsTextBy true g From queries text = IsRouteText g From queries text
 abbrev pub IsNearTextFor : Options → Network → List ℕ → List ℕ → List ℕ → Type 0
 IsNearTextFor options g sources targets text = IsNearText g options.direction options.within options.count sources targets text
 
+-- the text of one of these hierarchies
+abbrev pub IsSaveTextOf : (LevelsAndLegs → Type 0) → List ℕ → Type 0
+IsSaveTextOf From text = (H : LevelsAndLegs) × From H × IsHierarchyText H text
+
 -- the text of the graph's contraction hierarchy in this order, with at most h legs in a witness
 abbrev pub IsSaveText : OrderBy → Network → ℕ → List ℕ → Type 0
-IsSaveText by g h text = (H : LevelsAndLegs) × IsHierarchyBy by g h H × IsHierarchyText H text
+IsSaveText by g h text = IsSaveTextOf (IsHierarchyBy by g h) text

@@ -25,7 +25,7 @@ pub record DistTells {T I S J O : Type 0} (graph_gives : Calls I) (graph_failed 
   pub own : IfErr result (IsOfDist (source_reading saved_gives source_old source_new))
   pub graph : ReadsOrRefuses Which.Graph result graph_gives graph_failed graph_old graph_new IsGraphRefused
   pub source : ReadsSource (reading graph_gives graph_old graph_new) result saved_gives saved_failed source_old source_new
-  pub queries : ReadsAfter (Which.Graph ∷ Which.Saved ∷ []) (AcceptsLoaded (reading graph_gives graph_old graph_new) (source_reading saved_gives source_old source_new))
+  pub queries : ReadsAfter (Which.Graph ∷ Which.Saved ∷ Which.Order ∷ []) (AcceptsLoaded (reading graph_gives graph_old graph_new) (source_reading saved_gives source_old source_new))
       Which.Queries result queries_gives queries_failed queries_old queries_new
       (HasQueriesRefused (reading graph_gives graph_old graph_new) (source_reading saved_gives source_old source_new))
   pub output : WritesAfter
@@ -39,10 +39,10 @@ pub record TableTells {T I S J L O : Type 0} (graph_gives : Calls I) (graph_fail
   pub own : IfErr result (IsOfTable (source_reading saved_gives source_old source_new))
   pub graph : ReadsOrRefuses Which.Graph result graph_gives graph_failed graph_old graph_new IsGraphRefused
   pub source : ReadsSource (reading graph_gives graph_old graph_new) result saved_gives saved_failed source_old source_new
-  pub sources : ReadsAfter (Which.Graph ∷ Which.Saved ∷ []) (AcceptsLoaded (reading graph_gives graph_old graph_new) (source_reading saved_gives source_old source_new))
+  pub sources : ReadsAfter (Which.Graph ∷ Which.Saved ∷ Which.Order ∷ []) (AcceptsLoaded (reading graph_gives graph_old graph_new) (source_reading saved_gives source_old source_new))
       Which.Sources result sources_gives sources_failed sources_old sources_new
       (HasSourcesRefused (reading graph_gives graph_old graph_new) (source_reading saved_gives source_old source_new))
-  pub targets : ReadsAfter (Which.Graph ∷ Which.Saved ∷ Which.Sources ∷ [])
+  pub targets : ReadsAfter (Which.Graph ∷ Which.Saved ∷ Which.Order ∷ Which.Sources ∷ [])
       (AcceptsSources (reading graph_gives graph_old graph_new) (source_reading saved_gives source_old source_new) (reading sources_gives sources_old sources_new))
       Which.Targets result targets_gives targets_failed targets_old targets_new
       (HasTargetsRefused (reading graph_gives graph_old graph_new) (source_reading saved_gives source_old source_new) (reading sources_gives sources_old sources_new))
@@ -59,10 +59,10 @@ pub record NearTells {T I S J L O : Type 0} (graph_gives : Calls I) (graph_faile
   pub own : IfErr result (IsOfNear (source_reading saved_gives source_old source_new) (sources_reading sources_gives sources_old sources_new))
   pub graph : ReadsOrRefuses Which.Graph result graph_gives graph_failed graph_old graph_new IsGraphRefused
   pub source : ReadsSource (reading graph_gives graph_old graph_new) result saved_gives saved_failed source_old source_new
-  pub sources : ReadsSources (Which.Graph ∷ Which.Saved ∷ []) (AcceptsLoaded (reading graph_gives graph_old graph_new) (source_reading saved_gives source_old source_new))
+  pub sources : ReadsSources (Which.Graph ∷ Which.Saved ∷ Which.Order ∷ []) (AcceptsLoaded (reading graph_gives graph_old graph_new) (source_reading saved_gives source_old source_new))
       result sources_gives sources_failed sources_old sources_new
       (HasSourcesRefused (reading graph_gives graph_old graph_new) (source_reading saved_gives source_old source_new))
-  pub targets : ReadsAfter (Which.Graph ∷ Which.Saved ∷ Which.Sources ∷ [])
+  pub targets : ReadsAfter (Which.Graph ∷ Which.Saved ∷ Which.Order ∷ Which.Sources ∷ [])
       (AcceptsNearSources (reading graph_gives graph_old graph_new) (source_reading saved_gives source_old source_new) (sources_reading sources_gives sources_old sources_new))
       Which.Targets result targets_gives targets_failed targets_old targets_new
       (HasNearTargetsRefused (reading graph_gives graph_old graph_new) (source_reading saved_gives source_old source_new) (sources_reading sources_gives sources_old sources_new))
@@ -71,10 +71,12 @@ pub record NearTells {T I S J L O : Type 0} (graph_gives : Calls I) (graph_faile
       result failed idle old new
 
 -- of a run that saves a hierarchy
-pub record SaveTells {T I O : Type 0} (graph_gives : Calls I) (graph_failed : I → ℕ) (graph_old graph_new : I) (failed idle : O → ℕ) (old new : O) (result : Result T RunFault) : Type 0 where
-  pub own : IfErr result IsOfSave
+pub record SaveTells {T I S O : Type 0} (graph_gives : Calls I) (graph_failed : I → ℕ) (graph_old graph_new : I) (saved_gives : Calls S) (saved_failed : S → ℕ) (source_old source_new : Source S)
+    (failed idle : O → ℕ) (old new : O) (result : Result T RunFault) : Type 0 where
+  pub own : IfErr result (IsOfSave (source_reading saved_gives source_old source_new))
   pub graph : ReadsOrRefuses Which.Graph result graph_gives graph_failed graph_old graph_new IsGraphRefused
-  pub output : WritesAfter (AcceptsGraph (reading graph_gives graph_old graph_new)) result failed idle old new
+  pub source : ReadsSource (reading graph_gives graph_old graph_new) result saved_gives saved_failed source_old source_new
+  pub output : WritesAfter (AcceptsLoaded (reading graph_gives graph_old graph_new) (source_reading saved_gives source_old source_new)) result failed idle old new
 
 -- of a run that answers requests
 pub record AskTells {T I S J O : Type 0} (graph_gives : Calls I) (graph_failed : I → ℕ) (graph_old graph_new : I) (saved_gives : Calls S) (saved_failed : S → ℕ) (source_old source_new : Source S)

@@ -17,6 +17,7 @@ use std::fmt;
 pub enum Which {
     Graph,
     Saved,
+    Order,
     Queries,
     Sources,
     Targets,
@@ -42,6 +43,7 @@ impl Which {
         match self {
             Which::Graph => "graph",
             Which::Saved => "saved",
+            Which::Order => "order",
             Which::Queries => "queries",
             Which::Sources => "sources",
             Which::Targets => "targets",
@@ -57,6 +59,7 @@ impl Which {
         match self {
             Which::Graph => "chtab: graph ",
             Which::Saved => "chtab: saved ",
+            Which::Order => "chtab: order ",
             Which::Queries => "chtab: queries ",
             Which::Sources => "chtab: sources ",
             Which::Targets => "chtab: targets ",
@@ -96,6 +99,8 @@ pub enum RunFault {
     Write(u64),
     /// The saved hierarchy is not right for the graph, and this is its first fault.
     Check(CheckFault),
+    /// The order does not have each node of the graph exactly once.
+    Order,
 }
 
 impl fmt::Display for RunFault {
@@ -113,6 +118,7 @@ impl fmt::Display for RunFault {
             RunFault::Device(which) => write!(f, "chtab: cannot read {which}"),
             RunFault::Write(count) => write!(f, "chtab: cannot write after {count} bytes"),
             RunFault::Check(fault) => write!(f, "chtab: saved hierarchy refused: {fault}"),
+            RunFault::Order => f.write_str("chtab: order refused: a node occurs twice"),
         }
     }
 }
@@ -189,6 +195,7 @@ pub fn fault_line(fault: &RunFault) -> ShortText
             line.prepend_slice(check_word(fault).as_bytes());
             line.prepend_slice(b"chtab: saved hierarchy refused: ");
         }
+        RunFault::Order => line.prepend_slice(b"chtab: order refused: a node occurs twice"),
     }
     line
 }
@@ -213,13 +220,17 @@ impl<T: Drop> From<AllocFailed<T>> for RunFault {
     }
 }
 
-/// Returns the program's exit status for a fault. It is 1 if a file, a request, a saved hierarchy or the
-/// size of a table was refused. It is 3 if the system refused memory, a file or a write.
+/// Returns the program's exit status for a fault. It is 1 if a file, a request, a saved hierarchy, an order or
+/// the size of a table was refused. It is 3 if the system refused memory, a file or a write.
 pub fn status(fault: &RunFault) -> u8
     ensures { result ≡ status_of fault.now }
 {
     match fault {
-        RunFault::Read(..) | RunFault::Check(_) | RunFault::Cells | RunFault::CellsAt(_) => 1,
+        RunFault::Read(..)
+        | RunFault::Check(_)
+        | RunFault::Order
+        | RunFault::Cells
+        | RunFault::CellsAt(_) => 1,
         RunFault::Memory | RunFault::Device(_) | RunFault::Write(_) => 3,
     }
 }

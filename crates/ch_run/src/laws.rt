@@ -1,7 +1,7 @@
 //! Laws of texts, of what is read, of the stories of runs and of a constant, each the contract of a function that does nothing.
 ghost use Rattle.ch_run.specs.declared.options.TheConstants.{ROUND_NODES};
 ghost use Rattle.ch_run.specs.NearTextLaws.{AllNearRowsHaveOneText, NearRowsHaveOneText, SavedAllNearRowsAreThoseOfTheGraph, SavedNearRowsAreThoseOfTheGraph};
-ghost use Rattle.ch_run.specs.SavedTextLaws.{HierarchiesHaveOneText, HierarchyTextsReadBack, SavedAnswersHaveOneText, SavedTablesHaveOneText, SavedTextsReadBack};
+ghost use Rattle.ch_run.specs.SavedTextLaws.{HierarchiesHaveOneText, HierarchyTextsReadBack, OrdersHaveOneText, SavedAnswersHaveOneText, SavedTablesHaveOneText, SavedTextsReadBack};
 ghost use Rattle.ch_run.specs.TextLaws.{AnswersHaveOneText, TablesHaveOneText};
 ghost use Rattle.ch_run.specs.declared.fault.RunFault.{RunFault as FaultOf};
 ghost use Rattle.ch_run.specs.declared.options.Options.{Options as OptionsOf};
@@ -26,13 +26,14 @@ pub fn one_text<I: Input, J: Input, L: Input>()
 {}
 
 /// Proves the same for answers and tables by a saved hierarchy of any origin, and for the text of a
-/// hierarchy that is saved.
+/// hierarchy that is saved, also in an order like a given one.
 pub fn one_saved_text<I: Input, S: Input, J: Input, L: Input>()
     ensures answers { (graph graph' : I) → (saved saved' : S) → (queries queries' : J) →
         SavedAnswersHaveOneText (reading I.read_gives graph graph') (reading S.read_gives saved saved') (reading J.read_gives queries queries') }
     ensures tables { (graph graph' : I) → (saved saved' : S) → (sources sources' : J) → (targets targets' : L) →
         SavedTablesHaveOneText (reading I.read_gives graph graph') (reading S.read_gives saved saved') (reading J.read_gives sources sources') (reading L.read_gives targets targets') }
     ensures hierarchies { (graph graph' : I) → HierarchiesHaveOneText (reading I.read_gives graph graph') }
+    ensures orders { (graph graph' : I) → (order order' : S) → OrdersHaveOneText (reading I.read_gives graph graph') (reading S.read_gives order order') }
 {}
 
 /// Proves that the definitions name one text of near rows, for a list of sources and for all nodes. By a
@@ -89,10 +90,12 @@ pub fn near_tells<I: Input, S: Input, J: Input, L: Input, O: Output>()
         NearTells I.read_gives I.failed graph graph' S.read_gives S.failed source source' J.read_gives J.failed sources sources' L.read_gives L.failed targets targets' O.failed O.idle output output' result }
 {}
 
-/// Proves the same of [`run_save`](crate::run_save), which reads a graph alone.
-pub fn save_tells<I: Input, O: Output>()
-    ensures { (options : OptionsOf) → (graph graph' : I) → (output output' : O) → (result : Result Unit FaultOf) →
-        RunsSave options (reading I.read_gives graph graph') O.write_gives output output' result → SaveTells I.read_gives I.failed graph graph' O.failed O.idle output output' result }
+/// Proves the same of [`run_save`](crate::run_save), which reads no more than a graph and a source.
+pub fn save_tells<I: Input, S: Input, O: Output>()
+    ensures { (options : OptionsOf) → (graph graph' : I) → (source source' : SourceOf S) → (output output' : O) → (result : Result Unit FaultOf) →
+        source_origin S.origin source' ≡ source_origin S.origin source →
+        RunsSave options (reading I.read_gives graph graph') (source_reading S.read_gives source source') (source' ≡ source) O.write_gives output output' result →
+        SaveTells I.read_gives I.failed graph graph' S.read_gives S.failed source source' O.failed O.idle output output' result }
 {}
 
 /// Proves the same of [`run_ask`](crate::run_ask), whose `served` says what it does with the requests and the output.

@@ -61,7 +61,7 @@ pub(crate) fn run<R: Threads + Sync>(
         };
     }
     let result = match files.asked {
-        Asked::Hierarchy => run_save(&crew, graph, &mut output, options),
+        Asked::Hierarchy => run_save(&crew, graph, source, &mut output, options),
         Asked::Answers(queries) => ended!(run_dist, MemoryInput::new(queries, MOST)),
         Asked::Table(sources, targets) => ended!(
             run_table,

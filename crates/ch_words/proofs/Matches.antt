@@ -16,7 +16,7 @@ use Rattle.clap.specs.declared.parser.matches.Found.{Found}
 use Rattle.clap.specs.declared.parser.matches.SubCommand.{SubCommand}
 use Rattle.std.proofs.lemmas.List.{length-map}
 use Rattle.clap.proofs.WalkLemmas.{one_text-rows, raw_values-rows}
-use Rattle.ch_words.specs.Line.{AreRefusedLists, AreRefusedOrders, HasOtherLists, HasTwoOrders, IsFaultOf, IsFlag, IsFlagIn, IsGivenBy, IsReadFrom, IsToldOf, chtab_form, faults_of, given_by, name_of, number_in, number_of, lists_in, program_form}
+use Rattle.ch_words.specs.Line.{AreRefusedLists, AreRefusedOrders, HasOtherLists, HasTwoOrders, IsFaultOf, IsFlag, IsFlagIn, IsGivenBy, IsMixed, IsReadFrom, IsRefusedMix, IsToldOf, chtab_form, faults_of, given_by, name_of, number_in, number_of, lists_in, program_form}
 use Rattle.ch_words.specs.declared.line.Line.{Line}
 use Rattle.ch_words.specs.declared.fault.LineFault.{LineFault}
 
@@ -168,13 +168,22 @@ refused-orders given (LineFault.Help text) (inr version) both = cc
 refused-orders given (LineFault.Refused text) told both = both
 refused-orders given LineFault.NoMemory told both = tt
 
--- if clap finds nothing wrong with the words, but the lists or the orders are refused, that is the fault of the words
+-- the fault that is reported for a conflict of arguments refuses options that don't go together
+pub refused-mix : (given : List Row) (fault : LineFault) → IsToldOf ArgumentConflict fault → IsMixed given → IsRefusedMix given fault
+refused-mix given (LineFault.Help text) (inl help) mixed = cc
+refused-mix given (LineFault.Help text) (inr version) mixed = cc
+refused-mix given (LineFault.Refused text) told mixed = mixed
+refused-mix given LineFault.NoMemory told mixed = tt
+
+-- if clap finds nothing wrong with the words, but the lists, the orders or other options are refused, that is the fault of the words
 pub refused-fault : (words : List Text) (name : Text) (given : List Row) (fault : LineFault) → faults_of words ≡ []
-    → given_by words ≡ Some (name, given) → AreRefusedLists name given fault ⊎ AreRefusedOrders given fault → IsFaultOf words fault
+    → given_by words ≡ Some (name, given) → AreRefusedLists name given fault ⊎ AreRefusedOrders given fault ⊎ IsRefusedMix given fault → IsFaultOf words fault
 refused-fault words name given (LineFault.Help text) right matched (inl lists) = absurd lists
-refused-fault words name given (LineFault.Help text) right matched (inr orders) = absurd orders
+refused-fault words name given (LineFault.Help text) right matched (inr (inl orders)) = absurd orders
+refused-fault words name given (LineFault.Help text) right matched (inr (inr mixed)) = absurd mixed
 refused-fault words name given (LineFault.Refused text) right matched (inl lists) = inr (right, inl (rw matched lists))
-refused-fault words name given (LineFault.Refused text) right matched (inr orders) = inr (right, inr (rw matched orders))
+refused-fault words name given (LineFault.Refused text) right matched (inr (inl orders)) = inr (right, inr (inl (rw matched orders)))
+refused-fault words name given (LineFault.Refused text) right matched (inr (inr mixed)) = inr (right, inr (inr (rw matched mixed)))
 refused-fault words name given LineFault.NoMemory right matched refused = tt
 
 -- a line with the tool and the values that the words give is read from the words

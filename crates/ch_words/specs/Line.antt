@@ -1,5 +1,5 @@
 -- The words of the command line, and the line that they give.
-use Rattle.std.specs.Prelude.{◌≡◌, ◌≢◌, ◌≤◌, ◌⊎◌, ℕ, pos, [], ◌∷◌, ◌++◌, Bool, IfSome, List, Option, Some, None, true, false, codes, fold, if◌then◌else◌, length, option_map, unwrap_or, ⊤}
+use Rattle.std.specs.Prelude.{◌≡◌, ◌≢◌, ◌≤◌, ◌⊎◌, ℕ, pos, [], ◌∷◌, ◌++◌, Bool, IfSome, List, Option, Some, None, true, false, codes, fold, if◌then◌else◌, is_some, length, option_map, unwrap_or, ⊤}
 use Rattle.std.specs.Str.Parse.{digits_value, without_leading_plus}
 use Rattle.std.specs.String.{string_bytes}
 use Rattle.clap.specs.Words.{App, IsAmong, Kinds, Row, Rule, Text, all_of, app_of, fault_of, first_of, new_app, new_rule, one_of, subcommand_of, with_rule, with_subcommand}
@@ -30,6 +30,7 @@ pub record IsAllowed (line : Line) : Type 0 where
   pub few_hops : line.choices.hops ≤ MOST_HOPS
   pub limit : IfSome line.choices.within (λ most. most ≤ MOST_WEIGHT)
   pub count : IfSome line.choices.count IsCount
+  pub fresh : line.choices.fresh ≤ 100
   pub plan : IsWithinLimits line.plan
 
 -- the word that names a tool
@@ -89,6 +90,14 @@ within_rule = limit_rule (codes "within") 0 MOST_WEIGHT
 abbrev pub saved_rule : Rule
 saved_rule = option_rule (codes "saved")
 
+-- `[--like FILE] [--fresh P]`
+abbrev pub like_rules : List Rule
+like_rules = option_rule (codes "like") ∷ limit_rule (codes "fresh") 0 100 ∷ []
+
+-- `[--saved FILE | --like FILE [--fresh P]]`. Clap's form accepts both, and the line refuses them
+abbrev pub source_rules : List Rule
+source_rules = saved_rule ∷ like_rules
+
 -- `[--progress]`
 abbrev pub progress_rule : Rule
 progress_rule = flag_rule (codes "progress")
@@ -109,29 +118,29 @@ HasForm form command = (app_of command ≡ form) × ((out-Command command).has_g
 abbrev pub tool_form : Text → List Rule → List Rule → App
 tool_form name own files = fold with_rule (new_app name) (own ++ shared_rules ++ files)
 
--- `dist [--plain] [--routes] [--deep | --rounds] [--saved FILE] .. GRAPH QUERIES`
+-- `dist [--plain] [--routes] [--deep | --rounds] [--saved FILE | --like FILE [--fresh P]] .. GRAPH QUERIES`
 abbrev pub dist_form : App
-dist_form = tool_form (codes "dist") (flag_rule (codes "plain") ∷ routes_rule ∷ order_rules ++ saved_rule ∷ []) (file_rule (codes "GRAPH") ∷ file_rule (codes "QUERIES") ∷ [])
+dist_form = tool_form (codes "dist") (flag_rule (codes "plain") ∷ routes_rule ∷ order_rules ++ source_rules) (file_rule (codes "GRAPH") ∷ file_rule (codes "QUERIES") ∷ [])
 
--- `table [--within R] [--saved FILE] .. GRAPH SOURCES TARGETS`
+-- `table [--within R] [--saved FILE | --like FILE [--fresh P]] .. GRAPH SOURCES TARGETS`
 abbrev pub table_form : App
-table_form = tool_form (codes "table") (within_rule ∷ saved_rule ∷ []) (file_rule (codes "GRAPH") ∷ file_rule (codes "SOURCES") ∷ file_rule (codes "TARGETS") ∷ [])
+table_form = tool_form (codes "table") (within_rule ∷ source_rules) (file_rule (codes "GRAPH") ∷ file_rule (codes "SOURCES") ∷ file_rule (codes "TARGETS") ∷ [])
 
 -- `[--count K] [--within R] [--from] [--all]`
 abbrev pub near_rules : List Rule
 near_rules = limit_rule (codes "count") 1 MOST_LISTED ∷ within_rule ∷ flag_rule (codes "from") ∷ flag_rule (codes "all") ∷ []
 
--- `near [--count K] [--within R] [--from] [--all] [--saved FILE] .. GRAPH LISTS..`
+-- `near [--count K] [--within R] [--from] [--all] [--saved FILE | --like FILE [--fresh P]] .. GRAPH LISTS..`
 abbrev pub near_form : App
-near_form = tool_form (codes "near") (near_rules ++ saved_rule ∷ []) (file_rule (codes "GRAPH") ∷ lists_rule ∷ [])
+near_form = tool_form (codes "near") (near_rules ++ source_rules) (file_rule (codes "GRAPH") ∷ lists_rule ∷ [])
 
--- `save [--deep | --rounds] .. GRAPH`
+-- `save [--deep | --rounds | --like FILE [--fresh P]] .. GRAPH`
 abbrev pub save_form : App
-save_form = tool_form (codes "save") order_rules (file_rule (codes "GRAPH") ∷ [])
+save_form = tool_form (codes "save") (order_rules ++ like_rules) (file_rule (codes "GRAPH") ∷ [])
 
--- `ask [--routes] [--deep | --rounds] [--within R] [--saved FILE] .. GRAPH`
+-- `ask [--routes] [--deep | --rounds] [--within R] [--saved FILE | --like FILE [--fresh P]] .. GRAPH`
 abbrev pub ask_form : App
-ask_form = tool_form (codes "ask") (routes_rule ∷ order_rules ++ within_rule ∷ saved_rule ∷ []) (file_rule (codes "GRAPH") ∷ [])
+ask_form = tool_form (codes "ask") (routes_rule ∷ order_rules ++ within_rule ∷ source_rules) (file_rule (codes "GRAPH") ∷ [])
 
 -- the program's own words, before its tools are added
 abbrev pub program_form : App
@@ -188,6 +197,24 @@ AreFilesIn given (Ask graph) = IsFileIn given (codes "GRAPH") (string_bytes grap
 abbrev pub saved_in : List Row → Bool → Option Text
 saved_in given plain = if plain then None else first_of (codes "saved") given
 
+-- the file of an order, if one is given. Plain distances take none
+abbrev pub like_in : List Row → Bool → Option Text
+like_in given plain = if plain then None else first_of (codes "like") given
+
+-- the per cent of the nodes that are ordered afresh: the given one, or 5
+abbrev pub fresh_in : List Row → ℕ
+fresh_in given = unwrap_or (number_in given (codes "fresh")) 5
+
+-- whether a value is given for this name
+abbrev pub is_given : List Row → Text → Bool
+is_given given name = is_some (first_of name given)
+
+-- neither `--like` nor `--fresh` is given. Or `--like` is, and none of `--saved`, `--deep` and `--rounds`
+abbrev pub IsUnmixed : List Row → Type 0
+IsUnmixed given =
+    ((is_given given (codes "like") ≡ false) × (is_given given (codes "fresh") ≡ false))
+    ⊎ ((is_given given (codes "like") ≡ true) × (is_given given (codes "saved") ≡ false) × IsFlagIn given (codes "deep") false × IsFlagIn given (codes "rounds") false)
+
 -- the order that the words choose: by the difference without a word, and otherwise the one that the only given word names
 abbrev pub IsOrderIn : List Row → Order → Type 0
 IsOrderIn given Order.Difference = IsFlagIn given (codes "deep") false × IsFlagIn given (codes "rounds") false
@@ -216,9 +243,12 @@ pub record IsGivenBy (given : List Row) (line : Line) : Type 0 where
   pub hops : Some line.choices.hops ≡ number_in given (codes "hops")
   pub limit : line.choices.within ≡ number_in given (codes "within")
   pub count : line.choices.count ≡ number_in given (codes "count")
+  pub fresh : line.choices.fresh ≡ fresh_in given
   pub plan : IsPlanIn given line.plan
   pub progress : IsFlagIn given (codes "progress") line.progress
   pub saved : option_map string_bytes line.saved ≡ saved_in given line.choices.plain
+  pub like : option_map string_bytes line.like ≡ like_in given line.choices.plain
+  pub unmixed : IsUnmixed given
   pub named : AreFilesIn given line.tool
 
 -- clap finds nothing wrong with the words. They name the line's tool, and give it the values that the line holds
@@ -279,11 +309,28 @@ AreRefusedOrders given (LineFault.Help _) = ⊥
 AreRefusedOrders given (LineFault.Refused _) = HasTwoOrders given
 AreRefusedOrders given LineFault.NoMemory = ⊤
 
+-- `--like` is given beside `--saved`, `--deep` or `--rounds`, or `--fresh` is given without `--like`
+abbrev pub IsMixed : List Row → Type 0
+IsMixed given =
+    ((is_given given (codes "like") ≡ true) × ((is_given given (codes "saved") ≡ true) ⊎ IsFlagIn given (codes "deep") true ⊎ IsFlagIn given (codes "rounds") true))
+    ⊎ ((is_given given (codes "fresh") ≡ true) × (is_given given (codes "like") ≡ false))
+
+-- the words name a tool, with options that don't go together
+abbrev pub NamesMixed : Option (Text × List Row) → Type 0
+NamesMixed None = ⊥
+NamesMixed (Some (name, given)) = IsMixed given
+
+-- clap accepts the words of a tool. They are refused for options that don't go together, or there is no memory
+abbrev pub IsRefusedMix : List Row → LineFault → Type 0
+IsRefusedMix given (LineFault.Help _) = ⊥
+IsRefusedMix given (LineFault.Refused _) = IsMixed given
+IsRefusedMix given LineFault.NoMemory = ⊤
+
 -- help and the version are reported only if the words ask for them. Words are refused only if clap finds another fault, or if it finds
--- none and the lists of `near` are wrong or both orders are given
+-- none and the lists of `near` are wrong, both orders are given, or an order is mixed with other options
 abbrev pub IsFaultOf : List Text → LineFault → Type 0
 IsFaultOf words (LineFault.Help _) = (kind : ErrorKind) × AsksForText kind × IsAmong kind (faults_of words)
-IsFaultOf words (LineFault.Refused _) = ((kind : ErrorKind) × (kind ≢ DisplayHelp) × (kind ≢ DisplayVersion) × IsAmong kind (faults_of words)) ⊎ ((faults_of words ≡ []) × (NamesOtherLists (given_by words) ⊎ NamesTwoOrders (given_by words)))
+IsFaultOf words (LineFault.Refused _) = ((kind : ErrorKind) × (kind ≢ DisplayHelp) × (kind ≢ DisplayVersion) × IsAmong kind (faults_of words)) ⊎ ((faults_of words ≡ []) × (NamesOtherLists (given_by words) ⊎ NamesTwoOrders (given_by words) ⊎ NamesMixed (given_by words)))
 IsFaultOf words LineFault.NoMemory = ⊤
 
 -- the exit status if no line is read: 0 for help and for the version, 2 for words that are refused, 3 for a lack of memory

@@ -151,6 +151,36 @@ pub(crate) fn saved<'a>(alloc: Global) -> Arg<'a>
     )
 }
 
+/// Makes the option for the file of an order.
+pub(crate) fn like<'a>(alloc: Global) -> Arg<'a>
+    ensures rule { rule_of result ≡ option_rule (codes "like") }
+    ensures local { result.global ≡ false }
+{
+    option(
+        alloc,
+        "like",
+        "FILE",
+        "Build the hierarchy in an order like that of FILE, which takes less than half the time. FILE is a saved \
+        hierarchy of a graph with as many nodes and any arcs, or only its lines `p` and `o`. Cannot be combined \
+        with --saved, --deep or --rounds [default: none]",
+    )
+}
+
+/// Makes the option for the part of the nodes that is ordered afresh.
+pub(crate) fn fresh<'a>(alloc: Global) -> Arg<'a>
+    ensures rule { rule_of result ≡ limit_rule (codes "fresh") 0 100 }
+    ensures local { result.global ≡ false }
+{
+    limit(
+        alloc,
+        "fresh",
+        "P",
+        0,
+        100,
+        "With --like, order the last P per cent of the nodes afresh, by depth, from 0 to 100 [default: 5]",
+    )
+}
+
 /// Makes the argument for the file of the graph.
 pub(crate) fn graph<'a>(alloc: Global) -> Arg<'a>
     ensures rule { rule_of result ≡ file_rule (codes "GRAPH") }

@@ -3,11 +3,11 @@
 ghost use Rattle.std.specs.Prelude.{◌≡◌, IfOk, codes, false, fold};
 ghost use Rattle.clap.specs.Words.{App, Rule, app_of, new_app, rule_of, with_rule, with_subcommand};
 ghost use Rattle.clap.specs.declared.builder.command.Command.TheViews.{out-Command as fields_of};
-ghost use Rattle.ch_words.specs.Line.{HasForm, ask_form, chtab_form, dist_form, file_rule, near_form, near_rules, number_rules, order_rules, program_form, routes_rule, save_form, saved_rule, shared_rules, table_form};
+ghost use Rattle.ch_words.specs.Line.{HasForm, ask_form, chtab_form, dist_form, file_rule, like_rules, near_form, near_rules, number_rules, order_rules, program_form, routes_rule, save_form, shared_rules, source_rules, table_form};
 
 use crate::arguments::{
-    deep, file, flag, graph, limit, limit_of_distances, lists, number, progress, rounds, routes,
-    saved, within,
+    deep, file, flag, fresh, graph, like, limit, limit_of_distances, lists, number, progress,
+    rounds, routes, saved, within,
 };
 use crate::line::Tool;
 use ch_graph::limits::{MOST_HOPS, MOST_LISTED};
@@ -133,15 +133,28 @@ fn with_shared<'a>(
     with_arg(command, graph(alloc))
 }
 
-/// Adds the option for a saved hierarchy, the options that each tool reads, and the file of the graph.
+/// Adds the options for an order like which a hierarchy is built. The form accepts them beside those of other
+/// orders, for the reason of [`with_orders`].
+fn with_like<'a>(
+    alloc: Global,
+    command: Result<Command<'a>, AllocError>,
+) -> Result<Command<'a>, AllocError>
+    ensures { (form : App) → IfOk command.entry (HasForm form) → IfOk result (HasForm (fold with_rule form like_rules)) }
+{
+    let command = with_arg(command, like(alloc));
+    with_arg(command, fresh(alloc))
+}
+
+/// Adds the options for a saved hierarchy and for an order, the options that each tool reads, and the file of the
+/// graph.
 fn with_saved<'a>(
     alloc: Global,
     command: Result<Command<'a>, AllocError>,
 ) -> Result<Command<'a>, AllocError>
     ensures { (form : App) → IfOk command.entry (HasForm form)
-        → IfOk result (HasForm (with_rule (fold with_rule (with_rule form saved_rule) shared_rules) (file_rule (codes "GRAPH")))) }
+        → IfOk result (HasForm (with_rule (fold with_rule (fold with_rule form source_rules) shared_rules) (file_rule (codes "GRAPH")))) }
 {
-    with_shared(alloc, with_arg(command, saved(alloc)))
+    with_shared(alloc, with_like(alloc, with_arg(command, saved(alloc))))
 }
 
 /// Makes a command without options and files.
@@ -273,10 +286,11 @@ fn save_command<'a>(alloc: Global) -> Result<Command<'a>, AllocError>
         "Write the hierarchy of a graph, for --saved of the other tools",
         "Examples:\n  \
         chtab save --deep roads.gr >roads.ch\n  \
-        chtab save --rounds --workers 4 roads.gr >roads.ch",
+        chtab save --rounds --workers 4 roads.gr >roads.ch\n  \
+        chtab save --like roads.ch roads-at-noon.gr >roads-at-noon.ch",
     );
     let command = with_orders(alloc, Ok(command), SAVED_BY_DEPTH, BY_ROUNDS);
-    with_shared(alloc, command)
+    with_shared(alloc, with_like(alloc, command))
 }
 
 /// Makes the command `ask` with its options and file.
@@ -302,12 +316,14 @@ fn shown_as<'a>(
     command?.bin_name(name)
 }
 
-/// Makes the command of a tool that has the flags of orders. Its errors then show the usage of that tool.
-pub(crate) fn ordering_command<'a>(alloc: Global, tool: &Tool) -> Result<Command<'a>, AllocError> {
+/// Makes the command of a tool. Its errors then show the usage of that tool.
+pub(crate) fn tool_command<'a>(alloc: Global, tool: &Tool) -> Result<Command<'a>, AllocError> {
     match tool {
+        Tool::Dist { .. } => shown_as(dist_command(alloc), "chtab dist"),
+        Tool::Table { .. } => shown_as(table_command(alloc), "chtab table"),
+        Tool::Near { .. } | Tool::NearAll { .. } => shown_as(near_command(alloc), "chtab near"),
         Tool::Save { .. } => shown_as(save_command(alloc), "chtab save"),
         Tool::Ask { .. } => shown_as(ask_command(alloc), "chtab ask"),
-        _ => shown_as(dist_command(alloc), "chtab dist"),
     }
 }
 

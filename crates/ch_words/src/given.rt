@@ -1,15 +1,15 @@
 //! The values that the words give to the arguments of a tool.
 
-ghost use Rattle.std.specs.Prelude.{◌≡◌, ◌≤◌, ◌⊎◌, IfErr, IfOk, IfSome, Some, codes, option_map};
+ghost use Rattle.std.specs.Prelude.{◌≡◌, ◌≤◌, ◌⊎◌, IfErr, IfOk, IfSome, IsNone, Some, codes, option_map};
 ghost use Rattle.std.specs.String.{string_bytes};
 ghost use Rattle.clap.specs.Words.{first_of, found_of, kind_of, rows_of};
 ghost use Rattle.clap.specs.declared.error.kind.ErrorKind.TheVariants.{ArgumentConflict, WrongNumberOfValues};
 ghost use Rattle.ch_graph.specs.declared.limits.TheConstants.{MOST_HOPS, MOST_WEIGHT};
 ghost use Rattle.ch_work.specs.Plan.{IsWithinLimits};
-ghost use Rattle.ch_words.specs.Line.{AreFilesIn, AreFlagsIn, AreRefusedLists, AreRefusedOrders, IsAllowed, IsCount, IsFileIn, IsFlagIn, IsGivenBy, IsOrderIn, IsPlanIn, IsToldOf, name_of, number_in, saved_in};
+ghost use Rattle.ch_words.specs.Line.{AreFilesIn, AreFlagsIn, AreRefusedLists, AreRefusedOrders, IsAllowed, IsCount, IsFileIn, IsFlagIn, IsGivenBy, IsMixed, IsOrderIn, IsPlanIn, IsRefusedMix, IsToldOf, IsUnmixed, fresh_in, is_given, like_in, name_of, number_in, saved_in};
 
 use crate::fault::{LineFault, fault_of};
-use crate::form::{near_command, ordering_command};
+use crate::form::{near_command, tool_command};
 use crate::line::{Choices, Line, Order, Tool};
 use ch_graph::limits::{MOST_HOPS, MOST_LISTED, MOST_WEIGHT};
 use ch_work::Plan;
@@ -163,6 +163,18 @@ fn count_given(matches: &ArgMatches<'_>) -> Result<Option<u32>, AllocError>
     }
 }
 
+/// Returns the per cent of the nodes that are ordered afresh: the given number, or 5. Clap has refused numbers above
+/// 100.
+fn fresh_given(matches: &ArgMatches<'_>) -> Result<u32, AllocError>
+    ensures range { IfOk result (λ fresh. fresh ≤ 100) }
+    ensures given { IfOk result (λ fresh. fresh ≡ fresh_in (rows_of (found_of matches.now))) }
+{
+    match limit_given(matches, "fresh", 100)? {
+        None => Ok(5),
+        Some(fresh) => Ok(fresh as u32),
+    }
+}
+
 /// Returns whether the flag of this name is given.
 fn flag_of(matches: &ArgMatches<'_>, name: &str) -> bool
     ensures { IsFlagIn (rows_of (found_of matches.now)) name.now result }
@@ -186,23 +198,9 @@ fn order_of(alloc: Global, tool: &Tool, matches: &ArgMatches<'_>) -> Result<Orde
     }
 }
 
-/// Returns the fault for both orders.
+/// Returns the fault for both orders. Like clap, it names first the one that is given first.
 fn two_orders(alloc: Global, tool: &Tool, matches: &ArgMatches<'_>) -> LineFault
     ensures { IsToldOf ArgumentConflict result }
-{
-    match orders_error(alloc, tool, matches) {
-        Ok(error) => fault_of(alloc, &error),
-        Err(_) => LineFault::NoMemory,
-    }
-}
-
-/// Makes clap's error for both orders. Like clap, it names first the one that is given first.
-fn orders_error(
-    alloc: Global,
-    tool: &Tool,
-    matches: &ArgMatches<'_>,
-) -> Result<clap::Error, AllocError>
-    ensures { IfOk result (λ error. kind_of error ≡ ArgumentConflict) }
 {
     let message = match (matches.index_of("deep"), matches.index_of("rounds")) {
         (Some(deep), Some(rounds)) if rounds < deep => {
@@ -210,7 +208,55 @@ fn orders_error(
         }
         _ => "the argument '--deep' cannot be used with '--rounds'",
     };
-    ordering_command(alloc, tool)?.error(ErrorKind::ArgumentConflict, message)
+    conflict(alloc, tool, message)
+}
+
+/// Returns the fault for arguments that don't go together, as this message says.
+fn conflict(alloc: Global, tool: &Tool, message: &str) -> LineFault
+    ensures { IsToldOf ArgumentConflict result }
+{
+    match conflict_error(alloc, tool, message) {
+        Ok(error) => fault_of(alloc, &error),
+        Err(_) => LineFault::NoMemory,
+    }
+}
+
+/// Makes clap's error for arguments that don't go together, with this message.
+fn conflict_error(alloc: Global, tool: &Tool, message: &str) -> Result<clap::Error, AllocError>
+    ensures { IfOk result (λ error. kind_of error ≡ ArgumentConflict) }
+{
+    tool_command(alloc, tool)?.error(ErrorKind::ArgumentConflict, message)
+}
+
+/// Returns whether a value is given for this name.
+fn has_value(matches: &ArgMatches<'_>, name: &str) -> bool
+    ensures { result ≡ is_given (rows_of (found_of matches.now)) name.now }
+{
+    matches.get_str(name).is_some()
+}
+
+/// Returns why an order is mixed with other options, if it is: `--like` goes with neither `--saved` nor `--deep` nor
+/// `--rounds`, and `--fresh` needs `--like`.
+fn mix_of(matches: &ArgMatches<'_>) -> Option<&'static str>
+    ensures none { IsNone result → IsUnmixed (rows_of (found_of matches.now)) }
+    ensures some { IfSome result (λ _. IsMixed (rows_of (found_of matches.now))) }
+{
+    if !has_value(matches, "like") {
+        if has_value(matches, "fresh") {
+            return Some("the argument '--fresh' cannot be used without '--like'");
+        }
+        return None;
+    }
+    if has_value(matches, "saved") {
+        return Some("the argument '--like' cannot be used with '--saved'");
+    }
+    if flag_of(matches, "deep") {
+        return Some("the argument '--like' cannot be used with '--deep'");
+    }
+    if flag_of(matches, "rounds") {
+        return Some("the argument '--like' cannot be used with '--rounds'");
+    }
+    None
 }
 
 /// Returns the plan that the words give.
@@ -235,6 +281,8 @@ fn choices_of(alloc: Global, tool: &Tool, matches: &ArgMatches<'_>) -> Result<Ch
     ensures small_limit { IfOk result (λ choices. IfSome choices.within (λ most. most ≤ MOST_WEIGHT)) }
     ensures count { IfOk result (λ choices. choices.count ≡ number_in (rows_of (found_of matches.now)) (codes "count")) }
     ensures small_count { IfOk result (λ choices. IfSome choices.count IsCount) }
+    ensures fresh { IfOk result (λ choices. choices.fresh ≡ fresh_in (rows_of (found_of matches.now))) }
+    ensures small_fresh { IfOk result (λ choices. choices.fresh ≤ 100) }
     ensures refused { IfErr result (AreRefusedOrders (rows_of (found_of matches.now))) }
 {
     let (plain, routes, order, from) = match tool {
@@ -267,6 +315,7 @@ fn choices_of(alloc: Global, tool: &Tool, matches: &ArgMatches<'_>) -> Result<Ch
         within: limit_given(matches, "within", MOST_WEIGHT)?,
         count: count_given(matches)?,
         from,
+        fresh: fresh_given(matches)?,
     })
 }
 
@@ -284,22 +333,48 @@ fn saved_of(
     file_given(alloc, matches, "saved")
 }
 
+/// Returns the file of an order, if one is given. Plain distances take none.
+///
+/// # Errors
+/// `Refused` if an order is mixed with other options; `NoMemory`.
+fn like_of(
+    alloc: Global,
+    tool: &Tool,
+    choices: &Choices,
+    matches: &ArgMatches<'_>,
+) -> Result<Option<String>, LineFault>
+    ensures file { IfOk result (λ like. option_map string_bytes like ≡ like_in (rows_of (found_of matches.now)) choices.now.plain) }
+    ensures unmixed { IfOk result (λ _. IsUnmixed (rows_of (found_of matches.now))) }
+    ensures refused { IfErr result (IsRefusedMix (rows_of (found_of matches.now))) }
+{
+    if let Some(message) = mix_of(matches) {
+        return Err(conflict(alloc, tool, message));
+    }
+    if !choices.plain {
+        return Ok(file_given(alloc, matches, "like")?);
+    }
+    Ok(None)
+}
+
 /// Returns the line of the tool of this name, with the values of its arguments.
 ///
 /// # Errors
-/// `Refused` for lists that `near` doesn't read, and if both orders are given; `NoMemory`.
+/// `Refused` for lists that `near` doesn't read, if both orders are given, and if an order is mixed with other options;
+/// `NoMemory`.
 pub fn line_of(alloc: Global, name: &str, matches: &ArgMatches<'_>) -> Result<Line, LineFault>
     ensures named { IfOk result (λ line. name.now ≡ name_of line.tool) }
     ensures allowed { IfOk result IsAllowed }
     ensures given { IfOk result (IsGivenBy (rows_of (found_of matches.now))) }
     ensures refused { IfErr result (λ fault. AreRefusedLists name.now (rows_of (found_of matches.now)) fault
-        ⊎ AreRefusedOrders (rows_of (found_of matches.now)) fault) }
+        ⊎ AreRefusedOrders (rows_of (found_of matches.now)) fault ⊎ IsRefusedMix (rows_of (found_of matches.now)) fault) }
 {
     let tool = tool_of(alloc, name, matches)?;
     let choices = choices_of(alloc, &tool, matches)?;
+    let like = like_of(alloc, &tool, &choices, matches)?;
     Ok(Line {
         tool,
         saved: saved_of(alloc, &choices, matches)?,
+        like,
         choices,
         plan: plan_of(matches)?,
         progress: flag_of(matches, "progress"),

@@ -69,6 +69,9 @@ pub struct Choices {
     /// Whether the distances of near rows go from the targets to the source. If not, they go to the
     /// targets.
     pub from: bool,
+    /// How many per cent of the nodes are ordered afresh if the hierarchy is built in an order like that of a
+    /// file, from 0 to 100.
+    pub fresh: u32,
 }
 
 /// The line that the words give.
@@ -78,6 +81,9 @@ pub struct Line {
     /// The file of a saved hierarchy, which the run reads and does not build. It is `None` for `save`
     /// and for plain distances.
     pub saved: Option<String>,
+    /// The file of an order like which the run builds its hierarchy. It is `None` if there is a saved hierarchy, and for
+    /// plain distances.
+    pub like: Option<String>,
     pub choices: Choices,
     pub plan: Plan,
     /// Whether the words ask for reports of progress. These change nothing in the output.

@@ -10,12 +10,14 @@ use crate::line::Line;
 use std::alloc::Global;
 
 /// Reads the words after the program's name:
-/// `dist [--plain] [--routes] [--deep | --rounds] [--saved FILE] [--workers N] [--piece K] [--hops H] [--progress] GRAPH QUERIES`,
-/// `table [--within R] [--saved FILE] [--workers N] [--piece K] [--hops H] [--progress] GRAPH SOURCES TARGETS`,
-/// `near [--count K] [--within R] [--from] [--saved FILE] [--workers N] [--piece K] [--hops H] [--progress] GRAPH SOURCES TARGETS`,
+/// `dist [--plain] [--routes] [--deep | --rounds] [SOURCE] [SHARED] GRAPH QUERIES`,
+/// `table [--within R] [SOURCE] [SHARED] GRAPH SOURCES TARGETS`,
+/// `near [--count K] [--within R] [--from] [SOURCE] [SHARED] GRAPH SOURCES TARGETS`,
 /// the same with `--all GRAPH TARGETS`,
-/// `save [--deep | --rounds] [--workers N] [--piece K] [--hops H] [--progress] GRAPH` or
-/// `ask [--routes] [--deep | --rounds] [--within R] [--saved FILE] [--workers N] [--piece K] [--hops H] [--progress] GRAPH`.
+/// `save [--deep | --rounds | LIKE] [SHARED] GRAPH` or
+/// `ask [--routes] [--deep | --rounds] [--within R] [SOURCE] [SHARED] GRAPH`.
+/// `SOURCE` is `--saved FILE` or `LIKE`. `LIKE` is `--like FILE [--fresh P]`, which goes with neither `--deep` nor
+/// `--rounds`. `SHARED` is `[--workers N] [--piece K] [--hops H] [--progress]`.
 ///
 /// # Errors
 /// `Help` if the words ask for help or for the version; `Refused` if they don't have one of these forms; `NoMemory`.

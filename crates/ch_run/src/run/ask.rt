@@ -5,7 +5,7 @@ ghost use Rattle.ch_run.specs.declared.source.Source.TheVariants as SourceOf;
 ghost use Rattle.ch_run.specs.Stories.{RunsAsk};
 ghost use Rattle.ch_run.specs.Ask.{ServesBy};
 ghost use Rattle.ch_run.specs.Run.{reading};
-ghost use Rattle.ch_run.specs.Source.{IsOfLoading, source_origin, source_reading};
+ghost use Rattle.ch_run.specs.Source.{IsOfLoading, IsSourceAllowed, source_origin, source_reading};
 
 use super::answering::Answering;
 use super::loading::loaded_from;
@@ -45,6 +45,7 @@ pub fn run_ask<R: Threads + Sync, I: Input, S: Input + Drop, J: Input, O: Output
     output: &mut O,
     options: &Options,
 ) -> Result<(), RunFault>
+    requires allowed { IsSourceAllowed source.old }
     requires hops { source.old ≡ SourceOf.Built → IsHopBound options.now.hops }
 
     // The story of the run, in the order in which it happens.

@@ -8,7 +8,7 @@ ghost use Rattle.ch_query.specs.Replies.{AreQueries};
 ghost use Rattle.ch_run.specs.declared.source.Source.TheVariants as SourceOf;
 ghost use Rattle.ch_run.specs.DistRun.{IsAnsweredBy};
 ghost use Rattle.ch_run.specs.Run.{Delivers, reading};
-ghost use Rattle.ch_run.specs.Source.{IsOfRoutes, source_origin, source_reading};
+ghost use Rattle.ch_run.specs.Source.{IsOfRoutes, IsSourceAllowed, source_origin, source_reading};
 ghost use Rattle.ch_run.specs.Stories.{RunsDist};
 ghost use Rattle.ch_run.specs.Text.{IsTextBy, writes_routes};
 
@@ -48,6 +48,7 @@ pub fn run_dist<R: Threads + Sync, I: Input, S: Input + Drop, J: Input, O: Outpu
     output: &mut O,
     options: &Options,
 ) -> Result<(), RunFault>
+    requires allowed { IsSourceAllowed source.old }
     requires hops { source.old ≡ SourceOf.Built → IsHopBound options.now.hops }
 
     // The story of the run, in the order in which it happens.

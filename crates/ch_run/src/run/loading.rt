@@ -1,5 +1,5 @@
-//! A graph, and a saved hierarchy if there is one. Both are read to their end and checked.
-ghost use Rattle.std.specs.Prelude.{◌≡◌, ◌<◌, IfOk, IfErr, IfSome, IsNone, IsOkAnd, ⊤};
+//! A graph, and a saved hierarchy or an order if there is one. Both are read to their end and checked.
+ghost use Rattle.std.specs.Prelude.{◌≡◌, ◌<◌, ◌≤◌, IfOk, IfErr, IfSome, IsNone, IsOkAnd, ⊤};
 ghost use Rattle.ch_graph.specs.Saved.{OrderAndLegs};
 ghost use Rattle.ch_hierarchy.specs.Kept.{IsKept};
 ghost use Rattle.ch_contract.specs.Legs.{IsHopBound};
@@ -8,8 +8,8 @@ ghost use Rattle.ch_read.specs.declared.form.Form.TheVariants as FormOf;
 ghost use Rattle.ch_read.specs.Names.{NamesGraph, NamesSaved};
 ghost use Rattle.ch_graph.specs.Graph.{IsWithinLimits};
 ghost use Rattle.ch_hierarchy.specs.Saved.{NamesKept};
-ghost use Rattle.ch_run.specs.Story.{EndsAt, IsRefused, IsSavedRefusedOn, Loads, Reads};
-ghost use Rattle.ch_run.specs.Source.{AreChecked, AreLoaded, IsServing, ReadsSaved, source_origin, source_reading};
+ghost use Rattle.ch_run.specs.Story.{EndsAt, IsOrderRefusedOn, IsRefused, IsSavedRefusedOn, Loads, NamesLike, Reads};
+ghost use Rattle.ch_run.specs.Source.{AreBuiltLike, AreChecked, AreLoaded, IsServing, IsSourceAllowed, ReadsSaved, source_origin, source_reading};
 
 use super::inputs::{bytes_from, graph_from};
 use crate::building::build_by;
@@ -18,13 +18,14 @@ use crate::plan::{Crew, Gate, Stage};
 use crate::source::Source;
 use ch_contract::{CheckError, Hierarchy, OrderBy};
 use ch_graph::{Graph, Saved};
+use ch_order::{OrderError, build_like};
 use ch_query::check_watched;
 use ch_read::read_saved_by;
 use ch_text::Input;
 use std::alloc::AllocError;
 use std::thread::Threads;
 
-/// A graph, and the saved hierarchy that is right for it, if one was read.
+/// A graph, and the hierarchy that is right for it, if one was read, or built like an order that was read.
 #[derive(Drop)]
 pub(crate) struct Loaded {
     pub(crate) graph: Graph,
@@ -38,13 +39,14 @@ pub(crate) struct Checked {
     pub(crate) hierarchy: Hierarchy,
 }
 
-/// Reads a graph to its end, and then the saved hierarchy if there is one, which it checks for the
-/// graph.
+/// Reads a graph to its end. Then it reads the saved hierarchy if there is one, and checks it for the graph. Or it
+/// reads an order, and builds the hierarchy in an order like it.
 pub(crate) fn loaded_from<R: Threads + Sync, I: Input, S: Input + Drop, G: Gate>(
     crew: &Crew<'_, R, G>,
     graph: &mut I,
     source: &mut Source<S>,
 ) -> Result<Loaded, RunFault>
+    requires allowed { IsSourceAllowed source.old }
     ensures went { Loads (reading I.read_gives graph.old graph.new) (source_reading S.read_gives source.old source.new) (source.new ≡ source.old) result ⊤ (λ g h.
         IsOkAnd result (λ loaded. (loaded.graph ≡ g) × (loaded.saved ≡ h))) }
     ensures value { IfOk result (λ loaded. AreLoaded (reading I.read_gives graph.old graph.new) (source_reading S.read_gives source.old source.new) loaded.graph loaded.saved) }
@@ -61,6 +63,13 @@ pub(crate) fn loaded_from<R: Threads + Sync, I: Input, S: Input + Drop, G: Gate>
         }
         Source::Saved(saved) => {
             let Checked { graph, hierarchy } = checked_from(crew, graph, saved)?;
+            Ok(Loaded {
+                graph,
+                saved: Some(hierarchy),
+            })
+        }
+        Source::Like { order, fresh, hops } => {
+            let Checked { graph, hierarchy } = built_from(crew, graph, order, *fresh, *hops)?;
             Ok(Loaded {
                 graph,
                 saved: Some(hierarchy),
@@ -90,7 +99,7 @@ fn checked_from<R: Threads + Sync, I: Input, S: Input, G: Gate>(
     // The contract of this call says that the graph keeps the limits.
     let _ = graph.arcs();
     crew.gate.watch(Stage::Reading, 1, 2);
-    let saved = saved_from(crew, saved, &graph)?;
+    let saved = saved_from(crew, saved, &graph, Which::Saved)?;
     match check_watched(crew, &graph, saved) {
         Ok(hierarchy) => Ok(Checked { graph, hierarchy }),
         Err(CheckError::Fault(fault)) => Err(RunFault::Check(fault)),
@@ -98,9 +107,53 @@ fn checked_from<R: Threads + Sync, I: Input, S: Input, G: Gate>(
     }
 }
 
+/// Reads a graph to its end, and then an order, and builds the hierarchy in an order like it.
+fn built_from<R: Threads + Sync, I: Input, S: Input, G: Gate>(
+    crew: &Crew<'_, R, G>,
+    graph: &mut I,
+    order: &mut S,
+    fresh: u32,
+    hops: u32,
+) -> Result<Checked, RunFault>
+    requires fresh { fresh ≤ 100 }
+    requires hops { IsHopBound hops }
+
+    ensures went { Reads Which.Graph (reading I.read_gives graph.old graph.new) (λ bytes g. NamesGraph bytes g × IsWithinLimits g) (IsRefused Which.Graph FormOf.Graph) result (order.new ≡ order.old) (λ g.
+        Reads Which.Order (reading S.read_gives order.old order.new) (λ bytes H. NamesLike g fresh hops bytes H) (IsOrderRefusedOn g) result ⊤ (λ H.
+        IsOkAnd result (λ checked. (checked.graph ≡ g) × (checked.hierarchy ≡ H)))) }
+
+    ensures value { IfOk result (λ checked. (s : OrderAndLegs) ×
+        AreBuiltLike (reading I.read_gives graph.old graph.new) (reading S.read_gives order.old order.new) fresh hops checked.graph s checked.hierarchy) }
+
+    ensures same_graph { I.origin graph.new ≡ I.origin graph.old }
+    ensures same_order { S.origin order.new ≡ S.origin order.old }
+{
+    crew.gate.watch(Stage::Reading, 0, 2);
+    let graph = graph_from(crew, graph)?;
+    // The contract of this call says that the graph keeps the limits.
+    let _ = graph.arcs();
+    crew.gate.watch(Stage::Reading, 1, 2);
+    let saved = saved_from(crew, order, &graph, Which::Order)?;
+    let given = order_in(saved);
+    match build_like(crew, &graph, &given, fresh, hops) {
+        Ok(hierarchy) => Ok(Checked { graph, hierarchy }),
+        Err(OrderError::Order) => Err(RunFault::Order),
+        Err(OrderError::NoMemory) => Err(RunFault::Memory),
+    }
+}
+
+/// Returns the order of a saved hierarchy, and drops its legs.
+fn order_in(saved: Saved) -> Vec<u32>
+    ensures { result.items ≡ saved.order }
+{
+    let Saved { order, legs } = saved;
+    drop(legs);
+    order
+}
+
 impl Loaded {
-    /// Returns the graph with the hierarchy that serves: the saved one, or one that it builds in this
-    /// order.
+    /// Returns the graph with the hierarchy that serves: the one that was loaded, or one that it builds in
+    /// this order.
     pub(crate) fn checked<R: Threads + Sync, G: Gate>(
         self,
         crew: &Crew<'_, R, G>,
@@ -139,19 +192,21 @@ impl Loaded {
     }
 }
 
-/// Reads an input to its end, as a saved hierarchy on this graph. All workers read its bytes.
+/// Reads an input to its end, as a saved hierarchy on this graph, or as an order in the form of one. All workers
+/// read its bytes.
 fn saved_from<R: Threads + Sync, S: Input, G: Gate>(
     crew: &Crew<'_, R, G>,
     input: &mut S,
     graph: &Graph,
+    which: Which,
 ) -> Result<Saved, RunFault>
     ensures value { IfOk result (ReadsSaved (reading S.read_gives input.old input.new) graph.now.nodes) }
     ensures same { S.origin input.new ≡ S.origin input.old }
-    ensures ends { IfErr result (EndsAt Which.Saved (reading S.read_gives input.old input.new) (IsSavedRefusedOn graph.now)) }
+    ensures ends { IfErr result (EndsAt which (reading S.read_gives input.old input.new) (IsRefused which (FormOf.Saved graph.now.nodes))) }
 {
-    let bytes = bytes_from(crew.alloc, input, Which::Saved)?;
+    let bytes = bytes_from(crew.alloc, input, which)?;
     match read_saved_by(crew, &bytes, graph.nodes()) {
         Ok(saved) => Ok(saved),
-        Err(error) => Err(Which::Saved.refusal(error)),
+        Err(error) => Err(which.refusal(error)),
     }
 }

@@ -7,7 +7,7 @@ ghost use Rattle.ch_run.specs.declared.source.Source.TheVariants as SourceOf;
 ghost use Rattle.ch_run.specs.Stories.{RunsNear};
 ghost use Rattle.ch_run.specs.NearRun.{AreNodeLists, IsNearBy, sources_origin, sources_reading};
 ghost use Rattle.ch_run.specs.Run.{Delivers, reading};
-ghost use Rattle.ch_run.specs.Source.{source_origin, source_reading};
+ghost use Rattle.ch_run.specs.Source.{IsSourceAllowed, source_origin, source_reading};
 ghost use Rattle.ch_run.specs.Text.{IsNearTextFor};
 
 use super::lists::Lists;
@@ -63,6 +63,7 @@ pub fn run_near<
     output: &mut O,
     options: &Options,
 ) -> Result<(), RunFault>
+    requires allowed { IsSourceAllowed source.old }
     requires hops { source.old ≡ SourceOf.Built → IsHopBound options.now.hops }
 
     // The story of the run, in the order in which it happens.

@@ -1,53 +1,60 @@
 //! Runs that save the hierarchy of a graph.
 ghost use Rattle.std.specs.Prelude.{◌≡◌};
 ghost use Rattle.ch_contract.specs.Legs.{IsHopBound};
+ghost use Rattle.ch_run.specs.declared.source.Source.TheVariants as SourceOf;
 ghost use Rattle.ch_run.specs.Run.{Delivers, reading};
+ghost use Rattle.ch_run.specs.Source.{IsSourceAllowed, source_origin, source_reading};
 ghost use Rattle.ch_run.specs.Stories.{RunsSave};
 ghost use Rattle.ch_run.specs.SaveRun.{IsSavedBy};
 
-use super::inputs::graph_from;
+use super::loading::loaded_from;
 use super::output::write_text;
-use crate::building::build_by;
 use crate::fault::RunFault;
 use crate::options::Options;
-use crate::plan::{Crew, Gate, Stage};
+use crate::plan::{Crew, Gate};
+use crate::source::Source;
 use ch_text::{Input, Output, save_text};
 use std::thread::Threads;
 
-/// Reads a graph, builds its contraction hierarchy, and writes it as a saved hierarchy.
+/// Reads a graph, and writes its hierarchy as a saved one: the contraction hierarchy that it builds, or the one
+/// that it loads.
 ///
-/// It reads the graph to its end and judges it, and makes the whole text, before the first write. The
-/// text is the same for every plan and gate. Of the options it uses `hops` and `order`.
+/// Each input is read to its end and judged before the next is read, and the whole text is made before the first
+/// write. The text is the same for every plan and gate. Of the options it uses `hops` and `order`, if it builds the
+/// hierarchy without an order.
 ///
 /// # Errors
-/// - `Read`: the first fault of the graph.
-/// - `Device`: a read of the graph failed.
+/// - `Read`: the first fault of the graph, or of the lines of a saved hierarchy or of an order.
+/// - `Check`: the first fault of the saved hierarchy on the graph.
+/// - `Order`: the order does not have each node of the graph once.
+/// - `Device`: a read of an input failed.
 /// - `Memory`: there was not enough memory.
 /// - `Write(count)`: the output took `count` bytes of the text and no more.
 ///
 /// After all faults but `Write` nothing was written.
-pub fn run_save<R: Threads + Sync, I: Input, O: Output, G: Gate>(
+pub fn run_save<R: Threads + Sync, I: Input, S: Input + Drop, O: Output, G: Gate>(
     crew: &Crew<'_, R, G>,
     graph: &mut I,
+    source: &mut Source<S>,
     output: &mut O,
     options: &Options,
 ) -> Result<(), RunFault>
-    requires hops { IsHopBound options.now.hops }
+    requires allowed { IsSourceAllowed source.old }
+    requires hops { source.old ≡ SourceOf.Built → IsHopBound options.now.hops }
 
     // The story of the run, in the order in which it happens.
-    ensures went { RunsSave options.now (reading I.read_gives graph.old graph.new) O.write_gives output.old output.new result }
+    ensures went { RunsSave options.now (reading I.read_gives graph.old graph.new) (source_reading S.read_gives source.old source.new)
+        (source.new ≡ source.old) O.write_gives output.old output.new result }
 
     // The output takes the text of the graph's hierarchy: all of it, or its first bytes.
     ensures written { Delivers result O.write_gives output.old output.new
-        (IsSavedBy options.now (reading I.read_gives graph.old graph.new)) }
+        (IsSavedBy options.now (reading I.read_gives graph.old graph.new) (source_reading S.read_gives source.old source.new)) }
 
-    // The graph is still the same input.
-    ensures same { I.origin graph.new ≡ I.origin graph.old }
+    // Each input is still the same one.
+    ensures same { (I.origin graph.new ≡ I.origin graph.old) × (source_origin S.origin source.new ≡ source_origin S.origin source.old) }
 {
-    crew.gate.watch(Stage::Reading, 0, 1);
-    let graph = graph_from(crew, graph)?;
-    let hierarchy = build_by(crew, &graph, options.hops, options.order)?;
-    drop(graph);
+    let loaded = loaded_from(crew, graph, source)?;
+    let hierarchy = loaded.hierarchy(crew, options.hops, options.order)?;
     let text = save_text(crew.alloc, &hierarchy)?;
     write_text(output, &text)
 }

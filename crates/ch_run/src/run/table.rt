@@ -7,7 +7,7 @@ ghost use Rattle.ch_text.specs.TableText.{IsTableText};
 ghost use Rattle.ch_run.specs.declared.source.Source.TheVariants as SourceOf;
 ghost use Rattle.ch_run.specs.Lists.{AreLists};
 ghost use Rattle.ch_run.specs.Run.{Delivers, reading};
-ghost use Rattle.ch_run.specs.Source.{source_origin, source_reading};
+ghost use Rattle.ch_run.specs.Source.{IsSourceAllowed, source_origin, source_reading};
 ghost use Rattle.ch_run.specs.Stories.{RunsTable};
 ghost use Rattle.ch_run.specs.TableRun.{IsTabledBy};
 
@@ -58,6 +58,7 @@ pub fn run_table<
     output: &mut O,
     options: &Options,
 ) -> Result<(), RunFault>
+    requires allowed { IsSourceAllowed source.old }
     requires hops { source.old ≡ SourceOf.Built → IsHopBound options.now.hops }
 
     // The story of the run, in the order in which it happens.

@@ -16,7 +16,7 @@ returns-in_err-inputs-clause-output g c = unwritten_so _ _ c.from_residual.ensur
 pub returns-clause-went : goal.returns-clause-went
 returns-clause-went g c =
     let run = c.run_inputs-result.ensures in
-    inr (c.in_ok-inputs.inputs, c.run_inputs-result.new.inputs, c.open_inputs.new.files, c.in_ok-inputs.ensures.opened, c.in_ok-inputs.ensures.asks, run.went, run.same, c.close_inputs.ensures)
+    inr (c.in_ok-inputs.inputs, c.run_inputs-result.new.inputs, c.open_inputs.new.files, c.in_ok-inputs.ensures.opened, c.in_ok-inputs.ensures.asks, c.in_ok-inputs.ensures.source, run.went, run.same, c.close_inputs.ensures)
 
 pub returns-clause-requests_once : goal.returns-clause-requests_once
 returns-clause-requests_once g c =

@@ -1,5 +1,5 @@
 use Rattle.ch_run.specs.Run.{reading}
-use Rattle.ch_run.proofs.OneSavedText.{one_save_text, one_saved_table, one_saved_text as one_saved_text_of}
+use Rattle.ch_run.proofs.OneSavedText.{one_like_text, one_save_text, one_saved_table, one_saved_text as one_saved_text_of}
 use Rattle.ch_run.proofs.laws.one_saved_text.Goals as goal
 
 pub returns-clause-answers : goal.returns-clause-answers
@@ -10,3 +10,6 @@ returns-clause-tables g c = λ graph graph' saved saved' sources sources' target
 
 pub returns-clause-hierarchies : goal.returns-clause-hierarchies
 returns-clause-hierarchies g c = λ graph graph'. one_save_text (reading g.I.Input.read_gives graph graph')
+
+pub returns-clause-orders : goal.returns-clause-orders
+returns-clause-orders g c = λ graph graph' order order'. one_like_text (reading g.I.Input.read_gives graph graph') (reading g.S.Input.read_gives order order')

@@ -1,5 +1,6 @@
 use Rattle.std.proofs.Common.{inl, inr, refl}
 use Rattle.ch_run.proofs.Owed.{err_as}
+use Rattle.ch_run.proofs.Story.{saved_ends}
 use Rattle.ch_run.proofs.run.loading.checked_from.Goals as goal
 
 pub returns-in-Ok-clause-value : goal.returns-in-Ok-clause-value
@@ -13,7 +14,7 @@ returns-in_err-graph-clause-went g c = inl (err_as _ _ _ c.from_residual.ensures
 pub returns-in_err-saved-clause-went : goal.returns-in_err-saved-clause-went
 returns-in_err-saved-clause-went g c =
     let read = c.in_ok-graph.ensures.value in
-    inr (read.0, c.in_ok-graph.graph, read.1, (read.2, c.arcs.ensures.limits), inl (err_as _ _ _ c.from_residual-in_err-saved.ensures.1 c.in_err-saved.ensures.ends, tt))
+    inr (read.0, c.in_ok-graph.graph, read.1, (read.2, c.arcs.ensures.limits), inl (err_as _ _ _ c.from_residual-in_err-saved.ensures.1 (saved_ends _ _ _ c.in_err-saved.ensures.ends), tt))
 
 pub returns-in-Ok-clause-went : goal.returns-in-Ok-clause-went
 returns-in-Ok-clause-went g c =

@@ -1,7 +1,7 @@
 use Rattle.std.proofs.Common.{◌≡◌}
 use Rattle.std.specs.Prelude.{IsOkAnd}
 use Rattle.ch_run.specs.declared.source.Source.TheVariants as Source
-use Rattle.ch_run.proofs.Story.{loads_refused}
+use Rattle.ch_run.proofs.Story.{loads_refused, loads_unbuilt}
 use Rattle.ch_run.proofs.run.loading.loaded_from.Goals as goal
 
 -- the graph or the saved hierarchy was read in vain
@@ -9,3 +9,9 @@ pub returns-in_err-graph-in-Saved-clause-went : goal.returns-in_err-graph-in-Sav
 returns-in_err-graph-in-Saved-clause-went g c =
     rw c.in-Saved.is (loads_refused g.S.Input.read_gives _ _ c.checked_from.new.saved c.in_err-graph-in-Saved.field-0.0 _ c.from_residual-in_err-graph-in-Saved.result c.from_residual-in_err-graph-in-Saved.ensures.1
     (λ g' h. IsOkAnd c.from_residual-in_err-graph-in-Saved.result (λ loaded. (loaded.graph ≡ g') × (loaded.saved ≡ h))) c.in_err-graph-in-Saved.ensures.went)
+
+-- the graph or the order was read in vain
+pub returns-in_err-graph-in-Like-clause-went : goal.returns-in_err-graph-in-Like-clause-went
+returns-in_err-graph-in-Like-clause-went g c =
+    rw c.in-Like.is (loads_unbuilt g.S.Input.read_gives _ _ c.built_from.new.order _ _ c.in_err-graph-in-Like.field-0.0 _ c.from_residual-in_err-graph-in-Like.result c.from_residual-in_err-graph-in-Like.ensures.1
+    (λ g' h. IsOkAnd c.from_residual-in_err-graph-in-Like.result (λ loaded. (loaded.graph ≡ g') × (loaded.saved ≡ h))) c.in_err-graph-in-Like.ensures.went)
