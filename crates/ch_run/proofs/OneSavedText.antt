@@ -1,5 +1,5 @@
 -- The definitions name one text for a hierarchy that is saved, and one text by a saved hierarchy.
-use Rattle.std.proofs.Common.{◌≡◌, ℕ, List, Some, sym, take, ap, ◌∙◌, subst}
+use Rattle.std.proofs.Common.{◌≡◌, ℕ, List, sym, take, ap, ◌∙◌, subst}
 use Rattle.std.specs.Prelude.{not, ◌&&◌}
 use Rattle.ch_graph.specs.Graph.{Network}
 use Rattle.ch_graph.specs.Saved.{OrderAndLegs}

@@ -16,7 +16,7 @@ use Rattle.ch_run.specs.declared.sources.Sources.{Sources}
 use Rattle.ch_run.specs.DistRun.{HasQueriesRefused, IsAnsweredBy, IsOfDist}
 use Rattle.ch_run.specs.Lists.{HasTooManyCells}
 use Rattle.ch_run.specs.NearRun.{AreSources, HasNearTargetsRefused, IsNearBy, IsOfNear, IsOfSources, ReadsSources, sources_among, sources_origin, sources_reading}
-use Rattle.ch_run.specs.Run.{Delivers, IsGraphRefused, GoesPast, GoesPastAll, IsOf, IsWrite, NoInput, OneInput, Reading, ReadingIf, ReadsAll, ReadsNodes, SourceReading, StopsAt, reading}
+use Rattle.ch_run.specs.Run.{Delivers, GoesPast, GoesPastAll, IsOf, IsWrite, NoInput, OneInput, Reading, ReadingIf, ReadsAll, ReadsNodes, SourceReading, StopsAt, reading}
 use Rattle.ch_run.specs.SaveRun.{IsOfSave, IsSavedBy}
 use Rattle.ch_run.specs.Source.{IsOfRoutes, source_origin, source_reading}
 use Rattle.ch_run.specs.Stories.{RunsDist, RunsNear, RunsSave, RunsTable}

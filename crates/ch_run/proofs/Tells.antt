@@ -5,7 +5,6 @@ use Rattle.ch_graph.specs.Graph.{Network}
 use Rattle.ch_hierarchy.specs.Hierarchy.{LevelsAndLegs}
 use Rattle.ch_read.specs.declared.fault.ReadFault.{ReadFault}
 use Rattle.ch_read.specs.declared.form.Form.{Form}
-use Rattle.ch_read.specs.declared.form.Form.TheVariants as Form
 use Rattle.ch_graph.specs.Saved.{OrderAndLegs}
 use Rattle.ch_hierarchy.specs.Saved.{NamesKept}
 use Rattle.ch_read.specs.Names.{NamesNodes, NamesSaved}
@@ -17,11 +16,10 @@ use Rattle.ch_text.proofs.Moves.{all-counts, fault-counts, gave-counts, took-cou
 use Rattle.ch_run.specs.declared.fault.RunFault.{RunFault}
 use Rattle.ch_run.specs.declared.fault.Which.{Which}
 use Rattle.ch_run.specs.declared.source.Source.{Source}
-use Rattle.ch_run.specs.declared.sources.Sources.{Sources}
 use Rattle.ch_run.specs.NearRun.{AreSources, sources_among}
 use Rattle.ch_run.specs.Run.{AcceptsGraph, Delivers, GoesPast, IsGraphRefused, IsOf, IsWrite, NoFile, NoInput, OneInput, OrderFile, Reading, ReadingIf, ReadsAfter, ReadsAll, ReadsOnce, ReadsOrRefuses, SavedFile, SourceReading, StopsAt, WritesAfter, reading}
 use Rattle.ch_run.specs.Source.{AreLoaded, HasCheckRefused, HasOrderRefused, HasSavedRefused, IsOfLoading, ReadsSource, source_origin, source_reading}
-use Rattle.ch_run.specs.Story.{Cells, EndsAt, IsOrderRefusedOn, IsRefused, IsSavedRefusedOn, Loads, LoadsSource, NamesLike, Reads, ReadsIf, Writes}
+use Rattle.ch_run.specs.Story.{EndsAt, IsOrderRefusedOn, IsRefused, IsSavedRefusedOn, Loads, LoadsSource, NamesLike, Reads, ReadsIf, Writes}
 use Rattle.ch_run.specs.Told.{Calls}
 use Rattle.ch_run.proofs.Counted.{failed_once, failed_one, unfailed}
 use Rattle.ch_run.proofs.Inputs.{of_one, same_kind}

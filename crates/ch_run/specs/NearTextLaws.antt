@@ -1,5 +1,5 @@
 -- The definitions name one text of near rows.
-use Rattle.std.specs.Prelude.{◌≡◌, ℕ, List, Some, None}
+use Rattle.std.specs.Prelude.{◌≡◌, ℕ, List}
 use Rattle.ch_run.specs.declared.options.Options.{Options}
 use Rattle.ch_run.specs.Run.{GivesOnly, Reading, NoInput, OneInput, NoFile, SavedFile}
 use Rattle.ch_run.specs.NearRun.{IsNearBy}

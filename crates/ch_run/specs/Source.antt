@@ -1,5 +1,5 @@
 -- Where the hierarchy of a run comes from, and the promises on a saved one and on an order.
-use Rattle.std.specs.Prelude.{◌≡◌, ◌⊎◌, ℕ, ◌≤◌, ◌||◌, nat_lt, if◌then◌else◌, [], ◌∷◌, List, Option, Some, None, Result, Err, ⊤, option_map}
+use Rattle.std.specs.Prelude.{◌≡◌, ◌⊎◌, ℕ, ◌≤◌, ◌||◌, nat_lt, if◌then◌else◌, [], ◌∷◌, List, Option, Some, None, Result, Err, ⊤}
 use Rattle.ch_graph.specs.Graph.{Network, IsWithinLimits}
 use Rattle.ch_graph.specs.Saved.{OrderAndLegs}
 use Rattle.ch_read.specs.declared.fault.ReadFault.{ReadFault}
@@ -24,13 +24,7 @@ use Rattle.ch_run.specs.declared.source.Source.{Source}
 use Rattle.ch_run.specs.declared.source.Source.TheVariants.{Built, Saved, Like}
 use Rattle.ch_run.specs.Run.{AcceptsGraph, Reading, ReadsAfter, ReadsAll, ReadsGraph, IsOf, reading, SourceReading, NoFile, SavedFile, OrderFile}
 
--- the input of a saved hierarchy or of an order, if one is read
-abbrev pub input_in : {S : Type 0} → Source S → Option S
-input_in Built = None
-input_in (Saved input) = Some input
-input_in (Like input fresh hops) = Some input
-
--- the number of failed reads of that input
+-- the number of failed reads of the input of a saved hierarchy or of an order, if one is read
 abbrev pub source_failures : {S : Type 0} → (S → ℕ) → Source S → ℕ
 source_failures failed Built = 0
 source_failures failed (Saved input) = failed input

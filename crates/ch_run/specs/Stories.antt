@@ -1,6 +1,6 @@
 -- The story of each run: what it reads and what it writes, in the order in which it happens. `same_source` and its like say that an input is
 -- as it was. `takes` says what one write of the output may do, which is `old` before the run and `new` after it.
-use Rattle.std.specs.Prelude.{◌≡◌, ◌⊎◌, ℕ, List, Result, Ok, Err}
+use Rattle.std.specs.Prelude.{◌≡◌, ◌⊎◌, ℕ, List, Result, Err}
 use Rattle.ch_read.specs.declared.form.Form.TheVariants as Form
 use Rattle.ch_read.specs.Names.{NamesNodes, NamesQueries}
 use Rattle.ch_text.specs.declared.device.DeviceFault.{DeviceFault}

@@ -8,7 +8,6 @@ use Rattle.ch_hierarchy.specs.Kept.{IsKept}
 use Rattle.ch_hierarchy.specs.Saved.{NamesKept, IsFirstFault, IsOrderOf}
 use Rattle.ch_contract.specs.Like.{IsHierarchyLike}
 use Rattle.ch_read.specs.declared.form.Form.{Form}
-use Rattle.ch_read.specs.declared.form.Form.TheVariants as Form
 use Rattle.ch_read.specs.Checks.{IsFault}
 use Rattle.ch_read.specs.Names.{NamesGraph, NamesSaved}
 use Rattle.ch_text.specs.Moves.{Took, TookUntilFault}

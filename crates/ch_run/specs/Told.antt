@@ -1,7 +1,7 @@
 -- What the story of each run tells: that it ends only in a fault of its own, that an input is refused only for its own first fault, that
 -- failures of devices are reported exactly, and that no device is touched before all earlier inputs were accepted. `gives` says what one
 -- read of an input may do, and `failed` and `idle` are the counts of a device.
-use Rattle.std.specs.Prelude.{◌≡◌, ℕ, [], ◌∷◌, List, Result, Ok, Err, IfErr}
+use Rattle.std.specs.Prelude.{◌≡◌, ℕ, [], ◌∷◌, List, Result, Err, IfErr}
 use Rattle.ch_text.specs.declared.device.DeviceFault.{DeviceFault}
 use Rattle.ch_run.specs.declared.fault.Which.{Which}
 use Rattle.ch_run.specs.declared.fault.RunFault.{RunFault}
@@ -10,7 +10,7 @@ use Rattle.ch_run.specs.declared.sources.Sources.{Sources}
 use Rattle.ch_run.specs.Ask.{IsOfAsk}
 use Rattle.ch_run.specs.DistRun.{AcceptsQueries, HasQueriesRefused, IsOfDist}
 use Rattle.ch_run.specs.NearRun.{AcceptsNearSources, AcceptsNodeLists, HasNearTargetsRefused, IsOfNear, ReadsSources, sources_reading}
-use Rattle.ch_run.specs.Run.{AcceptsGraph, IsGraphRefused, ReadsAfter, ReadsOnce, ReadsOrRefuses, WritesAfter, WritesOnce, reading}
+use Rattle.ch_run.specs.Run.{IsGraphRefused, ReadsAfter, ReadsOnce, ReadsOrRefuses, WritesAfter, WritesOnce, reading}
 use Rattle.ch_run.specs.SaveRun.{IsOfSave}
 use Rattle.ch_run.specs.Source.{AcceptsLoaded, ReadsSource, source_reading}
 use Rattle.ch_run.specs.TableRun.{AcceptsLists, AcceptsSources, HasCellsRefused, HasSourcesRefused, HasTargetsRefused, IsOfTable}

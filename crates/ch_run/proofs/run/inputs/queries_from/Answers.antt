@@ -4,7 +4,6 @@ use Rattle.ch_read.specs.declared.fault.ReadError.TheVariants.{Fault}
 use Rattle.ch_read.specs.Checks.{IsFault}
 use Rattle.ch_read.specs.Names.{NamesQueries}
 use Rattle.ch_run.specs.declared.fault.Which.TheVariants as Which
-use Rattle.ch_run.specs.declared.fault.RunFault.TheVariants as RunFault
 use Rattle.ch_run.specs.Run.{reading}
 use Rattle.ch_read.specs.declared.fault.ReadFault.{ReadFault}
 use Rattle.ch_run.specs.Story.{EndsAt, IsRefused}

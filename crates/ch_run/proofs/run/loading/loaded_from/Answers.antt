@@ -1,6 +1,5 @@
 use Rattle.std.proofs.Common.{◌≡◌}
 use Rattle.std.specs.Prelude.{IsOkAnd}
-use Rattle.ch_run.specs.declared.source.Source.TheVariants as Source
 use Rattle.ch_run.proofs.Story.{loads_refused, loads_unbuilt}
 use Rattle.ch_run.proofs.run.loading.loaded_from.Goals as goal
 

@@ -3,7 +3,6 @@ use Rattle.ch_read.specs.declared.form.Form.TheVariants.{Saved}
 use Rattle.ch_read.specs.declared.fault.ReadError.TheVariants.{Fault}
 use Rattle.ch_read.specs.Checks.{IsFault}
 use Rattle.ch_read.specs.Names.{NamesSaved}
-use Rattle.ch_run.specs.declared.fault.RunFault.TheVariants as RunFault
 use Rattle.ch_run.specs.Run.{reading}
 use Rattle.ch_read.specs.declared.fault.ReadFault.{ReadFault}
 use Rattle.ch_run.specs.Story.{EndsAt, IsRefused}
