@@ -33,8 +33,8 @@ pytestmark = [needs("python3-numpy"), pytest.mark.usefixtures("program")]
 FIRST, FIRST_SAVED = ROOT / "examples" / "first.gr", ROOT / "examples" / "first.ch"
 GRAPH = f"{COUNTRY}.gr"
 PATIENCE = 120
-# Kilobytes by which memory may grow once things were made and dropped for a while. Where other programs keep the processors busy, the
-# allocator's arenas of 150 threads took 5,248. Thirty networks that are not freed take four times this limit.
+# Kilobytes by which memory may grow once things were made and dropped for a while. Networks in a ring of references wait for Python's
+# collector, and took 5,248 then. Thirty networks that are not freed take four times this limit.
 MOST_GROWTH = 8_192
 
 
