@@ -305,7 +305,7 @@ HELPS = {
         "Usage: chtab dist [OPTIONS] <GRAPH> <QUERIES>", "`d S T X`", "--plain", "All other options but --progress then have no effect", "--routes",
         "--deep", "halves the time of building", "another may be written", "--rounds", "Cannot be combined with --deep", "--saved <FILE>",
         "`chtab save` or any other program wrote it", "refused, often by `saved line 1: size too large`",
-        "Options on how to build one then have no effect [default: none]", "--like <FILE>", "less than half the time", "or only its lines `p` and `o`",
+        "Options on how to build one then have no effect [default: none]", "--like <FILE>", "two thirds of the time", "or only its lines `p` and `o`",
         "Cannot be combined with --saved, --deep or --rounds [default: none]", "--fresh <P>", "from 0 to 100 [default: 5]", "--workers <N>", "no answer depends on N [default: 1]",
         "--piece <K>", "from 1 to 1048576 [default: 64]", "--hops <H>", "from 1 to 16 [default: 5]", "--progress",
         "Example: chtab dist --routes roads.gr pairs.p2p",

@@ -160,7 +160,7 @@ pub(crate) fn like<'a>(alloc: Global) -> Arg<'a>
         alloc,
         "like",
         "FILE",
-        "Build the hierarchy in an order like that of FILE, which takes less than half the time. FILE is a saved \
+        "Build the hierarchy in an order like that of FILE, which takes two thirds of the time. FILE is a saved \
         hierarchy of a graph with as many nodes and any arcs, or only its lines `p` and `o`. Cannot be combined \
         with --saved, --deep or --rounds [default: none]",
     )

@@ -44,7 +44,7 @@ const REQUESTS: &str = "Requests, one a line:\n  \
     q S T      the distance from node S to node T\n  \
     r S T      the same, and the route\n  \
     t K L [R]  a table: K lines `s V` follow with the sources, and then L with the targets\n  \
-    p L K      places: L lines `s V` follow. Each later `n` has the K nearest of them, or all if K is 0\n  \
+    p L K      places: L lines `s V` follow. Each later `n` has the K nearest, or all if K is 0\n  \
     n S [R]    the places nearest to node S, with their distances\n\
     R leaves out distances above R. A route follows the saved hierarchy, or the one that is built: by rounds \
     with --rounds, else in depth order, unless --routes is given without --deep.\n\n\
