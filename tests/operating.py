@@ -265,19 +265,26 @@ def memory_of(number):
     return 1024 * int(re.search(r"VmHWM:\s+(\d+)", pathlib.Path(f"/proc/{number}/status").read_text())[1])
 
 
+def ended_service(port, *options):
+    """What a service says that is begun on a port and has to end by itself."""
+    command = [PYTHON, ROOT / "tools" / "page.py", "--port", port, "--program", PROGRAM, *options, COUNTRY]
+    try:
+        return subprocess.run(list(map(str, command)), capture_output=True, text=True, timeout=60)
+    except subprocess.TimeoutExpired:
+        raise AssertionError(f"a service with {options} goes on on port {port}") from None
+
+
 def a_second_service_on_the_port():
     """A second service doesn't share the port of one that runs, whatever its processes, unless it takes the port over; nor does it take what is no
     service of this kind."""
     for first in (), ("--processes", 2):
         with running_service(*first) as (_, address):
             for second in (), ("--processes", 2):
-                command = [PYTHON, ROOT / "tools" / "page.py", "--port", address.port, "--program", PROGRAM, *second, COUNTRY]
-                done = subprocess.run(list(map(str, command)), capture_output=True, text=True, timeout=60)
+                done = ended_service(address.port, *second)
                 assert (done.returncode, done.stdout, done.stderr.count("\n")) == (1, "", 1) and "is taken" in done.stderr and "--takeover" in done.stderr, done
             assert ask(address, ROUTE)[0] == 200
     with socket.create_server(("127.0.0.1", 0)) as other:
-        command = [PYTHON, ROOT / "tools" / "page.py", "--port", other.getsockname()[1], "--takeover", "--program", PROGRAM, COUNTRY]
-        done = subprocess.run(list(map(str, command)), capture_output=True, text=True, timeout=60)
+        done = ended_service(other.getsockname()[1], "--takeover")
         assert (done.returncode, done.stderr.count("\n")) == (1, 1) and "could be taken over" in done.stderr, done
 
 
