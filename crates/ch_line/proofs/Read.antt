@@ -1,5 +1,5 @@
 -- Which inputs a run reads, and which failed reads it reports.
-use Rattle.std.proofs.Common.{◌≡◌, ℕ, List, ◌++◌, Option, refl}
+use Rattle.std.proofs.Common.{◌≡◌, ℕ, List, ◌++◌, refl}
 use Rattle.std.specs.Prelude.{Result}
 use Rattle.ch_read.specs.declared.fault.ReadFault.{ReadFault}
 use Rattle.ch_text.specs.declared.device.DeviceFault.{DeviceFault}

@@ -1,5 +1,5 @@
 -- Which files a run refuses.
-use Rattle.std.proofs.Common.{◌≡◌, ◌≤◌, ℕ, List, Option, inl, inr, sym, subst}
+use Rattle.std.proofs.Common.{◌≡◌, ◌≤◌, ℕ, List, inl, inr, sym, subst}
 use Rattle.std.specs.Prelude.{Result, IsErrAnd, [], ◌∷◌}
 use Rattle.ch_graph.specs.declared.limits.TheConstants.{MOST_HOPS}
 use Rattle.ch_text.specs.declared.device.DeviceFault.{DeviceFault}

@@ -1,5 +1,5 @@
 -- What the story of a run over inputs tells.
-use Rattle.std.proofs.Common.{◌≡◌, ℕ, List, [], ◌∷◌, ◌++◌, inl, inr, refl, ap}
+use Rattle.std.proofs.Common.{◌≡◌, ℕ, [], ◌∷◌, ◌++◌, inl, refl, ap}
 use Rattle.std.specs.Prelude.{Result}
 use Rattle.std.proofs.Math.Logic.{⊎_map}
 use Rattle.ch_text.specs.Device.{CountsAtMostOne}
