@@ -11,11 +11,7 @@ use Rattle.ch_engine.specs.declared.fault.Refusal.{Refusal}
 use Rattle.ch_near.specs.declared.direction.Direction.{Direction}
 use Rattle.ch_near.specs.declared.direction.Direction.TheVariants.{To, From}
 use Rattle.ch_engine.specs.declared.written.End.{End}
-use Rattle.ch_engine.specs.declared.written.End.TheVariants as End
-use Rattle.ch_engine.specs.declared.written.Written.{Written}
 use Rattle.ch_engine.specs.declared.written.SumsEnd.{SumsEnd}
-use Rattle.ch_engine.specs.declared.written.SumsEnd.TheVariants as SumsEnd
-use Rattle.ch_engine.specs.declared.written.Summed.{Summed}
 use Rattle.ch_engine.specs.Held.{Held, only, with_places}
 use Rattle.ch_engine.specs.Lines.{IsOfSome, Lines}
 use Rattle.ch_engine.specs.NearRows.{AreRowsWritten, StaysFrom, begin_of}

@@ -1,11 +1,11 @@
 -- The first lines of least weight, while lines are found one after the other.
-use Rattle.std.proofs.Common.{◌≡◌, ◌≢◌, ℕ, ◌+◌, ◌<◌, ◌≤◌, List, length, get_or, inl, inr, refl, sym, ◌∙◌, ap, subst, arith}
+use Rattle.std.proofs.Common.{◌≡◌, ◌≢◌, ℕ, ◌+◌, ◌<◌, ◌≤◌, List, length, get_or, inl, inr, sym, ◌∙◌, ap, subst, arith}
 use Rattle.std.specs.Prelude.{◌⊎◌}
 use Rattle.std.proofs.lemmas.Bool.{cases_eq, cases_lt}
 use Rattle.ch_graph.specs.declared.arc.InArc.{InArc}
 use Rattle.ch_graph.specs.declared.limits.TheConstants.{MOST_ARCS}
 use Rattle.ch_query.specs.declared.side.Side.{Side}
-use Rattle.ch_engine.specs.Lines.{IsBetter, IsFirstLine, IsLineWord, IsSeen, Precedes, arc_on, far_end, no_line}
+use Rattle.ch_engine.specs.Lines.{IsBetter, IsLineWord, IsSeen, Precedes, arc_on, far_end, no_line}
 
 -- what precedes goes on from line to line
 precedes_on : (arcs : List InArc) (i j k : ℕ) → Precedes arcs i j → Precedes arcs j k → Precedes arcs i k

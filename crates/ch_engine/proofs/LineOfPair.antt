@@ -3,13 +3,13 @@ use Rattle.std.proofs.Common.{◌≡◌, ◌≢◌, ℕ, ◌<◌, ◌≤◌, Lis
 use Rattle.std.proofs.lemmas.List.{get_or_default}
 use Rattle.std.proofs.lemmas.List.Elements.{All-contains}
 use Rattle.ch_graph.specs.declared.arc.InArc.{InArc}
-use Rattle.ch_graph.specs.Graph.{Network, IsWithinLimits}
+use Rattle.ch_graph.specs.Graph.{Network}
 use Rattle.ch_hierarchy.specs.declared.leg.Leg.{Leg}
 use Rattle.ch_hierarchy.specs.Rows.{row}
 use Rattle.ch_hierarchy.specs.Hierarchy.{LevelsAndLegs, IsLegUp}
 use Rattle.ch_hierarchy.specs.Kept.{IsKept}
 use Rattle.ch_hierarchy.proofs.theory.NoLeg.{no_leg}
-use Rattle.ch_engine.specs.Lines.{AreLines, IsLineWord, IsWordAt, Leads, Lines, arc_on, no_line, node_at}
+use Rattle.ch_engine.specs.Lines.{AreLines, IsLineWord, IsWordAt, Leads, Lines, arc_on, node_at}
 
 -- an arc on a line is an arc of the graph
 pub on_line : (arcs : List InArc) (line : ℕ) → line < length arcs → Contains arcs (arc_on arcs line)

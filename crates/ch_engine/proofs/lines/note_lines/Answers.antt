@@ -1,5 +1,4 @@
-use Rattle.std.proofs.Common.{◌≡◌, ◌∙◌, ◌<◌, ℕ, length, slice_index, inl, inr, sym, subst, arith}
-use Rattle.std.specs.Prelude.{◌⊎◌}
+use Rattle.std.proofs.Common.{◌≡◌, ◌∙◌, ◌<◌, ℕ, length, slice_index, inr, subst, arith}
 use Rattle.ch_engine.specs.Lines.{IsLineWord, IsSeen, node_at}
 use Rattle.ch_engine.proofs.FirstLines.{line_or_none, noted}
 use Rattle.ch_engine.proofs.lines.note_lines.Goals as goal

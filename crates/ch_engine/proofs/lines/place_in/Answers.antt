@@ -1,4 +1,4 @@
-use Rattle.std.proofs.Common.{rules, refl, get_or, None}
+use Rattle.std.proofs.Common.{rules, get_or}
 use Rattle.std.proofs.lemmas.List.{get_or_default}
 use Rattle.std.proofs.lemmas.List.Sorted.{answers_always}
 use Rattle.ch_hierarchy.proofs.theory.NoLeg.{no_leg}

@@ -1,6 +1,6 @@
-use Rattle.std.proofs.Common.{◌≡◌, ◌+◌, ◌≤◌, ℕ, take, arith}
+use Rattle.std.proofs.Common.{◌+◌, arith}
 use Rattle.std.proofs.lemmas.List.Sums.{sum_by_more, sum_by-take-le}
-use Rattle.ch_engine.specs.Sums.{share_of, sum_within}
+use Rattle.ch_engine.specs.Sums.{share_of}
 use Rattle.ch_engine.proofs.sums.sum_within.Goals as goal
 
 pub returns-in_default : goal.returns-in_default

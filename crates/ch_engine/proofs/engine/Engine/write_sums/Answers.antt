@@ -1,11 +1,11 @@
-use Rattle.std.proofs.Common.{◌≡◌, ◌∙◌, ◌+◌, ◌*◌, ◌<◌, ◌≤◌, ℕ, List, length, slice_index, sym, subst, arith}
+use Rattle.std.proofs.Common.{◌≡◌, ◌∙◌, ◌+◌, ◌*◌, ◌<◌, ℕ, List, length, slice_index, sym, subst, arith}
 use Rattle.std.specs.Prelude.{All}
 use Rattle.std.proofs.Math.Nat.{add-mul}
 use Rattle.ch_hierarchy.specs.Hierarchy.{nodes_of}
 use Rattle.ch_engine.specs.Held.{Held}
 use Rattle.ch_engine.specs.NearRows.{IsKeptRow}
 use Rattle.ch_engine.specs.Sums.{AreSumsAt, sum_within}
-use Rattle.ch_engine.proofs.AddingUp.{ends_before, places_low, sums_more}
+use Rattle.ch_engine.proofs.AddingUp.{places_low, sums_more}
 use Rattle.ch_engine.proofs.NearRows.{stays_more}
 use Rattle.ch_engine.proofs.engine.Engine.write_sums.Goals as goal
 
