@@ -9,9 +9,9 @@ from pathlib import Path
 LAYERS = """
 set -e
 mount -t tmpfs tmpfs "$1"
-mkdir "$1/upper" "$1/work" "$1/root"
-mount -t overlay overlay -o "lowerdir=/,upperdir=$1/upper,workdir=$1/work" "$1/root"
-for name in dev proc; do mount --rbind "/$name" "$1/root/$name"; done
+mkdir "$1/upper" "$1/work" "$1/merged"
+mount -t overlay overlay -o "lowerdir=/,upperdir=$1/upper,workdir=$1/work" "$1/merged"
+for name in dev proc; do mount --rbind "/$name" "$1/merged/$name"; done
 echo made
 read -r end || true
 """
@@ -30,16 +30,16 @@ class Root:
     def run(self, words, user="root", requests=None):
         """Status, output and errors of a command in this root, run by this user in the folder /."""
         whose = [f"--userspec={user}"] if user != "root" else []
-        command = [*self.enter, "chroot", *whose, self.folder / "root", *words]
+        command = [*self.enter, "chroot", *whose, self.folder / "merged", *words]
         done = subprocess.run(list(map(str, command)), env={"PATH": PATH, "HOME": "/nonexistent"}, input=requests or "", capture_output=True, text=True)
         return done.returncode, done.stdout, done.stderr
 
     def put(self, path, name):
         """Copies a file into this root, where everybody may read it."""
-        subprocess.run([*self.enter, "install", "-D", "-m", "644", path, self.folder / "root" / name], check=True)
+        subprocess.run([*self.enter, "install", "-D", "-m", "644", path, self.folder / "merged" / name], check=True)
 
     def take_away(self, name):
-        subprocess.run([*self.enter, "rm", "-r", self.folder / "root" / name], check=True)
+        subprocess.run([*self.enter, "rm", "-r", self.folder / "merged" / name], check=True)
 
     def changes(self):
         """The paths that commands have made, changed or taken away and that are no folders of the system, without what it writes itself."""

@@ -71,7 +71,7 @@ def parser_of() -> cli.Parser:
     )
     parser.add_argument(
         "--profile", action="append", default=[], metavar="NAME",
-        help="the name by which clients of OSRM's interface call the network, such as driving; it may be given several times (any name)",
+        help="the name that clients of OSRM's interface give the network, such as driving; it may be given several times (any name)",
     )
     parser.add_argument(
         "--network", action="append", default=[], type=network_in, metavar="NAME=OUT",
@@ -209,7 +209,7 @@ def main(words: Sequence[str]) -> None:
     sys.setswitchinterval(TURN)
     networks = named(found)
     more = {"program": found.program, "workers": found.workers, "timeout": found.timeout, "load": found.processes == 1}
-    # A port that is taken is told before the time that reading takes.
+    # A port that is taken is reported before the time that reading takes.
     port = port_at(found.host, found.port, found.takeover)
     with Networks(networks, library=chosen(found, networks), **more) as served:
         status = serve_all(found, served, choices, port)

@@ -62,7 +62,7 @@ class Setting:
         return [self.program, "near", *options, *self.words(), self.graph, *lists]
 
     def stamps(self) -> Stamps:
-        """The stamps of the files, by which a file that was written anew later is recognized."""
+        """The stamps of the files, which show later whether one of them was replaced."""
         return Stamps(self.graph, self.saved)
 
     def words(self) -> list[str]:

@@ -17,7 +17,7 @@ Asker = TypeVar("Asker")
 
 
 class Deadline:
-    """The time by which an answer has to arrive, that many seconds from now; None for no limit."""
+    """The latest time of an answer, so many seconds from now; None for no limit."""
 
     def __init__(self, seconds: float | None) -> None:
         self.seconds = math.inf if seconds is None else seconds

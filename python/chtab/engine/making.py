@@ -152,7 +152,7 @@ class Beside:
 
 
 def digest_of(path: str) -> str:
-    """The SHA-256 of a file, by which labels are matched to their graph."""
+    """The SHA-256 of a file, which shows whether labels belong to a graph."""
     with open(path, "rb") as file:
         return hashlib.file_digest(file, "sha256").hexdigest()
 

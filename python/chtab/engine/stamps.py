@@ -12,7 +12,7 @@ Stamp: TypeAlias = tuple[int, int, int, int]
 
 
 class Stamps:
-    """The stamps of some files, by which a file that was written anew later is recognized.
+    """The stamps of some files, which show later whether one of them was replaced.
 
     Parameters
     ----------

@@ -134,7 +134,7 @@ class NearRun:
 
 @contextlib.contextmanager
 def listed(nodes: Integers) -> Iterator[str]:
-    """Lends a path by which a run reads a list of nodes. It leads to memory of this process, so that nothing is left behind, however the process
+    """Lends the path of a list of nodes to a run of the program. It leads to memory of this process, so that nothing is left behind, however the process
     ends."""
     with os.fdopen(os.memfd_create("chtab"), "w") as file:
         files.write_list_column(file, nodes)

@@ -104,7 +104,7 @@ def one_sided(spots: Spots, sides: Integers) -> Spots:
 
 
 class Ways(NamedTuple):
-    """The nodes by which trips leave roads, or arrive, and the weights of the whole road: a row for each road, in the order that `Spots` have."""
+    """The nodes where trips leave roads, or arrive, and the weights of the whole road: a row for each road, in the order that `Spots` have."""
 
     nodes: Integers
     weights: Integers
@@ -193,7 +193,7 @@ class Roads:
         return ends[:, 0], ends[:, 1], counts, numpy.array([point for key in roads for point in key[2:]], numpy.float64).reshape(-1, 2)
 
     def find_ways(self) -> None:
-        """Finds the nodes by which trips leave each road and arrive, and the least weights of both directions."""
+        """Finds the nodes where trips leave each road and arrive, and the least weights of both directions."""
         kept = self.road_of != NONE
         roads, is_back, weights = self.road_of[kept], self.is_back[kept], self.weights[kept]
         self.out_ways = ways_of(roads, (~is_back).astype(int), self.heads[kept], weights, len(self))

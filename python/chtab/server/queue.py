@@ -19,8 +19,8 @@ from chtab.errors import ProgramFault
 
 # A call that answers a list of questions.
 Call: TypeAlias = Callable[[list[Any]], Sequence[Any]]
-# The CPU seconds in which the loop may answer questions itself, while it does nothing else; and the share by which the last answers change what
-# is reckoned for the next ones.
+# The CPU seconds in which the loop may answer questions itself, while it does nothing else; and the weight of the last answers in the
+# estimate for the next ones.
 MOMENT, LATEST = 0.02, 0.25
 # Turns of the loop without a further request after which those are there that came at the same time.
 TURNS = 3
@@ -74,7 +74,7 @@ class Job:
 
 
 def answers_to(call: Call, questions: list[Any]) -> tuple[Sequence[Any], float]:
-    """The answers to questions, and the CPU seconds that this thread took for them. A run that ended is begun anew, and asked once more."""
+    """The answers to questions, and the CPU seconds that this thread took for them. A run that ended is started again, and asked once more."""
     begun = time.thread_time()
     try:
         found = call(questions)

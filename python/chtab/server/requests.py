@@ -10,7 +10,7 @@ from typing import TYPE_CHECKING, Any
 if TYPE_CHECKING:
     from chtab.typing import Point
 
-# The window sizes by which zlib knows the compressed forms of bodies.
+# The window sizes that tell zlib the compressed form of a body.
 PACKED = {"gzip": 31, "x-gzip": 31, "deflate": 15}
 
 

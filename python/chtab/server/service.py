@@ -58,8 +58,8 @@ PROBE = numpy.array([[1, 1]])
 @dataclass(frozen=True)
 class Choices:
     """The operator's choices: the title of the page, places with names, the address of a layer of map tiles or None, the limits of requests in JSON
-    and of OSRM's interface, how many connections are allowed, the origins whose pages may ask too, the names by which clients of OSRM's interface may
-    call the network, empty for any name, and the address of the proxy or None."""
+    and of OSRM's interface, how many connections are allowed, the origins whose pages may ask too, the names that clients of OSRM's interface may
+    give the network, empty for any name, and the address of the proxy or None."""
 
     title: str = ""
     places: tuple[Place, ...] = ()

@@ -155,7 +155,7 @@ async def serve(service: Service, port: Port, tell: Callable[[], object], parent
 
 
 class Child:
-    """A process that serves: its number, its place among the others, and the pipe by which it reports that it serves."""
+    """A process that serves: its number, its place among the others, and the pipe that it reports on once it serves."""
 
     def __init__(self, number: int, place: int, told: int) -> None:
         self.number, self.place, self.told, self.is_serving = number, place, told, False

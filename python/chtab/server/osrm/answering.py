@@ -27,7 +27,7 @@ if TYPE_CHECKING:
 MODES = {"car": "driving", "bicycle": "cycling", "foot": "walking"}
 # How many cells of a table have their routes asked for together.
 BATCH = 2_048
-# What metres are multiplied by to have the one digit behind the point that is told.
+# Tenths of a metre in a metre: answers give one digit after the decimal point.
 TENTHS = 10
 # Characters of a coordinate with seven digits behind the point, and of what else stands in an address.
 OF_COORDINATE, OF_ADDRESS = 28, 4_096
@@ -165,7 +165,7 @@ class Answers:
         ]
 
     def route_texts(self, legs: Legs, parts: Sequence[list[int]], own: Sequence[options.Route]) -> list[str]:
-        """The texts of routes, each over a part of the legs, and told with its own options."""
+        """The texts of routes, each over a part of the legs and with its own options."""
         return telling.routes(self.voice, legs, parts, own)
 
     # Round trips and tracks.

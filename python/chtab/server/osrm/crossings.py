@@ -85,7 +85,7 @@ class Crossings:
         self.firsts = numpy.searchsorted(nodes[self.ends], numpy.arange(len(self.crossing) + 1))
 
     def find_open(self) -> None:
-        """Finds the ends by which each node can be left, and the street of each end: that of the arc of least weight, or if the road is closed that
+        """Finds the ends of roads where a node can be left, for each node, and the street of each end: that of the arc of least weight, or if the road is closed that
         way the street of the opposite direction."""
         kept = numpy.flatnonzero(self.roads.road_of != NONE)
         ends = 2 * self.roads.road_of[kept] + self.roads.is_back[kept]

@@ -25,7 +25,7 @@ LEFT, RIGHT = "left", "right"
 
 
 class Pieces(NamedTuple):
-    """The pieces of legs, one leg after the other: the place of the leg in the question, the end of the road by which the piece starts, its street,
+    """The pieces of legs, one leg after the other: the place of the leg in the question, the end of the road where the piece starts, its street,
     the node at its end, and the place of its end in the trace of the leg."""
 
     legs: Integers
@@ -66,8 +66,8 @@ def pieces_of(crossings: Crossings, legs: Legs, which: Integers, traces: Traces)
 
 
 class Passages(NamedTuple):
-    """The passages of crossings between pieces: the piece before, the ends by which the driver arrives and leaves, the node, the directions of
-    arriving and leaving, the maneuver, the number of the exit if a ring is entered or left, whether three roads meet, the piece by which a ring
+    """The passages of crossings between pieces: the piece before, the ends of roads where the driver arrives and leaves, the node, the directions of
+    arriving and leaving, the maneuver, the number of the exit if a ring is entered or left, whether three roads meet, the piece where a ring
     starts and the one after it, -1 if there is none, and the modifier."""
 
     before: Integers
@@ -187,7 +187,7 @@ class Judge:
         return numpy.where(is_new, NEW_NAME, kinds)
 
     def exits(self, kinds: Integers) -> tuple[Integers, Integers, Integers]:
-        """The number of the exit of each ring, at the passages that enter it and leave it, and 0 elsewhere; and for these passages the piece by which
+        """The number of the exit of each ring, at the passages that enter it and leave it, and 0 elsewhere; and for these passages the piece where
         the ring is entered, and the one after it, -1 if there is none."""
         owners, ends, _ = self.others
         leads_off = self.any_of(owners[~self.crossings.is_ring[self.crossings.street_of[ends]]]) | (kinds == EXIT)

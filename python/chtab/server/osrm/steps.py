@@ -1,6 +1,6 @@
 """Steps of legs in OSRM's form: the maneuvers of each leg, with streets, lines and crossings, as texts of JSON.
 
-What is told of a crossing depends on it alone, and on how it is passed, so that its text is kept.
+The text of a crossing depends on it alone, and on how it is passed, so it is kept.
 """
 from __future__ import annotations
 
@@ -40,8 +40,8 @@ class Told(NamedTuple):
 
 
 class Step(NamedTuple):
-    """A step: the place of the leg's trace where it begins, the streets that it is called by and that it leads along, its maneuver, what else is
-    told of it, and the crossings on it, as texts of JSON."""
+    """A step: the place of the leg's trace where it starts, the street in its name and the one that it leads along, its maneuver, its further
+    members, and the crossings on it, as texts of JSON."""
 
     place: int
     street: int
@@ -189,8 +189,8 @@ def called(street: Street) -> str:
 
 
 def rows_of(passages: Passages, places: Integers, lines: Lines) -> list[Row]:
-    """The passages that are told of, as rows: the key of the crossing's text, what is done, the place in all lines and its location, and what else is
-    told."""
+    """The passages that steps report, as rows: the key of the crossing's text, what is done, the place in all lines and its location, and the
+    further values of the answer."""
     kept = numpy.flatnonzero((passages.kinds != SILENT) | passages.is_crossing)
     columns = (passages.nodes, passages.ins, passages.outs)
     keys = list(zip(*(column[kept].tolist() for column in columns)))
@@ -214,7 +214,7 @@ class Lines:
         return zip(self.firsts.tolist(), self.places[self.firsts].tolist(), ahead.tolist())
 
     def arrivals(self) -> Iterator[tuple[str, str, list[str]]]:
-        """Of each leg the maneuver, what else is told, and the crossing of its arrival, as texts of JSON."""
+        """For each leg the maneuver of its arrival, the further members, and the crossing, as texts of JSON."""
         came = bearings(self.places[numpy.maximum(self.lasts - 1, self.firsts)], self.places[self.lasts])
         for location, bearing in zip(self.places[self.lasts].tolist(), came.tolist()):
             yield (

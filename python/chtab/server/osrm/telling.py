@@ -25,7 +25,7 @@ METADATA = {"datasource_names": ["graph"]}
 
 
 class Voice(NamedTuple):
-    """What the routes of a network are told by: the steps of its crossings, the map's numbers of nodes or None, OSRM's word for the way of
+    """What the texts of a network's routes are made with: the steps of its crossings, the map's numbers of nodes or None, OSRM's word for the way of
     travelling, and what draws lines in each form."""
 
     steps: Steps
@@ -35,7 +35,7 @@ class Voice(NamedTuple):
 
 
 class OfLegs(NamedTuple):
-    """What is told of legs, by their numbers: milliseconds, metres, the steps of those that have some, and the traces of those that have lines,
+    """What answers report of legs, by their numbers: milliseconds, metres, the steps of those that have some, and the traces of those that have lines,
     with their places among these."""
 
     weights: list[int]
@@ -46,7 +46,7 @@ class OfLegs(NamedTuple):
 
 
 def routes(voice: Voice, legs: Legs, parts: Sequence[list[int]], options: Sequence[Route]) -> list[str]:
-    """The texts of routes, each over some legs, one after the other: `parts` has the numbers of each, and `options` what it is told with."""
+    """The texts of routes, each over some legs, one after the other: `parts` has the legs of each, and `options` what its text has."""
     wanted = [leg for part, option in zip(parts, options) if option.has_traces for leg in part]
     traces, places = legs.traces(wanted), {leg: place for place, leg in enumerate(wanted)}
     told = OfLegs(legs.weights.tolist(), legs.metres.tolist(), steps_of(voice, legs, parts, options, traces, places), traces, places)
@@ -57,7 +57,7 @@ def routes(voice: Voice, legs: Legs, parts: Sequence[list[int]], options: Sequen
 def steps_of(
     voice: Voice, legs: Legs, parts: Sequence[list[int]], options: Sequence[Route], traces: Traces, places: Mapping[int, int],
 ) -> dict[int, Told]:
-    """The steps of legs of routes that are told with steps, by the numbers of the legs."""
+    """The steps of legs whose routes are asked for with steps, by the numbers of the legs."""
     stepping: dict[str, list[int]] = {}
     found: dict[int, Told] = {}
     for part, option in zip(parts, options):
@@ -118,7 +118,7 @@ def between(column: Any) -> list[Any]:
 def geometries(
     voice: Voice, legs: Legs, parts: Sequence[list[int]], options: Sequence[Route], traces: Traces, places: Mapping[int, int],
 ) -> dict[int, str]:
-    """The lines of routes that are told with one, as texts of JSON, by the numbers of the routes."""
+    """The lines of routes whose options ask for one, as texts of JSON, by the numbers of the routes."""
     groups: dict[tuple[str, str], list[int]] = {}
     found: dict[int, str] = {}
     for number, option in enumerate(options):
@@ -138,7 +138,7 @@ def geometries(
 
 def joined(places: Floats, firsts: Integers, counts: Integers) -> tuple[Floats, Integers]:
     """The lines of routes, each over so many legs: their places, one line after the other, and where each begins and the last one ends. The legs
-    begin at `firsts`. Where a leg begins at the end of the one before, the place is told once. A line has at least two places."""
+    begin at `firsts`. Where a leg starts at the end of the one before, that place occurs once. A line has at least two places."""
     copies = numpy.ones(len(places), numpy.int64)
     begins = numpy.cumsum(counts) - counts
     inner = numpy.delete(firsts[:-1], begins)

@@ -1,7 +1,7 @@
 // The map: roads, places with names, the two pins, and what was found.
 /* global L */
 
-// Pixels by which an arrow key moves a pin, without and with Shift.
+// How many pixels an arrow key moves a pin, without and with Shift.
 const STEP = 10, STRIDE = 50;
 const ARROWS = { ArrowLeft: [-1, 0], ArrowRight: [1, 0], ArrowUp: [0, -1], ArrowDown: [0, 1] };
 const LETTERS = { start: "A", goal: "B" };
