@@ -116,6 +116,17 @@ class Layers:
         return self.read("copies", lambda: {} if self.paths["coordinates"] is None else self.coordinates.copies())
 
     @property
+    def copies_of(self) -> dict[int, list[int]]:
+        """The nodes that have copies, each with these."""
+        return self.read("copies of nodes", self.grouped_copies)
+
+    def grouped_copies(self) -> dict[int, list[int]]:
+        found: dict[int, list[int]] = {}
+        for copy, node in self.copies.items():
+            found.setdefault(node, []).append(copy)
+        return found
+
+    @property
     def rows(self) -> Integers:
         """For each arc the row of the caller's columns that it is of, from 0 on; of a graph of files its line."""
         return self.read("rows", lambda: self.rows_of(numpy.arange(len(self.graph.tails))))

@@ -193,9 +193,8 @@ class Given(NamedTuple):
 
     def crossing(self, node: int) -> list[int]:
         """All nodes of the crossing of a node. It has several if turns are restricted."""
-        copies = self.layers.copies
-        first = copies.get(node, node)
-        return [first, *(copy for copy, other in copies.items() if other == first)] if copies else [node]
+        first = self.layers.copies.get(node, node)
+        return [first, *self.layers.copies_of.get(first, ())]
 
     def are_at(self, nodes: list[int]) -> Marks:
         """Marks the arcs that start or end at one of some nodes."""
