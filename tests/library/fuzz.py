@@ -23,7 +23,7 @@ from oracles.rules import hierarchy_text  # noqa: E402
 STATUS = statuses()
 # What a change of a file's bytes may put there.
 BYTES = b"0123456789 pascolch\n\0\xff"
-# Kilobytes by which memory may grow once half of the calls are made.
+# How many kilobytes memory may grow once half of the calls are made.
 MOST_GROWTH = 4096
 # How many calls are made on one network.
 PER_NETWORK = 200

@@ -29,7 +29,7 @@ pytestmark = [needs("python3-numpy", "python3-scipy"), pytest.mark.usefixtures("
 PATIENCE = 120
 # Graphs that are drawn at random.
 GRAPHS = 40
-# The most by which the count of lines that run may grow from 5,000 arcs to 200,000.
+# How much the count of lines that run may grow from 5,000 arcs to 200,000.
 MORE_LINES = 2_000
 NETWORK = None
 # The arcs of most checks, and their labels: a ring with a way across.

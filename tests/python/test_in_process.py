@@ -33,7 +33,7 @@ pytestmark = [needs("python3-numpy"), pytest.mark.usefixtures("program")]
 FIRST, FIRST_SAVED = ROOT / "examples" / "first.gr", ROOT / "examples" / "first.ch"
 GRAPH = f"{COUNTRY}.gr"
 PATIENCE = 120
-# Kilobytes by which memory may grow once things were made and dropped for a while. Networks in a ring of references wait for Python's
+# How many kilobytes memory may grow once things were made and dropped for a while. Networks in a ring of references wait for Python's
 # collector, and took 5,248 then. Thirty networks that are not freed take four times this limit.
 MOST_GROWTH = 8_192
 
@@ -257,7 +257,7 @@ def test_a_closed_handle_answers_nothing():
 
 
 def test_each_thread_has_a_handle():
-    """As many as there are threads that ask, the first of which takes that by which the network was opened; they go with their threads."""
+    """As many as there are threads that ask, the first of which takes the one that opened the network; they go with their threads."""
     import numpy
 
     with of_country() as network:

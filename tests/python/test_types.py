@@ -8,7 +8,7 @@ from helpers.marks import needs
 from helpers.packages import PYTHON
 from helpers.running import ROOT
 
-# aiohttp tells types of its own, by which the service is judged.
+# aiohttp has types of its own, which the service is judged by.
 pytestmark = needs("python3-mypy", "python3-numpy", "python3-aiohttp")
 SETTINGS = ROOT / "python" / "pyproject.toml"
 # A caller of the package: calls that are right, and calls that are wrong, each with a part of the line in which mypy says so.
