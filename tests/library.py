@@ -45,7 +45,10 @@ def done(*words, folder=None):
 
 
 def make(tally):
-    """Makes the library, or ends this script."""
+    """Makes the library, or ends this script. What is no folder is refused, with the usage."""
+    for words in ["--help"], ["one", "two"], [""]:
+        refused = done(ROOT / "packaging/library", *words)
+        tally.expect((refused.returncode, refused.stdout) == (2, "") and refused.stderr.startswith("packaging/library [FOLDER]"), f"packaging/library {words}: {refused}")
     made = done(ROOT / "packaging/library")
     tally.expect(made.returncode == 0, made.stderr)
     if made.returncode:
