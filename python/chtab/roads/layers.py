@@ -108,7 +108,20 @@ class Layers:
             return numpy.flatnonzero(ways == number)
         if labelling is None or labelling.ways is None:
             return None
-        return numpy.flatnonzero(numpy.isin(self.rows, [row for row, own in enumerate(labelling.ways) if number in own]))
+        return numpy.flatnonzero(numpy.isin(self.rows, self.rows_by_way.get(number, [])))
+
+    @property
+    def rows_by_way(self) -> dict[int, list[int]]:
+        """The ways of OpenStreetMap of the caller's rows, each with its rows. A row may have several ways."""
+        def make() -> dict[int, list[int]]:
+            labelling = self.labelling
+            found: dict[int, list[int]] = {}
+            for row, own in enumerate((labelling and labelling.ways) or ()):
+                for number in own:
+                    found.setdefault(number, []).append(row)
+            return found
+
+        return self.read("rows by way", make)
 
     @property
     def copies(self) -> dict[int, int]:
