@@ -347,6 +347,10 @@ expect "a missing hierarchy, table" 3 "" "chtab: missing.ch: there is no such fi
 chtab: missing.ss: there is no such file
 chtab: missing.ss: there is no such file
 chtab: cannot read saved" table --saved missing.ch "$g" missing.ss missing.ss
+expect "a missing order" 3 "" "chtab: missing.ch: there is no such file
+chtab: cannot read order" save --fresh 7 --like missing.ch "$g"
+expect "a missing order, behind a sign of equality" 3 "" "chtab: missing.ch: there is no such file
+chtab: cannot read order" save --like=missing.ch --fresh=7 "$g"
 expect "a folder as saved hierarchy" 3 "" "chtab: $root: this is a folder
 chtab: cannot read saved" dist --saved "$root" "$g" "$q"
 expect "missing queries, and a saved hierarchy" 3 "" "chtab: missing.p2p: there is no such file
@@ -357,6 +361,7 @@ expect "a folder to save" 3 "" "chtab: $root: this is a folder
 chtab: cannot read graph" save "$root"
 expect "a refused graph to save" 1 "" "chtab: graph line 1: bad problem line" save bad.txt
 expect "plain distances read no saved hierarchy" 0 "$("$root/chtab" dist "$g" "$q")" "" dist --plain --saved missing.ch "$g" "$q"
+expect "plain distances read no order" 0 "$("$root/chtab" dist "$g" "$q")" "" dist --plain --like missing.ch "$g" "$q"
 expect "a saved hierarchy leaves hops out" 0 "$routes" "" dist --routes --hops 1 --saved "$ch" "$g" "$q"
 expect_words "a saved hierarchy to save" 2 err "--saved" save --saved "$ch" "$g"
 expect_words "two files to save" 2 err "'$q'" save "$g" "$q"
