@@ -311,25 +311,34 @@ def test_networks_in_the_order_of_others_answer_as_scipy():
         network.close()
 
 
-def test_it_is_built_in_the_order_of_the_other(library):
-    """With no node afresh the new hierarchy has the order of the old one, with all afresh that of a new network; so in this process, and not by a run."""
+@pytest.mark.parametrize("is_by_library", [True, False])
+def test_it_is_built_in_the_order_of_the_other(library, is_by_library):
+    """With no node afresh the new hierarchy has the order of the old one, with all afresh that of a new network; so in this process, and by a run."""
     path = ROOT / "examples" / "liechtenstein.gr"
+    way = {"program": PROGRAM, "library": library if is_by_library else False}
 
     def order(folder):
         return [line for line in (pathlib.Path(folder) / "network.ch").read_text().splitlines() if line.startswith("o ")]
 
-    with chtab.Network.open(path, program=PROGRAM, library=library) as network:
+    with chtab.Network.open(path, **way) as network:
         draw = random.Random("order")
         weights = [round(weight * draw.uniform(0.5, 3)) for weight in network.graph.weights]
         network.changed(weights, folder="first", fresh=100).close()
-        with chtab.Network.open("first", program=PROGRAM, library=library) as first:
+        with chtab.Network.open("first", **way) as first:
             for fresh in 0, 5, 100:
                 first.changed(network.graph.weights, folder=f"fresh {fresh}", fresh=fresh).close()
+            os.rename("first/network.ch", "first/moved.ch")
+            first.changed(weights, folder="unknown").close()
         chtab.Network.from_arrays(*ends_of(network.graph), weights, nodes=network.labels, program=PROGRAM, folder="anew").close()
+    os.rename("first/moved.ch", "first/network.ch")
     assert order("fresh 0") == order("first") == order("anew")
     count = len(order("first"))
     assert order("fresh 5")[:count - count // 20] == order("first")[:count - count // 20] and order("fresh 5") != order("first")
     assert order("fresh 100") not in (order("first"), order("fresh 5"))
+    assert is_by_library or order("unknown") == order("anew")
+
+
+def test_no_program_is_run_where_the_library_builds(library):
     with of_roads(library=library) as network:
         program = pathlib.Path("broken")
         program.write_text("#!/bin/sh\n[ \"$1\" = save ] && exit 3\nexit 0\n")

@@ -158,8 +158,8 @@ def digest_of(path: str) -> str:
 
 
 def save(program: str, graph: str, saved: str, running: Running) -> None:
-    """Builds the hierarchy of a graph, and saves it. Raises a `ProgramFault` if the program fails."""
-    command = [program, "save", "--deep", *["--progress"] * bool(running.progress), "--workers", str(running.workers), graph]
+    """Builds the hierarchy of a graph by a run, and saves it. Raises a `ProgramFault` if the program fails."""
+    command = [program, "save", *order_words(running), *["--progress"] * bool(running.progress), "--workers", str(running.workers), graph]
     # Errors go to a file, because a process that is forked meanwhile would keep a pipe open.
     with open(saved, "wb") as out, tempfile.TemporaryFile() as faults:
         with subprocess.Popen(command, stdin=subprocess.DEVNULL, stdout=out, stderr=faults) as process:
@@ -172,6 +172,13 @@ def save(program: str, graph: str, saved: str, running: Running) -> None:
         if process.returncode:
             fault = fault_of(faults.read(), process.returncode)
             raise ProgramFault(f"{fault} ({saved})" if "cannot write" in str(fault) else str(fault), fault.status)
+
+
+def order_words(running: Running) -> list[str]:
+    """The arguments that name the order of a hierarchy: that of another network while its saved hierarchy is there, and otherwise by depth."""
+    if running.order is None or not os.path.exists(running.order):
+        return ["--deep"]
+    return ["--like", running.order, "--fresh", str(running.fresh)]
 
 
 def giver_of(program: str, running: Running) -> InProcess | None:

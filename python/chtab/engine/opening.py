@@ -42,6 +42,8 @@ class Running:
     fresh: int = 5
     # The engine that gives this order, if it can.
     giver: InProcess | None = None
+    # The saved hierarchy that a run takes it from.
+    order: str | None = None
 
     def __post_init__(self) -> None:
         if isinstance(self.fresh, bool) or not isinstance(self.fresh, numbers.Integral):
@@ -65,7 +67,7 @@ class Running:
 
 def running_of(call: str, given: Mapping[str, Any], asked: measures.Asked, also: Sequence[str] = ()) -> Running:
     """How the program runs, from the further arguments of a call. An unknown argument is a `TypeError`, which names the nearest known one."""
-    inner = "asked", "giver", *["progress", "like", "fresh"] * (call == "open")
+    inner = "asked", "giver", "order", *["progress", "like", "fresh"] * (call == "open")
     known = [field.name for field in fields(Running) if field.name not in inner]
     for name in given:
         if name not in known:

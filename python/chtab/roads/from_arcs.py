@@ -78,9 +78,8 @@ class FromArcs:
             folder until `close`, or until the network is no longer used.
         **running
             `program`, `workers`, `timeout`, `load`, `routes`, `runs` and `library`, as `Network.open` takes them. `progress`: True reports the
-            building on standard error; a callable gets how many steps of a stage are done, and their total. `like`: a network of the same nodes. If
-            the library answers for both, the new network takes its order, in two thirds of the time; only the last `fresh` per cent of the nodes, 5
-            by default, are ordered afresh. The nodes, labels and places of `like` are taken unless others are given.
+            building on standard error; a callable gets how many steps of a stage are done, and their total. `like`: a network of the same nodes. The
+            new network takes its order, in two thirds of the time; only the last `fresh` per cent of the nodes, 5 by default, are ordered afresh. The nodes, labels and places of `like` are taken unless others are given.
 
         Returns
         -------
@@ -289,7 +288,7 @@ class FromArcs:
         if see_that_network(running.like):
             see_that_same_nodes(running.like.labels, arcs.labels.values)
             giver = running.like._engine
-            running = dataclasses.replace(running, giver=giver if isinstance(giver, InProcess) else None)
+            running = dataclasses.replace(running, giver=giver if isinstance(giver, InProcess) else None, order=running.like._opened.setting.saved)
         opened, kept, handle = opening.made(arcs, folder, running)
         try:
             network = cls(opened, kept, None if arcs.beside else making.layers_of(arcs))

@@ -68,13 +68,14 @@ class Scenarios(FromArcs):
         folder : str or path, optional
             As `Network.from_arrays` takes it.
         fresh : int
-            How many per cent of the nodes are ordered afresh if the library answers, from 0 to 100. More of them make building slower, and answers
+            How many per cent of the nodes are ordered afresh, from 0 to 100. More of them make building slower, and answers
             faster if the weights differ much. The answers themselves are the same.
 
         Returns
         -------
         Network
-            The changed network. The library builds it in the order of this one, in two thirds of the time of a new network; runs build it anew.
+            The changed network. It is built in the order of this one, in two thirds of the time of a new network. Only if the program answers, and
+            this network was opened without a saved hierarchy, it is built anew.
 
         Raises
         ------
