@@ -208,6 +208,18 @@ uint32_t chtab_routes(chtab *handle, const uint32_t *sources, size_t sources_len
                       size_t targets_len, uint64_t *routes, uint64_t *weights, size_t weights_len, uint64_t *ends,
                       size_t ends_len, uint32_t *nodes, size_t nodes_len, uint32_t *lines, size_t lines_len);
 
+/* Writes sums along the routes from sources[k] to targets[k], and the number of pairs to `pairs`. The routes and the lines of
+ * their arcs are those that chtab_routes gives. weights[k] is the weight of the route, or CHTAB_NO_DISTANCE if there is no
+ * walk. sums[k] is the sum of the values on the lines of its arcs, such as the metres of the fastest route, and 0 if there is
+ * no walk. values[j] is the value of line j, and values_len is the number of arcs of the graph's file. targets_len,
+ * weights_len and sums_len are sources_len.
+ * Errors: CHTAB_CLOSED, CHTAB_LENGTHS, CHTAB_NODE_RANGE. With CHTAB_SUM_TOO_LARGE or CHTAB_NO_MEMORY the weights and sums of
+ * the first pairs are written, and `pairs` is their number: the sum of the next pair is 2^64 or more, or there is no memory
+ * for its route. */
+uint32_t chtab_route_sums(chtab *handle, const uint32_t *sources, size_t sources_len, const uint32_t *targets,
+                          size_t targets_len, const uint64_t *values, size_t values_len, uint64_t *pairs,
+                          uint64_t *weights, size_t weights_len, uint64_t *sums, size_t sums_len);
+
 /* Searches from each of these nodes, the places, and keeps the results for near rows. They replace the places that the
  * handle kept. A row has the first `count` places (CHTAB_ALL: all of them) in order of distance, and at equal distances in
  * the order of this list. It has only places whose distance is at most `limit` (CHTAB_NO_LIMIT: all places with a walk).

@@ -212,6 +212,9 @@ def compare_many_routes(tally, library, graph, hierarchy):
     lines = [line for way in owed for line in [ALL, *(first[one + 1, other + 1] for one, other in zip(way, way[1:]))][:len(way)]]
     told = library.routes(handle, sources, targets, room, lines_room=room)
     tally.expect(told[0] == 0 and told[5] == lines, f"{graph.name}: the lines of arcs")
+    for values in [weight for _, _, weight in arcs], [draw.randrange(1 << 50) for _ in arcs]:
+        sums = [sum(values[line] for line in lines[begin + 1:end]) for begin, end in zip([0, *told[3]], told[3])]
+        tally.expect(library.route_sums(handle, sources, targets, values) == (0, len(sources), weights, sums), f"{graph.name}: sums along routes")
     for begin, end, weight in zip([0, *told[3]], told[3], weights):
         tally.expect(begin == end or sum(arcs[line][2] for line in lines[begin + 1:end]) == weight, f"{graph.name}: the weights on the lines of a route")
     library.close(handle)
@@ -248,6 +251,27 @@ def refuse_large_sums(tally, library):
     library.close(handle)
 
 
+def refuse_large_route_sums(tally, library):
+    """A sum of 2^64 or more along a route ends the call before its pair. One less is given. Lengths come before nodes."""
+    status, handle, _ = library.open(LINE, OF_LINE)
+    half = 2**63
+    told = library.route_sums(handle, [0, 2, 1], [2, 0, 2], [half, half - 1])
+    tally.expect(told == (0, 3, [9, NO_DISTANCE, 5], [2**64 - 1, 0, half - 1]), f"the greatest sums along routes: {told}")
+    told = library.route_sums(handle, [0, 0, 1], [1, 2, 2], [half, half])
+    tally.expect(told == (STATUS["SUM_TOO_LARGE"], 1, [4, 7, 7], [half, 7, 7]), f"a sum along a route that is too large: {told}")
+    told = library.route_sums(handle, [0], [1], [2**64 - 1, 2**64 - 1])
+    tally.expect(told == (0, 1, [4], [2**64 - 1]), f"a sum of one value: {told}")
+    for sources, targets, values, rooms, name in (
+        ([9], [0, 0], [1, 1], (1, 1), "LENGTHS"), ([9], [0], [1, 1], (2, 1), "LENGTHS"), ([9], [0], [1, 1], (1, 0), "LENGTHS"),
+        ([9], [0], [1], (1, 1), "LENGTHS"), ([9], [0], [1, 1, 1], (1, 1), "LENGTHS"), ([3], [0], [1, 1], (1, 1), "NODE_RANGE"),
+        ([0], [3], [1, 1], (1, 1), "NODE_RANGE"), ([], [], [1, 1], (0, 0), "OK"),
+    ):
+        told = library.route_sums(handle, sources, targets, values, *rooms)
+        tally.expect(told == (STATUS[name], 7 if STATUS[name] else 0, [7] * rooms[0], [7] * rooms[1]), f"sums along routes {sources} {targets} {values}: {told}")
+    tally.expect(library.route_sums(Handle(), [0], [1], [1, 1])[0] == STATUS["CLOSED"], "sums by a closed handle")
+    library.close(handle)
+
+
 # Arcs between the same nodes: the second is the first of least weight from node 1 to node 2. The third leads back.
 PARALLEL = b"p sp 3 6\na 1 2 5\na 1 2 4\na 2 1 4\na 1 2 4\na 2 3 7\na 2 2 0\n"
 
@@ -259,6 +283,8 @@ def tell_lines(tally, library):
     owed = (0, 4, [11, 4, NO_DISTANCE, 0], [3, 5, 5, 6], [0, 1, 2, 1, 0, 1, 7, 7, 7], [ALL, 1, 4, ALL, 2, ALL, 7, 7, 7])
     tally.expect((status, told) == (0, owed), f"lines of arcs between the same nodes: {told}")
     tally.expect(library.routes(handle, [0], [2], 3, lines_room=2)[0] == STATUS["LENGTHS"], "fewer lines than nodes")
+    told = library.route_sums(handle, [0, 2, 1], [2, 0, 0], [1, 10, 100, 1_000, 10_000, 100_000])
+    tally.expect(told == (0, 3, [11, NO_DISTANCE, 4], [10_010, 0, 100]), f"sums on lines of arcs between the same nodes: {told}")
     library.close(handle)
 
 
@@ -455,6 +481,7 @@ def main():
         ask_too_much(tally, library)
         tell_faults(tally, library)
         refuse_large_sums(tally, library)
+        refuse_large_route_sums(tally, library)
         refuse_likes(tally, library)
         compare_orders(tally, library)
         tell_lines(tally, library)

@@ -134,6 +134,12 @@ class Library:
         lists = [(sources, ctypes.c_uint32), (targets, ctypes.c_uint32)]
         return self.many(self.calls.chtab_routes, handle, lists, [*((length, ctypes.c_uint64) for length in rooms), (room, ctypes.c_uint32), (lines_room, ctypes.c_uint32)])
 
+    def route_sums(self, handle, sources, targets, values, weights_room=None, sums_room=None):
+        """The status, the number of pairs, and the weights and sums."""
+        lists = [(sources, ctypes.c_uint32), (targets, ctypes.c_uint32), (values, ctypes.c_uint64)]
+        rooms = [(len(sources) if length is None else length, ctypes.c_uint64) for length in (weights_room, sums_room)]
+        return self.many(self.calls.chtab_route_sums, handle, lists, rooms)
+
     def near_sums(self, handle, sources, values, limits, room=None):
         """The status, the number of sources, and the sums."""
         lists = [(sources, ctypes.c_uint32), (values, ctypes.c_uint64), (limits, ctypes.c_uint64)]

@@ -1,4 +1,4 @@
-/* Opens a network and asks it for distances, a table, routes, near rows and sums: once each way, and once each wrong way that a program can take.
+/* Opens a network and asks it for distances, a table, routes, sums along them, near rows and their sums: once each way, and once each wrong way that a program can take.
  *
  *   example GRAPH SAVED
  *
@@ -104,6 +104,34 @@ static void ask_routes(chtab *network) {
     expect(chtab_routes(network, sources, 2, targets, 2, &routes, weights, 2, ends, 2, nodes, (size_t)ends[1] - 1, way, 0) == CHTAB_TOO_SHORT && routes == 1, "room for one route");
 }
 
+/* The sums along two routes of as many arcs as values of 1 count, and a sum that is too large. */
+static void ask_route_sums(chtab *network, size_t arcs) {
+    static uint32_t nodes[100000];
+    uint32_t sources[2] = {0, 0}, targets[2] = {0, 0}, count = 0;
+    uint64_t *values = (uint64_t *)malloc(arcs * sizeof *values), weights[2] = {5, 5}, sums[2] = {5, 5}, pairs = 9;
+    size_t k;
+    chtab_found found;
+    if (!values) exit(2);
+    for (k = 0; k < arcs; k++) values[k] = 1;
+    expect(chtab_nodes(network, &count) == CHTAB_OK, "nodes");
+    targets[1] = count - 1;
+    expect(chtab_route_sums(network, sources, 2, targets, 2, values, arcs - 1, &pairs, weights, 2, sums, 2) == CHTAB_LENGTHS && pairs == 9 && weights[0] == 5 && sums[0] == 5,
+           "a value too few");
+    expect(chtab_route_sums(network, sources, 2, targets, 2, values, arcs, &pairs, weights, 2, sums, 2) == CHTAB_OK && pairs == 2, "sums along routes");
+    expect(chtab_route(network, 0, count - 1, &found, nodes, 100000) == CHTAB_OK && found.weight == weights[1] && found.nodes == sums[1] + 1, "the arcs of a route");
+    expect(weights[0] == 0 && sums[0] == 0 && sums[1] > 1, "no arcs to the same node");
+    for (k = 0; k < arcs; k++) values[k] = CHTAB_NO_LIMIT;
+    expect(chtab_route_sums(network, sources, 2, targets, 2, values, arcs, &pairs, weights, 2, sums, 2) == CHTAB_SUM_TOO_LARGE && pairs == 1, "a sum along a route too large");
+    free(values);
+}
+
+/* The number of arcs of a graph's text. */
+static size_t count_arcs(const uint8_t *graph, size_t graph_len) {
+    size_t count = 0, at;
+    for (at = 0; at < graph_len; at++) count += graph[at] == 'a' && (at == 0 || graph[at - 1] == '\n');
+    return count;
+}
+
 /* The sums of a source within two limits, over two places that it is one of, and a sum that is too large. */
 static void ask_sums(chtab *network) {
     uint32_t source = 0, places[2] = {0, 0};
@@ -164,7 +192,7 @@ static void ask_wrongly(chtab *network) {
 int main(int count, char **words) {
     chtab network = CHTAB_CLOSED_HANDLE, other = CHTAB_CLOSED_HANDLE;
     chtab_fault fault = {9, 9, 9};
-    size_t graph_len, saved_len;
+    size_t graph_len, saved_len, arcs;
     uint8_t *graph, *saved;
     uint32_t nodes = 6;
     uint64_t ends[1] = {5};
@@ -182,6 +210,7 @@ int main(int count, char **words) {
     expect(chtab_open(&network, graph, graph_len, graph, graph_len, &fault) == CHTAB_BAD_SAVED, "no hierarchy");
     expect(chtab_open(&network, graph, graph_len, saved, saved_len, &fault) == CHTAB_OK, "open");
     expect(chtab_open(&network, graph, graph_len, saved, saved_len, &fault) == CHTAB_IS_OPEN, "open again");
+    arcs = count_arcs(graph, graph_len);
     save(&network, saved, saved_len);
     open_like(&network, graph, graph_len);
     free(graph);
@@ -193,6 +222,7 @@ int main(int count, char **words) {
     ask(&other);
     ask_near(&other);
     ask_routes(&other);
+    ask_route_sums(&other, arcs);
     ask_sums(&other);
     ask_wrongly(&other);
     expect(chtab_close(&other) == CHTAB_OK, "close the other");

@@ -290,6 +290,31 @@ class Caller:
         self.expect((status, rows) == (STATUS["OK" if len(owed) == len(sources) else "SUM_TOO_LARGE"], len(owed)), "sums", sources, values, limits, told)
         self.expect(sums == [*flat, *[7] * (room - len(flat))], "sums", sources, values, limits, owed, told)
 
+    def ask_route_sums(self):
+        """The sums are those of the lines of the routes, which `ask_routes` compares."""
+        handle, sources = self.draw.choice(self.handles), self.nodes()
+        targets = [self.node() for _ in sources] if self.draw.random() < 0.9 else self.nodes()
+        values = [self.draw.choice((0, 1, 9, 2**62, 2**63)) for _ in range(len(self.arcs) + (self.draw.random() < 0.1))]
+        rooms = [len(sources) if self.draw.random() < 0.9 else self.draw.randrange(9) for _ in range(2)]
+        told = self.library.route_sums(handle, sources, targets, values, *rooms)
+        wanted = "OK"
+        if not handle.is_open:
+            wanted = "CLOSED"
+        elif not len(targets) == rooms[0] == rooms[1] == len(sources) or len(values) != len(self.arcs):
+            wanted = "LENGTHS"
+        elif not self.are_nodes(sources, targets):
+            wanted = "NODE_RANGE"
+        if wanted != "OK":
+            self.expect(told == (STATUS[wanted], 7, *([7] * length for length in rooms)), "sums along routes", sources, targets, values, wanted, told)
+            return
+        room = len(sources) * self.count
+        _, _, weights, ends, _, lines = self.library.routes(handle, sources, targets, room, lines_room=room)
+        sums = [sum(values[line] for line in lines[begin + 1:end]) for begin, end in zip([0, *ends], ends)]
+        fit = next((place for place, one in enumerate(sums) if one >= 2**64), len(sums))
+        left = [7] * (len(sums) - fit)
+        owed = STATUS["SUM_TOO_LARGE" if left else "OK"], fit, [*weights[:fit], *left], [*sums[:fit], *left]
+        self.expect(told == owed, "sums along routes", sources, targets, values, owed, told)
+
     def is_way(self, nodes, least):
         """Whether the least weights from node to node add up."""
         return sum(self.away[one][other][0] for one, other in zip(nodes, nodes[1:])) == least
@@ -302,8 +327,9 @@ class Caller:
         calls = (
             self.open_changed, self.open_or_close, self.share, self.ask_nodes, self.ask_distances, self.ask_table, self.ask_route,
             self.keep_places, self.sweep, self.ask_near, self.save, self.ask_routes, self.ask_sums, self.open_like,
+            self.ask_route_sums,
         )
-        self.draw.choices(calls, (20, 5, 3, 2, 20, 15, 15, 10, 3, 20, 5, 20, 15, 10))[0]()
+        self.draw.choices(calls, (20, 5, 3, 2, 20, 15, 15, 10, 3, 20, 5, 20, 15, 10, 15))[0]()
 
 
 def memory():

@@ -61,6 +61,9 @@ static struct {
     uint64_t cells[64];
     uint64_t row_ends[8];
     uint32_t places[64];
+    /* The weights of the graph's arcs, and their number. */
+    uint64_t *values;
+    size_t arcs;
     /* What the weights of all routes, or all sums, add up to. */
     uint64_t whole;
 } g;
@@ -191,6 +194,28 @@ static uint32_t write_routes(void) {
     return status;
 }
 
+/* Where a route is refused memory, the sums of the pairs before are written, and the next call gives the others. The weights are the values, so that
+ * each sum is a weight. */
+static uint32_t write_route_sums(void) {
+    uint64_t pairs = 9, weight = 0;
+    uint32_t status, k;
+    memset(g.cells, 7, sizeof g.cells);
+    status = chtab_route_sums(&g.network, g.ends, 8, g.targets, 8, g.values, g.arcs, &pairs, g.row_ends, 8, g.cells, 8);
+    granted = -1;
+    expect((status == CHTAB_OK) == (pairs == 8) && pairs <= 8, "sums before the route that is refused");
+    for (k = 0; k < pairs; k++) expect(g.cells[k] == (g.row_ends[k] == CHTAB_NO_DISTANCE ? 0 : g.row_ends[k]), "a sum is a weight");
+    for (k = 0; k < pairs; k++) weight += g.row_ends[k];
+    for (; k < 8; k++) expect(!memcmp(g.cells + k, g.cells + 8, sizeof *g.cells), "a sum stays");
+    if (pairs < 8) {
+        uint32_t from = (uint32_t)pairs, left = 8 - from;
+        expect(chtab_route_sums(&g.network, g.ends + from, left, g.targets + from, left, g.values, g.arcs, &pairs, g.row_ends, left, g.cells, left) == CHTAB_OK &&
+               pairs == left, "other sums along routes");
+        for (k = 0; k < left; k++) weight += g.row_ends[k];
+    }
+    expect(weight == g.whole, "all weights of routes");
+    return status;
+}
+
 /* Where the row of a source is refused memory, the sums of those before it are written, and the next call gives the others. */
 static uint32_t write_sums(void) {
     static const uint64_t limit = CHTAB_NO_LIMIT - 1;
@@ -246,6 +271,21 @@ static uint8_t *bytes_of(const char *path, size_t *len) {
     return bytes;
 }
 
+/* The weights of the arcs of the graph's text. */
+static void read_values(void) {
+    const char *at = (const char *)g.graph, *end = at + g.graph_len;
+    g.values = (uint64_t *)malloc((g.graph_len + 1) * sizeof *g.values);
+    if (!g.values) exit(2);
+    for (; at < end; at++) {
+        char *rest;
+        if (*at == 'a' && (at == (const char *)g.graph || at[-1] == '\n')) {
+            strtoul(at + 1, &rest, 10);
+            strtoul(rest, &rest, 10);
+            g.values[g.arcs++] = strtoul(rest, &rest, 10);
+        }
+    }
+}
+
 static void refuse_questions(void) {
     uint32_t nodes = 0, k, place;
     expect(open_network() == CHTAB_OK && chtab_nodes(&g.network, &nodes) == CHTAB_OK, "open");
@@ -267,6 +307,9 @@ static void refuse_questions(void) {
         g.whole += distance_of(g.ends[k], g.targets[k]);
     }
     refuse_each(write_routes, NULL, "routes");
+    read_values();
+    refuse_each(write_route_sums, NULL, "sums along routes");
+    free(g.values);
     g.whole = 0;
     for (k = 0; k < 64; k++) {
         place = k % 8;

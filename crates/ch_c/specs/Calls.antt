@@ -17,9 +17,10 @@ use Rattle.ch_engine.specs.Lines.{IsOfSome, Lines}
 use Rattle.ch_engine.specs.NearRows.{AreRowsWritten, StaysFrom, begin_of}
 use Rattle.ch_engine.specs.Opened.{IsOpened, IsOpenedLike}
 use Rattle.ch_engine.specs.Routes.{AreRoutesWritten, IsFound}
+use Rattle.ch_engine.specs.RouteSums.{ArePairSumsWritten}
 use Rattle.ch_engine.specs.Sums.{AreSumsWritten}
 use Rattle.ch_engine.specs.Cells.{ArePairCells, AreTableCells, no_distance}
-use Rattle.ch_engine.specs.Refusals.{AreNodes, ArePairs, ArePlaces, AreRouteLengths, AreRowSources, AreSumSources, AreTableLists, IsLikeError, IsNodePair, IsOpenError, IsRefusalOfPairs, IsRefusalOfPlaces, IsRefusalOfRoute, IsRefusalOfRoutes, IsRefusalOfRows, IsRefusalOfSums, IsRefusalOfSweep, IsRefusalOfTable}
+use Rattle.ch_engine.specs.Refusals.{AreNodes, ArePairs, ArePairSumLengths, ArePlaces, AreRouteLengths, AreRowSources, AreSumSources, AreTableLists, IsLikeError, IsNodePair, IsOpenError, IsRefusalOfPairs, IsRefusalOfPairSums, IsRefusalOfPlaces, IsRefusalOfRoute, IsRefusalOfRoutes, IsRefusalOfRows, IsRefusalOfSums, IsRefusalOfSweep, IsRefusalOfTable}
 use Rattle.ch_c.specs.declared.faults.Fault.{Fault}
 use Rattle.ch_c.specs.declared.answers.Found.{Found}
 use Rattle.ch_c.specs.declared.status.TheConstants.{OK, NO_MEMORY, CLOSED, IS_OPEN, NODE_RANGE, LENGTHS, TOO_LARGE, TOO_SHORT, BAD_GRAPH, BAD_SAVED, WRONG_SAVED, NO_PLACES, SUM_TOO_LARGE, OTHER_NODES, FRESH_RANGE}
@@ -209,7 +210,7 @@ AreRoutesAnswered held sources targets before after status =
     ⊎ ((refusal : Refusal) × (status ≡ refusal_status refusal) × (after ≡ before)
     × IsRefusalOfRoutes (nodes_of held.hierarchy) sources targets (length before.weights) (length before.ends) (length before.nodes) (length before.lines) refusal)
 
--- the status for the reason why the sums of no more sources were written
+-- the status for the reason why the sums of no more sources or pairs were written
 abbrev pub sums_status : SumsEnd → ℕ
 sums_status SumsEnd.All = OK
 sums_status SumsEnd.TooLarge = SUM_TOO_LARGE
@@ -227,3 +228,20 @@ AreSumsAnswered held sources values limits before after status =
     ((end : SumsEnd) × (status ≡ sums_status end) × AreSumSources (nodes_of held.hierarchy) held.near sources values (length limits) (length before.sums)
     × AreSumsWritten held sources values limits after.sums (record { count = after.rows; end = end }) × StaysFrom (after.rows * length limits) before.sums after.sums)
     ⊎ ((refusal : Refusal) × (status ≡ refusal_status refusal) × (after ≡ before) × IsRefusalOfSums (nodes_of held.hierarchy) held.near sources values (length limits) (length before.sums) refusal)
+
+-- the number of pairs whose sums are written, the weights of their routes, and the sums
+pub record PairSumArrays : Type 0 where
+  pub pairs : ℕ
+  pub weights : List ℕ
+  pub sums : List ℕ
+
+-- sums along the routes of pairs of nodes are written as far as they fit and there is memory, or they are refused and all
+-- is as before. Behind the pairs that are written all is as before
+abbrev pub ArePairSumsAnswered : Held → List ℕ → List ℕ → List ℕ → PairSumArrays → PairSumArrays → ℕ → Type 0
+ArePairSumsAnswered held sources targets values before after status =
+    ((end : SumsEnd) × (status ≡ sums_status end) × ArePairSumLengths (length sources) (length targets) (length before.weights) (length before.sums) (length values) held.lines.count
+    × (AreNodes (nodes_of held.hierarchy) sources × AreNodes (nodes_of held.hierarchy) targets)
+    × ArePairSumsWritten held sources targets values after.weights after.sums (record { count = after.pairs; end = end })
+    × (StaysFrom after.pairs before.weights after.weights × StaysFrom after.pairs before.sums after.sums))
+    ⊎ ((refusal : Refusal) × (status ≡ refusal_status refusal) × (after ≡ before)
+    × IsRefusalOfPairSums (nodes_of held.hierarchy) held.lines.count sources targets (length values) (length before.weights) (length before.sums) refusal)

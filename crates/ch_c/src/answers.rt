@@ -5,9 +5,9 @@ ghost use Rattle.ch_engine.specs.NearRows.{StaysFrom};
 ghost use Rattle.ch_hierarchy.specs.Hierarchy.{nodes_of};
 ghost use Rattle.ch_engine.specs.Opened.{IsOpened, IsOpenedLike};
 ghost use Rattle.ch_engine.specs.Refusals.{IsLikeError, IsOpenError};
-ghost use Rattle.ch_c.specs.Calls.{ArePairsAnswered, AreRouteNodes, AreRoutesAnswered, IsRouteAnswered, IsRouteTold, IsSaved, IsTableAnswered};
+ghost use Rattle.ch_c.specs.Calls.{ArePairsAnswered, ArePairSumsAnswered, AreRouteNodes, AreRoutesAnswered, IsRouteAnswered, IsRouteTold, IsSaved, IsTableAnswered};
 
-use crate::near::status_of_end;
+use crate::near::{status_of_end, status_of_sums};
 use crate::status::{NO_MEMORY, OK, TOO_SHORT, status_of};
 use ch_engine::{Engine, NO_DISTANCE, OpenError};
 use ch_graph::InArc;
@@ -178,6 +178,29 @@ pub(crate) fn write_routes(
         Ok(written) => {
             *routes = written.count;
             status_of_end(written.end)
+        }
+        Err(refusal) => status_of(refusal),
+    }
+}
+
+/// Writes sums along the routes of pairs as far as they fit and there is memory. Returns a status.
+pub(crate) fn write_route_sums(
+    alloc: Global,
+    engine: &mut Engine,
+    sources: &[u32],
+    targets: &[u32],
+    values: &[u64],
+    pairs: &mut u64,
+    weights: &mut [u64],
+    sums: &mut [u64],
+) -> u32
+    ensures answered { ArePairSumsAnswered engine.old sources.now targets.now values.now (record { pairs = pairs.old; weights = weights.old; sums = sums.old }) (record { pairs = pairs.new; weights = weights.new; sums = sums.new }) result }
+    ensures same { engine.new ≡ engine.old }
+{
+    match engine.route_sums(alloc, sources, targets, values, weights, sums) {
+        Ok(summed) => {
+            *pairs = summed.count;
+            status_of_sums(summed.end)
         }
         Err(refusal) => status_of(refusal),
     }

@@ -2,13 +2,13 @@
 ghost use Rattle.std.specs.Prelude.{◌≡◌, ◌↔◌, IfSome, IsSome, MatchOption, None, Some, ⊤};
 ghost use Rattle.ch_hierarchy.specs.Hierarchy.{nodes_of};
 ghost use Rattle.ch_engine.specs.Lines.{IsOfSome};
-ghost use Rattle.ch_c.specs.Calls.{ArePairsAnswered, ArePlacesKept, AreRoutesAnswered, AreRowsAnswered, AreSumsAnswered, IsOpening, IsOpeningLike, IsRouteAnswered, IsSaved, IsSharing, IsSwept, IsTableAnswered, OfNetwork};
+ghost use Rattle.ch_c.specs.Calls.{ArePairsAnswered, ArePairSumsAnswered, ArePlacesKept, AreRoutesAnswered, AreRowsAnswered, AreSumsAnswered, IsOpening, IsOpeningLike, IsRouteAnswered, IsSaved, IsSharing, IsSwept, IsTableAnswered, OfNetwork};
 ghost use Rattle.ch_c.specs.declared.status.TheConstants.{OK};
 
 pub use crate::answers::Found;
 use crate::answers::{
-    opened, opened_like, shared, write_distances, write_route, write_routes, write_saved,
-    write_table,
+    opened, opened_like, shared, write_distances, write_route, write_route_sums, write_routes,
+    write_saved, write_table,
 };
 use crate::erased::ErasedEngine;
 use crate::faults::{Fault, tell};
@@ -296,6 +296,39 @@ pub extern "C" fn chtab_routes(
         ends,
         nodes,
         lines,
+    );
+    handle.put(engine);
+    status
+}
+
+/// Writes sums along the routes of pairs: the number of pairs, and for each the weight of its route, and the sum of the
+/// values on the lines of the route's arcs.
+#[unsafe(no_mangle)]
+pub extern "C" fn chtab_route_sums(
+    alloc: Global,
+    handle: &mut Handle,
+    sources: &[u32],
+    targets: &[u32],
+    values: &[u64],
+    pairs: &mut u64,
+    weights: &mut [u64],
+    sums: &mut [u64],
+) -> u32
+    ensures answered { OfNetwork handle.old.engine.network result ((pairs.new ≡ pairs.old) × (weights.new ≡ weights.old) × (sums.new ≡ sums.old)) (λ held. ArePairSumsAnswered held sources.now targets.now values.now (record { pairs = pairs.old; weights = weights.old; sums = sums.old }) (record { pairs = pairs.new; weights = weights.new; sums = sums.new }) result) }
+    ensures same { handle.new.engine.network ≡ handle.old.engine.network }
+{
+    let Some(mut engine) = handle.take(alloc) else {
+        return CLOSED;
+    };
+    let status = write_route_sums(
+        alloc,
+        &mut engine,
+        sources,
+        targets,
+        values,
+        pairs,
+        weights,
+        sums,
     );
     handle.put(engine);
     status

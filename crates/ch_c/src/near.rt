@@ -102,8 +102,8 @@ pub(crate) fn write_sums(
     }
 }
 
-/// Returns the status for the reason why the sums of no more sources were written.
-fn status_of_sums(end: SumsEnd) -> u32
+/// Returns the status for the reason why the sums of no more sources or pairs were written.
+pub(crate) fn status_of_sums(end: SumsEnd) -> u32
     ensures { result ≡ sums_status end }
 {
     match end {

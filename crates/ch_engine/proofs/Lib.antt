@@ -5,6 +5,7 @@ mod LineOfPair
 mod Bounds
 mod BuiltLike
 mod RouteLines
+mod RouteSums
 mod Rows
 mod SeenLines
 pub mod NearRows

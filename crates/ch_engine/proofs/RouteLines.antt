@@ -61,7 +61,7 @@ module _ (g : Network) (s t : ℕ) (arcs : List InArc) (least : IsLeastWalk g s 
       omega (arith, most, sums)
 
 -- the line between the ends of a route's arc is the line of this arc
-arc_line : (H : LevelsAndLegs) (lines : Lines) (s t : ℕ) (route : Route) → IsRouteBy H s t (Some route) → (j : ℕ) (d : InArc) → j < length route.arcs → (word : ℕ) →
+pub arc_line : (H : LevelsAndLegs) (lines : Lines) (s t : ℕ) (route : Route) → IsRouteBy H s t (Some route) → (j : ℕ) (d : InArc) → j < length route.arcs → (word : ℕ) →
     ((get_or route.arcs j d).from ≢ (get_or route.arcs j d).to → IsLineBy H lines (get_or route.arcs j d).from (get_or route.arcs j d).to word) → IsArcLine H lines (get_or route.arcs j d) word
 arc_line H lines s t route by j d low word noted g within kept are =
     let least = (by g within kept).0 in

@@ -4,5 +4,6 @@ pub mod Lines
 pub mod NearRows
 pub mod Refusals
 pub mod Routes
+pub mod RouteSums
 pub mod Sums
 pub mod Opened

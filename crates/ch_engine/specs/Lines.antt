@@ -56,13 +56,15 @@ pub record AreLinesOn (side : Side) (arcs : List InArc) (rows : List (List Leg))
   pub each : (v k : ℕ) → v < length rows → k < length (row rows v) →
       IsLineWord arcs (Leads arcs (tail_of side v (node_at (row rows v) k)) (head_of side v (node_at (row rows v) k))) (slice_index (slice_index_or words v []) k)
 
--- a word for each leg up and for each leg down
+-- a word for each leg up and for each leg down, and the number of lines
 pub record Lines : Type 0 where
   pub up : List (List ℕ)
   pub down : List (List ℕ)
+  pub count : ℕ
 
+-- the words are the lines of the graph's arcs, and there is a line for each arc
 abbrev pub AreLines : Network → LevelsAndLegs → Lines → Type 0
-AreLines g H lines = AreLinesOn Up g.arcs H.up lines.up × AreLinesOn Down g.arcs H.down lines.down
+AreLines g H lines = AreLinesOn Up g.arcs H.up lines.up × AreLinesOn Down g.arcs H.down lines.down × (lines.count ≡ length g.arcs)
 
 -- the hierarchy is right for some graph, and the lines are those of its arcs
 abbrev pub IsOfSome : LevelsAndLegs → Lines → Type 0

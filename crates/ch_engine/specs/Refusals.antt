@@ -90,6 +90,20 @@ IsRefusalOfRoutes n sources targets weights ends nodes lines Refusal.Lengths = A
 IsRefusalOfRoutes n sources targets weights ends nodes lines Refusal.TooLarge = ⊥
 IsRefusalOfRoutes n sources targets weights ends nodes lines Refusal.NoPlaces = ⊥
 
+-- arrays of these lengths fit so many pairs, and there is a value for each line
+abbrev pub ArePairSumLengths : ℕ → ℕ → ℕ → ℕ → ℕ → ℕ → Type 0
+ArePairSumLengths sources targets weights sums values lines = (targets ≡ sources) × (weights ≡ sources) × (sums ≡ sources) × (values ≡ lines)
+
+-- the reason for refusing sums along routes in a network of n nodes and so many lines, with arrays of these lengths for
+-- values, weights and sums. Lengths come before nodes
+abbrev pub IsRefusalOfPairSums : ℕ → ℕ → List ℕ → List ℕ → ℕ → ℕ → ℕ → Refusal → Type 0
+IsRefusalOfPairSums n lines sources targets values weights sums Refusal.NoMemory = ⊥
+IsRefusalOfPairSums n lines sources targets values weights sums Refusal.NodeRange =
+    ArePairSumLengths (length sources) (length targets) weights sums values lines × (AreNodes n sources × AreNodes n targets → ⊥)
+IsRefusalOfPairSums n lines sources targets values weights sums Refusal.Lengths = ArePairSumLengths (length sources) (length targets) weights sums values lines → ⊥
+IsRefusalOfPairSums n lines sources targets values weights sums Refusal.TooLarge = ⊥
+IsRefusalOfPairSums n lines sources targets values weights sums Refusal.NoPlaces = ⊥
+
 -- these are places: nodes, and not too many
 abbrev pub ArePlaces : ℕ → List ℕ → Type 0
 ArePlaces n places = (length places ≤ MOST_LISTED) × AreNodes n places

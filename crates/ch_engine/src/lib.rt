@@ -19,6 +19,7 @@ mod lines;
 mod near;
 mod network;
 mod opening;
+mod route_sums;
 mod routes;
 mod sums;
 mod words;

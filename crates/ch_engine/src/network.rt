@@ -20,6 +20,8 @@ pub struct Network {
     ups: Rows<u32>,
     /// The same for each leg down.
     downs: Rows<u32>,
+    /// The number of lines, which is that of the graph's arcs.
+    count: usize,
 }
 
 impl Model for Network {
@@ -28,9 +30,9 @@ impl Model for Network {
 
     ghost Value = { LevelsAndLegs × Lines };
 
-    ghost view = { λ network. (network.hierarchy, record { up = network.ups; down = network.downs }) };
+    ghost view = { λ network. (network.hierarchy, record { up = network.ups; down = network.downs; count = network.count }) };
 
-    ghost invariant = { λ network. IsOfSome network.hierarchy (record { up = network.ups; down = network.downs }) };
+    ghost invariant = { λ network. IsOfSome network.hierarchy (record { up = network.ups; down = network.downs; count = network.count }) };
 }
 
 impl Network {
@@ -47,15 +49,22 @@ impl Network {
         ensures hierarchy { IfOk result (λ network. network.0 ≡ hierarchy) }
         ensures lines { IfOk result (λ network. AreLines graph.now network.0 network.1) }
     {
-        // This call tells the proof that the graph keeps the limits.
-        let _ = graph.arcs();
+        let count = graph.arcs().len();
         let ups = lines_of(alloc, graph, &hierarchy, Side::Up)?;
         let downs = lines_of(alloc, graph, &hierarchy, Side::Down)?;
         Ok(Network {
             hierarchy,
             ups,
             downs,
+            count,
         })
+    }
+
+    /// Returns the number of lines.
+    pub(crate) fn count(&self) -> usize
+        ensures { result ≡ self.now.1.count }
+    {
+        self.count
     }
 
     /// Returns the hierarchy.

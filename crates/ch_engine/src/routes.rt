@@ -152,7 +152,7 @@ fn is_lines_room(nodes: usize, lines: usize) -> bool
 }
 
 /// Returns the word of a route's weight.
-fn weight_of(answer: &Option<Route>) -> u64
+pub(crate) fn weight_of(answer: &Option<Route>) -> u64
     ensures { result ≡ weight_word answer.now }
 {
     match answer {

@@ -265,6 +265,17 @@ class InProcess:
         weights, counts, _, lines = self.found(pairs, library.Handle.routes_with_lines)
         return weights, numpy.maximum(counts - 1, 0), lines[lines != library.NO_LINE].astype(numpy.int64)
 
+    @timed
+    def sums(self, pairs: Integers, values: NDArray[numpy.uint64]) -> tuple[Integers, NDArray[numpy.uint64]]:
+        """The weights of the routes of pairs, -1 where there is no walk, and the sums of the values of their arcs, 0 where there is no walk. `values`
+        has one for each arc of the graph. Raises a `ValueError` if a sum is 2^64 or more."""
+        sources, targets = library.nodes_of(pairs, self.nodes).T.copy()
+        weights, sums = numpy.empty(len(sources), numpy.int64), numpy.empty(len(sources), numpy.uint64)
+        for start in range(0, len(sources), ROUTES):
+            some = slice(start, start + ROUTES)
+            weights[some], sums[some] = self.call(len(sources[some]), self.handle().route_sums, sources[some], targets[some], values)
+        return weights, sums
+
     def found(self, pairs: Integers, call: Callable[..., Any]) -> list[NDArray[Any]]:
         """Calls for the routes of pairs: returns their weights, how many nodes each route has, and columns with an item for each node."""
         sources, targets = library.nodes_of(pairs, self.nodes).T.copy()

@@ -82,6 +82,7 @@ CALLS = {
     "chtab_table": (HANDLE, *ARRAY, *ARRAY, ctypes.c_uint64, *ARRAY),
     "chtab_route": (HANDLE, ctypes.c_uint32, ctypes.c_uint32, ctypes.POINTER(Found), *ARRAY),
     "chtab_routes": (HANDLE, *ARRAY, *ARRAY, ctypes.POINTER(ctypes.c_uint64), *ARRAY, *ARRAY, *ARRAY, *ARRAY),
+    "chtab_route_sums": (HANDLE, *ARRAY, *ARRAY, *ARRAY, ctypes.POINTER(ctypes.c_uint64), *ARRAY, *ARRAY),
     "chtab_near_places": (HANDLE, ctypes.c_uint32, *ARRAY, ctypes.c_uint64, ctypes.c_uint32),
     "chtab_near_sweep": (HANDLE,),
     "chtab_near_rows": (HANDLE, *ARRAY, ctypes.POINTER(ctypes.c_uint64), *ARRAY, *ARRAY, *ARRAY),
@@ -331,6 +332,22 @@ class Handle:
         ends = ends[:count.value]
         end = ends[-1] if len(ends) else 0
         return weights[:count.value], ends, nodes[:end], lines[:end]
+
+    def route_sums(self, sources: Nodes, targets: Nodes, values: Unsigned) -> tuple[Integers, Unsigned]:
+        """The weights of the routes from each source to the target beside it, columns of uint32, nodes from 0 on: int64, -1 where there is no walk;
+        and the sums of the values on the lines of their arcs, uint64, 0 where there is no walk. `values` has one for each arc of the graph's file.
+        Raises a `ValueError` if a sum is 2^64 or more."""
+        count = ctypes.c_uint64()
+        weights, sums = numpy.empty(len(sources), numpy.int64), numpy.empty(len(sources), numpy.uint64)
+        given: list[Any] = []
+        columns: list[tuple[NDArray[Any], type]] = [(sources, numpy.uint32), (targets, numpy.uint32), (values, numpy.uint64)]
+        for array, kind in columns:
+            given += [address(array, kind), len(array)]
+        given += [ctypes.byref(count), address(weights, numpy.int64, True), len(weights), address(sums, numpy.uint64, True), len(sums)]
+        with self.lock:
+            status = self.calls.chtab_route_sums(self.at, *given)
+        see_that_done(status)
+        return weights, sums
 
     def keep_places(self, places: Nodes, limit: int = NO_LIMIT, count: int = ALL, is_from: bool = False) -> None:
         """Searches from places, a column of uint32, nodes from 0 on, and keeps the result in place of an earlier one: for rows of at most `count`

@@ -11,6 +11,7 @@ from chtab.engine.progress import Asked as Progress, progress_of
 from chtab.engine.walks import together
 
 if TYPE_CHECKING:
+    from numpy.typing import NDArray
     from chtab import files
     from chtab.engine.in_process import InProcess
     from chtab.engine.walks import Walks
@@ -76,6 +77,18 @@ class NodeQueries:
             walks = self.walks(pairs)
             return walks.weights, walks.counts(), arcs_of(walks.tails, walks.heads, walks.arc_weights)
         return self.runs.lines(pairs)
+
+    def sums(
+        self, pairs: Integers, values: NDArray[numpy.uint64], arcs_of: Callable[[Integers, Integers, Integers], Integers],
+    ) -> tuple[Integers, NDArray[numpy.uint64]]:
+        """The weights of the routes of pairs, -1 where there is no walk, and the sums of the values of their arcs, 0 where there is no walk. `values`
+        has one for each arc of the graph. No sum is 2^64 or more. `arcs_of` is as `lines` takes it."""
+        if not isinstance(self.runs, asking.Engine):
+            return self.runs.sums(pairs, values)
+        weights, counts, lines = self.lines(pairs, arcs_of)
+        # The sums of all routes together may wrap, but not their differences.
+        sums = numpy.append(numpy.uint64(0), numpy.cumsum(values[lines]))
+        return weights, numpy.diff(sums[numpy.append(0, numpy.cumsum(counts))])
 
     def small_tables(self, outs: Integers, ins: Integers, pairs: Integers) -> Integers:
         """The cells of several small tables in one column, int64, -1 where there is no walk. Table k leads from the nodes of `outs[k]` to those of

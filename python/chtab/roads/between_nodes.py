@@ -10,7 +10,7 @@ from numpy.typing import ArrayLike, NDArray
 from chtab.engine.deadlines import whole
 from chtab.engine.progress import Asked as Progress
 from chtab.errors import DataFault
-from chtab.files.columns import in_rows, numbers_in
+from chtab.files.columns import EXACT, in_rows, numbers_in
 from chtab.files.measures import Limit
 from chtab.roads.routes import Routes
 
@@ -211,15 +211,19 @@ class BetweenNodes:
         several = found.reshape(len(found), -1) if found.ndim == 2 else numpy.asarray(numbers_in("values", values), float)[:, None]
         if len(several) != count:
             raise DataFault(f"values has {len(several):,} rows, and there are {count:,} rows of arcs", "values")
-        weights, counts, lines = self._lines(self._pairs(pairs, targets))
+        nodes = self._pairs(pairs, targets)
+        if are_counts(found, self._engine.nodes):
+            weights, totals = self._queries.sums(nodes, found.astype(numpy.uint64)[self._layers.rows], self._arcs)
+            return numpy.where(weights < 0, numpy.nan, totals.astype(float))
+        weights, counts, lines = self._queries.lines(nodes, self._arcs)
         owners, along = numpy.repeat(numpy.arange(len(weights)), counts), several[self._layers.rows_of(lines)].astype(float)
         sums: NDArray[Any] = numpy.column_stack([numpy.bincount(owners, column, len(weights)) for column in along.T]).astype(float)
         sums[weights < 0] = numpy.nan
         return sums if found.ndim == 2 else sums[:, 0]
 
-    def _lines(self, pairs: NDArray[numpy.int64]) -> tuple[NDArray[Any], NDArray[Any], NDArray[Any]]:
-        """The weights of the routes of pairs, how many arcs each has, and the places of all these arcs in the graph."""
-        return self._queries.lines(pairs, lambda tails, heads, _: self._layers.arcs.of(tails, heads))
+    def _arcs(self, tails: NDArray[Any], heads: NDArray[Any], _: NDArray[Any]) -> NDArray[Any]:
+        """The places of arcs in the graph, by their ends."""
+        return self._layers.arcs.of(tails, heads)
 
     matrix = table
 
@@ -240,6 +244,11 @@ class BetweenNodes:
         if nodes.ndim != 2 or nodes.shape[1] != 2:
             raise ValueError(f"pairs have the shape (n, 2), not {nodes.shape}: one pair is [(1, 3)]")
         return nodes
+
+
+def are_counts(values: NDArray[Any], most: int) -> bool:
+    """Whether values are whole numbers from 0 on, of which the sum of any `most` is exact as a float."""
+    return values.ndim == 1 and values.dtype.kind in "iu" and len(values) > 0 and int(values.min()) >= 0 and int(values.max()) * most <= EXACT
 
 
 def listed(given: Nodes) -> Nodes:

@@ -15,7 +15,7 @@ import numpy
 from chtab.engine.answers import NO_WALK
 from chtab.engine.walks import Walks, ranges
 from chtab.errors import unasked
-from chtab.roads.snapping import NONE, Roads, Spots
+from chtab.roads.snapping import NANOMETRE, NONE, Roads, Spots
 
 if TYPE_CHECKING:
     from chtab.roads.trips import Trips
@@ -247,20 +247,43 @@ class Walked(NamedTuple):
         return numpy.diff(numpy.append(0, numpy.cumsum(column))[numpy.append(0, numpy.cumsum(self.counts))])
 
 
-def walked(trips: Trips, starts: Spots, ends: Spots, best: Integers, ways: Integers) -> Walked:
-    """The walks of these ways from spot to spot, of these weights. A route that weighs something else is no answer to what was asked."""
+class Between(NamedTuple):
+    """What ways from spot to spot lead over: which ways have a walk between nodes, the end of the first road that each leaves by (0 at its first
+    place, 1 at its last) and the end of the last road that it arrives by, the nodes of the walk (n, 2), and what is added before and behind it."""
+
+    is_walk: Marks
+    leaves: Integers
+    arrives: Integers
+    pairs: Integers
+    out_weights: Integers
+    in_weights: Integers
+
+    def see_that_right(self, between: Integers, best: Integers) -> None:
+        """Raises a `ProgramFault` if a walk of this weight does not make its way as heavy as it is."""
+        if (between + self.out_weights + self.in_weights != best)[self.is_walk].any():
+            raise unasked()
+
+
+def between_nodes(starts: Spots, ends: Spots, best: Integers, ways: Integers) -> Between:
+    """What these ways from spot to spot, of these weights, lead over."""
     legs, half, width = numpy.arange(len(best)), starts.out_nodes.shape[1] // 2, ends.in_nodes.shape[1]
     is_walk = (best < FAR) & (ways < starts.out_nodes.shape[1] * width)
     outs, intos = numpy.divmod(numpy.where(is_walk, ways, 0), width)
-    out_weights, in_weights = starts.out_weights[legs, outs], ends.in_weights[legs, intos]
     pairs = numpy.column_stack([starts.out_nodes[legs, outs], ends.in_nodes[legs, intos]])
+    sides = (outs >= half).astype(int), (2 * intos >= width).astype(int)
+    return Between(is_walk, *sides, pairs, starts.out_weights[legs, outs], ends.in_weights[legs, intos])
+
+
+def walked(trips: Trips, starts: Spots, ends: Spots, best: Integers, ways: Integers) -> Walked:
+    """The walks of these ways from spot to spot, of these weights. A route that weighs something else is no answer to what was asked."""
+    over = between_nodes(starts, ends, best, ways)
     counts, arcs = numpy.zeros(len(best), numpy.int64), numpy.zeros(0, numpy.int64)
     between = numpy.zeros(len(best), numpy.int64)
-    if is_walk.any():
-        between[is_walk], counts[is_walk], arcs = trips.queries.lines(pairs[is_walk], trips.roads.arcs_of)
-    found = Walked(is_walk, (outs >= half).astype(int), (2 * intos >= width).astype(int), pairs[:, 0], out_weights, in_weights, counts, arcs)
-    is_right = (found.sums(trips.roads.weights[arcs]) == between) & (between + out_weights + in_weights == best)
-    if not is_right[is_walk].all():
+    if over.is_walk.any():
+        between[over.is_walk], counts[over.is_walk], arcs = trips.queries.lines(over.pairs[over.is_walk], trips.roads.arcs_of)
+    over.see_that_right(between, best)
+    found = Walked(over.is_walk, over.leaves, over.arrives, over.pairs[:, 0], over.out_weights, over.in_weights, counts, arcs)
+    if (found.sums(trips.roads.weights[arcs]) != between)[over.is_walk].any():
         raise unasked()
     return found
 
@@ -270,7 +293,7 @@ def legs_by(trips: Trips, starts: Spots, ends: Spots, best: Integers, ways: Inte
     roads, found = trips.roads, walked(trips, starts, ends, best, ways)
     weights, arcs = numpy.where(best < FAR, best, NO_WALK), found.arcs
     walks = Walks(weights, numpy.append(0, numpy.cumsum(found.counts)), roads.tails[arcs], roads.heads[arcs], roads.weights[arcs])
-    metres = metres_of(roads, starts, ends, found)
+    metres = metres_of(roads, starts, ends, found, found.sums(roads.nanometres[arcs].view(numpy.int64)) * NANOMETRE)
     return Legs(
         roads, starts, ends, weights, found.is_walk, found.first_nodes, walks, arcs, found.leaves, found.arrives, found.out_weights, found.in_weights, metres
     )
@@ -278,14 +301,17 @@ def legs_by(trips: Trips, starts: Spots, ends: Spots, best: Integers, ways: Inte
 
 def metres_by(trips: Trips, starts: Spots, ends: Spots, best: Integers, ways: Integers) -> Floats:
     """How long these ways are."""
-    return metres_of(trips.roads, starts, ends, walked(trips, starts, ends, best, ways))
+    over = between_nodes(starts, ends, best, ways)
+    between, lengths = numpy.zeros(len(best), numpy.int64), numpy.zeros(len(best), numpy.uint64)
+    if over.is_walk.any():
+        between[over.is_walk], lengths[over.is_walk] = trips.queries.sums(over.pairs[over.is_walk], trips.roads.nanometres, trips.roads.arcs_of)
+    over.see_that_right(between, best)
+    return metres_of(trips.roads, starts, ends, over, lengths * NANOMETRE)
 
 
-def metres_of(roads: Roads, starts: Spots, ends: Spots, found: Walked) -> Floats:
-    """The lengths of legs. The length of a leg without a way has no meaning."""
+def metres_of(roads: Roads, starts: Spots, ends: Spots, found: Walked | Between, middle: Floats) -> Floats:
+    """The lengths of legs, whose walks are `middle` metres long. The length of a leg without a way has no meaning."""
     of_road = roads.lines.metres
-    along = roads.road_of[found.arcs]
-    middle = found.sums(numpy.where(along != NONE, of_road[along], 0))
     first = abs(found.leaves - starts.parts) * of_road[starts.roads]
     last = abs(found.arrives - ends.parts) * of_road[ends.roads]
     return numpy.where(found.is_walk, first + middle + last, abs(ends.parts - starts.parts) * of_road[starts.roads])

@@ -18,6 +18,7 @@ from chtab.errors import ChtabError, TooFar
 from chtab.roads.lines import Lines, metres_between
 
 if TYPE_CHECKING:
+    from numpy.typing import NDArray
     from chtab import files
     from chtab.typing import Column, Floats, Integers, Marks, Point
 
@@ -29,6 +30,8 @@ FORWARD, BACKWARD = 1, 2
 AT_END = 1.0
 # The least part of a road between its end and a spot that is not at the end.
 INSIDE = 1e-9
+# Metres in a nanometre.
+NANOMETRE = 1e-9
 
 
 def places_in(longitudes: Column, latitudes: Column) -> list[Floats]:
@@ -148,6 +151,7 @@ class Roads:
         self.ordered: tuple[Integers, Integers] | None = None
         self.pieces: tuple[Integers, Floats, Floats] | None = None
         self.least_pace: float | None = None
+        self.lengths: NDArray[numpy.uint64] | None = None
         crossing = numpy.arange(graph.nodes + 1)
         for copy, node in coordinates.copies().items():
             crossing[copy] = node
@@ -205,6 +209,14 @@ class Roads:
 
     def __len__(self) -> int:
         return len(self.firsts)
+
+    @property
+    def nanometres(self) -> NDArray[numpy.uint64]:
+        """The length of the road of each arc in whole nanometres, 0 for an arc along no road."""
+        if self.lengths is None:
+            metres = numpy.where(self.road_of == NONE, 0, self.lines.metres[self.road_of] if len(self) else 0)
+            self.lengths = numpy.round(metres / NANOMETRE).astype(numpy.uint64)
+        return self.lengths
 
     # From places to roads.
 

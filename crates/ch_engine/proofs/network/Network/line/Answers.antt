@@ -40,7 +40,7 @@ word_at-requires-else-level c =
 pub returns-then-level : goal.returns-then-level
 returns-then-level c =
     let H = c.self.inside.hierarchy in
-    let lines : Lines = record { up = c.self.inside.ups; down = c.self.inside.downs } in
+    let lines : Lines = record { up = c.self.inside.ups; down = c.self.inside.downs; count = c.self.inside.count } in
     let from = c.args.from in
     let to = c.args.to in
     let word = c.word_at.result in
@@ -55,7 +55,7 @@ returns-then-level c =
 pub returns-else-level : goal.returns-else-level
 returns-else-level c =
     let H = c.self.inside.hierarchy in
-    let lines : Lines = record { up = c.self.inside.ups; down = c.self.inside.downs } in
+    let lines : Lines = record { up = c.self.inside.ups; down = c.self.inside.downs; count = c.self.inside.count } in
     let from = c.args.from in
     let to = c.args.to in
     let word = c.word_at-else-level.result in
