@@ -133,6 +133,15 @@ def test_what_c_would_misread_is_refused():
         raises(ValueError, handle.keep_places, right, 5, count, told="one of 32")
     for call, words in (handle.sweep, ()), (handle.near_rows, (right, 9)):
         raises(ValueError, call, *words, told="no places are kept")
+    values = numpy.array([2**63, 2**63 - 1], numpy.uint64)
+    weights, sums = handle.route_sums(numpy.array([0, 2, 1], numpy.uint32), numpy.array([2, 0, 2], numpy.uint32), values)
+    assert (weights.tolist(), sums.tolist()) == ([9, -1, 5], [2**64 - 1, 0, 2**63 - 1])
+    for wrong in None, [1, 2], values.astype(numpy.int64), values.astype(float), values.astype(numpy.uint32), values[::-1], values.reshape(1, 2):
+        raises(TypeError, handle.route_sums, right, right, wrong)
+    for words in (right, right[:1], values), (right, right, values[:1]), (right, right, numpy.zeros(3, numpy.uint64)):
+        raises(ValueError, handle.route_sums, *words, told="lengths")
+    raises(ValueError, handle.route_sums, outside, right, values, told="not one of the network")
+    raises(ValueError, handle.route_sums, right[:1], numpy.array([2], numpy.uint32), values | 1, told="2^64 or more")
     many = numpy.zeros(65_537, numpy.uint32)
     raises(ValueError, handle.table, many, right, told="65,536")
     raises(ValueError, handle.table, right, many, told="65,536")

@@ -429,10 +429,18 @@ def test_sums_along_routes_are_of_the_arcs_that_routes_take():
         assert numpy.isnan(network.along(arcs["metres"], [(1, 4)])).tolist() == [True]
         assert network.along(arcs.sort_values("toll", ascending=False)["metres"], [(1, 3)]).tolist() == [110]
         assert network.along(arcs[["metres", "toll"]].to_numpy(), [1, 2], [3, 3]).tolist() == [[110, 10], [100, 8]]
+        # Whole numbers are added up by the library where it answers, others here, and both come out the same.
+        for tolls in arcs["toll"], arcs["toll"].astype(numpy.uint8), arcs["toll"].astype(float), arcs["toll"] + 2**60 - 2**60:
+            found = network.along(tolls, [(1, 3), (3, 1), (2, 2), (1, 4)])
+            assert found.dtype == numpy.float64 and found[:3].tolist() == [10, 10, 0] and numpy.isnan(found[3])
+        assert network.along(arcs["toll"] + 2**60, [(1, 3)]).tolist() == [2.0**61]
+        assert network.along(-arcs["toll"], [(1, 3)]).tolist() == [-10] and network.along(arcs["toll"], []).tolist() == []
         rows = network.routes([(1, 3), (1, 4), (3, 1), (1, 1)]).rows()
         assert [None if each is None else each.tolist() for each in rows] == [[1, 3], None, [3, 1], []]
         with network.changed(closed=[1], added=[(1, 4, 2.0)]) as other:
             assert other.along([*arcs["metres"], 7], [(1, 3), (1, 4)]).tolist() == [120, 7]
+            assert other.along([*arcs["toll"], 7], [(1, 3), (1, 4)]).tolist() == [12, 7]
+            raises(chtab.DataFault, other.along, arcs["toll"], [(1, 3)], told="values has 5 rows, and there are 6 rows of arcs")
             assert [each.tolist() for each in other.routes([(1, 3), (1, 4)]).rows()] == [[2, 3], [5]]
             raises(chtab.DataFault, other.along, arcs["metres"], [(1, 3)], told="values has 5 rows, and there are 6 rows of arcs")
     with chtab.Network.open(ROOT / "examples" / "first.gr", program=PROGRAM) as network:
