@@ -109,16 +109,13 @@ module _ (IsTextOf : TextOf) where
     answered_append (places_then places x) xs ys h.1 more h.4 k,
   )
 
-  pub answered_one : (places : PlaceList) (request : Request) (text : List ℕ) → IsTextOf places request text → AreAnswered IsTextOf places (request ∷ []) text
-  answered_one places request text is = (text, [], sym (append-nil text), is, refl)
-
 module _ (IsTextOf : TextOf) {S : Type 0} (gives : S → List ℕ → Result ℕ DeviceFault → S → Type 0) where
   -- a text that was written answers its requests
   pub written_answers : {T : Type 0} (places : PlaceList) (old new : S) (before after : ℕ) (requests : List Request) (text : List ℕ) (r : Result T RunFault) →
       AreAnswered IsTextOf places requests text → WritesMore gives old new before after text r → AnswersInTurn IsTextOf gives places old new before after requests r
   written_answers places old new before after requests text (Ok x) is h = (text, is, h.0, h.1)
   written_answers places old new before after requests text (Err (RunFault.Write count)) is h = (requests, [], text, h.0, sym (append-nil requests), is, h.1, h.2)
-  written_answers places old new before after requests text (Err RunFault.Memory) is h = absurd h
+  written_answers places old new before after requests text (Err RunFault.Memory) is h = rw h ([], requests, refl, ([], answered_none IsTextOf places, took-none gives old))
   written_answers places old new before after requests text (Err RunFault.Cells) is h = absurd h
   written_answers places old new before after requests text (Err RunFault.Order) is h = absurd h
   written_answers places old new before after requests text (Err (RunFault.CellsAt line)) is h = absurd h
@@ -126,10 +123,10 @@ module _ (IsTextOf : TextOf) {S : Type 0} (gives : S → List ℕ → Result ℕ
   written_answers places old new before after requests text (Err (RunFault.Read which f)) is h = absurd h
   written_answers places old new before after requests text (Err (RunFault.Check f)) is h = absurd h
 
-  -- a failed write is a fault of answering
+  -- a failed write or a lack of memory is a fault of answering
   pub more_own : (T : Type 0) (old new : S) (before after : ℕ) (text : List ℕ) (e : RunFault) → WritesMore {T = T} gives old new before after text (Err e) → IsOfAnswering e
   more_own T old new before after text (RunFault.Write count) h = inl tt
-  more_own T old new before after text RunFault.Memory h = absurd h
+  more_own T old new before after text RunFault.Memory h = inr refl
   more_own T old new before after text RunFault.Cells h = absurd h
   more_own T old new before after text RunFault.Order h = absurd h
   more_own T old new before after text (RunFault.CellsAt line) h = absurd h
@@ -157,18 +154,12 @@ module _ (IsTextOf : TextOf) {S : Type 0} (gives : S → List ℕ → Result ℕ
       not_own : {X : Type 0} (line : ℕ) → IsOfAnswering (RunFault.CellsAt line) → X
       not_own line (inl w) = absurd w
       not_own line (inr m) = cc
-  answers_front places old new before after xs ys (RunFault.Read Which.Requests f) own h = not_own f own
+  answers_front places old new before after xs ys (RunFault.Read which f) own h = not_own which f own
     where
-      not_own : {X : Type 0} (f : ReadFault) → IsOfAnswering (RunFault.Read Which.Requests f) → X
-      not_own f (inl w) = absurd w
-      not_own f (inr m) = cc
+      not_own : {X : Type 0} (which : Which) (f : ReadFault) → IsOfAnswering (RunFault.Read which f) → X
+      not_own which f (inl w) = absurd w
+      not_own which f (inr m) = cc
   answers_front places old new before after xs ys (RunFault.Device which) own h = absurd h
-  answers_front places old new before after xs ys (RunFault.Read Which.Graph f) own h = absurd h
-  answers_front places old new before after xs ys (RunFault.Read Which.Queries f) own h = absurd h
-  answers_front places old new before after xs ys (RunFault.Read Which.Sources f) own h = absurd h
-  answers_front places old new before after xs ys (RunFault.Read Which.Targets f) own h = absurd h
-  answers_front places old new before after xs ys (RunFault.Read Which.Saved f) own h = absurd h
-  answers_front places old new before after xs ys (RunFault.Read Which.Order f) own h = absurd h
   answers_front places old new before after xs ys (RunFault.Check f) own h = absurd h
 
   -- a fault that is passed on keeps the promise on the answered requests
@@ -208,16 +199,10 @@ module _ (IsTextOf : TextOf) {S : Type 0} (gives : S → List ℕ → Result ℕ
         (cc),
       )
   answers_more places old mid new before between after xs ys (Err (RunFault.CellsAt line)) h k = took_append places old mid new before between xs ys h k
-  answers_more places old mid new before between after xs ys (Err (RunFault.Read Which.Requests f)) h k = took_append places old mid new before between xs ys h k
+  answers_more places old mid new before between after xs ys (Err (RunFault.Read which f)) h k = (k.0, took_append places old mid new before between xs ys h k.1)
   answers_more places old mid new before between after xs ys (Err RunFault.Cells) h k = absurd k
   answers_more places old mid new before between after xs ys (Err RunFault.Order) h k = absurd k
   answers_more places old mid new before between after xs ys (Err (RunFault.Device which)) h k = absurd k
-  answers_more places old mid new before between after xs ys (Err (RunFault.Read Which.Graph f)) h k = absurd k
-  answers_more places old mid new before between after xs ys (Err (RunFault.Read Which.Queries f)) h k = absurd k
-  answers_more places old mid new before between after xs ys (Err (RunFault.Read Which.Sources f)) h k = absurd k
-  answers_more places old mid new before between after xs ys (Err (RunFault.Read Which.Targets f)) h k = absurd k
-  answers_more places old mid new before between after xs ys (Err (RunFault.Read Which.Saved f)) h k = absurd k
-  answers_more places old mid new before between after xs ys (Err (RunFault.Read Which.Order f)) h k = absurd k
   answers_more places old mid new before between after xs ys (Err (RunFault.Check f)) h k = absurd k
 
   -- no requests were asked for
@@ -239,15 +224,9 @@ module _ (IsTextOf : TextOf) {S : Type 0} (gives : S → List ℕ → Result ℕ
   answers_end places old new before after requests (Stop (RunFault.CellsAt line)) is h = (h.0, h.1, h.2)
   answers_end places old new before after requests (Stop RunFault.Cells) is h = absurd is
   answers_end places old new before after requests (Stop RunFault.Order) is h = absurd is
-  answers_end places old new before after requests (Stop (RunFault.Read Which.Requests f)) is h = (h.0, h.1, h.2)
+  answers_end places old new before after requests (Stop (RunFault.Read which f)) is h = (is, (h.0, h.1, h.2))
   answers_end places old new before after requests (Stop (RunFault.Write count)) is h = absurd is
   answers_end places old new before after requests (Stop (RunFault.Device which)) is h = absurd is
-  answers_end places old new before after requests (Stop (RunFault.Read Which.Graph f)) is h = absurd is
-  answers_end places old new before after requests (Stop (RunFault.Read Which.Queries f)) is h = absurd is
-  answers_end places old new before after requests (Stop (RunFault.Read Which.Sources f)) is h = absurd is
-  answers_end places old new before after requests (Stop (RunFault.Read Which.Targets f)) is h = absurd is
-  answers_end places old new before after requests (Stop (RunFault.Read Which.Saved f)) is h = absurd is
-  answers_end places old new before after requests (Stop (RunFault.Read Which.Order f)) is h = absurd is
   answers_end places old new before after requests (Stop (RunFault.Check f)) is h = absurd is
 
 -- the lists of a request are lists of a table

@@ -24,19 +24,13 @@ use Rattle.ch_run.proofs.Tells.{CountsCalls, CountsReads, err_of, err_own, err_p
 -- a run that serves requests ends only in a fault of serving them
 pub serves_own : {T S : Type 0} (IsTextOf : TextOf) (takes : Calls S) (n : ℕ) (requests : Reading) (old new : S) (r : Result T RunFault) → Serves IsTextOf takes n requests old new r → IfErr r IsOfServing
 serves_own IsTextOf takes n requests old new (Ok x) h = tt
-serves_own IsTextOf takes n requests old new (Err (RunFault.Read Which.Requests f)) h = inl refl
+serves_own IsTextOf takes n requests old new (Err (RunFault.Read which f)) h = inl (sym h.0)
 serves_own IsTextOf takes n requests old new (Err (RunFault.CellsAt line)) h = inl refl
 serves_own IsTextOf takes n requests old new (Err RunFault.Memory) h = inl tt
 serves_own IsTextOf takes n requests old new (Err (RunFault.Device which)) h = inl (sym h.0)
 serves_own IsTextOf takes n requests old new (Err (RunFault.Write count)) h = inr tt
 serves_own IsTextOf takes n requests old new (Err RunFault.Cells) h = absurd h
 serves_own IsTextOf takes n requests old new (Err RunFault.Order) h = absurd h
-serves_own IsTextOf takes n requests old new (Err (RunFault.Read Which.Graph f)) h = absurd h
-serves_own IsTextOf takes n requests old new (Err (RunFault.Read Which.Queries f)) h = absurd h
-serves_own IsTextOf takes n requests old new (Err (RunFault.Read Which.Sources f)) h = absurd h
-serves_own IsTextOf takes n requests old new (Err (RunFault.Read Which.Targets f)) h = absurd h
-serves_own IsTextOf takes n requests old new (Err (RunFault.Read Which.Saved f)) h = absurd h
-serves_own IsTextOf takes n requests old new (Err (RunFault.Read Which.Order f)) h = absurd h
 serves_own IsTextOf takes n requests old new (Err (RunFault.Check f)) h = absurd h
 
 -- a failed read of the requests is reported exactly if there was one
@@ -51,7 +45,7 @@ some_counts gives failed counts old new P (read, inr (all, p)) = all-counts give
 pub serves_requests : {T J S : Type 0} (IsTextOf : TextOf) (takes : Calls S) (n : ℕ) (gives : Calls J) (failed : J → ℕ) (counts : CountsReads gives failed) (requests requests' : J) (old new : S) (r : Result T RunFault) →
     Serves IsTextOf takes n (reading gives requests requests') old new r → ReadsOnce Which.Requests r failed requests requests'
 serves_requests IsTextOf takes n gives failed counts requests requests' old new (Ok x) h = not_failed (Ok x) failed requests requests' (λ is. cc) (all-counts gives failed counts requests h.0 requests' h.1)
-serves_requests IsTextOf takes n gives failed counts requests requests' old new (Err (RunFault.Read Which.Requests f)) h = not_failed (Err (RunFault.Read Which.Requests f)) failed requests requests' (λ is. cc) (some_counts gives failed counts requests requests' _ h)
+serves_requests IsTextOf takes n gives failed counts requests requests' old new (Err (RunFault.Read which f)) h = not_failed (Err (RunFault.Read which f)) failed requests requests' (λ is. cc) (some_counts gives failed counts requests requests' _ h.1)
 serves_requests IsTextOf takes n gives failed counts requests requests' old new (Err (RunFault.CellsAt line)) h = not_failed (Err (RunFault.CellsAt line)) failed requests requests' (λ is. cc) (some_counts gives failed counts requests requests' _ h)
 serves_requests IsTextOf takes n gives failed counts requests requests' old new (Err RunFault.Memory) h = not_failed (Err RunFault.Memory) failed requests requests' (λ is. cc) (some_counts gives failed counts requests requests' _ h)
 serves_requests IsTextOf takes n gives failed counts requests requests' old new (Err (RunFault.Write count)) h = not_failed (Err (RunFault.Write count)) failed requests requests' (λ is. cc) (some_counts gives failed counts requests requests' _ h)
@@ -60,12 +54,6 @@ serves_requests IsTextOf takes n gives failed counts requests requests' old new 
     record { device = (λ is. omega arith, λ less. ap (λ (w : Which). Err (RunFault.Device w)) h.0); once = inr more }
 serves_requests IsTextOf takes n gives failed counts requests requests' old new (Err RunFault.Cells) h = absurd h
 serves_requests IsTextOf takes n gives failed counts requests requests' old new (Err RunFault.Order) h = absurd h
-serves_requests IsTextOf takes n gives failed counts requests requests' old new (Err (RunFault.Read Which.Graph f)) h = absurd h
-serves_requests IsTextOf takes n gives failed counts requests requests' old new (Err (RunFault.Read Which.Queries f)) h = absurd h
-serves_requests IsTextOf takes n gives failed counts requests requests' old new (Err (RunFault.Read Which.Sources f)) h = absurd h
-serves_requests IsTextOf takes n gives failed counts requests requests' old new (Err (RunFault.Read Which.Targets f)) h = absurd h
-serves_requests IsTextOf takes n gives failed counts requests requests' old new (Err (RunFault.Read Which.Saved f)) h = absurd h
-serves_requests IsTextOf takes n gives failed counts requests requests' old new (Err (RunFault.Read Which.Order f)) h = absurd h
 serves_requests IsTextOf takes n gives failed counts requests requests' old new (Err (RunFault.Check f)) h = absurd h
 
 -- a failed write is reported exactly if there was one
@@ -82,7 +70,7 @@ module _ {S : Type 0} (IsTextOf : TextOf) (takes : Calls S) (failed idle : S →
 
   pub serves_output : {T : Type 0} (n : ℕ) (requests : Reading) (r : Result T RunFault) → Serves IsTextOf takes n requests old new r → WritesOnce r failed idle old new
   serves_output n requests (Ok x) h = answered_once (Ok x) _ (λ is. is) h.2.1
-  serves_output n requests (Err (RunFault.Read Which.Requests f)) h = answered_once (Err (RunFault.Read Which.Requests f)) _ (λ is. is) (some_any requests _ h).2.1
+  serves_output n requests (Err (RunFault.Read which f)) h = answered_once (Err (RunFault.Read which f)) _ (λ is. is) (some_any requests _ h.1).2.1
   serves_output n requests (Err (RunFault.CellsAt line)) h = answered_once (Err (RunFault.CellsAt line)) _ (λ is. is) (some_any requests _ h).2.1
   serves_output n requests (Err RunFault.Memory) h = answered_once (Err RunFault.Memory) _ (λ is. is) (some_any requests _ h).2.3
   serves_output n requests (Err (RunFault.Device which)) h = answered_once (Err (RunFault.Device which)) _ (λ is. is) h.3
@@ -92,12 +80,6 @@ module _ {S : Type 0} (IsTextOf : TextOf) (takes : Calls S) (failed idle : S →
       record { device = (λ is. failed_one _ _ _ _ one, λ any. tt); once = failed_once _ _ _ _ one }
   serves_output n requests (Err RunFault.Cells) h = absurd h
   serves_output n requests (Err RunFault.Order) h = absurd h
-  serves_output n requests (Err (RunFault.Read Which.Graph f)) h = absurd h
-  serves_output n requests (Err (RunFault.Read Which.Queries f)) h = absurd h
-  serves_output n requests (Err (RunFault.Read Which.Sources f)) h = absurd h
-  serves_output n requests (Err (RunFault.Read Which.Targets f)) h = absurd h
-  serves_output n requests (Err (RunFault.Read Which.Saved f)) h = absurd h
-  serves_output n requests (Err (RunFault.Read Which.Order f)) h = absurd h
   serves_output n requests (Err (RunFault.Check f)) h = absurd h
 
 module _ {T O : Type 0} (options : Options) (g : Network) (h : Option LevelsAndLegs) (requests : Reading) (same_requests : Type 0) (takes : Calls O) (old new : O) (r : Result T RunFault) where

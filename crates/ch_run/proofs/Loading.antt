@@ -1,47 +1,13 @@
 -- The graph that was loaded, and the hierarchy that was saved or built like an order, if there is one.
-use Rattle.std.proofs.Common.{◌≡◌, ℕ, List, Option, Some, None, refl, subst, inl, inr}
-use Rattle.std.specs.Prelude.{IfSome, IsNone, Result}
+use Rattle.std.proofs.Common.{◌≡◌, ℕ, Option, Some, None, subst, inl, inr}
 use Rattle.ch_graph.specs.Graph.{Network, IsWithinLimits}
 use Rattle.ch_graph.specs.Saved.{OrderAndLegs}
 use Rattle.ch_hierarchy.specs.Hierarchy.{LevelsAndLegs}
-use Rattle.ch_hierarchy.specs.Kept.{IsKept}
-use Rattle.ch_text.specs.declared.device.DeviceFault.{DeviceFault}
 use Rattle.ch_run.specs.declared.fault.RunFault.{RunFault}
 use Rattle.ch_run.specs.declared.fault.Which.{Which}
-use Rattle.ch_run.specs.declared.source.Source.{Source}
 use Rattle.ch_run.specs.Run.{IsOf, IsWrite, Reading, ReadsGraph, StopsAt, SourceReading, NoFile, SavedFile, OrderFile}
-use Rattle.ch_run.specs.Source.{AreBuiltLike, AreChecked, AreLoaded, IsOfLoading, WithLoaded, source_origin, source_reading}
-use Rattle.ch_run.proofs.Inputs.{of_one, same_kind}
-
--- the graph is within the limits
-pub loaded_limits : (graph : Reading) (source : SourceReading) (g : Network) (h : Option LevelsAndLegs) → AreLoaded graph source g h → IsWithinLimits g
-loaded_limits graph NoFile g h is = is.0
-loaded_limits graph (SavedFile saved) g None is = absurd is
-loaded_limits graph (SavedFile saved) g (Some H) is = is.1.limits
-loaded_limits graph (OrderFile order fresh hops) g None is = absurd is
-loaded_limits graph (OrderFile order fresh hops) g (Some H) is = is.1.limits
-
--- the hierarchy that was loaded, if there is one, is right for the graph
-pub loaded_kept : (graph : Reading) (source : SourceReading) (g : Network) (h : Option LevelsAndLegs) → AreLoaded graph source g h → IfSome h (IsKept g)
-loaded_kept graph NoFile g None is = tt
-loaded_kept graph NoFile g (Some H) is = cc
-loaded_kept graph (SavedFile saved) g None is = absurd is
-loaded_kept graph (SavedFile saved) g (Some H) is = is.1.names.1
-loaded_kept graph (OrderFile order fresh hops) g None is = absurd is
-loaded_kept graph (OrderFile order fresh hops) g (Some H) is = is.1.kept
-
--- if no hierarchy was loaded, the run builds one
-pub loaded_built : {S : Type 0} (graph : Reading) (gives : S → List ℕ → Result ℕ DeviceFault → S → Type 0) (origin : S → ℕ) (old new : Source S) (g : Network) (h : Option LevelsAndLegs) →
-    AreLoaded graph (source_reading gives old new) g h → source_origin origin new ≡ source_origin origin old → IsNone h → old ≡ Source.Built
-loaded_built graph gives origin Source.Built new g h is same none = refl
-loaded_built graph gives origin (Source.Saved old) Source.Built g h is same none = absurd (let other : ⊥ = cc in other)
-loaded_built graph gives origin (Source.Saved old) (Source.Like new fresh hops) g h is same none = absurd (let kinds : Which.Order ≡ Which.Saved = same_kind (Which.Order, origin new) (Which.Saved, origin old) same in let other : ⊥ = cc in other)
-loaded_built graph gives origin (Source.Saved old) (Source.Saved new) g None is same none = absurd is
-loaded_built graph gives origin (Source.Saved old) (Source.Saved new) g (Some H) is same none = cc
-loaded_built graph gives origin (Source.Like old fresh hops) Source.Built g h is same none = absurd (let other : ⊥ = cc in other)
-loaded_built graph gives origin (Source.Like old fresh hops) (Source.Saved new) g h is same none = absurd (let kinds : Which.Saved ≡ Which.Order = same_kind (Which.Saved, origin new) (Which.Order, origin old) same in let other : ⊥ = cc in other)
-loaded_built graph gives origin (Source.Like old fresh hops) (Source.Like new fresh' hops') g None is same none = absurd is
-loaded_built graph gives origin (Source.Like old fresh hops) (Source.Like new fresh' hops') g (Some H) is same none = cc
+use Rattle.ch_run.specs.Source.{AreBuiltLike, AreChecked, AreLoaded, IsOfLoading, WithLoaded}
+use Rattle.ch_run.proofs.Inputs.{of_one}
 
 -- a fault of loading belongs to the graph, to the saved hierarchy or to the order
 pub loading_past : (source : SourceReading) (e : RunFault) → IsOfLoading source e → (which : Which) → (which ≡ Which.Graph → ⊥) → (which ≡ Which.Saved → ⊥) → (which ≡ Which.Order → ⊥) → StopsAt which e → ⊥

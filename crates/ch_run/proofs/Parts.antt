@@ -14,6 +14,7 @@ use Rattle.ch_text.specs.Moves.{Took, TookUntilFault}
 use Rattle.ch_text.specs.declared.device.DeviceFault.{DeviceFault}
 use Rattle.ch_text.proofs.Moves.{took-fault-longer, took-fault-then}
 use Rattle.ch_run.specs.declared.fault.RunFault.{RunFault}
+use Rattle.ch_run.specs.Run.{IsWrite}
 use Rattle.ch_run.specs.Serving.{WritesMore}
 use Rattle.ch_run.specs.Story.{Writes}
 
@@ -69,18 +70,18 @@ module _ (parts : List (Vec ℕ Global)) (i : ℕ) (d : Vec ℕ Global) (within 
 
   -- a write of the part here failed
   pub part_failed : {S : Type 0} (gives : S → List ℕ → Result ℕ DeviceFault → S → Type 0) (old mid new : S) (before after : ℕ) (e : RunFault) (r : Result Unit RunFault) → length (bytes_of parts) < 2 ^ 64 → Took gives old (bytes_of (take i parts)) mid →
-      before ≡ length (bytes_of (take i parts)) → WritesMore {T = Unit} gives mid new before after (get_or parts i d).items (Err e) → IsErrAnd r (λ y. y ≡ e) → Writes gives old new (λ bytes. bytes ≡ bytes_of parts) r
-  part_failed gives old mid new before after e (Ok x) fits so_far count wrote is = absurd is
-  part_failed gives old mid new before after (RunFault.Write n) (Err y) fits so_far count wrote is =
+      before ≡ length (bytes_of (take i parts)) → WritesMore {T = Unit} gives mid new before after (get_or parts i d).items (Err e) → IsWrite e → IsErrAnd r (λ y. y ≡ e) → Writes gives old new (λ bytes. bytes ≡ bytes_of parts) r
+  part_failed gives old mid new before after e (Ok x) fits so_far count wrote own is = absurd is
+  part_failed gives old mid new before after (RunFault.Write n) (Err y) fits so_far count wrote own is =
       let found = beginning gives old mid new wrote.0 so_far wrote.1 in
       let most = wrote.2 in
       let low = found.within in
       let exact : n ≡ length (bytes_of (take i parts)) + wrote.0 = omega arith in
       rw is (bytes_of parts, refl, subst (λ k. TookUntilFault gives old (bytes_of parts) k new) (sym exact) found)
-  part_failed gives old mid new before after RunFault.Memory (Err y) fits so_far count wrote is = absurd wrote
-  part_failed gives old mid new before after RunFault.Cells (Err y) fits so_far count wrote is = absurd wrote
-  part_failed gives old mid new before after RunFault.Order (Err y) fits so_far count wrote is = absurd wrote
-  part_failed gives old mid new before after (RunFault.CellsAt line) (Err y) fits so_far count wrote is = absurd wrote
-  part_failed gives old mid new before after (RunFault.Read which f) (Err y) fits so_far count wrote is = absurd wrote
-  part_failed gives old mid new before after (RunFault.Check f) (Err y) fits so_far count wrote is = absurd wrote
-  part_failed gives old mid new before after (RunFault.Device which) (Err y) fits so_far count wrote is = absurd wrote
+  part_failed gives old mid new before after RunFault.Memory (Err y) fits so_far count wrote own is = absurd own
+  part_failed gives old mid new before after RunFault.Cells (Err y) fits so_far count wrote own is = absurd wrote
+  part_failed gives old mid new before after RunFault.Order (Err y) fits so_far count wrote own is = absurd wrote
+  part_failed gives old mid new before after (RunFault.CellsAt line) (Err y) fits so_far count wrote own is = absurd wrote
+  part_failed gives old mid new before after (RunFault.Read which f) (Err y) fits so_far count wrote own is = absurd wrote
+  part_failed gives old mid new before after (RunFault.Check f) (Err y) fits so_far count wrote own is = absurd wrote
+  part_failed gives old mid new before after (RunFault.Device which) (Err y) fits so_far count wrote own is = absurd wrote

@@ -86,7 +86,7 @@ given_without ended old mid new xs fault h any = λ more may. (ahead mid more, h
 refused_next : (ended : Bool) (old mid new : Standing) (xs : List Request) (error : RequestError) → Gives ended old mid xs → IsErrorAhead ended mid error →
     GivesUntil {T = Unit} ended old new xs (Err (request_refusal error))
 refused_next ended old mid new xs (Fault (Line fault)) h stops = λ more may.
-    (record { given = []; fault = Some (Line fault) }, h more may ∙ ap (after_these xs) (stops more may), refl)
+    (record { given = []; fault = Some (Line fault) }, h more may ∙ ap (after_these xs) (stops more may), (refl, refl))
 refused_next ended old mid new xs (Fault (Cells line)) h stops = λ more may.
     (record { given = []; fault = Some (Cells line) }, h more may ∙ ap (after_these xs) (stops more may), refl)
 refused_next ended old mid new xs NoMemory h stops = λ more may. (ahead mid more, h more may, tt)
@@ -280,10 +280,12 @@ module _ (IsTextOf : TextOf) (n : ℕ) {J : Type 0} (reads : J → List ℕ → 
     -- the run ends in the fault that answering ended in
     pub fed_refused : (ended : Bool) (fault : RunFault) → HasFed ended start now old mid before s held → GivesUntil {T = Unit} ended s next given (Err fault) →
         AnswersInTurn {T = Unit} IsTextOf gives held mid new before after given (Err fault) → Serves {T = Unit} IsTextOf gives n (reading reads start now) old new (Err fault)
-    fed_refused ended (RunFault.Read Which.Requests fault) h gives_them answers =
-        let took = answers_more IsTextOf gives {T = Unit} no_places old mid new 0 before after h.given given (Err (RunFault.Read Which.Requests fault)) h.answered (held_next {T = Unit} ended h (Err (RunFault.Read Which.Requests fault)) answers) in
-        fed_some ended start now old mid before s held h (λ read left. TellsThen n (Some (Line fault)) (TookAnswers IsTextOf gives no_places old new) (read ++ left))
-        (λ left may. let step = gives_them left may in told_fault ended h left step.0 (Line fault) step.1 step.2 took)
+    fed_refused ended (RunFault.Read which fault) h gives_them answers =
+        let took = answers_more IsTextOf gives {T = Unit} no_places old mid new 0 before after h.given given (Err (RunFault.Read which fault)) h.answered (held_next {T = Unit} ended h (Err (RunFault.Read which fault)) answers) in (
+          took.0,
+          fed_some ended start now old mid before s held h (λ read left. TellsThen n (Some (Line fault)) (TookAnswers IsTextOf gives no_places old new) (read ++ left))
+              (λ left may. let step = gives_them left may in told_fault ended h left step.0 (Line fault) step.1 step.2.1 took.1),
+        )
     fed_refused ended (RunFault.CellsAt line) h gives_them answers =
         let took = answers_more IsTextOf gives {T = Unit} no_places old mid new 0 before after h.given given (Err (RunFault.CellsAt line)) h.answered (held_next {T = Unit} ended h (Err (RunFault.CellsAt line)) answers) in
         fed_some ended start now old mid before s held h (λ read left. TellsThen n (Some (Cells line)) (TookAnswers IsTextOf gives no_places old new) (read ++ left))
@@ -299,12 +301,6 @@ module _ (IsTextOf : TextOf) (n : ℕ) {J : Type 0} (reads : J → List ℕ → 
     fed_refused ended RunFault.Cells h gives_them answers = absurd (gives_them [] (λ e. refl)).2
     fed_refused ended RunFault.Order h gives_them answers = absurd (gives_them [] (λ e. refl)).2
     fed_refused ended (RunFault.Device which) h gives_them answers = absurd (gives_them [] (λ e. refl)).2
-    fed_refused ended (RunFault.Read Which.Graph f) h gives_them answers = absurd (gives_them [] (λ e. refl)).2
-    fed_refused ended (RunFault.Read Which.Queries f) h gives_them answers = absurd (gives_them [] (λ e. refl)).2
-    fed_refused ended (RunFault.Read Which.Sources f) h gives_them answers = absurd (gives_them [] (λ e. refl)).2
-    fed_refused ended (RunFault.Read Which.Targets f) h gives_them answers = absurd (gives_them [] (λ e. refl)).2
-    fed_refused ended (RunFault.Read Which.Saved f) h gives_them answers = absurd (gives_them [] (λ e. refl)).2
-    fed_refused ended (RunFault.Read Which.Order f) h gives_them answers = absurd (gives_them [] (λ e. refl)).2
     fed_refused ended (RunFault.Check f) h gives_them answers = absurd (gives_them [] (λ e. refl)).2
 
   -- at a failed read, all requests that were whole before it are answered
@@ -359,7 +355,7 @@ module _ (P Q : TextOf) (so : (places : PlaceList) (request : Request) (text : L
 
   pub served_weaker : (n : ℕ) (requests : Reading) (old new : S) (r : Result Unit RunFault) → Serves P gives n requests old new r → Serves Q gives n requests old new r
   served_weaker n requests old new (Ok x) h = (h.0, h.1, told_weaker n None old new h.0 h.2)
-  served_weaker n requests old new (Err (RunFault.Read Which.Requests fault)) h = some_weaker requests _ _ (λ read left told. told_weaker n (Some (Line fault)) old new (read ++ left) told) h
+  served_weaker n requests old new (Err (RunFault.Read which fault)) h = (h.0, some_weaker requests _ _ (λ read left told. told_weaker n (Some (Line fault)) old new (read ++ left) told) h.1)
   served_weaker n requests old new (Err (RunFault.CellsAt line)) h = some_weaker requests _ _ (λ read left told. told_weaker n (Some (Cells line)) old new (read ++ left) told) h
   served_weaker n requests old new (Err RunFault.Memory) h = some_weaker requests _ _ (λ read left took. (took.0, took.1, took.2, took_weaker old new took.0 took.3)) h
   served_weaker n requests old new (Err (RunFault.Device which)) h = (h.0, h.1, h.2, took_weaker old new (whole_in n h.1) h.3)
@@ -367,12 +363,6 @@ module _ (P Q : TextOf) (so : (places : PlaceList) (request : Request) (text : L
       some_weaker requests _ _ (λ read left took. (took.0, took.1, took.2, took.3, took.4, answered_weaker no_places took.0 took.2 took.5, took.6, took.7)) h
   served_weaker n requests old new (Err RunFault.Cells) h = absurd h
   served_weaker n requests old new (Err RunFault.Order) h = absurd h
-  served_weaker n requests old new (Err (RunFault.Read Which.Graph f)) h = absurd h
-  served_weaker n requests old new (Err (RunFault.Read Which.Queries f)) h = absurd h
-  served_weaker n requests old new (Err (RunFault.Read Which.Sources f)) h = absurd h
-  served_weaker n requests old new (Err (RunFault.Read Which.Targets f)) h = absurd h
-  served_weaker n requests old new (Err (RunFault.Read Which.Saved f)) h = absurd h
-  served_weaker n requests old new (Err (RunFault.Read Which.Order f)) h = absurd h
   served_weaker n requests old new (Err (RunFault.Check f)) h = absurd h
 
 -- the hierarchy that answers a list of queries with their routes is built in the order of the options

@@ -18,7 +18,7 @@ use Rattle.ch_run.specs.declared.source.Source.{Source}
 use Rattle.ch_run.specs.Source.{source_reading}
 use Rattle.ch_run.specs.Fault.{input_fault}
 use Rattle.ch_run.specs.Run.{IsUnread, NoFile, NoInput, OneInput, OrderFile, Reading, ReadingIf, SavedFile, SourceReading, reading}
-use Rattle.ch_run.specs.Story.{Cells, EndsAt, IsOrderRefusedOn, IsRefused, IsSavedRefusedOn, Loads, LoadsSource, NamesLike, Reads, ReadsIf, Writes}
+use Rattle.ch_run.specs.Story.{Cells, EndsAt, IsOrderFault, IsOrderRefusedOn, IsRefused, IsSavedRefusedOn, Loads, LoadsSource, NamesLike, Reads, ReadsIf, Writes}
 use Rattle.ch_run.specs.NearRun.{AreSources, sources_among}
 use Rattle.ch_run.proofs.Owed.{ends_as, err_as}
 
@@ -78,6 +78,11 @@ saved_ends input g fault ends = ends_weaker Which.Saved input _ _ fault (saved_l
 
 pub order_ends : (input : Reading) (g : Network) (fault : RunFault) → EndsAt Which.Order input (IsRefused Which.Order (Form.Saved g.nodes)) fault → EndsAt Which.Order input (IsOrderRefusedOn g) fault
 order_ends input g fault ends = ends_weaker Which.Order input _ _ fault (order_lines g) ends
+
+-- so does an order that is refused once it was read
+pub order_refused : (input : Reading) (g : Network) (bytes : List ℕ) (s : OrderAndLegs) (fault : RunFault) → input.all bytes → NamesSaved bytes g.nodes s → IsOrderFault g s.order fault → EndsAt Which.Order input (IsOrderRefusedOn g) fault
+order_refused input g bytes s fault all named (inl (is, none)) = rw is (bytes, all, (s, named, none))
+order_refused input g bytes s fault all named (inr is) = rw is (bytes, inr all)
 
 -- an input that was not read to its end ends the run
 pub unread_ends : (which : Which) (input : Reading) (refuses : List ℕ → RunFault → Type 0) (fault : RunFault) → IsUnread which input fault → EndsAt which input refuses fault

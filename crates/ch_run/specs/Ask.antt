@@ -97,8 +97,8 @@ whole_in n bytes = (went_by n bytes).told.given
 -- before it are answered. No run can know which read will fail. That is why it answers what is whole before each read
 abbrev pub Serves : {T S : Type 0} → TextOf → (gives : S → List ℕ → Result ℕ DeviceFault → S → Type 0) → ℕ → Reading → (old new : S) → Result T RunFault → Type 0
 Serves IsTextOf gives n requests old new (Ok _) = ReadsAll requests (TellsThen n None (TookAnswers IsTextOf gives no_places old new))
-Serves IsTextOf gives n requests old new (Err (RunFault.Read Which.Requests fault)) =
-    ReadsSome requests (λ read left. TellsThen n (Some (Line fault)) (TookAnswers IsTextOf gives no_places old new) (read ++ left))
+Serves IsTextOf gives n requests old new (Err (RunFault.Read which fault)) =
+    (which ≡ Which.Requests) × ReadsSome requests (λ read left. TellsThen n (Some (Line fault)) (TookAnswers IsTextOf gives no_places old new) (read ++ left))
 Serves IsTextOf gives n requests old new (Err (RunFault.CellsAt line)) =
     ReadsSome requests (λ read left. TellsThen n (Some (Cells line)) (TookAnswers IsTextOf gives no_places old new) (read ++ left))
 Serves IsTextOf gives n requests old new (Err RunFault.Memory) =

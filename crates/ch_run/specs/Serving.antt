@@ -33,14 +33,15 @@ AnswersInTurn IsTextOf gives places old new before after requests (Ok _) =
     (text : List ℕ) × AreAnswered IsTextOf places requests text × Took gives old text new × (after ≡ capped_number (before + length text))
 AnswersInTurn IsTextOf gives places old new before after requests (Err RunFault.Memory) = TookFirstAnswers IsTextOf gives places old new requests
 AnswersInTurn IsTextOf gives places old new before after requests (Err (RunFault.Write count)) = TookBeginning IsTextOf gives places old new before count requests
-AnswersInTurn IsTextOf gives places old new before after requests (Err (RunFault.Read Which.Requests fault)) = TookAnswers IsTextOf gives places old new requests
+AnswersInTurn IsTextOf gives places old new before after requests (Err (RunFault.Read which fault)) = (which ≡ Which.Requests) × TookAnswers IsTextOf gives places old new requests
 AnswersInTurn IsTextOf gives places old new before after requests (Err (RunFault.CellsAt line)) = TookAnswers IsTextOf gives places old new requests
 AnswersInTurn IsTextOf gives places old new before after requests (Err _) = ⊥
 
--- the output took this text after `before` bytes, or the beginning of the text, up to a write that failed
+-- the output took this text after `before` bytes, or the beginning of the text, up to a write that failed. Or it took nothing, for want of memory
 abbrev pub WritesMore : {T S : Type 0} → (gives : S → List ℕ → Result ℕ DeviceFault → S → Type 0) → (old new : S) → (before after : ℕ) → (text : List ℕ) → Result T RunFault → Type 0
 WritesMore gives old new before after text (Ok _) = Took gives old text new × (after ≡ capped_number (before + length text))
 WritesMore gives old new before after text (Err (RunFault.Write count)) = (bytes : ℕ) × TookUntilFault gives old text bytes new × (count ≡ capped_number (before + bytes))
+WritesMore gives old new before after text (Err RunFault.Memory) = new ≡ old
 WritesMore gives old new before after text (Err _) = ⊥
 
 -- the faults that answering can end in
@@ -57,7 +58,7 @@ request_refusal NoMemory = RunFault.Memory
 -- fault of the requests, it is this fault. If not, it may be anything
 abbrev pub IsToldAfter : {T : Type 0} → Result T RunFault → (next rest : Told) → Type 0
 IsToldAfter (Ok _) next rest = rest ≡ next
-IsToldAfter (Err (RunFault.Read Which.Requests fault)) next rest = rest ≡ record { given = []; fault = Some (Line fault) }
+IsToldAfter (Err (RunFault.Read which fault)) next rest = (which ≡ Which.Requests) × (rest ≡ record { given = []; fault = Some (Line fault) })
 IsToldAfter (Err (RunFault.CellsAt line)) next rest = rest ≡ record { given = []; fault = Some (Cells line) }
 IsToldAfter (Err RunFault.Memory) next rest = ⊤
 IsToldAfter (Err (RunFault.Write count)) next rest = ⊤
@@ -76,7 +77,7 @@ end_of (Stop fault) = Err fault
 
 -- the reader of requests stopped for this fault
 abbrev pub IsStop : RunFault → Type 0
-IsStop (RunFault.Read Which.Requests fault) = ⊤
+IsStop (RunFault.Read which fault) = which ≡ Which.Requests
 IsStop (RunFault.CellsAt line) = ⊤
 IsStop RunFault.Memory = ⊤
 IsStop _ = ⊥

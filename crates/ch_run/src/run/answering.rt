@@ -5,12 +5,11 @@ ghost use Rattle.ch_graph.specs.Graph.{IsWithinLimits};
 ghost use Rattle.ch_hierarchy.specs.Kept.{IsKept};
 ghost use Rattle.ch_read.specs.Requests.{IsRequest};
 ghost use Rattle.ch_run.specs.Ask.{IsTextOfRequest, places_after};
-ghost use Rattle.ch_text.specs.Device.{CanCountOneMore};
 ghost use Rattle.ch_run.specs.Serving.{AnswersInTurn, IsOfAnswering, IsRoomFor, places_of};
 
 use super::first::answer_first;
 use super::loading::Checked;
-use super::output::write_more;
+use super::output::write_answers;
 use crate::fault::RunFault;
 use crate::options::Options;
 use crate::plan::{Crew, Gate};
@@ -66,8 +65,6 @@ pub(crate) fn answer_requests<'a, R: Threads + Sync, O: Output, G: Gate>(
     requires each { All (IsRequest by.now.checked.now.graph.nodes) requests.now }
     requires few { length requests.now ≤ MOST_LISTED }
     requires counted { written.old < 2 ^ 64 }
-    requires failures { CanCountOneMore (O.failed output.old) }
-    requires zeros { CanCountOneMore (O.idle output.old) }
     ensures answers { AnswersInTurn (IsTextOfRequest by.now.options.now by.now.checked.now.graph by.now.checked.now.hierarchy) O.write_gives (places_of room.old.near) output.old output.new
         written.old written.new requests.now result }
     ensures places { OnOk result (places_of room.new.near ≡ places_after (places_of room.old.near) requests.now) }
@@ -77,7 +74,7 @@ pub(crate) fn answer_requests<'a, R: Threads + Sync, O: Output, G: Gate>(
     let mut rest = requests;
     while !rest.is_empty() {
         let first = answer_first(crew, by, room, rest)?;
-        write_more(output, &first.text, written)?;
+        write_answers(output, &first.text, written)?;
         rest = &rest[first.count..];
     }
     Ok(())

@@ -3,13 +3,15 @@ ghost use Rattle.std.specs.Prelude.{◌≡◌, ◌<◌, ◌≤◌, IfOk, IfErr, 
 ghost use Rattle.ch_graph.specs.Saved.{OrderAndLegs};
 ghost use Rattle.ch_hierarchy.specs.Kept.{IsKept};
 ghost use Rattle.ch_contract.specs.Legs.{IsHopBound};
+ghost use Rattle.ch_contract.specs.Like.{IsHierarchyLike};
+ghost use Rattle.ch_run.specs.declared.source.Source.TheVariants as SourceOf;
 ghost use Rattle.ch_run.specs.Run.{reading};
 ghost use Rattle.ch_read.specs.declared.form.Form.TheVariants as FormOf;
 ghost use Rattle.ch_read.specs.Names.{NamesGraph, NamesSaved};
 ghost use Rattle.ch_graph.specs.Graph.{IsWithinLimits};
-ghost use Rattle.ch_hierarchy.specs.Saved.{NamesKept};
-ghost use Rattle.ch_run.specs.Story.{EndsAt, IsOrderRefusedOn, IsRefused, IsSavedRefusedOn, Loads, NamesLike, Reads};
-ghost use Rattle.ch_run.specs.Source.{AreBuiltLike, AreChecked, AreLoaded, IsServing, IsSourceAllowed, ReadsSaved, source_origin, source_reading};
+ghost use Rattle.ch_hierarchy.specs.Saved.{IsOrderOf, NamesKept};
+ghost use Rattle.ch_run.specs.Story.{EndsAt, IsOrderFault, IsOrderRefusedOn, IsRefused, IsSavedRefusedOn, Loads, NamesLike, Reads};
+ghost use Rattle.ch_run.specs.Source.{IsServing, IsSourceAllowed, ReadsSaved, source_origin, source_reading};
 
 use super::inputs::{bytes_from, graph_from};
 use crate::building::build_by;
@@ -49,7 +51,9 @@ pub(crate) fn loaded_from<R: Threads + Sync, I: Input, S: Input + Drop, G: Gate>
     requires allowed { IsSourceAllowed source.old }
     ensures went { Loads (reading I.read_gives graph.old graph.new) (source_reading S.read_gives source.old source.new) (source.new ≡ source.old) result ⊤ (λ g h.
         IsOkAnd result (λ loaded. (loaded.graph ≡ g) × (loaded.saved ≡ h))) }
-    ensures value { IfOk result (λ loaded. AreLoaded (reading I.read_gives graph.old graph.new) (source_reading S.read_gives source.old source.new) loaded.graph loaded.saved) }
+    ensures limits { IfOk result (λ loaded. IsWithinLimits loaded.graph) }
+    ensures kept { IfOk result (λ loaded. IfSome loaded.saved (IsKept loaded.graph)) }
+    ensures built { IfOk result (λ loaded. IsNone loaded.saved → source.old ≡ SourceOf.Built) }
     ensures same_graph { I.origin graph.new ≡ I.origin graph.old }
     ensures same_source { source_origin S.origin source.new ≡ source_origin S.origin source.old }
 {
@@ -88,9 +92,8 @@ fn checked_from<R: Threads + Sync, I: Input, S: Input, G: Gate>(
         Reads Which.Saved (reading S.read_gives saved.old saved.new) (λ bytes H. (s : OrderAndLegs) × NamesSaved bytes g.nodes s × NamesKept g s H) (IsSavedRefusedOn g) result ⊤ (λ H.
         IsOkAnd result (λ checked. (checked.graph ≡ g) × (checked.hierarchy ≡ H)))) }
 
-    ensures value { IfOk result (λ checked. (s : OrderAndLegs) ×
-        AreChecked (reading I.read_gives graph.old graph.new) (reading S.read_gives saved.old saved.new) checked.graph s checked.hierarchy) }
-
+    ensures limits { IfOk result (λ checked. IsWithinLimits checked.graph) }
+    ensures kept { IfOk result (λ checked. IsKept checked.graph checked.hierarchy) }
     ensures same_graph { I.origin graph.new ≡ I.origin graph.old }
     ensures same_saved { S.origin saved.new ≡ S.origin saved.old }
 {
@@ -122,9 +125,8 @@ fn built_from<R: Threads + Sync, I: Input, S: Input, G: Gate>(
         Reads Which.Order (reading S.read_gives order.old order.new) (λ bytes H. NamesLike g fresh hops bytes H) (IsOrderRefusedOn g) result ⊤ (λ H.
         IsOkAnd result (λ checked. (checked.graph ≡ g) × (checked.hierarchy ≡ H)))) }
 
-    ensures value { IfOk result (λ checked. (s : OrderAndLegs) ×
-        AreBuiltLike (reading I.read_gives graph.old graph.new) (reading S.read_gives order.old order.new) fresh hops checked.graph s checked.hierarchy) }
-
+    ensures limits { IfOk result (λ checked. IsWithinLimits checked.graph) }
+    ensures kept { IfOk result (λ checked. IsKept checked.graph checked.hierarchy) }
     ensures same_graph { I.origin graph.new ≡ I.origin graph.old }
     ensures same_order { S.origin order.new ≡ S.origin order.old }
 {
@@ -135,8 +137,27 @@ fn built_from<R: Threads + Sync, I: Input, S: Input, G: Gate>(
     crew.gate.watch(Stage::Reading, 1, 2);
     let saved = saved_from(crew, order, &graph, Which::Order)?;
     let given = order_in(saved);
-    match build_like(crew, &graph, &given, fresh, hops) {
-        Ok(hierarchy) => Ok(Checked { graph, hierarchy }),
+    let hierarchy = built_like(crew, &graph, &given, fresh, hops)?;
+    Ok(Checked { graph, hierarchy })
+}
+
+/// Builds the hierarchy of a graph in an order like a given one.
+fn built_like<R: Threads + Sync, G: Gate>(
+    crew: &Crew<'_, R, G>,
+    graph: &Graph,
+    given: &[u32],
+    fresh: u32,
+    hops: u32,
+) -> Result<Hierarchy, RunFault>
+    requires fresh { fresh ≤ 100 }
+    requires hops { IsHopBound hops }
+    ensures order { IfOk result (λ _. IsOrderOf graph.now.nodes given.now) }
+    ensures like { IfOk result (IsHierarchyLike graph.now hops given.now fresh) }
+    ensures kept { IfOk result (IsKept graph.now) }
+    ensures refused { IfErr result (IsOrderFault graph.now given.now) }
+{
+    match build_like(crew, graph, given, fresh, hops) {
+        Ok(hierarchy) => Ok(hierarchy),
         Err(OrderError::Order) => Err(RunFault::Order),
         Err(OrderError::NoMemory) => Err(RunFault::Memory),
     }

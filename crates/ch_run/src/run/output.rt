@@ -1,6 +1,7 @@
 //! Writes the text of a run to its output.
-ghost use Rattle.std.specs.Prelude.{◌≡◌, ◌^◌, ◌<◌, true, length, flat_map};
+ghost use Rattle.std.specs.Prelude.{◌≡◌, ◌^◌, ◌<◌, true, length, flat_map, IfErr};
 ghost use Rattle.ch_text.specs.Device.{CanCountOneMore};
+ghost use Rattle.ch_run.specs.Run.{IsWrite};
 ghost use Rattle.ch_run.specs.Serving.{WritesMore};
 ghost use Rattle.ch_run.specs.Story.{Writes};
 
@@ -8,7 +9,7 @@ use crate::fault::RunFault;
 use ch_text::{Output, write_all};
 
 /// Returns whether both counts of an output have room for one more failed write. Nothing is written to one that has no room.
-pub(crate) fn has_room<O: Output>(output: &O) -> bool
+fn has_room<O: Output>(output: &O) -> bool
     ensures failures { result ≡ true → CanCountOneMore (O.failed output.now) }
     ensures zeros { result ≡ true → CanCountOneMore (O.idle output.now) }
 {
@@ -43,15 +44,27 @@ pub(crate) fn write_parts<O: Output>(output: &mut O, parts: &[Vec<u8>]) -> Resul
     Ok(())
 }
 
-/// Writes more of a text, and adds its bytes to the count of those written before.
-pub(crate) fn write_more<O: Output>(
+/// Writes more answers, and adds their bytes to the count of those written before. Nothing is written to an output that has
+/// no room for one more failed write.
+pub(crate) fn write_answers<O: Output>(
     output: &mut O,
-    more: &[u8],
+    answers: &[u8],
     written: &mut u64,
 ) -> Result<(), RunFault>
+    ensures more { WritesMore O.write_gives output.old output.new written.old written.new answers.now result }
+{
+    if !has_room(output) {
+        return Err(RunFault::Memory);
+    }
+    write_more(output, answers, written)
+}
+
+/// Writes more of a text, and adds its bytes to the count of those written before.
+fn write_more<O: Output>(output: &mut O, more: &[u8], written: &mut u64) -> Result<(), RunFault>
     requires failures { CanCountOneMore (O.failed output.old) }
     requires zeros { CanCountOneMore (O.idle output.old) }
     ensures more { WritesMore O.write_gives output.old output.new written.old written.new more.now result }
+    ensures own { IfErr result IsWrite }
 {
     match write_all(output, more) {
         Ok(()) => {

@@ -1,19 +1,22 @@
 //! Runs that save the hierarchy of a graph.
-ghost use Rattle.std.specs.Prelude.{◌≡◌};
+ghost use Rattle.std.specs.Prelude.{◌≡◌, IfOk, IfSome, IsNone};
 ghost use Rattle.ch_contract.specs.Legs.{IsHopBound};
+ghost use Rattle.ch_hierarchy.specs.Kept.{IsKept};
 ghost use Rattle.ch_run.specs.declared.source.Source.TheVariants as SourceOf;
 ghost use Rattle.ch_run.specs.Run.{Delivers, reading};
-ghost use Rattle.ch_run.specs.Source.{IsSourceAllowed, source_origin, source_reading};
+ghost use Rattle.ch_run.specs.Source.{IsOfRoutes, IsSourceAllowed, source_origin, source_reading};
 ghost use Rattle.ch_run.specs.Stories.{RunsSave};
 ghost use Rattle.ch_run.specs.SaveRun.{IsSavedBy};
+ghost use Rattle.ch_run.specs.Text.{IsSaveTextOf};
 
-use super::loading::loaded_from;
+use super::loading::{Loaded, loaded_from};
 use super::output::write_text;
 use crate::fault::RunFault;
 use crate::options::Options;
 use crate::plan::{Crew, Gate};
 use crate::source::Source;
 use ch_text::{Input, Output, save_text};
+use std::alloc::AllocError;
 use std::thread::Threads;
 
 /// Reads a graph, and writes its hierarchy as a saved one: the contraction hierarchy that it builds, or the one
@@ -54,7 +57,20 @@ pub fn run_save<R: Threads + Sync, I: Input, S: Input + Drop, O: Output, G: Gate
     ensures same { (I.origin graph.new ≡ I.origin graph.old) × (source_origin S.origin source.new ≡ source_origin S.origin source.old) }
 {
     let loaded = loaded_from(crew, graph, source)?;
-    let hierarchy = loaded.hierarchy(crew, options.hops, options.order)?;
-    let text = save_text(crew.alloc, &hierarchy)?;
+    let text = save_text_of(crew, loaded, options)?;
     write_text(output, &text)
+}
+
+/// Returns the text of the hierarchy that serves.
+fn save_text_of<R: Threads + Sync, G: Gate>(
+    crew: &Crew<'_, R, G>,
+    loaded: Loaded,
+    options: &Options,
+) -> Result<Vec<u8>, AllocError>
+    requires kept { IfSome loaded.saved (IsKept loaded.graph) }
+    requires hops { IsNone loaded.saved → IsHopBound options.now.hops }
+    ensures { IfOk result (λ text. IsSaveTextOf (IsOfRoutes options.now loaded.graph loaded.saved) text.items) }
+{
+    let hierarchy = loaded.hierarchy(crew, options.hops, options.order)?;
+    save_text(crew.alloc, &hierarchy)
 }

@@ -13,7 +13,6 @@ ghost use Rattle.ch_run.specs.Serving.{AnswersInTurn, GivesUntil, IsRoomFor, pla
 use super::answering::{Answering, Room, answer_requests};
 use super::batch::gather;
 use super::inputs::counts_one_more;
-use super::output::has_room;
 use crate::fault::{RunFault, Which};
 use crate::plan::{Crew, Gate};
 use ch_read::RequestReader;
@@ -35,7 +34,7 @@ pub(crate) fn serve<R: Threads + Sync, J: Input, O: Output, G: Gate>(
     ensures { Serves (IsTextOfRequest by.now.options.now by.now.checked.now.graph by.now.checked.now.hierarchy) O.write_gives by.now.checked.now.graph.nodes
         (reading J.read_gives requests.old requests.new) output.old output.new result }
 {
-    if !counts_one_more(requests) || !has_room(output) {
+    if !counts_one_more(requests) {
         return Err(RunFault::Memory);
     }
     let mut buffer = Vec::from_elem(crew.alloc, 0, ROOM)?;
@@ -58,8 +57,6 @@ fn serve_in<'a, R: Threads + Sync, J: Input, O: Output, G: Gate>(
     requires room { IsRoomFor by.now.options.now.direction by.now.checked.now.hierarchy room.old }
     requires none { room.old.near ≡ None }
     requires requests { CanCountOneMore (J.failed requests.old) }
-    requires failures { CanCountOneMore (O.failed output.old) }
-    requires zeros { CanCountOneMore (O.idle output.old) }
     ensures { Serves (IsTextOfRequest by.now.options.now by.now.checked.now.graph by.now.checked.now.hierarchy) O.write_gives by.now.checked.now.graph.nodes
         (reading J.read_gives requests.old requests.new) output.old output.new result }
 {
@@ -107,8 +104,6 @@ fn answer_whole<'a, R: Threads + Sync, O: Output, G: Gate>(
     requires room { IsRoomFor by.now.options.now.direction by.now.checked.now.hierarchy room.old }
     requires nodes { reader.old.nodes ≡ by.now.checked.now.graph.nodes }
     requires counted { written.old < 2 ^ 64 }
-    requires failures { CanCountOneMore (O.failed output.old) }
-    requires zeros { CanCountOneMore (O.idle output.old) }
     ensures answered { (given : List RequestOf) × GivesUntil ended reader.old reader.new given result
         × AnswersInTurn (IsTextOfRequest by.now.options.now by.now.checked.now.graph by.now.checked.now.hierarchy) O.write_gives (places_of room.old.near) output.old output.new
         written.old written.new given result

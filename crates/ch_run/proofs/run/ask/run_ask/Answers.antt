@@ -2,21 +2,10 @@ use Rattle.std.proofs.Common.{inl, inr, refl}
 use Rattle.ch_run.specs.Ask.{IsRequestText, IsTextOfRequest}
 use Rattle.ch_run.specs.Source.{IsServing, order_built}
 use Rattle.ch_run.proofs.AskStory.{ask_served}
-use Rattle.ch_run.proofs.Loading.{loaded_built, loaded_kept, loaded_limits}
 use Rattle.ch_run.proofs.Owed.{ends_as}
 use Rattle.ch_run.proofs.Served.{asked_in, served_weaker}
 use Rattle.ch_run.proofs.Story.{loads_on, loads_stops}
 use Rattle.ch_run.proofs.run.ask.run_ask.Goals as goal
-
--- the loaded graph and hierarchy meet the requirements of the answers
-pub checked-requires-clause-kept : goal.checked-requires-clause-kept
-checked-requires-clause-kept g c = λ κs outlives. loaded_kept _ _ _ _ c.in_ok-loaded.ensures.value
-
-pub checked-requires-clause-hops : goal.checked-requires-clause-hops
-checked-requires-clause-hops g c = λ κs outlives none. c.requires.hops (loaded_built _ g.S.Input.read_gives g.S.Input.origin _ _ _ _ c.in_ok-loaded.ensures.value c.in_ok-loaded.ensures.same_source none)
-
-pub serve-requires-clause-limits : goal.serve-requires-clause-limits
-serve-requires-clause-limits g c = λ κs outlives. rw c.in_ok-checked.ensures.graph (loaded_limits _ _ _ _ c.in_ok-loaded.ensures.value)
 
 -- the story, as far as it went
 pub returns-in_err-loaded-clause-went : goal.returns-in_err-loaded-clause-went

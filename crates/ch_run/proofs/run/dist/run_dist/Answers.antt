@@ -1,19 +1,8 @@
 use Rattle.std.proofs.Common.{inl, inr, refl}
-use Rattle.ch_run.proofs.Loading.{loaded_built, loaded_kept, loaded_limits}
 use Rattle.ch_run.proofs.Owed.{err_as}
 use Rattle.ch_run.proofs.Stories.{dist_delivers}
 use Rattle.ch_run.proofs.Story.{loads_on, loads_stops, writes_none, writes_weaker}
 use Rattle.ch_run.proofs.run.dist.run_dist.Goals as goal
-
--- the loaded graph and hierarchy meet the requirements of the text
-pub text_of-requires-clause-limits : goal.text_of-requires-clause-limits
-text_of-requires-clause-limits g c = λ κs outlives. loaded_limits _ _ _ _ c.in_ok-loaded.ensures.value
-
-pub text_of-requires-clause-kept : goal.text_of-requires-clause-kept
-text_of-requires-clause-kept g c = λ κs outlives. loaded_kept _ _ _ _ c.in_ok-loaded.ensures.value
-
-pub text_of-requires-clause-hops : goal.text_of-requires-clause-hops
-text_of-requires-clause-hops g c = λ κs outlives none. c.requires.hops (loaded_built _ g.S.Input.read_gives g.S.Input.origin _ _ _ _ c.in_ok-loaded.ensures.value c.in_ok-loaded.ensures.same_source none)
 
 -- the story, as far as it went
 pub returns-in_err-loaded-clause-went : goal.returns-in_err-loaded-clause-went

@@ -1,23 +1,10 @@
-use Rattle.std.proofs.Common.{ℕ, List, inl, inr, refl, ◌∙◌, subst, sym}
+use Rattle.std.proofs.Common.{◌∙◌, ℕ, List, inl, inr, refl, subst}
 use Rattle.ch_contract.specs.Like.{IsHierarchyLike}
 use Rattle.ch_hierarchy.specs.Saved.{IsOrderOf}
+use Rattle.ch_run.specs.Story.{IsOrderFault}
 use Rattle.ch_run.proofs.Owed.{err_as}
-use Rattle.ch_run.proofs.Story.{order_ends}
+use Rattle.ch_run.proofs.Story.{order_ends, order_refused}
 use Rattle.ch_run.proofs.run.loading.built_from.Goals as goal
-
-pub returns-in-Ok-clause-value : goal.returns-in-Ok-clause-value
-returns-in-Ok-clause-value g c =
-    let network = c.in_ok-graph.graph in (
-      c.in_ok-saved.saved,
-      record {
-        reads_graph = c.in_ok-graph.ensures.value;
-        limits = c.arcs.ensures.limits;
-        reads_order = c.in_ok-saved.ensures.value;
-        each = subst (λ (given : List ℕ). IsOrderOf network.nodes given) (c.deref.ensures.value ∙ c.order_in-given.ensures) c.in-Ok.ensures.order;
-        like = subst (λ (given : List ℕ). IsHierarchyLike network c.args.hops given c.args.fresh c.in-Ok.hierarchy) (c.deref.ensures.value ∙ c.order_in-given.ensures) c.in-Ok.ensures.hierarchy;
-        kept = c.in-Ok.ensures.kept;
-      },
-    )
 
 -- the story, as far as it went
 pub returns-in_err-graph-clause-went : goal.returns-in_err-graph-clause-went
@@ -29,31 +16,22 @@ returns-in_err-saved-clause-went g c =
     let network = c.in_ok-graph.graph in
     inr (read.0, network, read.1, (read.2, c.arcs.ensures.limits), inl (err_as _ _ _ c.from_residual-in_err-saved.ensures.1 (order_ends _ network _ c.in_err-saved.ensures.ends), tt))
 
-pub returns-in-Ok-clause-went : goal.returns-in-Ok-clause-went
-returns-in-Ok-clause-went g c =
+pub returns-in_err-hierarchy-clause-went : goal.returns-in_err-hierarchy-clause-went
+returns-in_err-hierarchy-clause-went g c =
     let read = c.in_ok-graph.ensures.value in
     let told = c.in_ok-saved.ensures.value in
     let network = c.in_ok-graph.graph in
-    let each = subst (λ (given : List ℕ). IsOrderOf network.nodes given) (c.deref.ensures.value ∙ c.order_in-given.ensures) c.in-Ok.ensures.order in
-    let like = subst (λ (given : List ℕ). IsHierarchyLike network c.args.hops given c.args.fresh c.in-Ok.hierarchy) (c.deref.ensures.value ∙ c.order_in-given.ensures) c.in-Ok.ensures.hierarchy in
-    inr (read.0, network, read.1, (read.2, c.arcs.ensures.limits), inr (told.0, c.in-Ok.hierarchy, told.1, (c.in_ok-saved.saved, told.2, each, like, c.in-Ok.ensures.kept), (refl, refl)))
-
-pub returns-in-Err-Order-clause-went : goal.returns-in-Err-Order-clause-went
-returns-in-Err-Order-clause-went g c =
-    let read = c.in_ok-graph.ensures.value in
-    let told = c.in_ok-saved.ensures.value in
-    let network = c.in_ok-graph.graph in
-    let refused = c.build_like.ensures.refused (let field = c.in-Err-Order.is in cc) in
-    inr (
-      read.0,
-      network,
-      read.1,
-      (read.2, c.arcs.ensures.limits),
-      inl ((told.0, told.1, (c.in_ok-saved.saved, told.2, λ is. refused (subst (λ (given : List ℕ). IsOrderOf network.nodes given) (sym (c.deref.ensures.value ∙ c.order_in-given.ensures)) is))), tt),
-    )
+    let refused = subst (λ (given : List ℕ). IsOrderFault network given c.in_err-hierarchy.field-0.0) (c.deref.ensures.value ∙ c.order_in-given.ensures) c.in_err-hierarchy.ensures.refused in
+    inr (read.0, network, read.1, (read.2, c.arcs.ensures.limits), inl (err_as _ _ _ c.from_residual-in_err-hierarchy.ensures.1 (order_refused _ network told.0 c.in_ok-saved.saved _ told.1 told.2 refused), tt))
 
 pub returns-clause-went : goal.returns-clause-went
 returns-clause-went g c =
     let read = c.in_ok-graph.ensures.value in
     let told = c.in_ok-saved.ensures.value in
-    inr (read.0, c.in_ok-graph.graph, read.1, (read.2, c.arcs.ensures.limits), inl ((told.0, inr told.1), tt))
+    let network = c.in_ok-graph.graph in
+    let H = c.in_ok-hierarchy.hierarchy in
+    let built = c.in_ok-hierarchy.ensures in
+    let same = c.deref.ensures.value ∙ c.order_in-given.ensures in
+    let each = subst (λ (given : List ℕ). IsOrderOf network.nodes given) same built.order in
+    let like = subst (λ (given : List ℕ). IsHierarchyLike network c.args.hops given c.args.fresh H) same built.like in
+    inr (read.0, network, read.1, (read.2, c.arcs.ensures.limits), inr (told.0, H, told.1, (c.in_ok-saved.saved, told.2, each, like, built.kept), (refl, refl)))

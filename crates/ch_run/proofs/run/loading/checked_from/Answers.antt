@@ -3,10 +3,6 @@ use Rattle.ch_run.proofs.Owed.{err_as}
 use Rattle.ch_run.proofs.Story.{saved_ends}
 use Rattle.ch_run.proofs.run.loading.checked_from.Goals as goal
 
-pub returns-in-Ok-clause-value : goal.returns-in-Ok-clause-value
-returns-in-Ok-clause-value g c =
-    (c.in_ok-saved.saved, record { reads_graph = c.in_ok-graph.ensures.value; limits = c.arcs.ensures.limits; reads_saved = c.in_ok-saved.ensures.value; names = c.in-Ok.ensures.hierarchy })
-
 -- the story, as far as it went
 pub returns-in_err-graph-clause-went : goal.returns-in_err-graph-clause-went
 returns-in_err-graph-clause-went g c = inl (err_as _ _ _ c.from_residual.ensures.1 c.in_err-graph.ensures.ends, refl)

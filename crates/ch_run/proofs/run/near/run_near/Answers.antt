@@ -1,21 +1,10 @@
 use Rattle.std.proofs.Common.{◌≡◌, inr, refl}
-use Rattle.ch_run.proofs.Loading.{loaded_built, loaded_kept, loaded_limits}
 use Rattle.ch_run.proofs.Stories.{near_delivers}
 use Rattle.ch_run.proofs.Story.{loads_on, loads_stops, node_lists_stop, sources_on, writes_none, writes_weaker}
 use Rattle.ch_run.specs.declared.run.lists.Lists.{Lists}
 use Rattle.ch_run.specs.NearRun.{sources_reading}
 use Rattle.ch_run.specs.Run.{reading}
 use Rattle.ch_run.proofs.run.near.run_near.Goals as goal
-
--- the loaded graph and hierarchy meet the requirements of the text
-pub near_of-requires-clause-limits : goal.near_of-requires-clause-limits
-near_of-requires-clause-limits g c = λ κs outlives. loaded_limits _ _ _ _ c.in_ok-loaded.ensures.value
-
-pub near_of-requires-clause-kept : goal.near_of-requires-clause-kept
-near_of-requires-clause-kept g c = λ κs outlives. loaded_kept _ _ _ _ c.in_ok-loaded.ensures.value
-
-pub near_of-requires-clause-hops : goal.near_of-requires-clause-hops
-near_of-requires-clause-hops g c = λ κs outlives none. c.requires.hops (loaded_built _ g.S.Input.read_gives g.S.Input.origin _ _ _ _ c.in_ok-loaded.ensures.value c.in_ok-loaded.ensures.same_source none)
 
 -- the story, as far as it went
 pub returns-in_err-loaded-clause-went : goal.returns-in_err-loaded-clause-went

@@ -30,5 +30,5 @@ returns-in_err-write_more g c =
     let wrote = subst (λ (text : List ℕ). WritesMore {T = Unit} g.O.Output.write_gives c.loop-part.output c.write_more.new.output c.loop-part.written c.write_more.new.written text (Err e)) same c.in_err-write_more.ensures.more in
     record {
       wrote = part_failed c.args.parts.now c.loop-part.part-index part c.loop-part-test.true g.O.Output.write_gives _ _ _ c.loop-part.written c.write_more.new.written e c.from_residual.result c.requires.length c.loop-part.invariant.taken
-          c.loop-part.invariant.written wrote c.from_residual.ensures.1;
+          c.loop-part.invariant.written wrote c.in_err-write_more.ensures.own c.from_residual.ensures.1;
     }

@@ -1,37 +1,23 @@
 use Rattle.std.proofs.Common.{refl}
-use Rattle.ch_run.proofs.Loading.{loaded_built, loaded_kept}
 use Rattle.ch_run.proofs.Stories.{save_delivers}
 use Rattle.ch_run.proofs.Story.{loads_on, loads_stops, writes_none, writes_weaker}
 use Rattle.ch_run.proofs.run.save.run_save.Goals as goal
 
--- the loaded graph and hierarchy meet the requirements of the hierarchy that serves
-pub hierarchy-requires-clause-kept : goal.hierarchy-requires-clause-kept
-hierarchy-requires-clause-kept g c = λ κs outlives. loaded_kept _ _ _ _ c.in_ok-loaded.ensures.value
-
-pub hierarchy-requires-clause-hops : goal.hierarchy-requires-clause-hops
-hierarchy-requires-clause-hops g c = λ κs outlives none. c.requires.hops (loaded_built _ g.S.Input.read_gives g.S.Input.origin _ _ _ _ c.in_ok-loaded.ensures.value c.in_ok-loaded.ensures.same_source none)
-
 -- the story, as far as it went
 pub returns-in_err-loaded-clause-went : goal.returns-in_err-loaded-clause-went
 returns-in_err-loaded-clause-went g c = loads_stops _ _ _ _ _ _ _ _ c.from_residual.ensures.1 refl c.in_err-loaded.ensures.went
-
-pub returns-in_err-hierarchy-clause-went : goal.returns-in_err-hierarchy-clause-went
-returns-in_err-hierarchy-clause-went g c = loads_on _ _ _ _ _ _ _ _ _ _ (writes_none _ _ _ _ c.from_residual-in_err-hierarchy.ensures.1) c.in_ok-loaded.ensures.went
 
 pub returns-in_err-text-clause-went : goal.returns-in_err-text-clause-went
 returns-in_err-text-clause-went g c = loads_on _ _ _ _ _ _ _ _ _ _ (writes_none _ _ _ _ c.from_residual-in_err-text.ensures.1) c.in_ok-loaded.ensures.went
 
 pub returns-clause-went : goal.returns-clause-went
 returns-clause-went g c =
-    let wrote = writes_weaker _ _ _ _ _ c.write_text.result (_, c.in_ok-hierarchy.ensures.serving, rw c.deref.ensures.value c.in_ok-text.ensures) c.write_text.ensures.wrote in
+    let wrote = writes_weaker _ _ _ _ _ c.write_text.result (rw c.deref.ensures.value c.in_ok-text.ensures) c.write_text.ensures.wrote in
     loads_on _ _ _ _ _ _ _ _ _ _ wrote c.in_ok-loaded.ensures.went
 
 -- so it delivered the text
 pub returns-in_err-loaded-clause-written : goal.returns-in_err-loaded-clause-written
 returns-in_err-loaded-clause-written g c = save_delivers c.args.options.now _ _ _ _ _ _ _ (returns-in_err-loaded-clause-went g c)
-
-pub returns-in_err-hierarchy-clause-written : goal.returns-in_err-hierarchy-clause-written
-returns-in_err-hierarchy-clause-written g c = save_delivers c.args.options.now _ _ _ _ _ _ _ (returns-in_err-hierarchy-clause-went g c)
 
 pub returns-in_err-text-clause-written : goal.returns-in_err-text-clause-written
 returns-in_err-text-clause-written g c = save_delivers c.args.options.now _ _ _ _ _ _ _ (returns-in_err-text-clause-went g c)

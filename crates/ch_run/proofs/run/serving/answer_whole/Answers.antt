@@ -1,6 +1,5 @@
 use Rattle.std.proofs.Common.{◌++◌, List, Ok, Err, Result, [], refl, sym, ap, ◌∙◌, subst}
 use Rattle.ch_read.specs.RequestLists.{PlaceList}
-use Rattle.ch_text.proofs.Moves.{took-counts}
 use Rattle.ch_read.specs.declared.request.Request.{Request}
 use Rattle.ch_run.specs.Ask.{IsTextOfRequest, places_after}
 use Rattle.ch_run.specs.Serving.{AnswersInTurn, GivesUntil, end_of, places_of}
@@ -21,8 +20,6 @@ loop-init g c = record {
     answers_none (IsTextOfRequest c.args.by.now.options.now c.args.by.now.checked.now.graph c.args.by.now.checked.now.hierarchy) g.O.Output.write_gives (places_of c.args.room.now.near) c.args.output.now c.args.written.now c.requires.counted,
     refl,
   );
-  failed = refl;
-  idle = refl;
 }
 
 pub returns-in_err-answer_requests-clause-answered : goal.returns-in_err-answer_requests-clause-answered
@@ -70,7 +67,6 @@ loop-preserved g c =
     let goes = rw c.in_default.is at c.end.ensures in
     let told = rw c.deref.ensures.value at c.in_ok-answer_requests.ensures.answers in
     let held = rw c.deref.ensures.value at c.in_ok-answer_requests.ensures.places in
-    let same = took-counts g.O.Output.write_gives g.O.Output.failed g.O.Output.idle g.met.O.Output.counts _ _ [] _ told.2 in
     record {
       nodes = c.gather-batch.ensures.nodes ∙ c.loop.invariant.nodes;
       room = c.in_ok-answer_requests.ensures.room;
@@ -82,8 +78,6 @@ loop-preserved g c =
         answers_on P g.O.Output.write_gives {T = Unit} places (places_of c.loop.room.near) _ _ _ _ _ _ so_far.0 these (Ok tt) so_far.2 so_far.3 told,
         held ∙ ap (λ (p : PlaceList). places_after p these) so_far.3 ∙ sym (places_append places so_far.0 these),
       );
-      failed = same.0 ∙ c.loop.invariant.failed;
-      idle = same.1 ∙ c.loop.invariant.idle;
     }
 
 pub returns-clause-answered : goal.returns-clause-answered

@@ -14,6 +14,4 @@ invariant-loop g l = record {
       × AnswersInTurn {T = Unit} (IsTextOfRequest l.by.options.now l.by.checked.now.graph l.by.checked.now.hierarchy) g.O.Output.write_gives (places_of l.initial.room.near) l.initial.output l.output
       l.initial.written l.written given (Ok tt)
       × (places_of l.room.near ≡ places_after (places_of l.initial.room.near) given);
-  failed : g.O.Output.failed l.output ≡ g.O.Output.failed l.initial.output;
-  idle : g.O.Output.idle l.output ≡ g.O.Output.idle l.initial.output;
 }

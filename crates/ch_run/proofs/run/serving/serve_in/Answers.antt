@@ -1,4 +1,4 @@
-use Rattle.std.proofs.Common.{◌≡◌, ◌<◌, ◌==◌, [], length, refl, ◌∙◌, subst, arith}
+use Rattle.std.proofs.Common.{◌≡◌, ◌<◌, ◌==◌, length, refl, ◌∙◌, subst, arith}
 use Rattle.std.specs.Prelude.{IsErrAnd}
 use Rattle.std.proofs.lemmas.Bool.{eq-eqb, ne_eqb}
 use Rattle.ch_run.specs.Ask.{IsTextOfRequest}
@@ -7,7 +7,6 @@ use Rattle.ch_run.specs.Serving.{places_of}
 use Rattle.ch_run.specs.declared.fault.RunFault.{RunFault}
 use Rattle.ch_run.specs.declared.fault.RunFault.TheVariants.{Device, Memory}
 use Rattle.ch_run.specs.declared.fault.Which.TheVariants.{Requests}
-use Rattle.ch_text.proofs.Moves.{took-counts}
 use Rattle.ch_run.proofs.Served.{fed_done, fed_more, fed_refused, fed_served, passes_end, served_long, served_none, served_refused, served_unfed}
 use Rattle.ch_run.proofs.run.serving.serve_in.Goals as goal
 
@@ -20,8 +19,6 @@ loop-init g c =
       kept = c.requires.room;
       served = rw (c.new-reader.ensures, c.nodes.ensures, c.requires.none) (served_none P n g.J.Input.read_gives g.O.Output.write_gives c.args.requests.now c.args.output.now);
       reads = refl;
-      failed = refl;
-      idle = refl;
     }
 
 pub loop-preserved : goal.loop-preserved
@@ -32,15 +29,12 @@ loop-preserved g c =
     let had = fed_more P n g.J.Input.read_gives g.O.Output.write_gives c.args.requests.now c.loop.requests c.read_once.new.requests c.args.output.now c.loop.output
     c.loop.written c.loop.reader c.feed.new.self (places_of c.loop.room.near) c.read_once.new.buffer _ c.in_ok-count.count c.in_ok-feed.ensures.fed refl c.loop.invariant.served c.in_ok-count.ensures.given c.in_ok-count.ensures.fits room in
     let answered = c.in_ok-answer_whole.ensures.answered in
-    let same = took-counts g.O.Output.write_gives g.O.Output.failed g.O.Output.idle g.met.O.Output.counts _ _ [] _ answered.2.2 in
     record {
       room = room;
       kept = c.in_ok-answer_whole.ensures.room;
       served = fed_served P n g.J.Input.read_gives g.O.Output.write_gives c.args.requests.now c.read_once.new.requests _ _ _ _ _ c.feed.new.self c.answer_whole.new.reader (places_of c.loop.room.near) answered.0 (c.in_ok-count.count == 0) (ne_eqb c.in_ok-count.count 0 c.if-ended.false) had answered.1 answered.2
           c.in_ok-answer_whole.ensures.used_up c.in_ok-answer_whole.ensures.nodes (places_of c.answer_whole.new.room.near) answered.3;
       reads = c.in_ok-count.ensures.failures ∙ (let so_far = c.loop.invariant.reads in omega arith);
-      failed = same.0 ∙ c.loop.invariant.failed;
-      idle = same.1 ∙ c.loop.invariant.idle;
     }
 
 pub returns-in_err-count : goal.returns-in_err-count

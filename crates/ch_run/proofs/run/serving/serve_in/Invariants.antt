@@ -4,7 +4,7 @@ use Rattle.ch_run.specs.Serving.{IsRoomFor, places_of}
 use Rattle.ch_run.proofs.Served.{HasServed}
 use Rattle.ch_run.proofs.run.serving.serve_in.Given as goal
 
--- all requests that are whole in the bytes read so far are answered, and no call of a device has failed
+-- all requests that are whole in the bytes read so far are answered, and no read has failed
 abbrev pub invariant-loop : goal.invariant-loop
 invariant-loop g l = record {
   room : 0 < length l.buffer;
@@ -12,6 +12,4 @@ invariant-loop g l = record {
   served : HasServed (IsTextOfRequest l.by.options.now l.by.checked.now.graph l.by.checked.now.hierarchy) l.by.checked.now.graph.nodes g.J.Input.read_gives g.O.Output.write_gives
       l.initial.requests l.requests l.initial.output l.output l.written l.reader (places_of l.room.near);
   reads : g.J.Input.failed l.requests ≡ g.J.Input.failed l.initial.requests;
-  failed : g.O.Output.failed l.output ≡ g.O.Output.failed l.initial.output;
-  idle : g.O.Output.idle l.output ≡ g.O.Output.idle l.initial.output;
 }

@@ -1,20 +1,9 @@
 use Rattle.std.proofs.Common.{◌≡◌, inr, refl}
-use Rattle.ch_run.proofs.Loading.{loaded_built, loaded_kept, loaded_limits}
 use Rattle.ch_run.proofs.Stories.{table_delivers}
 use Rattle.ch_run.proofs.Story.{lists_stop, loads_on, loads_stops, writes_none, writes_weaker}
 use Rattle.ch_run.specs.declared.run.lists.Lists.{Lists}
 use Rattle.ch_run.specs.Run.{reading}
 use Rattle.ch_run.proofs.run.table.run_table.Goals as goal
-
--- the loaded graph and hierarchy meet the requirements of the text
-pub table_of-requires-clause-limits : goal.table_of-requires-clause-limits
-table_of-requires-clause-limits g c = λ κs outlives. loaded_limits _ _ _ _ c.in_ok-loaded.ensures.value
-
-pub table_of-requires-clause-kept : goal.table_of-requires-clause-kept
-table_of-requires-clause-kept g c = λ κs outlives. loaded_kept _ _ _ _ c.in_ok-loaded.ensures.value
-
-pub table_of-requires-clause-hops : goal.table_of-requires-clause-hops
-table_of-requires-clause-hops g c = λ κs outlives none. c.requires.hops (loaded_built _ g.S.Input.read_gives g.S.Input.origin _ _ _ _ c.in_ok-loaded.ensures.value c.in_ok-loaded.ensures.same_source none)
 
 -- the story, as far as it went
 pub returns-in_err-loaded-clause-went : goal.returns-in_err-loaded-clause-went
