@@ -8,8 +8,8 @@
 //!   the bytes.
 //! - [`Engine::open_like`] gives a hierarchy that is right for another graph, in the order of an engine's hierarchy, or an
 //!   error that is true of the bytes. With all nodes afresh it is the one that [`Engine::open`] builds.
-//! - Distances, tables, routes and near rows are those of each graph for which the hierarchy is right. Sums are those of
-//!   the near rows.
+//! - Distances, tables, routes and near rows are those of each graph for which the hierarchy is right. Sums are those over
+//!   near rows and along routes.
 //! - No call requires anything of its arguments. A refusal says what is wrong, and changes nothing.
 #![tactic(auto)]
 

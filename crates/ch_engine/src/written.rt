@@ -20,22 +20,22 @@ pub enum End {
     NoMemory,
 }
 
-/// The number of sources whose sums were written, and why no more were.
+/// The number of sources or pairs whose sums were written, and why no more were.
 #[derive(Clone, Copy, Debug, PartialEq, Eq)]
 pub struct Summed {
-    /// The number of sources. They are the first ones.
+    /// The number of sources or pairs. They are the first ones.
     pub count: u64,
     /// The reason why no more were written.
     pub end: SumsEnd,
 }
 
-/// The reason why the sums of no more sources were written.
+/// The reason why the sums of no more sources or pairs were written.
 #[derive(Clone, Copy, Debug, PartialEq, Eq)]
 pub enum SumsEnd {
     /// All were written.
     All,
-    /// A sum of the next source is 2^64 or more.
+    /// A sum of the next source or pair is 2^64 or more.
     TooLarge,
-    /// There was no memory for the row of the next source.
+    /// There was no memory for the row of the next source, or for the route of the next pair.
     NoMemory,
 }
