@@ -1,11 +1,11 @@
 #!/usr/bin/python3
-"""Prints the goal or the error with which the proofs refuse each planted bug of the gate. It fails if a bug is refused for a name or by a limit alone.
+"""Prints the goal or the error with which the proofs refuse each planted bug of the gate. It fails if a bug is not refused at a goal.
 
   edits.py [LOG]
 
-LOG is what `rt ci` or `rt must-fail` printed. Without it, `rt must-fail` is run. Three kinds of refusal show little of a contract: for a name that a
-proof uses, by a limit of the prover, and where a proof by hand no longer fits, since the goal may still hold. The last is reported, and the others
-fail. The bugs below `planted/` are tried by `planted.py`.
+LOG is what `rt ci` or `rt must-fail` printed. Without it, `rt must-fail` is run. Other kinds of refusal show little of a contract: for a name that a
+proof uses, by a limit of the prover, and where a proof by hand no longer fits, since the goal may still hold. The bugs below `planted/` are tried by
+`planted.py`.
 The last line is 'N passed, N failed'.
 """
 import subprocess

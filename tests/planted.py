@@ -7,8 +7,8 @@
 - --all: also the bugs of `must-fail/`, which the gate tries.
 
 The repository is copied to a temporary folder, where the bugs stand in `must-fail/`, and `rt must-fail NAME` tries them there: several crates
-side by side, as many as processors and memory allow. Each bug must be refused, as `edits.py` has it. The outcomes say which bugs are refused at a
-goal, and where only a proof by hand no longer fits.
+side by side, as many as processors and memory allow. Each bug must be refused, and neither for a name nor by a limit alone. The outcomes say which
+bugs are refused at a goal, and where only a proof by hand no longer fits. A bug of the gate must be refused at a goal, as `edits.py` has it.
 Run it before a release, and for each crate whose contracts changed. A bug takes 10 to 60 seconds, and each crate one more proof.
 The last line is 'N passed, N failed'.
 """
