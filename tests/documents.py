@@ -9,11 +9,16 @@ It only reads files, and needs no built program. The last line is 'N passed, N f
 import ast
 import functools
 import re
+import shutil
 import subprocess
+import sys
 from pathlib import Path
 
+sys.path.insert(0, str(Path(__file__).resolve().parent.parent / "packaging"))
+
 import believe
-from helpers import layers
+import options
+from helpers import adding, layers
 from helpers.planting import pairs_of
 from helpers.prose import CODE, check_prose, check_sentence, prose
 from helpers.running import ROOT, Count
@@ -24,6 +29,8 @@ PAGES = (
 )
 PROVED, MEASUREMENTS, REFERENCE = (ROOT / "docs" / name for name in ("PROVED.md", "MEASUREMENTS.md", "REFERENCE.md"))
 MOST_LINES_OF_README, MOST_WORDS_OF_ARCHITECTURE = 120, 4_500
+# An option that is added changes at most so many files.
+MOST_FILES_OF_OPTION = 12
 # A name of a file or folder with a slash; one without, of what a document is about; and the suffixes of text.
 PATH = re.compile(r"[\w.-]+(?:/[\w.-]+)+/?|[\w-]+/")
 FILE = re.compile(r"[\w-]+\.(?:antt|c|cpp|md|py|rs|rt|sh|toml)")
@@ -215,7 +222,7 @@ def check_help(tally, path):
 
 # What docs/REFERENCE.md has once.
 
-FORM, ARGUMENTS = (ROOT / "crates" / "ch_words" / "src" / name for name in ("form.rt", "arguments.rt"))
+FORM = ROOT / "crates" / "ch_words" / "src" / "form.rt"
 FAULTS = ROOT / "crates/ch_run/specs/Fault.antt"
 COMMANDS = ROOT / "python/chtab/cli"
 # The constants of limits with the rows that state them, and those that no user meets.
@@ -223,8 +230,7 @@ LIMITS = (
     ("MOST_NODES", "nodes of a graph"), ("MOST_ARCS", "arcs of a graph"), ("MOST_WEIGHT", "number of nodes times the weight of any arc"),
     ("MOST_QUERIES", "queries of a file"), ("MOST_LISTED", "nodes of a list of sources or of targets"), ("MOST_LEGS", "edges of a saved hierarchy"),
     ("MOST_CELLS", "cells of a table, sources times targets"), ("MOST_WEIGHT", "weight of an edge"), ("MOST_NODES", "arcs that an edge stands for"),
-    ("MOST_WITHIN", "`--within R`"), ("MOST_COUNT", "`--count K`"), ("MOST_WORKERS", "`--workers N`"), ("MOST_PIECE", "`--piece K`"),
-    ("MOST_HOPS", "`--hops H`"),
+    ("MOST_WITHIN", "`--within R`"), ("MOST_COUNT", "`--count K`"),
 )
 INNER_LIMITS = "MOST_SUM", "MOST_PATH_ARCS", "MOST_OFFER"
 
@@ -263,23 +269,31 @@ def shown(value):
 
 def check_limits(tally):
     stated = {**{row[0]: row[1:] for row in rows("Options")}, **{row[0]: row[1:] for row in rows("Limits")}}
-    values = limits()
+    values, table = limits(), (ROOT / options.TABLE).read_text()
     for name in values:
-        tally.expect(name in INNER_LIMITS or any(name == known for known, _ in LIMITS), f"documents.py knows no row of the limit {name}")
+        is_known = name in INNER_LIMITS or any(name == known for known, _ in LIMITS) or re.search(rf"\bmost: {name}\b", table)
+        tally.expect(is_known, f"documents.py knows no row of the limit {name}")
     for name, label in LIMITS:
         expect_once(tally, f"the limit {label}", [row for row in rows("Options") + rows("Limits") if row[0] == label])
         words = set(re.findall(r"[\d^,]+", " ".join(stated.get(label, []))))
         tally.expect(words & set(shown(values[name])), f"REFERENCE.md: {label} has not the value of {name}, {values[name]}")
 
 
+def check_made(tally, root):
+    """What is made of the table of options is as the table has it."""
+    for file, make in options.MADE.items():
+        tally.expect((root / file).read_text() == make(root), f"{file} is not as packaging/options.py writes it")
+
+
 def check_options(tally):
-    """Each option of the program and of the tools has one row, and each number of the program's its default."""
-    made = r'\b(?:flag|option|number|limit)\(\s*alloc,\s*"(\w+)"'
-    for name in {*all_in(tally, FORM, made), *all_in(tally, ARGUMENTS, made), "help", "version"}:
+    """Each option of the program and of the tools has one row, and the help of each number of the program has its limits."""
+    check_made(tally, ROOT)
+    found = options.options()
+    for name in {option.name for option in found} | {"help", "version"}:
         expect_once(tally, f"the option --{name}", [row for row in rows("Options") if re.search(rf"`--{name}\b", row[0])])
-    for name, default in all_in(tally, FORM, r'\bnumber\(\s*alloc,\s*"(\w+)",\s*"\w+",\s*\w+,\s*"(\d+)"'):
-        found = [row[3] for row in rows("Options") if row[0].startswith(f"`--{name} ")]
-        tally.expect(found == [default], f"REFERENCE.md: the default of --{name} is {default}, not {found}")
+    for option in found:
+        is_told = not option.limits or "from {} to {}".format(*option.limits) in option.help
+        tally.expect(is_told, f"the help of --{option.name} does not have its limits {option.limits}")
     tools = "".join(path.read_text() for path in COMMANDS.glob("*.py"))
     names = {name for name, more in re.findall(r'add_argument\(\s*"--([\w-]+)"(.*)', tools) if "SUPPRESS" not in more}
     tally.expect(names, "documents.py finds no options of the tools")
@@ -287,6 +301,26 @@ def check_options(tally):
         expect_once(tally, f"the tools' option --{name}", [row for row in rows("Options of the tools") if re.match(rf"`--{name}\b(?!-)", row[1])])
     for row in rows("Options of the tools")[1:]:
         tally.expect(row[1].strip("`").split()[0].removeprefix("--") in names, f"REFERENCE.md has the option {row[1]}, which no tool has")
+
+
+def check_added(tally):
+    """An option is added in a copy, by the steps of CONTRIBUTING.md: they change few files, and what is made of the table has it then."""
+    try:
+        copy, changed = adding.added(ROOT)
+    except LookupError as fault:
+        tally.expect(False, f"the steps to add an option: {fault}")
+        return
+    check_made(tally, copy)
+    row, telling = "| `--beyond R` | `table` | 0 to 1152921504606846976 | no limit |", " | --beyond | "
+    tally.expect(row in (copy / options.REFERENCE).read_text(), "an option that is added has no row in REFERENCE.md")
+    tally.expect(telling in (copy / options.TELLING).read_text(), "an option that is added is not known to packaging/telling")
+    tally.expect(len(changed) <= MOST_FILES_OF_OPTION, f"an option that is added changes {len(changed)} files: {changed}")
+    steps = (ROOT / "CONTRIBUTING.md").read_text().split("## How do I add an option?")[1].split("\n## ")[0]
+    for file in changed:
+        named = str(Path(file).parent) if file.endswith(".edit") else file
+        tally.expect(f"`{named}`" in steps, f"CONTRIBUTING.md does not name {named} among the files of an option")
+    print(f"an option that is added changes {len(changed)} files")
+    shutil.rmtree(copy)
 
 
 def check_faults(tally):
@@ -425,6 +459,7 @@ def main():
         check_edit(tally, edit)
     check_limits(tally)
     check_options(tally)
+    check_added(tally)
     check_faults(tally)
     check_statuses(tally)
     believe.check_page(tally)

@@ -3,14 +3,19 @@
 
 - Options and files in any order, numbers in each form and at their limits: the text shows what was read.
 - Words that are refused, each with part of what is told; numbers outside their ranges, at each tool that reads them.
-- Help: what it says of each word. The version.
+- Help: what the table of options says of each option of a tool, and the rest. The version.
 - Where help can't be written, or refused words can't be told.
 
 The last line is 'N passed, N failed'.
 """
+import sys
 import tempfile
+from itertools import product
 from pathlib import Path
 
+sys.path.insert(0, str(Path(__file__).resolve().parent.parent / "packaging"))
+
+import options
 from helpers.running import PROGRAM, ROOT, Answer, Count, agrees, build, run
 
 # A line of three nodes; four nodes with two shortest paths from 2 to 4, of which the orders by difference and by depth take one each; and
@@ -162,29 +167,19 @@ ELSEWHERE = [
     ("table line.p2p from.ss none.ss", 3, "chtab: cannot read targets\n"),
 ]
 
-# Numbers outside their ranges, and what is told of them.
+# Texts that are no numbers within the ranges of an option, and what is told of them. Numbers just outside of its range come from the table.
 NUMBERS = [
-    ("--workers", "65", "65 is not in 1..=64"),
-    ("--workers", "0", "0 is not in 1..=64"),
-    ("--piece", "1048577", "1048577 is not in 1..=1048576"),
-    ("--piece", "0", "0 is not in 1..=1048576"),
-    ("--hops", "17", "17 is not in 1..=16"),
-    ("--hops", "0", "0 is not in 1..=16"),
     ("--hops", "x", "invalid value 'x'"),
     ("--workers", "1.5", "invalid value '1.5'"),
-    ("--fresh", "101", "101 is not in 0..=100"),
     ("--fresh", "x", "invalid value 'x'"),
 ]
 LIMITS = [
-    ("--within=1152921504606846977", "1152921504606846977 is not in 0..=1152921504606846976"),
     ("--within=18446744073709551616", "number too large"),
     ("--within=-1", "invalid value '-1'"),
     ("--within=x", "invalid value 'x'"),
     ("--within=", "for '--within <R>'"),
 ]
 COUNTS = [
-    ("--count=65537", "65537 is not in 1..=65536"),
-    ("--count=0", "0 is not in 1..=65536"),
     ("--count=-1", "invalid value '-1'"),
     ("--count=x", "invalid value 'x'"),
     ("--count=", "for '--count <K>'"),
@@ -293,7 +288,7 @@ REFUSED = [
     ("ask g --rounds --like o", WITH_ROUNDS),
 ]
 
-# Words that ask for help, and parts of what it says.
+# Words that ask for help, and parts of what it says beside its options, which come from the table.
 HELPS = {
     "--help": [
         "Usage: chtab <COMMAND>", "  dist   Write the distance of each query", "  table  Write the distances from each source", "  near   Write the nearest targets",
@@ -301,38 +296,27 @@ HELPS = {
         "chtab table roads.gr depots.ss shops.ss", "chtab near --count 3 roads.gr homes.ss doctors.ss", "chtab save --deep roads.gr >roads.ch",
         "chtab ask --saved roads.ch roads.gr <requests.txt",
     ],
-    "dist --help": [
-        "Usage: chtab dist [OPTIONS] <GRAPH> <QUERIES>", "`d S T X`", "--plain", "All other options but --progress then have no effect", "--routes",
-        "--deep", "halves the time of building", "another may be written", "--rounds", "Cannot be combined with --deep", "--saved <FILE>",
-        "`chtab save` or any other program wrote it", "refused, often by `saved line 1: size too large`",
-        "Options on how to build one then have no effect [default: none]", "--like <FILE>", "two thirds of the time", "or only its lines `p` and `o`",
-        "Cannot be combined with --saved, --deep or --rounds [default: none]", "--fresh <P>", "from 0 to 100 [default: 5]", "--workers <N>", "no answer depends on N [default: 1]",
-        "--piece <K>", "from 1 to 1048576 [default: 64]", "--hops <H>", "from 1 to 16 [default: 5]", "--progress",
-        "Example: chtab dist --routes roads.gr pairs.p2p",
-    ],
+    "dist --help": ["Usage: chtab dist [OPTIONS] <GRAPH> <QUERIES>", "`d S T X`", "p aux sp p2p K", "Example: chtab dist --routes roads.gr pairs.p2p"],
     "table --help": [
-        "Usage: chtab table [OPTIONS] <GRAPH> <SOURCES> <TARGETS>", "`t S X ..`", "--workers <N>", "--piece <K>", "--hops <H>", "p aux sp ss K",
-        "--within <R>", "from 0 to 1152921504606846976: such a cell of a table is - [default: no limit]", "--saved <FILE>",
-        "--progress", "chtab table roads.gr depots.ss shops.ss", "chtab table --within 900000 roads.gr homes.ss doctors.ss",
+        "Usage: chtab table [OPTIONS] <GRAPH> <SOURCES> <TARGETS>", "`t S X ..`", "p aux sp ss K", "chtab table roads.gr depots.ss shops.ss",
+        "chtab table --within 900000 roads.gr homes.ss doctors.ss",
     ],
     "near --help": [
         "Usage: chtab near [OPTIONS] <GRAPH> <SOURCES> <TARGETS>\n       chtab near [OPTIONS] --all <GRAPH> <TARGETS>\n", "`n S K T X ..`",
-        "--count <K>", "from 1 to 65536 [default: all]", "--within <R>", "from 0 to 1152921504606846976 [default: no limit]", "--from", "--all",
-        "in place of SOURCES", "--saved <FILE>", "--workers <N>", "--piece <K>", "--hops <H>", "--progress",
         "SOURCES and TARGETS, or with --all TARGETS alone", "p aux sp ss K", "chtab near --count 3 roads.gr homes.ss doctors.ss",
         "chtab near --all --within 900000 roads.gr doctors.ss",
     ],
     "save --help": [
-        "Usage: chtab save [OPTIONS] <GRAPH>", "--deep", "halves the time of building", "--rounds", "Cannot be combined with --deep",
-        "--workers <N>", "--piece <K>", "--hops <H>", "--progress", "chtab save --deep roads.gr >roads.ch",
-        "chtab save --rounds --workers 4 roads.gr >roads.ch", "--like <FILE>", "--fresh <P>", "chtab save --like roads.ch roads-at-noon.gr >roads-at-noon.ch",
+        "Usage: chtab save [OPTIONS] <GRAPH>", "chtab save --deep roads.gr >roads.ch", "chtab save --rounds --workers 4 roads.gr >roads.ch",
+        "chtab save --like roads.ch roads-at-noon.gr >roads-at-noon.ch",
     ],
     "ask --help": [
         "Usage: chtab ask [OPTIONS] <GRAPH>", "  q S T      the distance", "  r S T ", "  t K L [R]  ", "  p L K ", "  n S [R] ",
-        "--routes", "--deep", "--rounds", "Cannot be combined with --deep", "--within <R>", "--saved <FILE>", "--workers <N>", "--piece <K>", "--hops <H>", "--progress",
         "Example: chtab ask --saved roads.ch roads.gr <requests.txt",
     ],
 }
+# The tools, each with words for its files.
+TOOLS = {"dist": "g q", "table": "g s t", "near": "g s t", "ask": "g", "save": "g"}
 VERSION = (ROOT / "VERSION").read_bytes()
 MOST_COLUMNS = 100
 
@@ -360,8 +344,18 @@ def expect_refused(tally, folder, line, part):
     tally.expect(is_refused, f"{line}: {answer}, and not: {part}")
 
 
+def outside(option):
+    """The numbers from 0 on that are next to the range of an option."""
+    least, most = option.limits or (0, None)
+    return [*([least - 1] if least else []), *([most + 1] if most is not None else [])]
+
+
 def check_refused(tally, folder):
     """Each word that no tool reads."""
+    for option in options.merged(options.options()):
+        for number, tool in product(outside(option), option.tools or TOOLS):
+            part = "{} is not in {}..={}".format(number, *option.limits)
+            expect_refused(tally, folder, f"{tool} --{option.name}={number} {TOOLS[tool]}", part)
     for option, number, part in NUMBERS:
         for line in (f"dist {option} {number} --routes g q", f"table {option} {number} g s t", f"near {option} {number} --all g t",
                      f"save g {option} {number}", f"ask {option} {number} g"):
@@ -383,6 +377,12 @@ def check_help(tally, folder):
         for part in parts:
             tally.expect(part.encode() in answer.out, f"help by {line} does not say: {part}")
         tally.expect(b"[default: off]" not in answer.out, f"help by {line} gives flags a default")
+    for option in options.options():
+        name = f"--{option.name} <{option.letter}> " if option.letter else f"--{option.name} "
+        for tool in option.tools or TOOLS:
+            out = asked(folder, f"{tool} --help").out.decode()
+            found = [line.split(name)[1].strip() for line in out.splitlines() if line.strip().startswith(name)]
+            tally.expect(found in ([option.help], [f"{option.help} [default: {option.default}]"]), f"help of {tool} has of {name}: {found}")
     for line in asked(folder, "--help").out.splitlines():
         tally.expect(len(line) <= MOST_COLUMNS, f"help has a line of {len(line)} columns: {line}")
 

@@ -8,9 +8,9 @@ use Rattle.ch_run.specs.declared.fault.Which.{Which}
 use Rattle.ch_run.specs.declared.fault.RunFault.{RunFault}
 use Rattle.ch_text.specs.Device.{CountsAtMostOne}
 use Rattle.ch_run.specs.Run.{WritesOnce}
-use Rattle.ch_words.specs.declared.line.Choices.{Choices}
+use Rattle.ch_words.specs.declared.options.Choices.{Choices}
 use Rattle.ch_words.specs.declared.line.Line.{Line}
-use Rattle.ch_words.specs.declared.line.Order.{Order}
+use Rattle.ch_words.specs.declared.options.Order.{Order}
 use Rattle.ch_words.specs.declared.line.Tool.{Tool}
 use Rattle.ch_line.specs.declared.files.OpenFault.{OpenFault}
 use Rattle.ch_text.specs.declared.device.DeviceFault.{DeviceFault}

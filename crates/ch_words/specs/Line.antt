@@ -14,9 +14,9 @@ use Rattle.ch_graph.specs.declared.limits.TheConstants.{MOST_HOPS, MOST_LISTED, 
 use Rattle.ch_work.specs.declared.limits.TheConstants.{MOST_WORKERS, MOST_PIECE}
 use Rattle.ch_work.specs.Plan.{Division, IsWithinLimits}
 use Rattle.ch_words.specs.declared.fault.LineFault.{LineFault}
-use Rattle.ch_words.specs.declared.line.Choices.{Choices}
+use Rattle.ch_words.specs.declared.options.Choices.{Choices}
 use Rattle.ch_words.specs.declared.line.Line.{Line}
-use Rattle.ch_words.specs.declared.line.Order.{Order}
+use Rattle.ch_words.specs.declared.options.Order.{Order}
 use Rattle.ch_words.specs.declared.line.Tool.{Tool}
 use Rattle.ch_words.specs.declared.line.Tool.TheVariants.{Ask, Dist, Near, NearAll, Save, Table}
 
@@ -90,13 +90,9 @@ within_rule = limit_rule (codes "within") 0 MOST_WEIGHT
 abbrev pub saved_rule : Rule
 saved_rule = option_rule (codes "saved")
 
--- `[--like FILE] [--fresh P]`
+-- `[--like FILE [--fresh P]]`
 abbrev pub like_rules : List Rule
 like_rules = option_rule (codes "like") ∷ limit_rule (codes "fresh") 0 100 ∷ []
-
--- `[--saved FILE | --like FILE [--fresh P]]`. Clap's form accepts both, and the line refuses them
-abbrev pub source_rules : List Rule
-source_rules = saved_rule ∷ like_rules
 
 -- `[--progress]`
 abbrev pub progress_rule : Rule
@@ -106,9 +102,10 @@ progress_rule = flag_rule (codes "progress")
 abbrev pub number_rules : List Rule
 number_rules = number_rule (codes "workers") MOST_WORKERS (codes "1") ∷ number_rule (codes "piece") MOST_PIECE (codes "64") ∷ number_rule (codes "hops") MOST_HOPS (codes "5") ∷ []
 
--- the numbers and `[--progress]`, which each tool reads
+-- `[--like FILE [--fresh P]] [--workers N] [--piece K] [--hops H] [--progress]`, which each tool reads. Clap's form accepts `--like` beside `--saved`, `--deep` and
+-- `--rounds`, and the line refuses them
 abbrev pub shared_rules : List Rule
-shared_rules = number_rules ++ progress_rule ∷ []
+shared_rules = like_rules ++ number_rules ++ progress_rule ∷ []
 
 -- a command has this form, and no argument that is global
 abbrev pub HasForm : App → Command → Type 0
@@ -118,29 +115,45 @@ HasForm form command = (app_of command ≡ form) × ((out-Command command).has_g
 abbrev pub tool_form : Text → List Rule → List Rule → App
 tool_form name own files = fold with_rule (new_app name) (own ++ shared_rules ++ files)
 
--- `dist [--plain] [--routes] [--deep | --rounds] [--saved FILE | --like FILE [--fresh P]] .. GRAPH QUERIES`
+-- `[--plain] [--routes] [--deep | --rounds] [--saved FILE]`
+abbrev pub dist_rules : List Rule
+dist_rules = flag_rule (codes "plain") ∷ routes_rule ∷ order_rules ++ saved_rule ∷ []
+
+-- `dist [--plain] [--routes] [--deep | --rounds] [--saved FILE] .. GRAPH QUERIES`
 abbrev pub dist_form : App
-dist_form = tool_form (codes "dist") (flag_rule (codes "plain") ∷ routes_rule ∷ order_rules ++ source_rules) (file_rule (codes "GRAPH") ∷ file_rule (codes "QUERIES") ∷ [])
+dist_form = tool_form (codes "dist") dist_rules (file_rule (codes "GRAPH") ∷ file_rule (codes "QUERIES") ∷ [])
 
--- `table [--within R] [--saved FILE | --like FILE [--fresh P]] .. GRAPH SOURCES TARGETS`
+-- `[--within R] [--saved FILE]`
+abbrev pub table_rules : List Rule
+table_rules = within_rule ∷ saved_rule ∷ []
+
+-- `table [--within R] [--saved FILE] .. GRAPH SOURCES TARGETS`
 abbrev pub table_form : App
-table_form = tool_form (codes "table") (within_rule ∷ source_rules) (file_rule (codes "GRAPH") ∷ file_rule (codes "SOURCES") ∷ file_rule (codes "TARGETS") ∷ [])
+table_form = tool_form (codes "table") table_rules (file_rule (codes "GRAPH") ∷ file_rule (codes "SOURCES") ∷ file_rule (codes "TARGETS") ∷ [])
 
--- `[--count K] [--within R] [--from] [--all]`
+-- `[--count K] [--within R] [--from] [--all] [--saved FILE]`
 abbrev pub near_rules : List Rule
-near_rules = limit_rule (codes "count") 1 MOST_LISTED ∷ within_rule ∷ flag_rule (codes "from") ∷ flag_rule (codes "all") ∷ []
+near_rules = limit_rule (codes "count") 1 MOST_LISTED ∷ within_rule ∷ flag_rule (codes "from") ∷ flag_rule (codes "all") ∷ saved_rule ∷ []
 
--- `near [--count K] [--within R] [--from] [--all] [--saved FILE | --like FILE [--fresh P]] .. GRAPH LISTS..`
+-- `near [--count K] [--within R] [--from] [--all] [--saved FILE] .. GRAPH LISTS..`
 abbrev pub near_form : App
-near_form = tool_form (codes "near") (near_rules ++ source_rules) (file_rule (codes "GRAPH") ∷ lists_rule ∷ [])
+near_form = tool_form (codes "near") near_rules (file_rule (codes "GRAPH") ∷ lists_rule ∷ [])
 
--- `save [--deep | --rounds | --like FILE [--fresh P]] .. GRAPH`
+-- `[--deep | --rounds]`, and nothing else
+abbrev pub save_rules : List Rule
+save_rules = order_rules
+
+-- `save [--deep | --rounds] .. GRAPH`
 abbrev pub save_form : App
-save_form = tool_form (codes "save") (order_rules ++ like_rules) (file_rule (codes "GRAPH") ∷ [])
+save_form = tool_form (codes "save") save_rules (file_rule (codes "GRAPH") ∷ [])
 
--- `ask [--routes] [--deep | --rounds] [--within R] [--saved FILE | --like FILE [--fresh P]] .. GRAPH`
+-- `[--routes] [--deep | --rounds] [--within R] [--saved FILE]`
+abbrev pub ask_rules : List Rule
+ask_rules = routes_rule ∷ order_rules ++ within_rule ∷ saved_rule ∷ []
+
+-- `ask [--routes] [--deep | --rounds] [--within R] [--saved FILE] .. GRAPH`
 abbrev pub ask_form : App
-ask_form = tool_form (codes "ask") (routes_rule ∷ order_rules ++ within_rule ∷ source_rules) (file_rule (codes "GRAPH") ∷ [])
+ask_form = tool_form (codes "ask") ask_rules (file_rule (codes "GRAPH") ∷ [])
 
 -- the program's own words, before its tools are added
 abbrev pub program_form : App

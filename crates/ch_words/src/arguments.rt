@@ -2,15 +2,16 @@
 
 ghost use Rattle.std.specs.Prelude.{◌≡◌, codes, false};
 ghost use Rattle.clap.specs.Words.{rule_of};
-ghost use Rattle.ch_words.specs.Line.{deep_rule, file_rule, flag_rule, limit_rule, lists_rule, number_rule, option_rule, progress_rule, rounds_rule, routes_rule, saved_rule, within_rule};
+ghost use Rattle.ch_words.specs.Line.{file_rule, flag_rule, limit_rule, lists_rule, number_rule, option_rule};
+ghost use Rattle.ch_words.specs.Options.{row_rule};
 
-use ch_graph::limits::MOST_WEIGHT;
+use crate::options::{Row, Value};
 use clap::builder::ValueParser;
 use clap::{Arg, ArgAction};
 use std::alloc::Global;
 
 /// Makes a flag.
-pub(crate) fn flag<'a>(alloc: Global, name: &'a str, help: &'a str) -> Arg<'a>
+fn flag<'a>(alloc: Global, name: &'a str, help: &'a str) -> Arg<'a>
     ensures rule { rule_of result ≡ flag_rule name.entry.now }
     ensures local { result.global ≡ false }
 {
@@ -44,7 +45,7 @@ fn option<'a>(alloc: Global, name: &'a str, value: &'a str, help: &'a str) -> Ar
 }
 
 /// Makes an option for a number from 1 to `most`, with a default.
-pub(crate) fn number<'a>(
+fn number<'a>(
     alloc: Global,
     name: &'a str,
     value: &'a str,
@@ -61,7 +62,7 @@ pub(crate) fn number<'a>(
 }
 
 /// Makes an option for a number from `least` to `most`, without a default.
-pub(crate) fn limit<'a>(
+fn limit<'a>(
     alloc: Global,
     name: &'a str,
     value: &'a str,
@@ -75,110 +76,27 @@ pub(crate) fn limit<'a>(
     option(alloc, name, value, help).value_parser(ValueParser::unsigned(least, most))
 }
 
-/// Makes the flag that asks for reports of progress.
-pub(crate) fn progress<'a>(alloc: Global) -> Arg<'a>
-    ensures rule { rule_of result ≡ progress_rule }
+/// Makes the argument of an option.
+pub(crate) fn argument<'a>(alloc: Global, row: &Row) -> Arg<'a>
+    ensures rule { rule_of result ≡ row_rule row.now }
     ensures local { result.global ≡ false }
 {
-    flag(
-        alloc,
-        "progress",
-        "Report on standard error how far the run is. On a terminal this happens without the option, \
-        once a stage takes more than a second",
-    )
-}
-
-/// Makes the flag that asks for routes.
-pub(crate) fn routes<'a>(alloc: Global) -> Arg<'a>
-    ensures rule { rule_of result ≡ routes_rule }
-    ensures local { result.global ≡ false }
-{
-    flag(
-        alloc,
-        "routes",
-        "After each distance, write its route: `r K`, then K lines `a U V W`, the arcs in order",
-    )
-}
-
-/// Makes the flag that chooses the order of depth.
-pub(crate) fn deep<'a>(alloc: Global, help: &'a str) -> Arg<'a>
-    ensures rule { rule_of result ≡ deep_rule }
-    ensures local { result.global ≡ false }
-{
-    flag(alloc, "deep", help)
-}
-
-/// Makes the flag that chooses the order by rounds.
-pub(crate) fn rounds<'a>(alloc: Global, help: &'a str) -> Arg<'a>
-    ensures rule { rule_of result ≡ rounds_rule }
-    ensures local { result.global ≡ false }
-{
-    flag(alloc, "rounds", help)
-}
-
-/// Makes the option for the limit on distances.
-pub(crate) fn limit_of_distances<'a>(alloc: Global, help: &'a str) -> Arg<'a>
-    ensures rule { rule_of result ≡ within_rule }
-    ensures local { result.global ≡ false }
-{
-    limit(alloc, "within", "R", 0, MOST_WEIGHT, help)
-}
-
-/// Makes the option for the limit on the distances of tables.
-pub(crate) fn within<'a>(alloc: Global) -> Arg<'a>
-    ensures rule { rule_of result ≡ within_rule }
-    ensures local { result.global ≡ false }
-{
-    limit_of_distances(
-        alloc,
-        "Leave out distances above R, from 0 to 1152921504606846976: such a cell of a table is - \
-        [default: no limit]",
-    )
-}
-
-/// Makes the option for the file of a saved hierarchy.
-pub(crate) fn saved<'a>(alloc: Global) -> Arg<'a>
-    ensures rule { rule_of result ≡ saved_rule }
-    ensures local { result.global ≡ false }
-{
-    option(
-        alloc,
-        "saved",
-        "FILE",
-        "Read the hierarchy from FILE and check it, in place of building one. `chtab save` or any other program \
-        wrote it for this graph: one of another graph is refused, often by `saved line 1: size too large`. \
-        Options on how to build one then have no effect [default: none]",
-    )
-}
-
-/// Makes the option for the file of an order.
-pub(crate) fn like<'a>(alloc: Global) -> Arg<'a>
-    ensures rule { rule_of result ≡ option_rule (codes "like") }
-    ensures local { result.global ≡ false }
-{
-    option(
-        alloc,
-        "like",
-        "FILE",
-        "Build the hierarchy in an order like that of FILE, which takes two thirds of the time. FILE is a saved \
-        hierarchy of a graph with as many nodes and any arcs, or only its lines `p` and `o`. Cannot be combined \
-        with --saved, --deep or --rounds [default: none]",
-    )
-}
-
-/// Makes the option for the part of the nodes that is ordered afresh.
-pub(crate) fn fresh<'a>(alloc: Global) -> Arg<'a>
-    ensures rule { rule_of result ≡ limit_rule (codes "fresh") 0 100 }
-    ensures local { result.global ≡ false }
-{
-    limit(
-        alloc,
-        "fresh",
-        "P",
-        0,
-        100,
-        "With --like, order the last P per cent of the nodes afresh, by depth, from 0 to 100 [default: 5]",
-    )
+    let name = row.name;
+    let help = row.help;
+    match row.value {
+        Value::Nothing => flag(alloc, name, help),
+        Value::File => option(alloc, name, "FILE", help),
+        Value::Number {
+            name: value,
+            most,
+            default,
+        } => number(alloc, name, value, most, default, help),
+        Value::Limit {
+            name: value,
+            least,
+            most,
+        } => limit(alloc, name, value, least, most, help),
+    }
 }
 
 /// Makes the argument for the file of the graph.

@@ -1,43 +1,21 @@
 //! The command line as clap reads it: its tools, with their options and files.
 
-ghost use Rattle.std.specs.Prelude.{◌≡◌, IfOk, codes, false, fold};
+ghost use Rattle.std.specs.Prelude.{◌≡◌, IfOk, List, codes, false, fold};
 ghost use Rattle.clap.specs.Words.{App, Rule, app_of, new_app, rule_of, with_rule, with_subcommand};
 ghost use Rattle.clap.specs.declared.builder.command.Command.TheViews.{out-Command as fields_of};
-ghost use Rattle.ch_words.specs.Line.{HasForm, ask_form, chtab_form, dist_form, file_rule, like_rules, near_form, near_rules, number_rules, order_rules, program_form, routes_rule, save_form, shared_rules, source_rules, table_form};
+ghost use Rattle.ch_words.specs.Line.{HasForm, ask_form, chtab_form, dist_form, file_rule, near_form, program_form, save_form, shared_rules, table_form};
+ghost use Rattle.ch_words.specs.Options.{rules_of};
 
-use crate::arguments::{
-    deep, file, flag, fresh, graph, like, limit, limit_of_distances, lists, number, progress,
-    rounds, routes, saved, within,
-};
+use crate::arguments::{argument, file, graph, lists};
 use crate::line::Tool;
-use ch_graph::limits::{MOST_HOPS, MOST_LISTED};
-use ch_work::limits::{MOST_PIECE, MOST_WORKERS};
+use crate::options::{
+    Row, ask_options, dist_options, near_options, save_options, shared_options, table_options,
+};
 use clap::{Arg, Command};
 use std::alloc::{AllocError, Global};
 
 /// The version of the program, and the line of the kit that it is proved with. The file VERSION has both.
 const VERSION: &str = "1.1\nrattle-kit-13f logic dac8208d650f15bf";
-
-/// The help of `--deep` for a hierarchy that is saved.
-const SAVED_BY_DEPTH: &str =
-    "Build the hierarchy in depth order, which halves the time of building and makes queries and tables \
-    faster. Of equally good routes, another may be written";
-
-/// The help of `--deep` for a hierarchy that gives routes.
-const ROUTES_BY_DEPTH: &str =
-    "With --routes, build the hierarchy in depth order, which halves the time of building. Of equally good \
-    routes, another may be written";
-
-/// The help of `--rounds` for a hierarchy that gives the routes of a list of queries.
-const ROUTES_BY_ROUNDS: &str =
-    "With --routes, build the hierarchy by rounds, which several workers share (--workers). Of equally good \
-    routes, another may be written. Cannot be combined with --deep";
-
-/// The help of `--rounds` for a hierarchy that is saved, or that answers requests. Each request may ask for its
-/// route.
-const BY_ROUNDS: &str =
-    "Build the hierarchy by rounds, which several workers share (--workers). Of equally good routes, another \
-    may be written. Cannot be combined with --deep";
 
 /// What follows the help of `ask`.
 const REQUESTS: &str = "Requests, one a line:\n  \
@@ -61,100 +39,36 @@ fn with_arg<'a>(
     command?.arg(arg)
 }
 
-/// Adds the options for numbers that each tool reads.
-fn with_numbers<'a>(
+/// Adds options.
+fn with_options<'a>(
     alloc: Global,
     command: Result<Command<'a>, AllocError>,
+    rows: &[Row],
 ) -> Result<Command<'a>, AllocError>
-    ensures { (form : App) → IfOk command.entry (HasForm form) → IfOk result (HasForm (fold with_rule form number_rules)) }
+    ensures { (form : App) → IfOk command.entry (HasForm form) → IfOk result (HasForm (fold with_rule form (rules_of rows.now))) }
 {
-    let workers = number(
-        alloc,
-        "workers",
-        "N",
-        MOST_WORKERS,
-        "1",
-        "Share the work among N threads, from 1 to 64: no answer depends on N",
-    );
-    let piece = number(
-        alloc,
-        "piece",
-        "K",
-        MOST_PIECE,
-        "64",
-        "How many queries, sources or nodes a thread takes at a time, from 1 to 1048576",
-    );
-    let hops = number(
-        alloc,
-        "hops",
-        "H",
-        MOST_HOPS,
-        "5",
-        "The most edges of a witness path while the hierarchy is built, from 1 to 16",
-    );
-    with_arg(with_arg(with_arg(command, workers), piece), hops)
+    let mut command = command;
+    for row in rows {
+        command = with_arg(command, argument(alloc, row));
+    }
+    command
 }
 
-/// Adds the flags that choose an order. The form accepts both: clap promises nothing on the faults of words
-/// if one argument excludes another.
-fn with_orders<'a>(
+/// Adds the options of one tool, the options of all tools, and the file of the graph. The form accepts options that don't
+/// go together, such as both orders: clap promises nothing on the faults of words if one argument excludes another.
+fn with_graph<'a>(
     alloc: Global,
-    command: Result<Command<'a>, AllocError>,
-    deep_help: &'a str,
-    rounds_help: &'a str,
+    command: Command<'a>,
+    own: &[Row],
 ) -> Result<Command<'a>, AllocError>
-    ensures { (form : App) → IfOk command.entry (HasForm form) → IfOk result (HasForm (fold with_rule form order_rules)) }
+    ensures { (form : App) (rules : List Rule) → rules_of own.now ≡ rules → HasForm form command.entry
+        → IfOk result (HasForm (with_rule (fold with_rule (fold with_rule form rules) shared_rules) (file_rule (codes "GRAPH")))) }
 {
-    let command = with_arg(command, deep(alloc, deep_help));
-    with_arg(command, rounds(alloc, rounds_help))
-}
-
-/// Adds the flags that ask for routes and choose the order of a hierarchy that gives them.
-fn with_routes<'a>(
-    alloc: Global,
-    command: Result<Command<'a>, AllocError>,
-    rounds_help: &'a str,
-) -> Result<Command<'a>, AllocError>
-    ensures { (form : App) → IfOk command.entry (HasForm form) → IfOk result (HasForm (fold with_rule (with_rule form routes_rule) order_rules)) }
-{
-    let command = with_arg(command, routes(alloc));
-    with_orders(alloc, command, ROUTES_BY_DEPTH, rounds_help)
-}
-
-/// Adds the options that each tool reads, and the file of the graph.
-fn with_shared<'a>(
-    alloc: Global,
-    command: Result<Command<'a>, AllocError>,
-) -> Result<Command<'a>, AllocError>
-    ensures { (form : App) → IfOk command.entry (HasForm form)
-        → IfOk result (HasForm (with_rule (fold with_rule form shared_rules) (file_rule (codes "GRAPH")))) }
-{
-    let command = with_arg(with_numbers(alloc, command), progress(alloc));
-    with_arg(command, graph(alloc))
-}
-
-/// Adds the options for an order like which a hierarchy is built. The form accepts them beside those of other
-/// orders, for the reason of [`with_orders`].
-fn with_like<'a>(
-    alloc: Global,
-    command: Result<Command<'a>, AllocError>,
-) -> Result<Command<'a>, AllocError>
-    ensures { (form : App) → IfOk command.entry (HasForm form) → IfOk result (HasForm (fold with_rule form like_rules)) }
-{
-    let command = with_arg(command, like(alloc));
-    with_arg(command, fresh(alloc))
-}
-
-/// Adds the options for a saved hierarchy and for an order, the options that each tool reads, and the file of the
-/// graph.
-fn with_saved<'a>(
-    alloc: Global,
-    command: Result<Command<'a>, AllocError>,
-) -> Result<Command<'a>, AllocError>
-    ensures { (form : App) → IfOk command.entry (HasForm form)
-        → IfOk result (HasForm (with_rule (fold with_rule (fold with_rule form source_rules) shared_rules) (file_rule (codes "GRAPH")))) }
-{
-    with_shared(alloc, with_like(alloc, with_arg(command, saved(alloc))))
+    let command = with_options(alloc, Ok(command), own);
+    with_arg(
+        with_options(alloc, command, &shared_options()),
+        graph(alloc),
+    )
 }
 
 /// Makes a command without options and files.
@@ -172,12 +86,6 @@ fn dist_command<'a>(alloc: Global) -> Result<Command<'a>, AllocError>
     ensures form { IfOk result (λ c. app_of c ≡ dist_form) }
     ensures local { IfOk result (λ c. (fields_of c).has_globals ≡ false) }
 {
-    let plain = flag(
-        alloc,
-        "plain",
-        "Answer without a hierarchy, by rounds of relaxation over all arcs. All other options but --progress \
-        then have no effect",
-    );
     let command = named(
         alloc,
         "dist",
@@ -185,13 +93,12 @@ fn dist_command<'a>(alloc: Global) -> Result<Command<'a>, AllocError>
         "For each query it writes `d S T X`: X is the distance from S to T, or - if no path leads there.\n\n\
         Example: chtab dist --routes roads.gr pairs.p2p",
     );
-    let command = with_routes(alloc, with_arg(Ok(command), plain), ROUTES_BY_ROUNDS);
     let queries = file(
         alloc,
         "QUERIES",
         "A .p2p file: `p aux sp p2p K`, then K lines `q S T`",
     );
-    with_arg(with_saved(alloc, command), queries)
+    with_arg(with_graph(alloc, command, &dist_options()), queries)
 }
 
 /// Makes the command `table` with its options and files.
@@ -209,7 +116,7 @@ fn table_command<'a>(alloc: Global) -> Result<Command<'a>, AllocError>
         chtab table roads.gr depots.ss shops.ss\n  \
         chtab table --within 900000 roads.gr homes.ss doctors.ss",
     );
-    let command = with_saved(alloc, with_arg(Ok(command), within(alloc)));
+    let command = with_graph(alloc, command, &table_options());
     let sources = file(
         alloc,
         "SOURCES",
@@ -217,39 +124,6 @@ fn table_command<'a>(alloc: Global) -> Result<Command<'a>, AllocError>
     );
     let targets = file(alloc, "TARGETS", "A .ss file, as for SOURCES");
     with_arg(with_arg(command, sources), targets)
-}
-
-/// Adds the options of near rows: which targets they have, the direction of distances, and the sources.
-fn with_nearness<'a>(
-    alloc: Global,
-    command: Result<Command<'a>, AllocError>,
-) -> Result<Command<'a>, AllocError>
-    ensures { (form : App) → IfOk command.entry (HasForm form) → IfOk result (HasForm (fold with_rule form near_rules)) }
-{
-    let count = limit(
-        alloc,
-        "count",
-        "K",
-        1,
-        MOST_LISTED,
-        "Write at most the K nearest targets of each source, from 1 to 65536 [default: all]",
-    );
-    let within = limit_of_distances(
-        alloc,
-        "Write only targets at a distance of at most R, from 0 to 1152921504606846976 [default: no limit]",
-    );
-    let from = flag(
-        alloc,
-        "from",
-        "Take the distances from the targets to the source, in place of those from the source to the targets",
-    );
-    let all = flag(
-        alloc,
-        "all",
-        "Take each node of the graph as a source, in order, in place of SOURCES",
-    );
-    let command = with_arg(with_arg(command, count), within);
-    with_arg(with_arg(command, from), all)
 }
 
 /// Makes the command `near` with its options and files.
@@ -271,8 +145,7 @@ pub(crate) fn near_command<'a>(alloc: Global) -> Result<Command<'a>, AllocError>
         "chtab near [OPTIONS] <GRAPH> <SOURCES> <TARGETS>\n       \
         chtab near [OPTIONS] --all <GRAPH> <TARGETS>",
     );
-    let command = with_saved(alloc, with_nearness(alloc, Ok(command)));
-    with_arg(command, lists(alloc))
+    with_arg(with_graph(alloc, command, &near_options()), lists(alloc))
 }
 
 /// Makes the command `save` with its options and file.
@@ -289,8 +162,7 @@ fn save_command<'a>(alloc: Global) -> Result<Command<'a>, AllocError>
         chtab save --rounds --workers 4 roads.gr >roads.ch\n  \
         chtab save --like roads.ch roads-at-noon.gr >roads-at-noon.ch",
     );
-    let command = with_orders(alloc, Ok(command), SAVED_BY_DEPTH, BY_ROUNDS);
-    with_shared(alloc, with_like(alloc, command))
+    with_graph(alloc, command, &save_options())
 }
 
 /// Makes the command `ask` with its options and file.
@@ -304,8 +176,7 @@ fn ask_command<'a>(alloc: Global) -> Result<Command<'a>, AllocError>
         "Answer requests from standard input as they come, on a graph that is loaded once",
         REQUESTS,
     );
-    let command = with_routes(alloc, Ok(command), BY_ROUNDS);
-    with_saved(alloc, with_arg(command, within(alloc)))
+    with_graph(alloc, command, &ask_options())
 }
 
 /// Sets the name that usage shows, if the command was made.

@@ -10,7 +10,8 @@ ghost use Rattle.ch_words.specs.Line.{AreFilesIn, AreFlagsIn, AreRefusedLists, A
 
 use crate::fault::{LineFault, fault_of};
 use crate::form::{near_command, tool_command};
-use crate::line::{Choices, Line, Order, Tool};
+use crate::line::{Line, Tool};
+use crate::options::{Choices, Order};
 use ch_graph::limits::{MOST_HOPS, MOST_LISTED, MOST_WEIGHT};
 use ch_work::Plan;
 use ch_work::limits::{MOST_PIECE, MOST_WORKERS};

@@ -13,8 +13,10 @@ mod fault;
 mod form;
 mod given;
 mod line;
+mod options;
 mod words;
 
 pub use fault::{LineFault, line_status, refused};
-pub use line::{Choices, Line, Order, Tool};
+pub use line::{Line, Tool};
+pub use options::{Choices, Order};
 pub use words::read_words;

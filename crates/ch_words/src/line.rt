@@ -1,5 +1,6 @@
 //! The line: what the program is asked for.
 
+use crate::options::Choices;
 use ch_work::Plan;
 
 /// A tool of the program, and the names of its files.
@@ -35,43 +36,6 @@ pub enum Tool {
     Ask {
         graph: String,
     },
-}
-
-/// The order of contraction that the words choose.
-#[derive(Clone, Copy, Debug, PartialEq, Eq)]
-pub enum Order {
-    /// By the difference between shortcuts and legs, without a word.
-    Difference,
-    /// By depth, with `--deep`.
-    Depth,
-    /// By rounds, with `--rounds`.
-    Rounds,
-}
-
-/// The choices of the words on how a tool works.
-#[derive(Clone, Copy, Debug, PartialEq, Eq)]
-pub struct Choices {
-    /// Whether distances come from rounds of relaxation over all arcs, and not from a hierarchy.
-    pub plain: bool,
-    /// Whether the arcs of a shortest path follow each distance.
-    pub routes: bool,
-    /// The order in which `save`, and `dist` and `ask` with routes, build a hierarchy. `ask` without routes
-    /// builds by rounds if this says so, and otherwise by depth. The other runs build in the order that takes
-    /// the least time.
-    pub order: Order,
-    /// The most legs of a witness, from 1 to [`MOST_HOPS`](ch_graph::limits::MOST_HOPS).
-    pub hops: u32,
-    /// The greatest distance that a table or a near row reports, if there is a limit.
-    pub within: Option<u64>,
-    /// The most targets of a near row, from 1 to [`MOST_LISTED`](ch_graph::limits::MOST_LISTED), if
-    /// there is a limit.
-    pub count: Option<u32>,
-    /// Whether the distances of near rows go from the targets to the source. If not, they go to the
-    /// targets.
-    pub from: bool,
-    /// How many per cent of the nodes are ordered afresh if the hierarchy is built in an order like that of a
-    /// file, from 0 to 100.
-    pub fresh: u32,
 }
 
 /// The line that the words give.

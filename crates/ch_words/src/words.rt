@@ -9,15 +9,11 @@ use crate::given::line_of;
 use crate::line::Line;
 use std::alloc::Global;
 
-/// Reads the words after the program's name:
-/// `dist [--plain] [--routes] [--deep | --rounds] [SOURCE] [SHARED] GRAPH QUERIES`,
-/// `table [--within R] [SOURCE] [SHARED] GRAPH SOURCES TARGETS`,
-/// `near [--count K] [--within R] [--from] [SOURCE] [SHARED] GRAPH SOURCES TARGETS`,
-/// the same with `--all GRAPH TARGETS`,
-/// `save [--deep | --rounds | LIKE] [SHARED] GRAPH` or
-/// `ask [--routes] [--deep | --rounds] [--within R] [SOURCE] [SHARED] GRAPH`.
-/// `SOURCE` is `--saved FILE` or `LIKE`. `LIKE` is `--like FILE [--fresh P]`, which goes with neither `--deep` nor
-/// `--rounds`. `SHARED` is `[--workers N] [--piece K] [--hops H] [--progress]`.
+/// Reads the words after the program's name: `dist [OPTION].. GRAPH QUERIES`,
+/// `table [OPTION].. GRAPH SOURCES TARGETS`, `near [OPTION].. GRAPH SOURCES TARGETS`,
+/// `near [OPTION].. --all GRAPH TARGETS`, `save [OPTION].. GRAPH` or `ask [OPTION].. GRAPH`, with the options of
+/// that tool. `--deep` and `--rounds` don't go together, nor does `--like` go with these or with `--saved`, and
+/// `--fresh` needs `--like`.
 ///
 /// # Errors
 /// `Help` if the words ask for help or for the version; `Refused` if they don't have one of these forms; `NoMemory`.
