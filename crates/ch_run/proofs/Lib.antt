@@ -1,4 +1,6 @@
 pub mod Texts
+pub mod Ranges
+pub mod TableTexts
 pub mod Inputs
 pub mod OneText
 pub mod Tables

@@ -19,7 +19,8 @@ use Rattle.ch_text.specs.Distances.{Answers, AnswersShortly, IsDistanceText, dis
 use Rattle.ch_text.specs.Routes.{AnswersWithRoute, answer_text, route_text}
 use Rattle.ch_run.specs.Source.{IsServing}
 use Rattle.ch_run.specs.Text.{IsTextBy}
-use Rattle.ch_text.specs.TableText.{IsCell, IsTableRow, IsTableText, IsTableTextBy}
+use Rattle.ch_text.specs.TableText.{IsCell, IsTableRow, IsTableText}
+use Rattle.ch_run.specs.TableText.{IsTableTextBy}
 
 -- one more query is answered with its distance
 pub answered : (g : Network) (queries : List (ℕ × ℕ)) (i : ℕ) (d : ℕ × ℕ) (answers : List Answer) (a : Answer) → i < length queries →

@@ -17,7 +17,7 @@ use Rattle.ch_text.specs.Moves.{Took, TookUntilFault}
 use Rattle.ch_text.specs.declared.device.DeviceFault.{DeviceFault}
 use Rattle.ch_run.specs.Run.{Reading, ReadsAll, IsOf, IsWrite, SourceReading}
 use Rattle.ch_run.specs.Source.{IsOfLoading, IsServing, WithLoaded, order_built}
-use Rattle.ch_text.specs.NearText.{IsNearText}
+use Rattle.ch_run.specs.NearText.{IsNearText}
 use Rattle.ch_text.specs.TableText.{IsTableText}
 use Rattle.ch_run.specs.Text.{IsTextBy, writes_routes}
 

@@ -8,6 +8,8 @@ pub mod Source
 pub mod SavedTextLaws
 pub mod TextLaws
 pub mod Text
+pub mod TableText
+pub mod NearText
 pub mod Ask
 pub mod Serving
 pub mod NearTextLaws

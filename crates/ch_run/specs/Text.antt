@@ -6,7 +6,7 @@ use Rattle.ch_contract.specs.Built.{IsHierarchyBy}
 use Rattle.ch_contract.specs.declared.measure.OrderBy.{OrderBy}
 use Rattle.ch_run.specs.declared.options.Options.{Options}
 use Rattle.ch_text.specs.Distances.{IsDistanceText}
-use Rattle.ch_text.specs.NearText.{IsNearText}
+use Rattle.ch_run.specs.NearText.{IsNearText}
 use Rattle.ch_text.specs.Routes.{IsRouteText}
 use Rattle.ch_text.specs.SaveText.{IsHierarchyText}
 

@@ -16,6 +16,7 @@ mod save;
 mod serving;
 mod table;
 mod texts;
+mod workers;
 
 pub use ask::run_ask;
 pub use dist::run_dist;

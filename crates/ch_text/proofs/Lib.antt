@@ -2,6 +2,4 @@ pub mod Bytes
 pub mod Calls
 pub mod Moves
 pub mod Growing
-pub mod Ranges
 pub mod Saving
-pub mod TableTexts

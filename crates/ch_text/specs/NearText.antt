@@ -1,9 +1,6 @@
 -- The text of near rows.
-use Rattle.std.specs.Prelude.{◌≡◌, ℕ, List, ◌++◌, flat_map, length, slice_index, Option, codes, decimal}
-use Rattle.std.specs.List.{AllZip, range_with_len, zip}
-use Rattle.ch_graph.specs.Graph.{Network}
-use Rattle.ch_near.specs.declared.direction.Direction.{Direction}
-use Rattle.ch_near.specs.Near.{IsNearestRow}
+use Rattle.std.specs.Prelude.{ℕ, List, ◌++◌, flat_map, length, slice_index, codes, decimal}
+use Rattle.std.specs.List.{range_with_len}
 use Rattle.ch_text.specs.Distances.{node_text}
 
 -- the text of a pair of a distance and a place in the list of targets: the target at this place, and the distance
@@ -13,11 +10,6 @@ near_pair_text targets e = codes " " ++ node_text (slice_index targets e.1) ++ c
 -- the text of a near row: the source, the number of targets, and the targets, each with its distance
 abbrev pub near_row_text : List ℕ → ℕ × List (ℕ × ℕ) → List ℕ
 near_row_text targets row = codes "n " ++ node_text row.0 ++ codes " " ++ decimal (length row.1) ++ flat_map (near_pair_text targets) row.1 ++ codes "\n"
-
--- the text has a line for each source, in order: the targets that are nearest to it in the graph
-abbrev pub IsNearText : Network → Direction → Option ℕ → Option ℕ → List ℕ → List ℕ → List ℕ → Type 0
-IsNearText g direction limit count sources targets text =
-    (rows : List (List (ℕ × ℕ))) × AllZip (IsNearestRow g direction limit count targets) sources rows × (text ≡ flat_map (near_row_text targets) (zip sources rows))
 
 -- the nodes of a graph with this many nodes, in order
 abbrev pub nodes_in_order : ℕ → List ℕ

@@ -3,9 +3,7 @@ use Rattle.std.specs.Prelude.{◌≡◌, ℕ, List, ◌++◌, flat_map, Option, 
 use Rattle.std.specs.List.{AllZip, zip}
 use Rattle.ch_graph.specs.Graph.{Network}
 use Rattle.ch_graph.specs.Walk.{IsAnswer}
-use Rattle.ch_hierarchy.specs.Hierarchy.{LevelsAndLegs}
 use Rattle.ch_query.specs.Limits.{IsCut}
-use Rattle.ch_table.specs.Table.{IsRowBy}
 use Rattle.ch_text.specs.Distances.{node_text, weight_text}
 
 abbrev pub cell_text : Option ℕ → List ℕ
@@ -27,8 +25,3 @@ IsTableRow g limit targets s cells = AllZip (IsCell g limit s) targets cells
 abbrev pub IsTableText : Network → Option ℕ → List ℕ → List ℕ → List ℕ → Type 0
 IsTableText g limit sources targets text =
     (rows : List (List (Option ℕ))) × AllZip (IsTableRow g limit targets) sources rows × (text ≡ flat_map row_text (zip sources rows))
-
--- the text has a row for each source, in order, with the distances by the hierarchy
-abbrev pub IsTableTextBy : LevelsAndLegs → Option ℕ → List ℕ → List ℕ → List ℕ → Type 0
-IsTableTextBy H limit sources targets text =
-    (rows : List (List (Option ℕ))) × AllZip (IsRowBy H limit targets) sources rows × (text ≡ flat_map row_text (zip sources rows))

@@ -1,7 +1,7 @@
 //! Devices, and the texts of answers.
 //!
-//! It stands on ch_graph, ch_hierarchy, ch_near, ch_query, ch_table, ch_work and itoa. It does not know
-//! runs, or how a hierarchy is built.
+//! It stands on ch_graph, ch_hierarchy, ch_query and itoa. It does not know runs, threads or tables, or how a
+//! hierarchy is built.
 //!
 //! [`Input`] and [`Output`] are devices that count their faults. They are over memory ([`MemoryInput`],
 //! [`MemoryOutput`]) or over the readers and writers of `std` ([`ReaderInput`], [`WriterOutput`]). An
@@ -21,7 +21,6 @@ pub mod laws;
 mod near_text;
 mod short_text;
 mod text;
-mod workers;
 
 pub use device::{
     DeviceFault, Input, MemoryInput, MemoryOutput, Output, ReadAllFault, ReadOnce, ReaderInput,
@@ -30,5 +29,4 @@ pub use device::{
 pub use hierarchy_text::save_text;
 pub use near_text::{push_near_row, push_near_rows};
 pub use short_text::ShortText;
-pub use text::answers_text;
-pub use workers::{answers_text_by, table_texts};
+pub use text::{answers_text, push_row};

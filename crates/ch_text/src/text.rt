@@ -25,12 +25,11 @@ pub fn answers_text(alloc: Global, answers: &[Answer]) -> Result<Vec<u8>, AllocE
     Ok(text)
 }
 
-/// Adds the row of a source.
-pub(crate) fn push_row(
-    text: &mut Vec<u8>,
-    source: u32,
-    cells: &[Option<u64>],
-) -> Result<(), AllocError>
+/// Adds the row of a source to a text.
+///
+/// # Errors
+/// `AllocError` if there is no memory for it. The text may then end in a part of the row.
+pub fn push_row(text: &mut Vec<u8>, source: u32, cells: &[Option<u64>]) -> Result<(), AllocError>
     ensures { OnOk result (text.new.items ≡ text.old.items ++ row_text (source, cells.now)) }
 {
     let mut start = ShortText::new();

@@ -12,11 +12,12 @@ ghost use Rattle.ch_run.specs.Text.{IsTextBy};
 ghost use Rattle.ch_text.specs.TableText.{IsTableText};
 ghost use Rattle.ch_run.specs.Lists.{AreLists};
 
+use super::workers::{answers_text_by, table_texts};
 use crate::plan::{Crew, Gate, Stage};
 use ch_contract::Hierarchy;
 use ch_graph::{Graph, plain_distance};
 use ch_query::{Answer, Scratch, answer_all, answer_all_in};
-use ch_text::{answers_text, answers_text_by, table_texts};
+use ch_text::answers_text;
 use ch_work::{joined, length_of};
 use std::alloc::{AllocError, Global};
 use std::thread::Threads;

@@ -1,6 +1,6 @@
 use Rattle.std.proofs.Common.{sym, subst}
 use Rattle.std.proofs.lemmas.Result.{IfOk-weaker}
-use Rattle.ch_text.specs.TableText.{IsTableTextBy}
+use Rattle.ch_run.specs.TableText.{IsTableTextBy}
 use Rattle.ch_run.proofs.Texts.{cells_text}
 use Rattle.ch_run.proofs.run.texts.table_by.Goals as goal
 

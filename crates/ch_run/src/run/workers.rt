@@ -6,14 +6,16 @@ ghost use Rattle.ch_graph.specs.declared.limits.TheConstants.{MOST_LISTED};
 ghost use Rattle.ch_hierarchy.specs.Hierarchy.{nodes_of};
 ghost use Rattle.ch_query.specs.Distance.{IsKeptForSome};
 ghost use Rattle.ch_text.specs.Routes.{answer_text};
-ghost use Rattle.ch_text.specs.TableText.{IsTableTextBy, row_text};
+ghost use Rattle.ch_text.specs.TableText.{row_text};
+ghost use Rattle.ch_run.specs.TableText.{IsTableTextBy};
 ghost use Rattle.ch_work.specs.declared.limits.TheConstants.{MOST_CELLS};
 
-use crate::text::{answers_text, push_row};
-use ch_hierarchy::Hierarchy;
+use crate::plan::{Crew, Gate, Open, Plan};
+use ch_contract::Hierarchy;
 use ch_query::Answer;
 use ch_table::{RowJob, gather_rows};
-use ch_work::{Crew, Gate, Job, Open, Plan, joined, run_pieces};
+use ch_text::{answers_text, push_row};
+use ch_work::{Job, joined, run_pieces};
 use std::alloc::{AllocError, Global};
 use std::marker::Model;
 use std::thread::Threads;
@@ -90,10 +92,7 @@ impl RowJob for RowTexts {
 
 /// Returns the text of the answers, in order, as [`answers_text`] does. The workers of the crew share
 /// it.
-///
-/// # Errors
-/// `AllocError` if there is no memory for it.
-pub fn answers_text_by<R: Threads + Sync, G: Gate>(
+pub(crate) fn answers_text_by<R: Threads + Sync, G: Gate>(
     crew: &Crew<'_, R, G>,
     answers: &[Answer],
 ) -> Result<Vec<u8>, AllocError>
@@ -114,10 +113,7 @@ pub fn answers_text_by<R: Threads + Sync, G: Gate>(
 /// Returns the text of the table of these sources and targets by a hierarchy, in parts: a row for each
 /// source, in order. With a limit `within`, a distance of more than that is none. The workers of the crew
 /// share the rows, as [`gather_rows`] says, and each writes those that it makes.
-///
-/// # Errors
-/// `AllocError` if there is no memory.
-pub fn table_texts<R: Threads + Sync, G: Gate>(
+pub(crate) fn table_texts<R: Threads + Sync, G: Gate>(
     crew: &Crew<'_, R, G>,
     hierarchy: &Hierarchy,
     sources: &[u32],

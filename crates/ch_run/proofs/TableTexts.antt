@@ -9,7 +9,8 @@ use Rattle.ch_graph.proofs.Lists.{zipped_length}
 use Rattle.ch_hierarchy.specs.Hierarchy.{LevelsAndLegs}
 use Rattle.ch_work.proofs.PieceLists.{zipped_append}
 use Rattle.ch_table.specs.Table.{IsRowBy, IsGathered, AreGathered}
-use Rattle.ch_text.specs.TableText.{IsTableTextBy, row_text}
+use Rattle.ch_text.specs.TableText.{row_text}
+use Rattle.ch_run.specs.TableText.{IsTableTextBy}
 
 -- lists of the same length, with more lists of one length behind them, in pairs
 zip_append : {A B : Type 0} (xs : List A) (ys : List B) (more : List A) (others : List B) → length ys ≡ length xs → zip (xs ++ more) (ys ++ others) ≡ zip xs ys ++ zip more others

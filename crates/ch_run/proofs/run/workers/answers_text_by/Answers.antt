@@ -1,8 +1,8 @@
 use Rattle.std.proofs.Common.{length, ◌∙◌, refl, arith}
 use Rattle.std.proofs.lemmas.Result.{IfOk-weaker}
 use Rattle.ch_text.specs.Routes.{answer_text}
-use Rattle.ch_text.proofs.Ranges.{joined_texts}
-use Rattle.ch_text.proofs.workers.answers_text_by.Goals as goal
+use Rattle.ch_run.proofs.Ranges.{joined_texts}
+use Rattle.ch_run.proofs.run.workers.answers_text_by.Goals as goal
 
 pub returns : goal.returns
 returns g c =

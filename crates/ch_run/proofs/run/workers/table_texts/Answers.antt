@@ -1,6 +1,6 @@
 use Rattle.std.proofs.lemmas.Result.{IfOk-weaker}
-use Rattle.ch_text.proofs.TableTexts.{gathered_texts}
-use Rattle.ch_text.proofs.workers.table_texts.Goals as goal
+use Rattle.ch_run.proofs.TableTexts.{gathered_texts}
+use Rattle.ch_run.proofs.run.workers.table_texts.Goals as goal
 
 pub returns : goal.returns
 returns g c =

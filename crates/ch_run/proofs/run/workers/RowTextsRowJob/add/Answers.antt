@@ -1,6 +1,6 @@
 use Rattle.std.proofs.lemmas.Result.{on_ok_weaker}
-use Rattle.ch_text.proofs.TableTexts.{row_written}
-use Rattle.ch_text.proofs.workers.RowTextsRowJob.add.Goals as goal
+use Rattle.ch_run.proofs.TableTexts.{row_written}
+use Rattle.ch_run.proofs.run.workers.RowTextsRowJob.add.Goals as goal
 
 pub returns : goal.returns
 returns c =
