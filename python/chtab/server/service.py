@@ -17,7 +17,6 @@ from typing import TYPE_CHECKING, Any
 
 import numpy
 from aiohttp import hdrs, web
-from multidict import CIMultiDict
 
 from chtab.errors import ChtabError
 from chtab.roads.snapping import length_text
@@ -29,6 +28,7 @@ from chtab.server.osrm import answering, url
 from chtab.server.osrm.options import Refusal
 from chtab.server.queue import Job, Turns
 from chtab.server.requests import Limits, Refused, bytes_in, fields_of, number_in, place_in, places_in
+from chtab.server.sending import JsonAnswer, lines_of
 from chtab.server.tiles import Tiles
 
 if TYPE_CHECKING:
@@ -49,8 +49,8 @@ LEAFLET = pathlib.Path("/usr/share/javascript/leaflet")
 ENDS = "A", "B"
 # The least and the most characters of an address, and of a header, that aiohttp reads; the service itself refuses shorter ones by a message.
 LONGEST, LONGEST_OF_ALL = 1 << 16, 1 << 24
-# The headers of an answer in JSON.
-JSON = CIMultiDict({hdrs.CONTENT_TYPE: "application/json; charset=utf-8"})
+# The methods by which OSRM's interface is asked.
+READING = hdrs.METH_GET, hdrs.METH_HEAD
 # A pair of nodes whose distance is asked for to check an engine.
 PROBE = numpy.array([[1, 1]])
 
@@ -93,6 +93,7 @@ class Service:
             each.network.roads.find_any([0.0], [0.0])
         self.turns = Turns(self.limits.at_once, self.limits.waiting, self.limits.together)
         self.headers, self.longest_address = web_policy.headers(choices.tiles), choices.osrm.address
+        self.lines = lines_of(dict([*self.headers.items(), web_policy.CACHING]))
         # Whether an engine failed, an event that makes it be checked, and whether the service is ending.
         self.is_failing, self.doubt, self.is_ending = False, asyncio.Event(), False
 
@@ -101,9 +102,9 @@ class Service:
         """The characters of an address, and of a header, that are read."""
         return min(max(LONGEST, 2 * self.longest_address), LONGEST_OF_ALL)
 
-    def application(self, connections: Connections, recorder: Recorder) -> web.Application:
-        """The application of aiohttp, whose requests come by some connections and are recorded."""
-        app = web.Application(client_max_size=self.limits.body, middlewares=[self.middleware(connections, recorder)])
+    def application(self, around: Any) -> web.Application:
+        """The application of aiohttp, with what is `around` each answer."""
+        app = web.Application(client_max_size=self.limits.body, middlewares=[around])
         app.add_routes([
             web.get(web_policy.OSRM, self.answer_osrm),
             web.get("/", self.page),
@@ -133,7 +134,8 @@ class Service:
                 response = self.fault(request, raised)
             finally:
                 connections.end(connection)
-            web_policy.add_headers(response, self.headers)
+            if not isinstance(response, JsonAnswer):
+                web_policy.add_headers(response, self.headers)
             if allow:
                 allow(request, response)
             if self.is_ending:
@@ -142,6 +144,19 @@ class Service:
             return response
 
         return around
+
+    def front(self, around: Any, inner: Any) -> Any:
+        """The handler of all requests. It answers those of OSRM's interface, and passes the others on to `inner`, that of the application, whose way
+        through its router takes as long as reading a request."""
+        async def handle(request: web.Request) -> web.StreamResponse:
+            if request.method in READING and request.raw_path.startswith(web_policy.QUICK) and hdrs.EXPECT not in request.headers:
+                return await around(request, self.answer_osrm)
+            return await inner(request)
+
+        return handle
+
+    def json_of(self, text: str) -> JsonAnswer:
+        return JsonAnswer(text, self.lines)
 
     def fault(self, request: web.Request, raised: Exception) -> web.Response:
         """The answer for an exception. If an engine failed, it is checked."""
@@ -175,19 +190,19 @@ class Service:
 
     def answering(self, call: Callable[[bytes], Any]) -> Any:
         """A handler that answers the body of a request with JSON."""
-        async def handle(request: web.Request) -> web.Response:
+        async def handle(request: web.Request) -> JsonAnswer:
             body = await self.body_of(request)
-            return json_of(await self.answer_alone(request, lambda: json.dumps(call(body))))
+            return self.json_of(await self.answer_alone(request, lambda: json.dumps(call(body))))
 
         return handle
 
-    async def answer_route(self, request: web.Request) -> web.Response:
+    async def answer_route(self, request: web.Request) -> JsonAnswer:
         """Answers a request for a route, together with others that are waiting: one question to the engine serves them all."""
         fields = fields_of(await self.body_of(request), ("from", "to"))
         places = [place_in(fields[name], name) for name in ("from", "to")]
-        return json_of(await self.answer(request, self.route_texts, places, is_shared=True))
+        return self.json_of(await self.answer(request, self.route_texts, places, is_shared=True))
 
-    async def answer_osrm(self, request: web.Request) -> web.StreamResponse:
+    async def answer_osrm(self, request: web.Request) -> JsonAnswer:
         """Answers a request of OSRM's interface; routes, and the nearest roads, together with those that wait beside them. What the library in this
         process answers may be answered in the loop."""
         words = url.words_of(request.raw_path, self.longest_address)
@@ -195,12 +210,12 @@ class Service:
         question = answers.question(words)
         is_quick = answers.network.answers_by == "library"
         if question.service == "route":
-            return json_of(await self.answer(request, answers.routes, question, True, len(question.coordinates) - 1, is_quick))
+            return self.json_of(await self.answer(request, answers.routes, question, True, len(question.coordinates) - 1, is_quick))
         if question.service == "nearest" and question.own == 1:
-            return json_of(await self.answer(request, answers.nearest_ones, question, True, 1, is_quick))
+            return self.json_of(await self.answer(request, answers.nearest_ones, question, True, 1, is_quick))
         if question.service == "table":
-            return json_of(await self.answer(request, answers.tables, question, False, question.own.size, is_quick))
-        return json_of(await self.answer_alone(request, getattr(answers, question.service), question))
+            return self.json_of(await self.answer(request, answers.tables, question, False, question.own.size, is_quick))
+        return self.json_of(await self.answer_alone(request, getattr(answers, question.service), question))
 
     def answers_for(self, profile: str) -> Answers:
         """The answers of the network that a profile names. If there is only one network, its answers check the name."""
@@ -326,10 +341,6 @@ def spot_of(spots: Spots, place: int) -> dict[str, Any]:
         "at": [round(float(spots.longitudes[place]), 6), round(float(spots.latitudes[place]), 6)],
         "metres": round(float(spots.metres[place]), 1),
     }
-
-
-def json_of(text: str) -> web.Response:
-    return web.Response(body=text.encode(), headers=CIMultiDict(JSON))
 
 
 def resident_bytes() -> int:

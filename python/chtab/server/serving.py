@@ -60,9 +60,11 @@ class Serving:
         """Serves, ends once the requests that are underway are answered, and returns the exit status. It also ends when the supervising process has
         ended, which closes the pipe `parent`."""
         service, limits = self.service, self.service.limits
-        runner = web.AppRunner(service.application(self.connections, self.recorder), access_log=None)
+        around = service.middleware(self.connections, self.recorder)
+        runner = web.AppRunner(service.application(around), access_log=None)
         await runner.setup()
         http = cast(web.Server, runner.server)
+        http.request_handler = service.front(around, http.request_handler)
         self.loop.set_exception_handler(self.told_fault)
         protocols = self.connections.watched(
             http, access_log=None, keepalive_timeout=limits.idle, max_line_size=service.longest, max_field_size=service.longest,

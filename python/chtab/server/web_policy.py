@@ -18,6 +18,10 @@ LETTERS = "abc"
 # The paths of OSRM's interface: its services, and whatever else has the same form.
 FORM = r"(?:route|table|nearest|match|trip|tile)(?:/.*)?|\w+/v\d+/.*"
 OSRM, IS_OSRM = f"/{{words:{FORM}}}", re.compile(f"/(?:{FORM})", re.DOTALL)
+# Browsers ask for the page's files each time, because files of two versions don't fit together.
+CACHING = "Cache-Control", "no-cache"
+# What the paths of requests to services of OSRM begin with, each of which has the form above.
+QUICK = "/route/", "/table/", "/nearest/", "/match/", "/trip/"
 # The paths that pages of other sites may ask for, and the seconds for which browsers remember this.
 OPEN_TO_OTHERS = ("/api/", "/health", "/roads/")
 REMEMBERED = 86_400
@@ -53,8 +57,7 @@ def headers(tiles: str | None) -> dict[str, str]:
 def add_headers(response: web.StreamResponse, added: Mapping[str, str]) -> None:
     """Adds headers to an answer before it is sent."""
     response.headers.update(added)
-    # Browsers ask for the page's files each time, because files of two versions don't fit together.
-    response.headers.setdefault("Cache-Control", "no-cache")
+    response.headers.setdefault(*CACHING)
 
 
 # Pages of other sites.
