@@ -5,7 +5,6 @@ spot to spot, one for each pair of these nodes, and one more if both spots are o
 """
 from __future__ import annotations
 
-import itertools
 from collections.abc import Sequence
 from dataclasses import dataclass
 from typing import TYPE_CHECKING, Any, NamedTuple
@@ -24,6 +23,8 @@ if TYPE_CHECKING:
 FAR = numpy.iinfo(numpy.int64).max
 # More than any way weighs, and less than half of what a number holds.
 NOWHERE = 1 << 61
+# How many totals of a table are compared together.
+CELLS = 1 << 20
 
 
 def ways_between(starts: Spots, ends: Spots) -> tuple[Integers, Integers]:
@@ -198,28 +199,40 @@ def table_ways(trips: Trips, starts: Spots, ends: Spots, within: int | None = No
     nodes = numpy.full((len(outs), len(ins)), NOWHERE)
     nodes[numpy.ix_(is_out, is_in)] = numpy.where(found >= 0, found, NOWHERE)
     out_place, in_place = out_place.reshape(starts.out_nodes.shape), in_place.reshape(ends.in_nodes.shape)
-    best, ways = numpy.full((2, len(starts), len(ends)), FAR)
-    choices = list(itertools.product(range(out_place.shape[1]), range(in_place.shape[1])))
-    for way, (out, into) in enumerate(choices):
-        # Where turns are restricted few roads have nodes beside the first one of each end.
-        if (starts.out_nodes[:, out] > 0).any() and (ends.in_nodes[:, into] > 0).any():
-            total = nodes[out_place[:, out]][:, in_place[:, into]]
-            total += starts.out_weights[:, out, None]
-            total += ends.in_weights[:, into]
-            improve(best, ways, total, way)
-    rows, columns = numpy.nonzero(starts.roads[:, None] == ends.roads)
-    along, on_road = trips.roads.along(starts[rows], ends[columns]), (rows, columns)
-    some = best[on_road], ways[on_road]
-    improve(*some, numpy.where(along >= 0, along, FAR), len(choices))
-    best[on_road], ways[on_road] = some
+    best, ways = numpy.empty((2, len(starts), len(ends)), numpy.int64)
+    # Where turns are restricted few roads have nodes beside the first one of each end.
+    out, into = ((column > 0).any(axis=0).nonzero()[0] for column in (starts.out_nodes, ends.in_nodes))
+    columns, behind = in_place[:, into].reshape(-1), ends.in_weights[:, into].reshape(-1)
+    numbers = (out[:, None] * in_place.shape[1] + into).reshape(-1)
+    height = max(1, CELLS // max(1, len(columns) * len(out)))
+    for first in range(0, len(starts), height):
+        rows = slice(first, first + height)
+        totals = nodes[out_place[rows][:, out].reshape(-1)].take(columns, axis=1)
+        totals += starts.out_weights[rows][:, out].reshape(-1, 1)
+        totals += behind
+        best[rows], ways[rows] = least_of(totals, len(ends), len(out), numbers)
+    stay_on_roads(trips.roads, starts, ends, best, ways)
     return numpy.where(best <= (NOWHERE // 2 if within is None else within), best, FAR), ways
 
 
-def improve(best: Integers, ways: Integers, weights: Integers, way: int) -> None:
-    """Puts the weights of a way where they are less than the best ones, and the way beside them."""
-    is_less = weights < best
-    numpy.copyto(best, weights, where=is_less)
-    numpy.copyto(ways, way, where=is_less)
+def least_of(totals: Integers, width: int, outs: int, numbers: Integers) -> tuple[Integers, Integers]:
+    """The least of the totals of each cell, and the number of the first way that has it. A row of `totals` has for one start and one of its `outs`
+    the totals to all of `width` ends, by all of their ways."""
+    height = len(totals) // outs if outs else 0
+    if not (height and width and len(numbers)):
+        return FAR, 0
+    cells = totals.reshape(height, outs, width, -1).transpose(1, 3, 0, 2).reshape(len(numbers), height, width)
+    which = cells.argmin(axis=0)
+    return numpy.take_along_axis(cells, which[None], 0)[0], numbers[which]
+
+
+def stay_on_roads(roads: Roads, starts: Spots, ends: Spots, best: Integers, ways: Integers) -> None:
+    """Puts the weights along single roads where they are less than the best ones, and the number of this way beside them."""
+    rows, columns = (starts.roads[:, None] == ends.roads).nonzero()
+    along = roads.along_roads(starts, rows, ends, columns)
+    is_less = (along >= 0) & (along < best[rows, columns])
+    rows, columns = rows[is_less], columns[is_less]
+    best[rows, columns], ways[rows, columns] = along[is_less], starts.out_nodes.shape[1] * ends.in_nodes.shape[1]
 
 
 def legs_between(trips: Trips, starts: Spots, ends: Spots) -> Legs:

@@ -37,8 +37,11 @@ def degrees(x: Floats, y: Floats) -> tuple[Floats, Floats]:
 
 
 def metres_between(longitudes: ArrayLike, latitudes: ArrayLike, others: ArrayLike, other_latitudes: ArrayLike) -> Floats:
-    """The metres between each pair of places, along the sphere."""
-    return sphere.metres_of(numpy.linalg.norm(points(longitudes, latitudes) - points(others, other_latitudes), axis=1))
+    """The metres between each pair of places, along the sphere; columns of one length."""
+    count = len(numpy.asarray(longitudes))
+    both = points(numpy.concatenate([longitudes, others]), numpy.concatenate([latitudes, other_latitudes])).T
+    x, y, z = both[:, :count] - both[:, count:]
+    return sphere.metres_of(numpy.sqrt(x * x + y * y + z * z))
 
 
 def tidied(lines: Sequence[Floats]) -> list[tuple[list[Point], float]]:
@@ -181,13 +184,15 @@ class Lines:
         """The directions in which steps lead, in degrees clockwise from north."""
         if self.pieces is None:
             self.pieces = Pieces(self)
-        return numpy.degrees(numpy.arctan2(self.pieces.east[steps], self.pieces.north[steps])) % 360
+        rows = self.pieces.rows.take(steps, axis=0)
+        return numpy.degrees(numpy.arctan2(rows[:, 2], rows[:, 3])) % 360
 
 
 class Pieces:
     """The steps of lines, to be looked for: cut into pieces of at most a length, whose middles stand in a k-d tree.
 
-    In the plane step k leads from `x[k]`, `y[k]` by `east[k]` and `north[k]`, and `squares[k]` is the square of its length, 1 where it has none.
+    `rows` has for each step where it starts in the plane, x and y, how far it leads east and north, and the square of its length, 1 where it has
+    none. All of a row is read together.
     """
 
     def __init__(self, lines: Lines) -> None:
@@ -200,9 +205,8 @@ class Pieces:
         steps = steps[numpy.isfinite(plane[steps]).all(axis=1) & numpy.isfinite(plane[steps + 1]).all(axis=1)]
         ways = numpy.zeros_like(plane)
         ways[steps] = plane[steps + 1] - plane[steps]
-        self.x, self.y, self.east, self.north = (column.copy() for column in (plane[:, 0], plane[:, 1], ways[:, 0], ways[:, 1]))
-        squares = self.east * self.east + self.north * self.north
-        self.squares = numpy.where(squares > 0, squares, 1)
+        squares = ways[:, 0] * ways[:, 0] + ways[:, 1] * ways[:, 1]
+        self.rows = numpy.ascontiguousarray(numpy.column_stack([plane, ways, numpy.where(squares > 0, squares, 1)]))
         lengths = numpy.sqrt(squares[steps])
         most = lengths.mean() or 1.0
         counts = numpy.maximum(numpy.ceil(lengths / most), 1).astype(int)
@@ -214,21 +218,27 @@ class Pieces:
 
     def nearest(self, places: Floats) -> tuple[Integers, Floats, Floats]:
         """The nearest step to each point of the plane, the position of the nearest point along it, from 0 to 1, and that point."""
-        steps, shares, left, count = numpy.zeros(len(places), numpy.int64), numpy.zeros(len(places)), numpy.arange(len(places)), NEIGHBOURS
+        count = min(NEIGHBOURS, len(self.steps))
+        steps, shares, left = self.nearest_among(places, count)
         while len(left):
-            count = min(count, len(self.steps))
-            distances, near = (column.reshape(len(left), count) for column in self.tree.query(places[left], count))
-            among = self.steps[near]
-            along, apart = self.feet(among, places[left, None])
-            least = apart.min(axis=1)
-            # Of equally near steps the first.
-            best = numpy.where(apart == least[:, None], among, len(self.x)).argmin(axis=1) + count * numpy.arange(len(left))
-            steps[left], shares[left] = among.reshape(-1)[best], along.reshape(-1)[best]
-            # No point of a piece whose middle is farther away than all of these is nearer than this, nor as near.
-            is_unsure = numpy.sqrt(least) * (1 + 1e-9) + self.reach + 1e-12 >= distances[:, -1]
-            left = left[is_unsure & (count < len(self.steps))]
-            count *= 4
+            count = min(4 * count, len(self.steps))
+            steps[left], shares[left], unsure = self.nearest_among(places[left], count)
+            left = left[unsure]
         return steps, shares, self.at(steps, shares)
+
+    def nearest_among(self, places: Floats, count: int) -> tuple[Integers, Floats, Integers]:
+        """The nearest steps to places among the so many pieces whose middles are nearest, how far along they are nearest, and the numbers of places
+        to which others may be nearer."""
+        distances, near = (column.reshape(len(places), count) for column in self.tree.query(places, count))
+        among = self.steps.take(near)
+        along, apart = self.feet(among, places[:, None])
+        least = apart.min(axis=1)
+        # Of equally near steps the first.
+        best = numpy.where(apart == least[:, None], among, len(self.rows)).argmin(axis=1) + count * numpy.arange(len(places))
+        # No point of a piece whose middle is farther away than all of these is nearer than this, nor as near.
+        is_unsure = numpy.sqrt(least) * (1 + 1e-9) + self.reach + 1e-12 >= distances[:, -1]
+        unsure = numpy.flatnonzero(is_unsure) if count < len(self.steps) else numpy.zeros(0, numpy.int64)
+        return among.reshape(-1)[best], along.reshape(-1)[best], unsure
 
     def within(self, places: Floats, distances: Floats) -> Any:
         """The pieces with a point within a distance of each place, and some others; a point of a piece is at most `reach` from its middle."""
@@ -237,16 +247,18 @@ class Pieces:
     def feet(self, steps: Integers, places: Floats) -> tuple[Floats, Floats]:
         """The nearest points of steps to places, one each or one for each row of steps: how far along the step, from 0 to 1, and the square of the
         distance."""
-        east, north = self.east.take(steps), self.north.take(steps)
-        x, y = places[..., 0] - self.x.take(steps), places[..., 1] - self.y.take(steps)
-        shares = numpy.minimum(numpy.maximum((east * x + north * y) / self.squares.take(steps), 0), 1)
+        rows = self.rows.take(steps, axis=0)
+        east, north = rows[..., 2], rows[..., 3]
+        x, y = places[..., 0] - rows[..., 0], places[..., 1] - rows[..., 1]
+        shares = numpy.minimum(numpy.maximum((east * x + north * y) / rows[..., 4], 0), 1)
         x, y = x - east * shares, y - north * shares
         apart: Any = x * x + y * y
         return shares, apart
 
     def at(self, steps: Integers, shares: Floats) -> Floats:
         """The points of the plane so far along steps."""
-        return numpy.array([self.x[steps] + self.east[steps] * shares, self.y[steps] + self.north[steps] * shares]).T
+        rows = self.rows.take(steps, axis=0)
+        return rows[:, :2] + rows[:, 2:4] * shares[:, None]
 
     def nearest_some(self, place: Floats, most: int, firsts: Integers) -> tuple[Integers, Floats, Floats]:
         """The nearest step of each of the nearest lines to one place, at most `most` of them, the nearest first. Lines start at `firsts`."""

@@ -87,6 +87,8 @@ class Spots:
         """Some of them: by a slice, by an array of places, or the one of a place."""
         if isinstance(which, int | numpy.integer):
             which = [range(len(self))[which]]
+        elif isinstance(which, list):
+            which = numpy.asarray(which, None if which else numpy.int64)
         return Spots(*(column[which] for column in vars(self).values()))
 
     def __iter__(self) -> Iterator[Spots]:
@@ -111,6 +113,24 @@ class Ways(NamedTuple):
 
     nodes: Integers
     weights: Integers
+
+
+class BothWays(NamedTuple):
+    """The ways out of roads, in the first `outs` columns, and those into them, in the others; and for each column whether its nodes are those of the
+    road's last place."""
+
+    nodes: Integers
+    weights: Integers
+    outs: int
+    is_last: Marks
+
+
+def both_ways(out: Ways, into: Ways) -> BothWays:
+    """The ways out of roads and into them."""
+    widths = out.nodes.shape[1], into.nodes.shape[1]
+    is_last = numpy.concatenate([numpy.arange(width) >= width // 2 for width in widths])
+    nodes, weights = (numpy.ascontiguousarray(numpy.hstack(pair)) for pair in zip(out, into))
+    return BothWays(nodes, weights, widths[0], is_last)
 
 
 def ways_of(roads: Integers, sides: Integers, nodes: Integers, weights: Integers, count: int) -> Ways:
@@ -200,8 +220,9 @@ class Roads:
         """Finds the nodes where trips leave each road and arrive, and the least weights of both directions."""
         kept = self.road_of != NONE
         roads, is_back, weights = self.road_of[kept], self.is_back[kept], self.weights[kept]
-        self.out_ways = ways_of(roads, (~is_back).astype(int), self.heads[kept], weights, len(self))
-        self.in_ways = ways_of(roads, is_back.astype(int), self.tails[kept], weights, len(self))
+        self.ways = both_ways(
+            ways_of(roads, (~is_back).astype(int), self.heads[kept], weights, len(self)), ways_of(roads, is_back.astype(int), self.tails[kept], weights, len(self)),
+        )
         least = numpy.full((2, len(self)), numpy.iinfo(numpy.int64).max)
         numpy.minimum.at(least, (is_back.astype(int), roads), weights)
         least[least == numpy.iinfo(numpy.int64).max] = NONE
@@ -253,23 +274,27 @@ class Roads:
 
     def spots(self, longitudes: Floats, latitudes: Floats, metres: Floats, roads: Integers, parts: Floats) -> Spots:
         """Makes spots, with the ways out of them and into them, and rounds the weights of these."""
+        ways, outs = self.ways, self.ways.outs
+        nodes, weights = ways.nodes.take(roads, axis=0), ways.weights.take(roads, axis=0)
+        column = parts[:, None]
+        along = numpy.where(ways.is_last, 1 - column, column)
+        weights = numpy.where(nodes == NONE, NONE, numpy.rint(along * weights).astype(numpy.int64))
         at_node = numpy.flatnonzero((parts == 0) | (parts == 1))
-        begins = numpy.where(parts == 0, self.firsts[roads], self.lasts[roads])[at_node]
-        stops = numpy.array([self.ends.get(node, node) for node in begins.tolist()], numpy.int64)
-
-        def ways(of_roads: Ways, nodes_there: Integers) -> tuple[Integers, Integers]:
-            """The ways of spots. A spot at a node has this node alone, at the weight 0."""
-            nodes, weights = of_roads.nodes[roads], of_roads.weights[roads]
-            half = nodes.shape[1] // 2
-            part = numpy.repeat([parts, 1 - parts], half, axis=0).T
-            weights = numpy.where(nodes == NONE, NONE, numpy.round(part * weights).astype(numpy.int64))
-            nodes[at_node], weights[at_node] = NONE, NONE
-            column = numpy.where(parts[at_node] == 0, 0, half)
-            nodes[at_node, column], weights[at_node, column] = nodes_there, 0
-            return nodes, weights
-
+        if len(at_node):
+            self.stay_at_nodes(nodes, weights, at_node, roads[at_node], parts[at_node] == 0)
         sides = numpy.full(len(roads), FORWARD | BACKWARD)
-        return Spots(longitudes, latitudes, metres, roads, parts, *ways(self.out_ways, begins), *ways(self.in_ways, stops), sides)
+        return Spots(
+            longitudes, latitudes, metres, roads, parts, nodes[:, :outs], weights[:, :outs], nodes[:, outs:], weights[:, outs:], sides,
+        )
+
+    def stay_at_nodes(self, nodes: Integers, weights: Integers, at_node: Integers, roads: Integers, is_first: Marks) -> None:
+        """Gives those of the spots that are at a node this node alone, at the weight 0."""
+        begins, outs = numpy.where(is_first, self.firsts[roads], self.lasts[roads]), self.ways.outs
+        stops = numpy.array([self.ends.get(node, node) for node in begins.tolist()], numpy.int64)
+        nodes[at_node], weights[at_node] = NONE, NONE
+        for there, first, width in (begins, 0, outs), (stops, outs, nodes.shape[1] - outs):
+            column = first + numpy.where(is_first, 0, width // 2)
+            nodes[at_node, column], weights[at_node, column] = there, 0
 
     def find_facing(self, longitude: float, latitude: float, bearing: float, within: float) -> Spots:
         """Takes one place to the nearest point at which a road leads in a direction, in degrees clockwise from north, or at most `within` degrees off
@@ -293,13 +318,20 @@ class Roads:
         return found
 
     def along(self, starts: Spots, ends: Spots) -> Integers:
-        """The weights from spots to others along the road that both are on, `NONE` if they aren't on one, or if no arc leads that way. The arrays of
-        both are broadcast by numpy's rules."""
-        parts = ends.parts - starts.parts
-        weights = numpy.where(parts >= 0, self.forward[starts.roads], self.backward[starts.roads])
-        may = starts.sides & ends.sides & numpy.where(parts >= 0, FORWARD, BACKWARD)
-        is_there = (starts.roads == ends.roads) & ((weights != NONE) & (may > 0) | (parts == 0))
-        return numpy.where(is_there, numpy.round(abs(parts) * numpy.maximum(weights, 0)), NONE).astype(numpy.int64)
+        """The weights from spots to others along the road that both are on, `NONE` if they aren't on one, or if no arc leads that way."""
+        found = numpy.full(len(starts), NONE)
+        [same] = (starts.roads == ends.roads).nonzero()
+        found[same] = self.along_roads(starts, same, ends, same)
+        return found
+
+    def along_roads(self, starts: Spots, rows: Integers, ends: Spots, columns: Integers) -> Integers:
+        """The same from some spots of one list to as many of another, each pair of which is on one road."""
+        roads, parts = starts.roads[rows], ends.parts[columns] - starts.parts[rows]
+        is_forward = parts >= 0
+        weights = numpy.where(is_forward, self.forward[roads], self.backward[roads])
+        may = starts.sides[rows] & ends.sides[columns] & numpy.where(is_forward, FORWARD, BACKWARD)
+        is_there = (weights != NONE) & (may > 0) | (parts == 0)
+        return numpy.where(is_there, numpy.rint(abs(parts) * numpy.maximum(weights, 0)), NONE).astype(numpy.int64)
 
     # Which arcs lead along roads.
 

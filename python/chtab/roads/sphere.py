@@ -22,7 +22,8 @@ def points(longitudes: ArrayLike, latitudes: ArrayLike) -> Floats:
     import numpy
 
     x, y = (numpy.radians(numpy.asarray(part, float)).reshape(-1) for part in (longitudes, latitudes))
-    return numpy.column_stack([numpy.cos(y) * numpy.cos(x), numpy.cos(y) * numpy.sin(x), numpy.sin(y)])
+    flat = numpy.cos(y)
+    return numpy.array([flat * numpy.cos(x), flat * numpy.sin(x), numpy.sin(y)]).T
 
 
 def metres(chord: float) -> float:
