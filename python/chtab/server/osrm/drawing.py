@@ -1,7 +1,7 @@
 """Whole lines of routes as texts of JSON. What a road adds to a line depends on the road and on the direction alone, so that its text is kept."""
 from __future__ import annotations
 
-from typing import TYPE_CHECKING
+from typing import TYPE_CHECKING, NamedTuple
 
 import numpy
 
@@ -11,7 +11,7 @@ from chtab.server.osrm.polylines import DIGITS
 
 if TYPE_CHECKING:
     from collections.abc import Iterable
-    from chtab.roads.legs import Legs
+    from chtab.roads.legs import Legs, Pieces
     from chtab.roads.lines import Lines
     from chtab.typing import Floats, Integers
 
@@ -19,6 +19,16 @@ if TYPE_CHECKING:
 MOST_TEXTS = 1 << 18
 # The number of no end of a road.
 NO_END = -1
+
+
+class Drawn(NamedTuple):
+    """The lines of legs: what they lead along, for each piece the text of its places behind the first one, and the first and the last place of each
+    leg in degrees (n, 2), rounded to millionths."""
+
+    pieces: Pieces
+    texts: list[str]
+    begins: Floats
+    lasts: Floats
 
 
 class Drawing:
@@ -53,9 +63,8 @@ class Drawing:
         texts = [f", [{x}, {y}]" for x, y in places[is_told].tolist()]
         return ["".join(texts[first:last]) for first, last in zip(cuts.tolist(), cuts[1:].tolist())]
 
-    def lines_of(self, legs: Legs, which: Integers, counts: Integers) -> list[str]:
-        """The lines of routes over some legs, so many of each route, each of which begins where the one before ends. A line has at least two
-        places."""
+    def drawn(self, legs: Legs, which: Integers) -> Drawn:
+        """The lines of some legs, each of which is a way."""
         pieces = legs.pieces(which)
         is_part = numpy.zeros(len(pieces.roads), bool)
         is_part[pieces.firsts[:-1]] = is_part[pieces.firsts[1:] - 1] = True
@@ -66,10 +75,16 @@ class Drawing:
         texts = [kept[end] for end in ends]
         for at, text in zip(numpy.flatnonzero(is_part).tolist(), self.behind(places, parts.counts)):
             texts[at] = text
-        cuts = pieces.firsts[numpy.append(0, numpy.cumsum(counts))]
-        begins = (numpy.cumsum(parts.counts) - parts.counts)[numpy.cumsum(is_part)[cuts[:-1]] - 1]
-        cuts = cuts.tolist()
-        return [self.whole(begin, "".join(texts[first:last])) for begin, first, last in zip(self.places(places[begins]), cuts, cuts[1:])]
+        ends_of_parts, part = numpy.cumsum(parts.counts), numpy.cumsum(is_part) - 1
+        begins = (ends_of_parts - parts.counts)[part[pieces.firsts[:-1]]]
+        return Drawn(pieces, texts, places[begins], places[ends_of_parts[part[pieces.firsts[1:] - 1]] - 1])
+
+    def lines_of(self, drawn: Drawn, counts: Integers) -> list[str]:
+        """The lines of routes over some legs, so many of each route, each of which begins where the one before ends. A line has at least two
+        places."""
+        legs = numpy.append(0, numpy.cumsum(counts))
+        cuts, texts = drawn.pieces.firsts[legs].tolist(), drawn.texts
+        return [self.whole(begin, "".join(texts[first:last])) for begin, first, last in zip(self.places(drawn.begins[legs[:-1]]), cuts, cuts[1:])]
 
     def places(self, places: Floats) -> list[str]:
         """The texts of places by themselves."""

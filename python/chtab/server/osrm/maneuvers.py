@@ -13,7 +13,7 @@ from chtab.server.osrm.crossings import turned
 from chtab.roads.snapping import NONE
 
 if TYPE_CHECKING:
-    from chtab.roads.legs import Legs, Traces
+    from chtab.roads.legs import Legs
     from chtab.server.osrm.crossings import Crossings
     from chtab.typing import Integers, Marks
 
@@ -26,26 +26,26 @@ LEFT, RIGHT = "left", "right"
 
 class Pieces(NamedTuple):
     """The pieces of legs, one leg after the other: the place of the leg in the question, the end of the road where the piece starts, its street,
-    the node at its end, and the place of its end in the trace of the leg."""
+    the node at its end, and its number among the pieces that `Legs.pieces` has."""
 
     legs: Integers
     ends: Integers
     streets: Integers
     heads: Integers
-    stops: Integers
+    numbers: Integers
 
     def chosen(self, which: Any) -> Pieces:
         return Pieces(*(column[which] for column in self))
 
 
-def pieces_of(crossings: Crossings, legs: Legs, which: Integers, traces: Traces) -> Pieces:
+def pieces_of(crossings: Crossings, legs: Legs, which: Integers) -> Pieces:
     """The pieces of some legs, `which` an array of their numbers. What leads along no road is none, nor is a stretch without length."""
     is_walk, walks = legs.is_walk[which], legs.walks
     arc_counts = walks.firsts[which + 1] - walks.firsts[which]
     counts = 1 + arc_counts + is_walk
     firsts = numpy.cumsum(counts) - counts
     every = Pieces(numpy.repeat(numpy.arange(len(which)), counts), *numpy.zeros((4, counts.sum()), numpy.int64))
-    every.stops[:] = traces.stops
+    every.numbers[:] = numpy.arange(len(every.legs))
     starts, ends = legs.starts, legs.ends
     # To leave by the end 0 of a road, or to arrive by the end 1, is to drive back along it.
     goes_back = numpy.where(is_walk, legs.leaves[which] == 0, ends.parts[which] < starts.parts[which])

@@ -89,7 +89,7 @@ class Route(NamedTuple):
     @property
     def has_traces(self) -> bool:
         """Whether the places of the route have to be known, and what lies between them."""
-        return self.has_steps or self.overview == "simplified" or any(name != "nodes" for name in self.annotations)
+        return self.overview == "simplified" or any(name != "nodes" for name in self.annotations)
 
 
 class Trip(NamedTuple):

@@ -1,31 +1,32 @@
 """Steps of legs in OSRM's form: the maneuvers of each leg, with streets, lines and crossings, as texts of JSON.
 
-The text of a crossing depends on it alone, and on how it is passed, so it is kept.
+The texts of a crossing and of what is done there depend on the crossing alone, and on how it is passed, so they are kept.
 """
 from __future__ import annotations
 
 import json
-from collections.abc import Iterable, Iterator, Sequence
+from collections.abc import Iterator, Sequence
 from typing import TYPE_CHECKING, Any, NamedTuple, TypeAlias
 
 import numpy
 
-from chtab.server.osrm import polylines
+from chtab.roads.legs import sums_before
+from chtab.roads.snapping import NONE
 from chtab.server.osrm.crossings import FERRY, bearings
 from chtab.server.osrm.maneuvers import ENTER, EXIT, SILENT, TYPES, passages_of, pieces_of
 
 if TYPE_CHECKING:
-    from numpy.typing import ArrayLike
     from chtab.files import Street
-    from chtab.roads.legs import Legs, Traces
+    from chtab.roads.legs import Legs
     from chtab.server.osrm.crossings import Crossings
-    from chtab.server.osrm.maneuvers import Passages
-    from chtab.typing import Integers
+    from chtab.server.osrm.drawing import Drawing, Drawn
+    from chtab.server.osrm.maneuvers import Passages, Pieces
+    from chtab.typing import Floats, Integers
 
-# How many texts of crossings are kept, of some 200 bytes each.
+# How many texts of crossings, and of maneuvers, are kept, of some 200 bytes each.
 MOST_TEXTS = 1 << 18
-# A passage of a crossing, as `rows_of` gives it.
-Row: TypeAlias = tuple[Any, ...]
+# How a crossing is passed: its node, and the ends of roads where the driver arrives and leaves.
+Key: TypeAlias = tuple[int, int, int]
 # What is known of a node, as `look_around` gives it.
 Around: TypeAlias = tuple[list[float], list[Any], list[Any], list[Any]]
 # The types of maneuvers at rings with names of their own.
@@ -40,15 +41,20 @@ class Told(NamedTuple):
 
 
 class Step(NamedTuple):
-    """A step: the place of the leg's trace where it starts, the street in its name and the one that it leads along, its maneuver, its further
-    members, and the crossings on it, as texts of JSON."""
+    """A step: the street in its name and the one that it leads along, its maneuver, and its further members, as texts of JSON."""
 
-    place: int
     street: int
     along: int
     maneuver: str
-    more: str
-    crossings: list[str]
+    more: str = ""
+
+
+class Measured(NamedTuple):
+    """The metres, the seconds and the line of a step, a text of JSON."""
+
+    metres: float
+    seconds: float
+    line: str
 
 
 class Steps:
@@ -56,64 +62,86 @@ class Steps:
 
     def __init__(self, crossings: Crossings) -> None:
         self.known = crossings
-        self.texts: dict[tuple[int, int, int], str] = {}
+        self.texts: dict[Key, str] = {}
+        self.maneuvers: dict[tuple[Key, str, str, int], str] = {}
         self.around: dict[int, Around] = {}
         self.streets = crossings.streets
         self.called = [called(street) for street in crossings.streets]
         self.names = [json.dumps(street.name) for street in crossings.streets]
+        self.is_ferry = [street.highway == FERRY for street in crossings.streets]
         self.side = f', "driving_side": "{crossings.side}"' if crossings.side else ""
 
-    def of(self, legs: Legs, which: ArrayLike, traces: Traces, mode: str, geometries: str) -> list[Told]:
-        """The steps of some legs, each of which is a way, for those who travel by `mode`; lines have the form `geometries`."""
-        which = numpy.asarray(which)
+    def of(self, legs: Legs, which: Integers, lines: Lines, mode: str) -> list[Told]:
+        """The steps of some legs, each of which is a way and lies along `lines`, for those who travel by `mode`."""
         if not len(which):
             return []
-        lines = Lines(traces)
-        pieces = pieces_of(self.known, legs, which, traces)
+        pieces = pieces_of(self.known, legs, which)
         passages = passages_of(self.known, pieces)
-        numbers, streets = numpy.arange(len(which) + 1), pieces.streets.tolist()
         self.see_to(passages)
-        rows = rows_of(passages, lines.firsts[pieces.legs[passages.before]] + pieces.stops[passages.before], lines)
-        of_rows = pieces.legs[passages.before][(passages.kinds != SILENT) | passages.is_crossing]
-        cuts, firsts = (numpy.searchsorted(column, numbers).tolist() for column in (of_rows, pieces.legs))
-        alone = self.known.street_of[2 * legs.starts.roads[which]].tolist()
-        found, ended = [], []
-        for leg, departure in enumerate(lines.departures()):
-            first, last = firsts[leg], firsts[leg + 1]
-            begun, end = (streets[first], streets[last - 1]) if first < last else (alone[leg],) * 2
-            found.append(self.steps_of(rows[cuts[leg]:cuts[leg + 1]], streets, first, begun, departure))
-            ended.append(end)
-        return self.told(found, ended, lines, mode, geometries)
+        kept = numpy.flatnonzero((passages.kinds != SILENT) | passages.is_crossing)
+        acting = numpy.flatnonzero(passages.kinds[kept] != SILENT)
+        done, numbers = kept[acting], numpy.arange(len(which) + 1)
+        steps, owners = self.steps_of(passages, done, pieces), pieces.legs[passages.before[kept]]
+        cuts, turns = owners.searchsorted(numbers), owners[acting].searchsorted(numbers).tolist()
+        crossings = self.crossings_of(passages, kept)
+        groups = [", ".join(crossings[first:last]) for first, last in between(cuts, turns, acting.tolist())]
+        measured = lines.measured(numpy.diff(turns), pieces.numbers[passages.before[done]], self.known.roads.places[passages.nodes[done] - 1].round(6))
+        found, at, streets = [], 0, self.ends_of(legs, which, pieces)
+        for leg, (departure, arrival) in enumerate(zip(lines.departures(), lines.arrivals())):
+            first, last = turns[leg], turns[leg + 1]
+            every = [Step(*streets[leg][:1] * 2, departure[0]), *steps[first:last], Step(*streets[leg][1:] * 2, arrival[0])]
+            own, end = groups[first + leg:last + leg + 1], at + len(every)
+            own[0] = f"{departure[1]}, {own[0]}" if own[0] else departure[1]
+            found.append(self.told(every, [*own, arrival[1]], measured[at:end], mode))
+            at = end
+        return found
 
     def see_to(self, passages: Passages) -> None:
         """Looks around at the nodes where that was not done. What is kept is thrown away before it is too much."""
-        if len(self.texts) >= MOST_TEXTS:
+        if max(len(self.texts), len(self.maneuvers)) >= MOST_TEXTS:
             self.texts.clear()
+            self.maneuvers.clear()
             self.around.clear()
         missing = [node for node in set(passages.nodes.tolist()) if node not in self.around]
         if missing:
             self.look_around(numpy.array(missing))
 
-    def steps_of(self, rows: Iterable[Row], streets: list[int], first: int, begun: int, departure: tuple[int, list[float], int]) -> list[Step]:
-        """The steps of a leg by its passages, the last one aside. Its first piece is `first`, on the street `begun`."""
-        place, location, ahead = departure
-        departs = f'"type": "depart", "location": {location}, "bearing_before": 0, "bearing_after": {ahead}'
-        crossings = [f'{{"location": {location}, "bearings": [{ahead}], "entry": [true], "out": 0}}']
-        found, texts = [Step(place, begun, begun, departs, "", crossings)], self.texts
-        for key, kind, place, location, before, bearing, onward, number, ring, behind, modifier in rows:
-            text = texts.get(key) or self.crossing(*key)
-            if kind == SILENT:
-                crossings.append(text)
-                continue
-            along = streets[before + 1]
-            called_by, word, more, number = along, TYPES[kind], "", f', "exit": {number}' if number else ""
+    def ends_of(self, legs: Legs, which: Integers, pieces: Pieces) -> list[tuple[int, int]]:
+        """The streets where each leg begins and ends."""
+        cuts = pieces.legs.searchsorted(numpy.arange(len(which) + 1))
+        begun = self.known.street_of[2 * legs.starts.roads[which]]
+        ended = begun.copy()
+        is_there = cuts[1:] > cuts[:-1]
+        begun[is_there], ended[is_there] = pieces.streets[cuts[:-1][is_there]], pieces.streets[cuts[1:][is_there] - 1]
+        return list(zip(begun.tolist(), ended.tolist()))
+
+    def steps_of(self, passages: Passages, done: Integers, pieces: Pieces) -> list[Step]:
+        """The steps that begin at some passages."""
+        streets, before = pieces.streets.tolist(), passages.before[done]
+        firsts = pieces.legs.searchsorted(pieces.legs[before])
+        columns = (column[done].tolist() for column in (passages.kinds, passages.exits, passages.rings, passages.behind))
+        found = []
+        for key, kind, number, ring, behind, modifier, at, first in zip(
+            keys_of(passages, done), *columns, [passages.modifiers[place] for place in done.tolist()], before.tolist(), firsts.tolist(),
+        ):
+            along = street = streets[at + 1]
+            word, more = TYPES[kind], ""
             if kind in ROTARIES:
-                called_by = streets[behind] if behind >= 0 else along
+                street = streets[behind] if behind >= 0 else along
                 word, more = self.ring(kind, streets, first, ring, behind)
-            maneuver = f'"type": "{word}", "modifier": "{modifier}", "location": {location}, "bearing_before": {bearing}, "bearing_after": {onward}{number}'
-            crossings = [text]
-            found.append(Step(place, called_by, along, maneuver, more, crossings))
+            what = key, word, modifier, number
+            found.append(Step(street, along, self.maneuvers.get(what) or self.maneuver(*what), more))
         return found
+
+    def maneuver(self, key: Key, word: str, modifier: str, number: int) -> str:
+        """The text of a maneuver at a crossing, where an exit with a number is taken unless it is 0. It is kept."""
+        node, came, goes = key
+        [location, *_], leads = self.around.get(node) or self.look_around(numpy.array([node]))[node], self.known.leads
+        more = f', "exit": {number}' if number else ""
+        text = f'"type": "{word}", "modifier": "{modifier}", "location": {location}, "bearing_before": {(leads[came] + 180) % 360}, ' \
+            f'"bearing_after": {leads[goes]}{more}'
+        self.maneuvers[key, word, modifier, number] = text
+        return text
 
     def ring(self, kind: int, streets: list[int], first: int, ring: int, behind: int) -> tuple[str, str]:
         """The type of a maneuver at a ring, and the ring's name where it has one of its own. It begins with the piece `ring`."""
@@ -123,29 +151,15 @@ class Steps:
             return ROTARIES[kind], f', "rotary_name": {json.dumps(name)}'
         return TYPES[kind], ""
 
-    def told(self, of_legs: Sequence[list[Step]], ended: Sequence[int], lines: Lines, mode: str, geometries: str) -> list[Told]:
-        """The texts of the steps of legs, each of which ends with its arrival in a street."""
-        starts = numpy.array([step.place for steps in of_legs for step in (*steps, steps[0])])
-        counts = numpy.array([len(steps) + 1 for steps in of_legs])
-        lasts = numpy.cumsum(counts) - 1
-        starts[lasts] = lines.lasts
-        ends = numpy.append(starts[1:], 0)
-        ends[lasts] = lines.lasts
-        metres, weights = (column[ends] - column[starts] for column in (lines.metres, lines.weights))
-        columns = zip(metres.round(1).tolist(), (weights / 1_000).tolist(), lines.texts(starts, ends, geometries))
-        found = []
-        for steps, end, arrival in zip(of_legs, ended, lines.arrivals()):
-            every = [*steps, Step(0, end, end, *arrival)]
-            parts = [next(columns) for _ in every]
-            texts = [self.text_of(step, *part, mode) for step, part in zip(every, parts)]
-            found.append(Told(f"[{', '.join(texts)}]", self.summary(steps, [length for length, _, _ in parts])))
-        return found
-
-    def text_of(self, step: Step, length: float, duration: float, line: str, mode: str) -> str:
-        """The text of a step with this length in metres and duration in seconds."""
-        mode = FERRY if self.streets[step.along].highway == FERRY else mode
-        return f'{{"distance": {length}, "duration": {duration}, "weight": {duration}, {self.called[step.street]}{step.more}, "mode": "{mode}"{self.side}, ' \
-            f'"geometry": {line}, "maneuver": {{{step.maneuver}}}, "intersections": [{", ".join(step.crossings)}]}}'
+    def told(self, steps: Sequence[Step], crossings: Sequence[str], measured: Sequence[Measured], mode: str) -> Told:
+        """The text of the steps of a leg, each with the texts of its crossings."""
+        called, is_ferry, side = self.called, self.is_ferry, self.side
+        texts = [
+            f'{{"distance": {metres}, "duration": {seconds}, "weight": {seconds}, {called[street]}{more}, '
+            f'"mode": "{FERRY if is_ferry[along] else mode}"{side}, "geometry": {line}, "maneuver": {{{maneuver}}}, "intersections": [{passed}]}}'
+            for (street, along, maneuver, more), passed, (metres, seconds, line) in zip(steps, crossings, measured)
+        ]
+        return Told(f"[{', '.join(texts)}]", self.summary(steps[:-1], [each.metres for each in measured]))
 
     def summary(self, steps: Sequence[Step], metres: Sequence[float]) -> str:
         """The names or numbers of the two longest streets, in their order on the leg."""
@@ -157,6 +171,11 @@ class Steps:
         lengths.pop("", None)
         longest = sorted(lengths, key=lengths.__getitem__, reverse=True)[:2]
         return ", ".join(name for name in lengths if name in longest)
+
+    def crossings_of(self, passages: Passages, kept: Integers) -> list[str]:
+        """The texts of the crossings of some passages."""
+        texts = self.texts
+        return [texts.get(key) or self.crossing(*key) for key in keys_of(passages, kept)]
 
     def crossing(self, node: int, came: int, goes: int) -> str:
         """The text of a crossing that is passed from one end of a road to another. It is kept."""
@@ -188,44 +207,86 @@ def called(street: Street) -> str:
     return json.dumps(told)[1:-1]
 
 
-def rows_of(passages: Passages, places: Integers, lines: Lines) -> list[Row]:
-    """The passages that steps report, as rows: the key of the crossing's text, what is done, the place in all lines and its location, and the
-    further values of the answer."""
-    kept = numpy.flatnonzero((passages.kinds != SILENT) | passages.is_crossing)
-    columns = (passages.nodes, passages.ins, passages.outs)
-    keys = list(zip(*(column[kept].tolist() for column in columns)))
-    others = passages.before, passages.came, passages.goes, passages.exits, passages.rings, passages.behind
-    return list(zip(
-        keys, passages.kinds[kept].tolist(), places[kept].tolist(), lines.places[places[kept]].tolist(), *(column[kept].tolist() for column in others),
-        [passages.modifiers[place] for place in kept.tolist()],
-    ))
+def keys_of(passages: Passages, which: Integers) -> Iterator[Key]:
+    """How the crossings of some passages are passed."""
+    return zip(*(column[which].tolist() for column in (passages.nodes, passages.ins, passages.outs)))
+
+
+def between(cuts: Integers, turns: Sequence[int], acting: Sequence[int]) -> Iterator[tuple[int, int]]:
+    """For each step but the arrivals the range of its crossings. Leg k has the crossings from `cuts[k]` on, and a step begins at each crossing of
+    `acting`, of which it has those from `turns[k]` on."""
+    for begin, end, first, last in zip(cuts.tolist(), cuts[1:].tolist(), turns, turns[1:]):
+        starts = [begin, *acting[first:last], end]
+        yield from zip(starts, starts[1:])
 
 
 class Lines:
-    """How legs lie, one after the other: their places, and the metres and weights up to there. Leg k lies from place `firsts[k]` to `lasts[k]`."""
+    """How legs lie, one leg after the other: `metres` and `weights` from the start of a leg up to the end of each piece of it."""
 
-    def __init__(self, traces: Traces) -> None:
-        self.places, self.metres, self.weights = traces.places, traces.metres, traces.weights
-        self.firsts, self.lasts = traces.firsts[:-1], traces.firsts[1:] - 1
+    def __init__(self, drawing: Drawing, drawn: Drawn) -> None:
+        self.drawing, self.drawn, self.firsts = drawing, drawn, drawn.pieces.firsts
+        pieces = drawn.pieces
+        lengths = numpy.where(pieces.roads != NONE, abs(pieces.ends - pieces.starts) * drawing.lines.metres[pieces.roads], 0)
+        self.metres = sums_before(lengths, self.firsts) + lengths
+        self.weights = sums_before(pieces.weights, self.firsts) + pieces.weights
+        self.has_places = numpy.array([bool(text) for text in drawn.texts])
 
-    def departures(self) -> Iterator[tuple[int, list[float], int]]:
-        """Of each leg its first place, where that is, and the direction there."""
-        ahead = bearings(self.places[self.firsts], self.places[numpy.minimum(self.firsts + 1, self.lasts)])
-        return zip(self.firsts.tolist(), self.places[self.firsts].tolist(), ahead.tolist())
+    def reached(self) -> Integers:
+        """For each piece the last of those of its leg that follow it without any place. It is at their end that the next step begins."""
+        is_new = self.has_places.copy()
+        is_new[self.firsts[:-1]] = True
+        lasts = numpy.append(numpy.flatnonzero(is_new)[1:], len(is_new)) - 1
+        return lasts[numpy.cumsum(is_new) - 1]
 
-    def arrivals(self) -> Iterator[tuple[str, str, list[str]]]:
-        """For each leg the maneuver of its arrival, the further members, and the crossing, as texts of JSON."""
-        came = bearings(self.places[numpy.maximum(self.lasts - 1, self.firsts)], self.places[self.lasts])
-        for location, bearing in zip(self.places[self.lasts].tolist(), came.tolist()):
+    def measured(self, counts: Integers, stops: Integers, places: Floats) -> list[Measured]:
+        """How long all steps are, and their lines. A leg has a departure, so many steps behind it, which begin at the ends of the pieces `stops`, at
+        `places`, and an arrival."""
+        lasts = numpy.cumsum(counts + 2) - 1
+        begins, is_inner = lasts - counts - 1, numpy.ones(lasts[-1] + 1, bool)
+        is_inner[begins] = is_inner[lasts] = False
+        reached, ends = self.reached()[stops], self.firsts[1:] - 1
+        metres, weights = numpy.zeros(len(is_inner)), numpy.zeros(len(is_inner), numpy.int64)
+        metres[is_inner], metres[lasts], weights[is_inner], weights[lasts] = self.metres[reached], self.metres[ends], self.weights[reached], self.weights[ends]
+        pieces, starts = numpy.empty(len(is_inner), numpy.int64), numpy.empty((len(is_inner), 2))
+        pieces[begins], pieces[is_inner], pieces[lasts] = self.firsts[:-1], stops + 1, self.firsts[1:]
+        starts[begins], starts[is_inner], starts[lasts] = self.drawn.begins, places, self.drawn.lasts
+        cuts, texts = [*pieces.tolist(), int(self.firsts[-1])], self.drawn.texts
+        lines = [self.drawing.whole(start, "".join(texts[first:last])) for start, first, last in zip(self.drawing.places(starts), cuts, cuts[1:])]
+        columns = [numpy.append(column[1:] - column[:-1], 0) for column in (metres, weights)]
+        for column in columns:
+            column[lasts] = 0
+        return list(map(Measured, columns[0].round(1).tolist(), (columns[1] / 1_000).tolist(), lines))
+
+    def departures(self) -> Iterator[tuple[str, str]]:
+        """For each leg the maneuver of its departure, and the crossing, as texts of JSON."""
+        for location, ahead in zip(self.drawn.begins.tolist(), self.ways()[0].tolist()):
             yield (
-                f'"type": "arrive", "location": {location}, "bearing_before": {bearing}, "bearing_after": 0', "",
-                [f'{{"location": {location}, "bearings": [{(bearing + 180) % 360}], "entry": [true], "in": 0}}'],
+                f'"type": "depart", "location": {location}, "bearing_before": 0, "bearing_after": {ahead}',
+                f'{{"location": {location}, "bearings": [{ahead}], "entry": [true], "out": 0}}',
             )
 
-    def texts(self, starts: Integers, ends: Integers, geometries: str) -> list[str]:
-        """The lines from some places to others, as texts of JSON; each has at least two places."""
-        counts = numpy.maximum(ends - starts + 1, 2)
-        firsts = numpy.cumsum(counts) - counts
-        which = numpy.arange(counts.sum()) - numpy.repeat(firsts - starts, counts)
-        line = self.places[numpy.minimum(which, numpy.repeat(ends, counts))]
-        return polylines.texts(line, firsts, geometries)
+    def arrivals(self) -> Iterator[tuple[str, str]]:
+        """The same of its arrival."""
+        for location, bearing in zip(self.drawn.lasts.tolist(), self.ways()[1].tolist()):
+            yield (
+                f'"type": "arrive", "location": {location}, "bearing_before": {bearing}, "bearing_after": 0',
+                f'{{"location": {location}, "bearings": [{(bearing + 180) % 360}], "entry": [true], "in": 0}}',
+            )
+
+    def ways(self) -> tuple[Integers, Integers]:
+        """The directions in which legs leave their first places, and come to their last ones; 0 of legs that stay at one place."""
+        pieces, count = self.drawn.pieces, len(self.firsts) - 1
+        with_places = numpy.flatnonzero(self.has_places)
+        cuts = with_places.searchsorted(self.firsts)
+        moving = numpy.flatnonzero(cuts[1:] > cuts[:-1])
+        some = with_places[numpy.concatenate([cuts[:-1][moving], cuts[1:][moving] - 1])]
+        found = self.drawing.lines.stretches(pieces.roads[some], pieces.starts[some], pieces.ends[some])
+        places, ends = found.places.round(6), numpy.cumsum(found.counts)
+        begins = ends - found.counts
+        is_new = numpy.append(False, (places[1:] != places[:-1]).any(axis=1))[:len(places)]
+        is_new[begins] = False
+        new = numpy.flatnonzero(is_new)
+        after = numpy.concatenate([new[new.searchsorted(begins[:len(moving)])], new[new.searchsorted(ends[len(moving):]) - 1]])
+        ways = numpy.zeros((2, count), numpy.int64)
+        ways[:, moving] = bearings(places[after - 1], places[after]).reshape(2, -1)
+        return ways[0], ways[1]

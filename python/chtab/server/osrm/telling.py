@@ -9,8 +9,8 @@ import numpy
 
 from chtab.roads.legs import Traces
 from chtab.server.osrm import polylines
-from chtab.server.osrm.drawing import Drawing
-from chtab.server.osrm.steps import Steps, Told
+from chtab.server.osrm.drawing import Drawing, Drawn
+from chtab.server.osrm.steps import Lines, Steps, Told
 
 if TYPE_CHECKING:
     from chtab.roads.legs import Legs, Trace
@@ -49,14 +49,28 @@ def routes(voice: Voice, legs: Legs, parts: Sequence[list[int]], options: Sequen
     """The texts of routes, each over some legs, one after the other: `parts` has the legs of each, and `options` what its text has."""
     wanted = [leg for part, option in zip(parts, options) if option.has_traces for leg in part]
     traces, places = legs.traces(wanted), {leg: place for place, leg in enumerate(wanted)}
-    told = OfLegs(legs.weights.tolist(), legs.metres.tolist(), steps_of(voice, legs, parts, options, traces, places), traces, places)
-    lines = geometries(voice, legs, parts, options, traces, places)
+    drafts = Drafts(voice.drawings, legs)
+    told = OfLegs(legs.weights.tolist(), legs.metres.tolist(), steps_of(voice, drafts, parts, options), traces, places)
+    lines = geometries(drafts, parts, options, traces, places)
     return [route(voice, legs, part, option, told, lines.get(number)) for number, (part, option) in enumerate(zip(parts, options))]
 
 
-def steps_of(
-    voice: Voice, legs: Legs, parts: Sequence[list[int]], options: Sequence[Route], traces: Traces, places: Mapping[int, int],
-) -> dict[int, Told]:
+class Drafts:
+    """The lines of some legs, drawn once where steps and a whole line need the same ones."""
+
+    def __init__(self, drawings: Mapping[str, Drawing], legs: Legs) -> None:
+        self.drawings, self.legs = drawings, legs
+        self.known: dict[tuple[str, tuple[int, ...]], Drawn] = {}
+
+    def of(self, form: str, which: list[int]) -> Drawn:
+        """The lines of these legs in this form."""
+        key = form, tuple(which)
+        if key not in self.known:
+            self.known[key] = self.drawings[form].drawn(self.legs, numpy.array(which))
+        return self.known[key]
+
+
+def steps_of(voice: Voice, drafts: Drafts, parts: Sequence[list[int]], options: Sequence[Route]) -> dict[int, Told]:
     """The steps of legs whose routes are asked for with steps, by the numbers of the legs."""
     stepping: dict[str, list[int]] = {}
     found: dict[int, Told] = {}
@@ -64,8 +78,8 @@ def steps_of(
         if option.has_steps:
             stepping.setdefault(option.geometries, []).extend(part)
     for form, some in stepping.items():
-        own = traces if len(some) == len(places) else traces.chosen(numpy.array([places[leg] for leg in some]))
-        found |= zip(some, voice.steps.of(legs, some, own, voice.mode, form))
+        lines = Lines(voice.drawings[form], drafts.of(form, some))
+        found |= zip(some, voice.steps.of(drafts.legs, numpy.array(some), lines, voice.mode))
     return found
 
 
@@ -116,7 +130,7 @@ def between(column: Any) -> list[Any]:
 
 
 def geometries(
-    voice: Voice, legs: Legs, parts: Sequence[list[int]], options: Sequence[Route], traces: Traces, places: Mapping[int, int],
+    drafts: Drafts, parts: Sequence[list[int]], options: Sequence[Route], traces: Traces, places: Mapping[int, int],
 ) -> dict[int, str]:
     """The lines of routes whose options ask for one, as texts of JSON, by the numbers of the routes."""
     groups: dict[tuple[str, str], list[int]] = {}
@@ -128,7 +142,7 @@ def geometries(
         counts = numpy.array([len(parts[number]) for number in some])
         which = [leg for number in some for leg in parts[number]]
         if overview == "full":
-            found |= zip(some, voice.drawings[form].lines_of(legs, numpy.array(which), counts))
+            found |= zip(some, drafts.drawings[form].lines_of(drafts.of(form, which), counts))
         else:
             own = traces.chosen(numpy.array([places[leg] for leg in which]))
             line, cuts = joined(*simplified(own.places, own.firsts, counts), counts)
