@@ -8,6 +8,7 @@ import contextlib
 import http.client
 import json
 import random
+import re
 import signal
 import socket
 import subprocess
@@ -214,6 +215,25 @@ def many_clients_get_their_own_answers():
             assert sum(clients.map(work, range(50))) == 0
 
 
+def answers_end_where_they_say():
+    """Requests that come together on one connection: each answer has as many bytes as it says, but one to HEAD has none. The connection is
+    closed behind the last one, which is of HTTP 1.0."""
+    path = b"/route/v1/car/%f,%f;%f,%f" % (*VADUZ, *ESCHEN)
+    lines = b"HEAD %s HTTP/1.1\r\nHost: x", b"GET %s HTTP/1.1\r\nHost: x", b"GET %s HTTP/1.1\r\nHost: x\r\nConnection: keep-alive", b"GET %s HTTP/1.0"
+    with service() as address, socket.create_connection((address.hostname, address.port)) as client:
+        client.sendall(b"".join(line % path + b"\r\n\r\n" for line in lines))
+        is_closed, found = closes_in(client, 20)
+    assert is_closed
+    texts = set()
+    for line in lines:
+        head, _, found = found.partition(b"\r\n\r\n")
+        assert head.startswith(line.split()[2] + b" 200 OK\r\n") and b"\r\nX-Content-Type-Options: nosniff\r\n" in head, head
+        size = int(re.search(rb"\r\nContent-Length: (\d+)\r\n", head)[1]) if line.startswith(b"GET") else 0
+        texts.add(found[:size])
+        found = found[size:]
+    assert found == b"" and len(texts) == 2 and json.loads(max(texts))["code"] == "Ok", (found, texts)
+
+
 def numbers_that_are_none_are_refused():
     """Numbers past any range, of hundreds of digits, and what JSON has no word for: each is a fault of the client's, with a line."""
     huge, place = "1" + "0" * 400, json.dumps(VADUZ)
@@ -247,7 +267,7 @@ def what_the_library_lacks_is_told():
 SERVICE = "python3-aiohttp", "python3-numpy", "python3-scipy", "python3-shapely", "libjs-leaflet"
 GROUPS = (
     (SERVICE, [
-        health_is_told_at_once, clients_that_do_nothing_are_dropped, ports_that_are_none, what_the_library_lacks_is_told,
+        health_is_told_at_once, answers_end_where_they_say, clients_that_do_nothing_are_dropped, ports_that_are_none, what_the_library_lacks_is_told,
         *by_both(places_that_are_too_far, pages_of_other_sites_may_ask, many_clients_get_their_own_answers, numbers_that_are_none_are_refused),
     ]),
 )

@@ -46,37 +46,31 @@ def totals(added: Integers, is_there: Marks, between: Integers, along: Integers)
 
 class Trace(NamedTuple):
     """The line of a leg: its places in degrees (n, 2), rounded to millionths and without repeated ones, and the weight and the metres up to each
-    place. A leg goes along the first road, over its arcs and along the last road, or along a single road. Each of these pieces ends at one of
-    `stops`, which are numbers of places."""
+    place. A leg goes along the first road, over its arcs and along the last road, or along a single road."""
 
     places: Floats
     weights: Integers
     metres: Floats
-    stops: Integers
 
 
 class Traces(NamedTuple):
-    """The traces of several legs, one after the other: trace k has the places from `firsts[k]` to before `firsts[k + 1]`, and the stops from
-    `pieces[k]` to before `pieces[k + 1]`."""
+    """The traces of several legs, one after the other: trace k has the places from `firsts[k]` to before `firsts[k + 1]`."""
 
     places: Floats
     weights: Integers
     metres: Floats
-    stops: Integers
     firsts: Integers
-    pieces: Integers
 
     def of(self, leg: int) -> Trace:
         """The trace of one of them."""
-        own, stops = slice(*self.firsts[leg:leg + 2]), slice(*self.pieces[leg:leg + 2])
-        return Trace(self.places[own], self.weights[own], self.metres[own], self.stops[stops])
+        own = slice(*self.firsts[leg:leg + 2])
+        return Trace(self.places[own], self.weights[own], self.metres[own])
 
     def chosen(self, which: Integers) -> Traces:
         """Some of them, by an array of their numbers."""
-        counts, stops = numpy.diff(self.firsts)[which], numpy.diff(self.pieces)[which]
-        own, kept = ranges(self.firsts[which], counts), self.stops[ranges(self.pieces[which], stops)]
-        firsts, pieces = numpy.append(0, numpy.cumsum(counts)), numpy.append(0, numpy.cumsum(stops))
-        return Traces(self.places[own], self.weights[own], self.metres[own], kept, firsts, pieces)
+        counts = numpy.diff(self.firsts)[which]
+        own = ranges(self.firsts[which], counts)
+        return Traces(self.places[own], self.weights[own], self.metres[own], numpy.append(0, numpy.cumsum(counts)))
 
 
 class Pieces(NamedTuple):
@@ -145,7 +139,7 @@ class Legs:
     def traces(self, which: Sequence[int]) -> Traces:
         """The lines of some legs, each of which has a way."""
         if not len(which):
-            return Traces(numpy.zeros((0, 2)), *numpy.zeros((3, 0), numpy.int64), *numpy.zeros((2, 1), numpy.int64))
+            return Traces(numpy.zeros((0, 2)), *numpy.zeros((2, 0), numpy.int64), numpy.zeros(1, numpy.int64))
         numbers = numpy.asarray(which)
         return traced(self.roads, self.pieces(numbers), self.weights[numbers])
 
@@ -156,23 +150,19 @@ def traced(roads: Roads, pieces: Pieces, totals: Integers) -> Traces:
     along = pieces.roads[is_road]
     found = roads.lines.stretches(along, pieces.starts[is_road], pieces.ends[is_road])
     counts[is_road] = found.counts
-    stops = numpy.cumsum(counts) - 1
     piece = numpy.repeat(numpy.arange(len(counts)), counts)
     lengths = numpy.zeros(len(counts))
     lengths[is_road] = abs(pieces.ends - pieces.starts)[is_road] * roads.lines.metres[along]
     metres = sums_before(lengths, pieces.firsts)[piece] + found.shares * lengths[piece]
     weights = sums_before(pieces.weights, pieces.firsts)[piece] + numpy.round(found.shares * pieces.weights[piece]).astype(numpy.int64)
-    cuts = numpy.append(0, stops + 1)[pieces.firsts]
+    cuts = numpy.append(0, numpy.cumsum(counts))[pieces.firsts]
     weights[cuts[:-1]], weights[cuts[1:] - 1] = 0, totals
     # Of repeated places the last is kept, which includes the weight of pieces without a length.
     places, is_kept = found.places.round(6), numpy.ones(len(piece), bool)
     is_kept[:-1] = (places[1:] != places[:-1]).any(axis=1)
     is_kept[cuts[1:] - 1] = True
     kept_before = numpy.append(0, numpy.cumsum(is_kept))
-    firsts = kept_before[cuts]
-    # A piece ends at the kept one of its repeated places.
-    kept_stops = kept_before[stops] - numpy.repeat(firsts[:-1], numpy.diff(pieces.firsts))
-    return Traces(places[is_kept], weights[is_kept], metres[is_kept], kept_stops, firsts, pieces.firsts)
+    return Traces(places[is_kept], weights[is_kept], metres[is_kept], kept_before[cuts])
 
 
 def sums_before(column: Any, firsts: Integers) -> Any:

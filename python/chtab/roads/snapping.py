@@ -220,9 +220,8 @@ class Roads:
         """Finds the nodes where trips leave each road and arrive, and the least weights of both directions."""
         kept = self.road_of != NONE
         roads, is_back, weights = self.road_of[kept], self.is_back[kept], self.weights[kept]
-        self.ways = both_ways(
-            ways_of(roads, (~is_back).astype(int), self.heads[kept], weights, len(self)), ways_of(roads, is_back.astype(int), self.tails[kept], weights, len(self)),
-        )
+        out = ways_of(roads, (~is_back).astype(int), self.heads[kept], weights, len(self))
+        self.ways = both_ways(out, ways_of(roads, is_back.astype(int), self.tails[kept], weights, len(self)))
         least = numpy.full((2, len(self)), numpy.iinfo(numpy.int64).max)
         numpy.minimum.at(least, (is_back.astype(int), roads), weights)
         least[least == numpy.iinfo(numpy.int64).max] = NONE

@@ -125,9 +125,12 @@ class Turns:
         try:
             self.begin_soon()
             return await job.answer
+        except BaseException:
+            # A job whose client no longer waits may not have had its turn.
+            self.forget(job)
+            raise
         finally:
             self.unanswered -= 1
-            self.forget(job)
 
     def make_room(self, address: str) -> None:
         """Rejects the newest request of the address with the most waiting requests, if it has more than this address."""

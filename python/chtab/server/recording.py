@@ -33,6 +33,8 @@ def log_to(path: str) -> None:
 
 def service_of(path: str) -> str:
     """The service that a request counts for."""
+    if path.startswith(web_policy.QUICK):
+        return path[1:path.index("/", 1)]
     if web_policy.is_osrm(path):
         name = path.split("/")[1]
         return name if name in SERVICES else "page"

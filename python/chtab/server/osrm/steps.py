@@ -85,14 +85,15 @@ class Steps:
         cuts, turns = owners.searchsorted(numbers), owners[acting].searchsorted(numbers).tolist()
         crossings = self.crossings_of(passages, kept)
         groups = [", ".join(crossings[first:last]) for first, last in between(cuts, turns, acting.tolist())]
-        measured = lines.measured(numpy.diff(turns), pieces.numbers[passages.before[done]], self.known.roads.places[passages.nodes[done] - 1].round(6))
-        found, at, streets = [], 0, self.ends_of(legs, which, pieces)
-        for leg, (departure, arrival) in enumerate(zip(lines.departures(), lines.arrivals())):
+        places = self.known.roads.places[passages.nodes[done] - 1].round(6)
+        measured = lines.measured(numpy.diff(turns), pieces.numbers[passages.before[done]], places)
+        found, at = [], 0
+        for leg, ((begun, ended), (departs, around, arrives, there)) in enumerate(zip(self.ends_of(legs, which, pieces), lines.ends())):
             first, last = turns[leg], turns[leg + 1]
-            every = [Step(*streets[leg][:1] * 2, departure[0]), *steps[first:last], Step(*streets[leg][1:] * 2, arrival[0])]
+            every = [Step(begun, begun, departs), *steps[first:last], Step(ended, ended, arrives)]
             own, end = groups[first + leg:last + leg + 1], at + len(every)
-            own[0] = f"{departure[1]}, {own[0]}" if own[0] else departure[1]
-            found.append(self.told(every, [*own, arrival[1]], measured[at:end], mode))
+            own[0] = f"{around}, {own[0]}" if own[0] else around
+            found.append(self.told(every, [*own, there], measured[at:end], mode))
             at = end
         return found
 
@@ -246,7 +247,8 @@ class Lines:
         is_inner[begins] = is_inner[lasts] = False
         reached, ends = self.reached()[stops], self.firsts[1:] - 1
         metres, weights = numpy.zeros(len(is_inner)), numpy.zeros(len(is_inner), numpy.int64)
-        metres[is_inner], metres[lasts], weights[is_inner], weights[lasts] = self.metres[reached], self.metres[ends], self.weights[reached], self.weights[ends]
+        for column, known in (metres, self.metres), (weights, self.weights):
+            column[is_inner], column[lasts] = known[reached], known[ends]
         pieces, starts = numpy.empty(len(is_inner), numpy.int64), numpy.empty((len(is_inner), 2))
         pieces[begins], pieces[is_inner], pieces[lasts] = self.firsts[:-1], stops + 1, self.firsts[1:]
         starts[begins], starts[is_inner], starts[lasts] = self.drawn.begins, places, self.drawn.lasts
@@ -257,20 +259,15 @@ class Lines:
             column[lasts] = 0
         return list(map(Measured, columns[0].round(1).tolist(), (columns[1] / 1_000).tolist(), lines))
 
-    def departures(self) -> Iterator[tuple[str, str]]:
-        """For each leg the maneuver of its departure, and the crossing, as texts of JSON."""
-        for location, ahead in zip(self.drawn.begins.tolist(), self.ways()[0].tolist()):
+    def ends(self) -> Iterator[tuple[str, str, str, str]]:
+        """For each leg the maneuver of its departure and the crossing there, and the same of its arrival, as texts of JSON."""
+        columns = (self.drawn.begins, self.drawn.lasts, *self.ways())
+        for begin, last, ahead, came in zip(*(column.tolist() for column in columns)):
             yield (
-                f'"type": "depart", "location": {location}, "bearing_before": 0, "bearing_after": {ahead}',
-                f'{{"location": {location}, "bearings": [{ahead}], "entry": [true], "out": 0}}',
-            )
-
-    def arrivals(self) -> Iterator[tuple[str, str]]:
-        """The same of its arrival."""
-        for location, bearing in zip(self.drawn.lasts.tolist(), self.ways()[1].tolist()):
-            yield (
-                f'"type": "arrive", "location": {location}, "bearing_before": {bearing}, "bearing_after": 0',
-                f'{{"location": {location}, "bearings": [{(bearing + 180) % 360}], "entry": [true], "in": 0}}',
+                f'"type": "depart", "location": {begin}, "bearing_before": 0, "bearing_after": {ahead}',
+                f'{{"location": {begin}, "bearings": [{ahead}], "entry": [true], "out": 0}}',
+                f'"type": "arrive", "location": {last}, "bearing_before": {came}, "bearing_after": 0',
+                f'{{"location": {last}, "bearings": [{(came + 180) % 360}], "entry": [true], "in": 0}}',
             )
 
     def ways(self) -> tuple[Integers, Integers]:
