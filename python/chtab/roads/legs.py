@@ -210,7 +210,7 @@ def least_of(totals: Integers, width: int, outs: int, numbers: Integers) -> tupl
     the totals to all of `width` ends, by all of their ways."""
     height = len(totals) // outs if outs else 0
     if not (height and width and len(numbers)):
-        return FAR, 0
+        return numpy.full((1, 1), FAR), numpy.zeros((1, 1), numpy.int64)
     cells = totals.reshape(height, outs, width, -1).transpose(1, 3, 0, 2).reshape(len(numbers), height, width)
     which = cells.argmin(axis=0)
     return numpy.take_along_axis(cells, which[None], 0)[0], numbers[which]

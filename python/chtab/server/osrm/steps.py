@@ -210,7 +210,7 @@ def called(street: Street) -> str:
 
 def keys_of(passages: Passages, which: Integers) -> Iterator[Key]:
     """How the crossings of some passages are passed."""
-    return zip(*(column[which].tolist() for column in (passages.nodes, passages.ins, passages.outs)))
+    return zip(passages.nodes[which].tolist(), passages.ins[which].tolist(), passages.outs[which].tolist())
 
 
 def between(cuts: Integers, turns: Sequence[int], acting: Sequence[int]) -> Iterator[tuple[int, int]]:
