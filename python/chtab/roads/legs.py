@@ -139,7 +139,7 @@ class Legs:
     def traces(self, which: Sequence[int]) -> Traces:
         """The lines of some legs, each of which has a way."""
         if not len(which):
-            return Traces(numpy.zeros((0, 2)), *numpy.zeros((2, 0), numpy.int64), numpy.zeros(1, numpy.int64))
+            return Traces(numpy.zeros((0, 2)), numpy.zeros(0, numpy.int64), numpy.zeros(0), numpy.zeros(1, numpy.int64))
         numbers = numpy.asarray(which)
         return traced(self.roads, self.pieces(numbers), self.weights[numbers])
 

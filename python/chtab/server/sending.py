@@ -42,8 +42,12 @@ class JsonAnswer(web.StreamResponse):
         self.stays_open = False
 
     @property
-    def content_length(self) -> int:
+    def content_length(self) -> int | None:
         return len(self.text)
+
+    @content_length.setter
+    def content_length(self, value: int | None) -> None:
+        raise RuntimeError("the text of an answer says how long it is")
 
     async def prepare(self, request: web.BaseRequest) -> Any:
         """Makes the head."""
