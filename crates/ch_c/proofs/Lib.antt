@@ -1,2 +1,3 @@
+-- The names that the proofs by hand use, and the machine's words of boxes and of pointers without a type.
 mod Steps
 mod Words

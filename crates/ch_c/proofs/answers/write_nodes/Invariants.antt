@@ -1,3 +1,4 @@
+-- The source and the ends of the arcs so far are written, and the places behind the whole route are as before.
 use Rattle.std.proofs.Common.{◌≡◌, ◌+◌, ◌<◌, ℕ, length, slice_index, slice_index_or}
 use Rattle.ch_graph.specs.declared.arc.InArc.{InArc}
 use Rattle.ch_engine.specs.NearRows.{StaysFrom}

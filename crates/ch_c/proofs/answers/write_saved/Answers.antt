@@ -1,3 +1,4 @@
+-- The text is copied to the first places, and the places behind it are as before.
 use Rattle.std.proofs.Common.{rules, ◌≡◌, ℕ, ◌+◌, ◌-◌, ◌≤◌, List, ◌++◌, drop, length, take, get_or, refl, inl, sym, ◌∙◌, ap, subst, arith}
 use Rattle.std.proofs.lemmas.List.{get_or-append-add, get_or-drop, take-append-le}
 use Rattle.std.proofs.Math.Seq.{take-length}

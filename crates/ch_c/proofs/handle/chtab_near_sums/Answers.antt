@@ -1,3 +1,4 @@
+-- The network behind the handle is the one whose sums over near rows are answered.
 use Rattle.std.proofs.Common.{◌≡◌, sym, subst}
 use Rattle.ch_engine.specs.Held.{Held}
 use Rattle.ch_c.specs.Calls.{AreSumsAnswered, OfNetwork}
