@@ -1,3 +1,4 @@
+-- While values are inserted, there are still two lists.
 use Rattle.std.proofs.Common.{◌≡◌, length}
 use Rattle.ch_checks.proofs.lists.refused_in_turn.Given as goal
 

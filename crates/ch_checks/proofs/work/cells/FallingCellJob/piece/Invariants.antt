@@ -1,3 +1,4 @@
+-- The items before the current one have paid what they owe, and each of them owes the first cell nine less twice its number.
 use Rattle.std.proofs.Common.{◌≡◌, ℕ, ◌+◌, ◌*◌, ◌<◌, ◌≤◌}
 use Rattle.ch_work.specs.Owed.{HasPaid}
 use Rattle.ch_work.specs.Passes.{view_of, IsPassOf}
