@@ -1,3 +1,4 @@
+-- A leg that is inserted before the first leg of a higher node keeps the row in order, and is the leg at its node.
 use Rattle.std.proofs.Common.{◌<◌, ◌≤◌, ℕ, List, [], length, get_or, set, sym, ◌∙◌, ap, subst}
 use Rattle.std.specs.List.{insert}
 use Rattle.std.proofs.lemmas.List.{get_or-set_same, length-set}

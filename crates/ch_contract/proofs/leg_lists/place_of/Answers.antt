@@ -1,3 +1,4 @@
+-- From the first leg whose node is not lower on, no leg of an ordered row has a lower node.
 use Rattle.ch_contract.proofs.code.RowEdits.{row_from}
 use Rattle.ch_hierarchy.proofs.theory.NoLeg.{no_leg}
 use Rattle.ch_contract.proofs.leg_lists.place_of.Goals as goal

@@ -1,3 +1,4 @@
+-- The nodes of the legs before the current place are lower than the node that is looked for.
 use Rattle.std.proofs.Common.{ℕ, ◌<◌, get_or}
 use Rattle.ch_hierarchy.specs.declared.leg.Leg.{Leg}
 use Rattle.ch_contract.proofs.leg_lists.place_of.Given as goal

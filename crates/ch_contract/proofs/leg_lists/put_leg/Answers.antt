@@ -1,3 +1,4 @@
+-- Taking out the leg at the same node and then inserting the new one edits this list alone.
 use Rattle.std.proofs.Common.{set, ◌∙◌, ap}
 use Rattle.std.proofs.lemmas.List.{set-set}
 use Rattle.ch_hierarchy.specs.Rows.{row}

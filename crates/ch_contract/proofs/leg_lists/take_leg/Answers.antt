@@ -1,3 +1,4 @@
+-- Without the leg at its place the row is in order and has no leg at the node, and it had none if no leg is there.
 use Rattle.std.proofs.Common.{◌≡◌, ◌<◌, ◌≤◌, ℕ, List, [], length, get_or, set, sym, ◌∙◌, ap, subst, arith}
 use Rattle.std.specs.Prelude.{◌≢◌}
 use Rattle.std.specs.List.{remove}

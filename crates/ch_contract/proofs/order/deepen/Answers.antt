@@ -1,3 +1,4 @@
+-- One more node gets a depth of at least one more than that of the contracted node, and no other depth changes.
 use Rattle.std.proofs.Common.{◌<◌, length, get_or, arith}
 use Rattle.ch_contract.proofs.code.Neighbours.{deepened_more}
 use Rattle.ch_contract.proofs.order.deepen.Goals as goal

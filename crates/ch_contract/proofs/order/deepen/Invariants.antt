@@ -1,3 +1,4 @@
+-- The nodes before the current one have a depth of at least one more than that of the contracted node.
 use Rattle.std.proofs.Common.{◌+◌, take}
 use Rattle.std.specs.Prelude.{slice_index}
 use Rattle.ch_contract.specs.Measures.{AreDeepened}

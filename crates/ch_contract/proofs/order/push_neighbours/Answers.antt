@@ -1,3 +1,4 @@
+-- The nodes of the legs from a node, and of those to it that are not among them, are its neighbours, each once.
 use Rattle.std.proofs.Common.{◌++◌, ◌∙◌, append_assoc, ap, map}
 use Rattle.ch_hierarchy.specs.declared.leg.Leg.{Leg}
 use Rattle.ch_contract.specs.Neighbours.{other_nodes}

@@ -1,3 +1,4 @@
+-- One more leg adds its node exactly if no other leg has that node.
 use Rattle.std.proofs.Common.{◌≤◌, ◌++◌, ◌∷◌, [], ◌∙◌, append-nil, sym, ap, length, get_or, arith}
 use Rattle.std.specs.Prelude.{if◌then◌else◌}
 use Rattle.ch_hierarchy.proofs.theory.NoLeg.{no_leg}

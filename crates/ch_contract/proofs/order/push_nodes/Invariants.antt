@@ -1,3 +1,4 @@
+-- The list has grown by the nodes of the legs before the current one that are not nodes of the other legs.
 use Rattle.std.proofs.Common.{◌≡◌, ◌++◌, take}
 use Rattle.ch_contract.specs.Neighbours.{other_nodes}
 use Rattle.ch_contract.proofs.order.push_nodes.Given as goal

@@ -1,3 +1,4 @@
+-- A node that loses its cost is no longer listed as touched, so without touched nodes no cost is left.
 use Rattle.std.proofs.Common.{◌∙◌}
 use Rattle.std.proofs.lemmas.List.{length-set}
 use Rattle.ch_contract.proofs.code.KnownViews.{touched_less}

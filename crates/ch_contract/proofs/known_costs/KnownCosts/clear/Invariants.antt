@@ -1,3 +1,4 @@
+-- Each node with a cost is still listed as touched, and each turn takes one node off the list.
 use Rattle.std.proofs.Common.{◌≡◌, length, vec_len}
 use Rattle.ch_contract.specs.KnownCosts.{AreTouched, known_of}
 use Rattle.ch_contract.proofs.known_costs.KnownCosts.clear.Given as goal

@@ -1,3 +1,4 @@
+-- The cost of the node falls to the given one exactly if that is wanted and less, and all other costs stay.
 use Rattle.std.proofs.Common.{sym, ◌∙◌, ap, subst, inl, inr, map, set}
 use Rattle.std.specs.Prelude.{IsTrue}
 use Rattle.std.proofs.lemmas.Bool.{and_parts, and_cases, not-true, not-false, both_ways}

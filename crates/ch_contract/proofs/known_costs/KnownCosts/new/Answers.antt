@@ -1,3 +1,4 @@
+-- Where each node has the cost of never, no chain is known.
 use Rattle.std.proofs.Common.{◌≡◌, ◌∙◌, ℕ, List, [], ◌∷◌, ◌++◌, length, get_or, map, replicate, ap, arith, inl, inr}
 use Rattle.std.proofs.lemmas.Bool.{cases_lt}
 use Rattle.std.proofs.lemmas.List.{map-append, replicate_more, get_or-replicate, get_or_past, length-replicate}

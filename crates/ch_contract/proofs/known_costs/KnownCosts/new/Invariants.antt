@@ -1,3 +1,4 @@
+-- All costs so far are the cost of never.
 use Rattle.std.proofs.Common.{◌≡◌, map, replicate}
 use Rattle.ch_contract.specs.HeldCosts.{never}
 use Rattle.ch_contract.proofs.known_costs.KnownCosts.new.Given as goal

@@ -1,3 +1,4 @@
+-- One more leg in front of the chain lowers the known cost of its node, and there is capacity for the legs that follow.
 use Rattle.std.proofs.Common.{◌+◌, ◌-◌, [], length, take, get_or, sym, subst, arith}
 use Rattle.std.proofs.lemmas.List.{take_more}
 use Rattle.ch_contract.specs.KnownCosts.{Lowers, IsOneMore, known_of, chain_start_of}

@@ -1,3 +1,4 @@
+-- The legs before the current one were put in front of the chain, and there is capacity for the others.
 use Rattle.std.proofs.Common.{◌-◌, length, take}
 use Rattle.ch_contract.specs.KnownCosts.{HasRoom, Lowers, IsOneMore, known_of, chain_start_of}
 use Rattle.ch_contract.proofs.known_costs.KnownCosts.spread.Given as goal

@@ -1,3 +1,4 @@
+-- One more step puts each leg of its node in front of its chain.
 use Rattle.std.proofs.Common.{◌++◌, ◌∷◌, [], sym, ◌∙◌, ap, subst, take, map, List}
 use Rattle.std.proofs.lemmas.List.{take_more, map-append}
 use Rattle.ch_contract.specs.KnownCosts.{ChainStart, Lowers, IsOneMore, IsOneMoreOf, known_of, chain_start_of}

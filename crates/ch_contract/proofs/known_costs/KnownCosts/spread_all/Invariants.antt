@@ -1,3 +1,4 @@
+-- The steps before the current one have lowered the known costs of all nodes that a leg leads to.
 use Rattle.std.proofs.Common.{take, map}
 use Rattle.ch_contract.specs.KnownCosts.{Lowers, IsOneMoreOf, known_of, chain_start_of}
 use Rattle.ch_contract.proofs.known_costs.KnownCosts.spread_all.Given as goal

@@ -1,3 +1,4 @@
+-- The leg in front of the chain costs their sum, which counts only if it avoids the node and is within the bound.
 use Rattle.std.proofs.Common.{◌∙◌, ap, subst, sym}
 use Rattle.std.specs.Prelude.{IsTrue, nat_eq}
 use Rattle.std.proofs.Math.Bool.{not, ◌&&◌}

@@ -1,3 +1,4 @@
+-- Contraction keeps the least costs between the remaining nodes.
 use Rattle.ch_contract.proofs.theory.EnoughKept.{least_costs_kept}
 use Rattle.ch_contract.proofs.laws.keeping.contraction_keeps_least_costs.Goals as goal
 

@@ -1,3 +1,4 @@
+-- The search of the reference program finds a witness exactly if there is one.
 use Rattle.ch_contract.proofs.theory.ReferenceSearch.{witness_found, witness_covered}
 use Rattle.ch_contract.proofs.laws.reference.reference_search.Goals as goal
 

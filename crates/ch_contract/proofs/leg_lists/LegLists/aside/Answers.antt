@@ -1,3 +1,4 @@
+-- The list that is read behind those of the nodes has the legs that were set aside for the node.
 use Rattle.std.proofs.Common.{[], length, sym, ap, ◌∙◌, arith}
 use Rattle.std.proofs.lemmas.List.{get_or-drop, length-take}
 use Rattle.ch_hierarchy.specs.Rows.{row}

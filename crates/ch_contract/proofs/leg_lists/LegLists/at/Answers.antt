@@ -1,3 +1,4 @@
+-- The list at a node's number has the legs of the node.
 use Rattle.std.proofs.Common.{ap, ◌∙◌}
 use Rattle.ch_contract.specs.LegLists.{NodeLegs}
 use Rattle.ch_contract.proofs.code.ListEdits.{list_within, list_row}

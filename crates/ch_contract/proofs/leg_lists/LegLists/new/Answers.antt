@@ -1,3 +1,4 @@
+-- Of twice as many empty lists as nodes, the first half are the nodes' own and the others are those set aside.
 use Rattle.std.proofs.Common.{◌≡◌, ◌+◌, ◌-◌, ℕ, List, [], take, drop, replicate, ◌∙◌, ap, arith}
 use Rattle.std.proofs.lemmas.List.{take-replicate, drop-replicate}
 use Rattle.ch_hierarchy.specs.declared.leg.Leg.{Leg}

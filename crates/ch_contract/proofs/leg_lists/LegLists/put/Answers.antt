@@ -1,3 +1,4 @@
+-- The node's list gets the leg, and all other lists and those set aside stay as they are.
 use Rattle.std.proofs.Common.{Some, sym, ◌∙◌, ap, subst}
 use Rattle.ch_hierarchy.specs.Rows.{IsRow}
 use Rattle.ch_contract.specs.LegRows.{label_of}

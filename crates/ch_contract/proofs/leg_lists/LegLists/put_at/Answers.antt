@@ -1,3 +1,4 @@
+-- One more shortcut overrides the leg between its ends, so in the end all shortcuts are put in at this end.
 use Rattle.std.proofs.Common.{Some, arith, get_or, refl, ◌∙◌, subst}
 use Rattle.ch_hierarchy.specs.declared.leg.Leg.{Leg}
 use Rattle.ch_contract.specs.Contraction.{shortcut_label}

@@ -1,3 +1,4 @@
+-- The shortcuts before the current one are put in, and the lists set aside stay as they are.
 use Rattle.std.proofs.Common.{◌≡◌, take}
 use Rattle.ch_contract.specs.LegLists.{AreOverridden, legs_at}
 use Rattle.ch_contract.proofs.leg_lists.LegLists.put_at.Given as goal

@@ -1,3 +1,4 @@
+-- One more node's legs are set aside, so in the end those of all nodes of the round are.
 use Rattle.std.proofs.Common.{◌<◌, ◌≤◌, length, get_or, subst, arith}
 use Rattle.std.proofs.lemmas.List.{take_all}
 use Rattle.ch_contract.specs.RoundSides.{AreAllAside}

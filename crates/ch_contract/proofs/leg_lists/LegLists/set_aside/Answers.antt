@@ -1,3 +1,4 @@
+-- The legs of the node are now in its list set aside, its own list is empty, and all other lists stay as they are.
 use Rattle.std.proofs.Common.{◌≡◌, ◌+◌, ◌<◌, ℕ, List, [], length, set, take, drop, ◌∙◌, ap, subst, arith}
 use Rattle.std.proofs.Math.Seq.{take-set-lt}
 use Rattle.std.proofs.lemmas.List.{take-set-le, drop-set-lt, drop-set-add, length-take, length-drop, length-set, get_or-set_same, get_or-set_other}

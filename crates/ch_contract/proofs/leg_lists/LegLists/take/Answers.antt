@@ -1,3 +1,4 @@
+-- The node's list loses the leg at the other node, and all other lists and those set aside stay as they are.
 use Rattle.std.proofs.Common.{None, sym, ◌∙◌, ap, subst}
 use Rattle.ch_hierarchy.specs.Rows.{IsRow}
 use Rattle.ch_contract.specs.LegLists.{NodeLegs}

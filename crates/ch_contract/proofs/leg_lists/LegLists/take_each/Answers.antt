@@ -1,3 +1,4 @@
+-- One more neighbour loses its leg at its owner, so in the end no leg ties a neighbour to its owner.
 use Rattle.std.proofs.Common.{◌≡◌, length, refl, ◌∙◌, subst, arith}
 use Rattle.ch_contract.specs.RoundSides.{AreUntied}
 use Rattle.ch_contract.proofs.code.RoundSides.{untied_none, untied_more}

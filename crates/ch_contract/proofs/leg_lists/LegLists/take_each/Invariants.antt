@@ -1,3 +1,4 @@
+-- The neighbours before the current place have lost their legs at their owners, and the lists set aside stay as they are.
 use Rattle.std.proofs.Common.{◌≡◌, ◌≤◌, length}
 use Rattle.ch_contract.specs.RoundSides.{AreUntied}
 use Rattle.ch_contract.proofs.leg_lists.LegLists.take_each.Given as goal

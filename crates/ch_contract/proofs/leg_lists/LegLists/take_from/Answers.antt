@@ -1,3 +1,4 @@
+-- One more node loses its leg at the contracted node, so in the end no list has a leg at it.
 use Rattle.std.proofs.Common.{◌≤◌, length, get_or, take, refl, subst, sym, ◌∙◌, arith}
 use Rattle.std.proofs.lemmas.List.{take_more, take_all}
 use Rattle.ch_contract.specs.LegLists.{AreTaken}

@@ -1,3 +1,4 @@
+-- The nodes of the legs before the current one have lost their legs at the contracted node.
 use Rattle.std.proofs.Common.{◌≡◌, take}
 use Rattle.ch_contract.specs.LegLists.{AreTaken}
 use Rattle.ch_contract.proofs.leg_lists.LegLists.take_from.Given as goal

@@ -1,3 +1,4 @@
+-- One more node's shortcuts are put in at this end, so in the end those of all nodes of the round are put in in turn.
 use Rattle.std.proofs.Common.{◌<◌, ◌≤◌, ℕ, List, length, get_or, take, refl, sym, ◌∙◌, ap, subst, arith}
 use Rattle.std.specs.Prelude.{All, AllPairs}
 use Rattle.std.specs.Global.{Vec}

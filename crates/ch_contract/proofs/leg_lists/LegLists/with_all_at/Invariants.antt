@@ -1,3 +1,4 @@
+-- The shortcuts of the nodes before the current place are put in, and the lists set aside stay as they are.
 use Rattle.std.proofs.Common.{◌≡◌, take, length}
 use Rattle.ch_contract.specs.LegLists.{AreRows, legs_at}
 use Rattle.ch_contract.specs.RoundSides.{ArePutInTurn}

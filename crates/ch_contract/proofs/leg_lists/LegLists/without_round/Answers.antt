@@ -1,3 +1,4 @@
+-- With their own legs set aside and their neighbours' legs at them taken out, the nodes of the round are away.
 use Rattle.std.proofs.Common.{◌<◌, sym, subst}
 use Rattle.std.specs.Prelude.{All}
 use Rattle.ch_contract.proofs.code.RoundSides.{away_by, aside_rows_all}

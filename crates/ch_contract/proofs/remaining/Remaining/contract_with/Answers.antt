@@ -1,3 +1,4 @@
+-- The legs without the node, with its shortcuts put in, are the legs after its contraction, and its own are set aside.
 use Rattle.std.proofs.Common.{sym, ◌∙◌, subst, All}
 use Rattle.std.proofs.lemmas.Result.{IfOk-weaker}
 use Rattle.std.proofs.lemmas.List.Elements.{All-from_get_or, Contains-get_or}

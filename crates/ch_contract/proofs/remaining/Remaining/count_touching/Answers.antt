@@ -1,3 +1,4 @@
+-- The lengths of a node's two rows add up to the number of legs that touch it.
 use Rattle.std.proofs.Common.{arith}
 use Rattle.ch_contract.specs.Remaining.{legs_of}
 use Rattle.ch_contract.proofs.theory.Counts.{rows_touching, touching_most}

@@ -1,3 +1,4 @@
+-- A bound on hops that is capped at the number of nodes finds the same witnesses.
 use Rattle.ch_contract.specs.Remaining.{legs_of}
 use Rattle.ch_contract.proofs.code.Candidates.{capped_witness}
 use Rattle.ch_contract.proofs.remaining.Remaining.has_witness.Goals as goal

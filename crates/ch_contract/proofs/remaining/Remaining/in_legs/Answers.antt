@@ -1,3 +1,4 @@
+-- The list of the other direction at a node has exactly the legs that lead to it.
 use Rattle.std.proofs.Common.{sym, subst}
 use Rattle.ch_contract.specs.LegRows.{AreLegsTo}
 use Rattle.ch_contract.specs.Remaining.{legs_of}

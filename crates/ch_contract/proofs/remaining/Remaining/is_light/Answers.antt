@@ -1,3 +1,4 @@
+-- If the mark is set, each leg is light enough for searches over words.
 use Rattle.std.proofs.Common.{subst}
 use Rattle.ch_contract.specs.declared.held_cost.TheConstants.{MOST_LIGHT}
 use Rattle.ch_contract.specs.KnownCosts.{AreLegsUpTo}

@@ -1,3 +1,4 @@
+-- A search that meets the last legs of a chain within the cost finds a witness, and each witness is met so.
 use Rattle.std.proofs.Common.{◌≤◌, ◌-◌, sym, subst, arith, ap, ◌∙◌}
 use Rattle.std.specs.Prelude.{IsTrue, ◌↔◌}
 use Rattle.std.proofs.lemmas.List.{length-map}

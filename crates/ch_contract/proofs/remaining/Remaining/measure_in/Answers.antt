@@ -1,3 +1,4 @@
+-- The list has the node's shortcuts, and its length and the legs in both rows are the node's measure.
 use Rattle.std.proofs.Common.{◌*◌, ◌≤◌, ◌^◌, ap, arith, subst}
 use Rattle.std.proofs.Math.Nat.{mul-le-mul}
 use Rattle.ch_graph.specs.declared.limits.TheConstants.{MOST_NODES}

@@ -1,3 +1,4 @@
+-- The legs keep the limits of a graph with this number of nodes.
 use Rattle.std.proofs.Common.{subst}
 use Rattle.ch_contract.specs.Legs.{AreLegsWithin}
 use Rattle.ch_contract.specs.Remaining.{legs_of}

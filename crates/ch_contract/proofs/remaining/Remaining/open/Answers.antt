@@ -1,3 +1,4 @@
+-- Each arc that is no loop is put in on both sides, so in the end the legs are the lightest arcs of their pairs of nodes.
 use Rattle.std.proofs.Common.{◌≤◌, sym, ◌∙◌, ap, subst}
 use Rattle.std.specs.Prelude.{filter, All}
 use Rattle.std.proofs.Common.{◌+◌, take}

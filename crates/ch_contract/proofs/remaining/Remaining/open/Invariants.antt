@@ -1,3 +1,4 @@
+-- The arcs before the current one are put in on both sides, except loops, and no leg is set aside.
 use Rattle.std.proofs.Common.{◌≡◌, [], replicate, take}
 use Rattle.std.specs.Prelude.{filter}
 use Rattle.ch_contract.proofs.theory.Opening.{joins}

@@ -1,3 +1,4 @@
+-- The list at a node has exactly the legs that lead from it.
 use Rattle.std.proofs.Common.{sym, subst}
 use Rattle.ch_contract.specs.LegRows.{AreLegsFrom}
 use Rattle.ch_contract.specs.Remaining.{legs_of}

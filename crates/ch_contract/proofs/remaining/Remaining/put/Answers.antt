@@ -1,3 +1,4 @@
+-- Shortcuts that are put in on both sides override the legs between their ends and keep the limits.
 use Rattle.std.proofs.Common.{◌≡◌, ◌<◌, ℕ, All, sym, ◌∙◌, ap, subst}
 use Rattle.std.proofs.lemmas.List.Elements.{All-from_get_or}
 use Rattle.ch_contract.specs.declared.held_cost.TheConstants.{MOST_LIGHT}

@@ -1,3 +1,4 @@
+-- Two workers put the shortcuts of a round in on both sides, which still have the same legs and keep the limits.
 use Rattle.std.proofs.Common.{◌≡◌, ℕ, List, sym, ◌∙◌, ap, subst}
 use Rattle.std.specs.List.{AllZip}
 use Rattle.std.specs.Global.{Vec}

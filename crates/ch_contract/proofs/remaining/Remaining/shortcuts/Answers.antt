@@ -1,3 +1,4 @@
+-- The list of a node's shortcuts among the legs that touch it is the list of its shortcuts among all legs.
 use Rattle.std.proofs.Common.{subst}
 use Rattle.ch_contract.specs.Contraction.{AreShortcuts}
 use Rattle.ch_contract.specs.Remaining.{legs_of}

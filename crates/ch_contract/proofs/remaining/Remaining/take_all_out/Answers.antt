@@ -1,3 +1,4 @@
+-- Two workers take the nodes of a round out on both sides, which then have the legs that touch none of them.
 use Rattle.std.proofs.Common.{◌≡◌, ◌<◌, ℕ, List, All, sym, ap, subst}
 use Rattle.ch_contract.specs.declared.held_cost.TheConstants.{MOST_LIGHT}
 use Rattle.ch_contract.specs.Legs.{SameLegs, turned_legs}

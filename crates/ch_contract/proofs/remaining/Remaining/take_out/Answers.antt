@@ -1,3 +1,4 @@
+-- Both sides lose the legs that touch the node, whose own legs are set aside, and keep the limits.
 use Rattle.std.proofs.Common.{◌≡◌, ◌<◌, ℕ, [], length, List, All, sym, ◌∙◌, ap, subst, arith}
 use Rattle.ch_contract.specs.declared.held_cost.TheConstants.{MOST_LIGHT}
 use Rattle.ch_hierarchy.specs.declared.leg.Leg.{Leg}

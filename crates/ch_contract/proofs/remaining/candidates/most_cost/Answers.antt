@@ -1,3 +1,4 @@
+-- The greatest cost so far bounds one more pair of legs, so in the end it bounds the cost of each candidate.
 use Rattle.std.proofs.Common.{◌++◌, ◌∷◌, [], take, get_or, length, ◌≤◌, sym, subst, arith}
 use Rattle.std.proofs.lemmas.List.{take_more, take_all}
 use Rattle.ch_contract.specs.Candidates.{AreBounded}

@@ -1,3 +1,4 @@
+-- No leg before the current one makes a candidate of a greater cost.
 use Rattle.std.proofs.Common.{take}
 use Rattle.ch_contract.specs.Candidates.{AreBounded}
 use Rattle.ch_contract.proofs.remaining.candidates.most_cost.Given as goal

@@ -1,3 +1,4 @@
+-- A light arc extends the light arcs before it, so past the last arc all are light.
 use Rattle.std.proofs.Common.{◌≤◌, take, get_or, subst, All}
 use Rattle.std.proofs.lemmas.List.{take_more, take_all}
 use Rattle.std.proofs.lemmas.List.Elements.{All-push}

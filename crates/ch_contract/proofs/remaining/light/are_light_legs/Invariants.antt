@@ -1,3 +1,4 @@
+-- The legs before the current one are light enough for searches over words.
 use Rattle.std.proofs.Common.{◌≤◌, All, take}
 use Rattle.ch_contract.specs.declared.held_cost.TheConstants.{MOST_LIGHT}
 use Rattle.ch_contract.proofs.remaining.light.are_light_legs.Given as goal

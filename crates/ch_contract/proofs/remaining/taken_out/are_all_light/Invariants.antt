@@ -1,3 +1,4 @@
+-- The shortcuts of the lists before the current one are light enough for searches over words.
 use Rattle.std.proofs.Common.{◌≤◌, take}
 use Rattle.std.specs.Prelude.{All}
 use Rattle.std.specs.Global.{Vec}

@@ -1,3 +1,4 @@
+-- The shortcuts that are kept for the node are its shortcuts, so putting them in contracts it, and none is kept afterwards.
 use Rattle.std.proofs.Common.{◌≡◌, ◌<◌, ℕ, List, sym, subst, arith, length}
 use Rattle.std.specs.Prelude.{slice_index}
 use Rattle.ch_contract.specs.Remaining.{legs_of}

@@ -1,3 +1,4 @@
+-- The judged node's shortcuts are kept at its place, and those that were kept before stay at theirs.
 use Rattle.std.proofs.Common.{◌≡◌, ◌<◌, ℕ, [], ◌∷◌, ◌++◌, length, set, get_or, ◌∙◌, ap, arith, length-append}
 use Rattle.ch_contract.specs.declared.room.Room.{Room}
 use Rattle.ch_contract.specs.Remaining.{legs_of}

@@ -1,3 +1,4 @@
+-- A leg that avoids the node and meets a known chain is found, and if no leg does, no chain is within the bound.
 use Rattle.std.proofs.Common.{refl, sym, ◌∙◌, ap, subst, arith, length, get_or, ◌≡◌, ◌≤◌, true, Contains, inl, inr}
 use Rattle.std.proofs.lemmas.List.Elements.{Contains-get_or}
 use Rattle.ch_hierarchy.specs.declared.leg.Leg.{Leg}

@@ -1,3 +1,4 @@
+-- No leg before the current one leads to a chain within the bound.
 use Rattle.std.proofs.Common.{take, Contains}
 use Rattle.std.specs.Prelude.{◌≢◌}
 use Rattle.ch_hierarchy.specs.declared.leg.Leg.{Leg}

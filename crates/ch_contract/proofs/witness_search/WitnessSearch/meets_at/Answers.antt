@@ -1,3 +1,4 @@
+-- The leg and the known chain from its node have a sum that words can hold.
 use Rattle.std.proofs.Common.{◌<◌, sym, ◌∙◌, ap, subst}
 use Rattle.ch_contract.specs.HeldCosts.{IsKnownCost}
 use Rattle.ch_contract.proofs.code.KnownViews.{known_cost_of}

@@ -1,3 +1,4 @@
+-- A second leg that meets a known chain is found, and if no leg does, no such chain is within the bound.
 use Rattle.std.proofs.Common.{refl, sym, ◌∙◌, ap, subst, arith, length, get_or, ◌≡◌, ◌≤◌, true, inl, inr}
 use Rattle.std.proofs.lemmas.List.Elements.{Contains-get_or}
 use Rattle.ch_graph.specs.Cost.{IsAtMost, cost_sum}

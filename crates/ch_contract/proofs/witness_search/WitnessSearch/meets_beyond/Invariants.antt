@@ -1,3 +1,4 @@
+-- No second leg before the current one leads to a chain within the bound.
 use Rattle.std.proofs.Common.{take, Contains}
 use Rattle.ch_graph.specs.Cost.{IsAtMost, cost_sum}
 use Rattle.ch_hierarchy.specs.declared.leg.Leg.{Leg}

@@ -1,3 +1,4 @@
+-- One more round makes the least costs of chains of one more leg known, so after all rounds those within the bound are.
 use Rattle.std.proofs.Common.{true, refl, sym, ◌∙◌, ap, subst, arith, length, All, List, map}
 use Rattle.std.specs.Prelude.{◌≡◌, ◌<◌, ◌≤◌}
 use Rattle.ch_graph.specs.declared.limits.TheConstants.{MOST_HOPS}

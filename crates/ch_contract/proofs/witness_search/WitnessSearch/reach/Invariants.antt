@@ -1,3 +1,4 @@
+-- The least costs of chains of at most as many legs as there were rounds are known.
 use Rattle.ch_contract.specs.KnownCosts.{IsAfterRounds, known_of}
 use Rattle.ch_contract.specs.LegLists.{legs_into}
 use Rattle.std.proofs.Common.{length}

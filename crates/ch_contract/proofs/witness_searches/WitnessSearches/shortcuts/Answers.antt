@@ -1,3 +1,4 @@
+-- The legs of the taken node touch it, and they are light if the remaining legs and they were judged light.
 use Rattle.std.proofs.Common.{◌≡◌, ℕ, List, sym, subst}
 use Rattle.ch_graph.specs.declared.limits.TheConstants.{MOST_WEIGHT}
 use Rattle.ch_contract.specs.declared.held_cost.TheConstants.{MOST_LIGHT}

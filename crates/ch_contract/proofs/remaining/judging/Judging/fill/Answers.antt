@@ -1,3 +1,4 @@
+-- One more leg to the node adds the shortcuts that begin with it, so in the end the list has all shortcuts in order.
 use Rattle.std.proofs.Common.{◌+◌, get_or}
 use Rattle.ch_contract.specs.Remaining.{legs_of}
 use Rattle.ch_contract.specs.ShortcutLists.{legs_touching}

@@ -1,3 +1,4 @@
+-- The list has the shortcuts that begin with the legs before the current one, and the search is clean.
 use Rattle.std.proofs.Common.{ℕ}
 use Rattle.ch_contract.specs.KnownCosts.{IsClean, known_of}
 use Rattle.ch_contract.specs.Remaining.{legs_of}

@@ -1,3 +1,4 @@
+-- One more leg from the node adds its shortcut exactly if the sum keeps the limits and has no witness.
 use Rattle.ch_contract.specs.Candidates.{IsCandidate}
 use Rattle.std.proofs.Common.{◌≤◌, arith, All, ◌+◌, get_or, sym, ◌∙◌, ap, subst}
 use Rattle.ch_graph.specs.declared.limits.TheConstants.{MOST_NODES}

@@ -1,3 +1,4 @@
+-- The list has the shortcuts over this leg and the legs from the node before the current one.
 use Rattle.std.proofs.Common.{ℕ}
 use Rattle.ch_contract.specs.Remaining.{legs_of}
 use Rattle.ch_contract.specs.ShortcutLists.{legs_touching, AreShortcutsBefore}
