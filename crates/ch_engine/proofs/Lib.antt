@@ -1,3 +1,4 @@
+-- The lemmas on engines: which hierarchy one opens with, the lines of its legs, and answers in arrays of words.
 mod AddingUp
 mod Filled
 mod FirstLines

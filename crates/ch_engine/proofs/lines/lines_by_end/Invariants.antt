@@ -1,3 +1,4 @@
+-- The pairs are those of the lines before the current one, each with the end of its arc on this side.
 use Rattle.std.proofs.Common.{◌≡◌, map}
 use Rattle.std.specs.List.{range_with_len}
 use Rattle.ch_graph.specs.Sorting.{with_key}

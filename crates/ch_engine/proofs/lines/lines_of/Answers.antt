@@ -1,3 +1,4 @@
+-- The lines seen from one more node give the word of each of its legs, so in the end each leg has its line.
 use Rattle.std.proofs.Common.{◌≡◌, ◌∙◌, ℕ, ◌+◌, ◌<◌, List, [], ◌∷◌, ◌++◌, get_or, length, slice_index, sym, ap, subst, arith}
 use Rattle.std.proofs.lemmas.List.{length-append}
 use Rattle.ch_graph.specs.declared.arc.InArc.{InArc}

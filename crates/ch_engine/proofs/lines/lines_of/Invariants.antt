@@ -1,3 +1,4 @@
+-- The nodes before the current one have a word for each leg: the line of the arc between its ends, or none.
 use Rattle.std.proofs.Common.{◌≡◌, ◌<◌, ℕ, [], length, slice_index, slice_index_or}
 use Rattle.ch_hierarchy.specs.Rows.{row}
 use Rattle.ch_query.specs.Side.{rows_of}

@@ -1,3 +1,4 @@
+-- One more line is noted beside its leg, so in the end each word is the best line that was seen for its leg.
 use Rattle.std.proofs.Common.{◌≡◌, ◌∙◌, ◌<◌, ℕ, length, slice_index, inr, subst, arith}
 use Rattle.ch_engine.specs.Lines.{IsLineWord, IsSeen, node_at}
 use Rattle.ch_engine.proofs.FirstLines.{line_or_none, noted}

@@ -1,3 +1,4 @@
+-- Each word is the best of the lines before the current one for its leg, or none.
 use Rattle.std.proofs.Common.{◌≡◌, ◌<◌, ℕ, length, slice_index}
 use Rattle.ch_engine.specs.Lines.{IsLineWord, IsSeen, node_at}
 use Rattle.ch_engine.proofs.lines.note_lines.Given as goal

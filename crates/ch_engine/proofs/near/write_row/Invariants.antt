@@ -1,3 +1,4 @@
+-- The pairs before the current one are written from the given place on, and all other places are as before.
 use Rattle.std.proofs.Common.{◌≡◌, ◌+◌, ◌<◌, ℕ, length, slice_index, slice_index_or}
 use Rattle.ch_engine.specs.NearRows.{StaysFrom}
 use Rattle.ch_engine.proofs.near.write_row.Given as goal

@@ -1,3 +1,4 @@
+-- A fault is the first of the graph's bytes, of the saved bytes, or of the hierarchy for the graph, and without one it is right.
 use Rattle.std.proofs.Common.{rules, ◌≡◌, ℕ, Err, refl, sym, ap, subst}
 use Rattle.ch_hierarchy.specs.Kept.{IsKept}
 use Rattle.ch_hierarchy.specs.Saved.{IsFirstFault}

@@ -1,3 +1,4 @@
+-- A fault is the first of the bytes, of the number of nodes, or of the per cent, and without one the order is the other's.
 use Rattle.std.proofs.Common.{◌≡◌, ℕ, ◌<◌, ◌≤◌, List, Err, refl, sym, ap, subst, arith}
 use Rattle.ch_hierarchy.specs.Hierarchy.{nodes_of}
 use Rattle.ch_hierarchy.specs.Kept.{IsKept}

@@ -1,3 +1,4 @@
+-- One more arc has its end written, and the places before and behind those of the arcs are as before.
 use Rattle.std.proofs.Common.{◌∙◌, ◌+◌, ◌<◌, length, arith}
 use Rattle.std.proofs.lemmas.List.{get_or-set_other, length-set}
 use Rattle.ch_graph.specs.declared.arc.InArc.{InArc}

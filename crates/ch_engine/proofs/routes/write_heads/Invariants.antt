@@ -1,3 +1,4 @@
+-- The ends of the arcs before the current one are written from the given place on, and all other places are as before.
 use Rattle.std.proofs.Common.{◌≡◌, ◌+◌, ◌<◌, ℕ, length, slice_index}
 use Rattle.ch_engine.specs.NearRows.{StaysFrom}
 use Rattle.ch_engine.specs.Routes.{heads_of}

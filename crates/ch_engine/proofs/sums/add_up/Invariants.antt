@@ -1,3 +1,4 @@
+-- The limits before the current one have the sum of the values within them.
 use Rattle.std.proofs.Common.{◌≡◌, ◌<◌, ℕ, length, slice_index}
 use Rattle.ch_engine.specs.Sums.{sum_within}
 use Rattle.ch_engine.proofs.sums.add_up.Given as goal

@@ -1,3 +1,4 @@
+-- One more pair adds its value if it is within the limit, and a sum that is too large only grows.
 use Rattle.std.proofs.Common.{◌+◌, arith}
 use Rattle.std.proofs.lemmas.List.Sums.{sum_by_more, sum_by-take-le}
 use Rattle.ch_engine.specs.Sums.{share_of}

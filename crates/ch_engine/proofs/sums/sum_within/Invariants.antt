@@ -1,3 +1,4 @@
+-- The sum is that of the values within the limit among the pairs before the current one.
 use Rattle.std.proofs.Common.{◌≡◌, take}
 use Rattle.ch_engine.specs.Sums.{sum_within}
 use Rattle.ch_engine.proofs.sums.sum_within.Given as goal

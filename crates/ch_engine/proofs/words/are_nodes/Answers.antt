@@ -1,3 +1,4 @@
+-- A number that is a node extends those before it, so past the last number all are nodes.
 use Rattle.std.proofs.Common.{◌<◌, refl, subst, arith}
 use Rattle.std.specs.Prelude.{All}
 use Rattle.std.proofs.lemmas.List.{take_all}

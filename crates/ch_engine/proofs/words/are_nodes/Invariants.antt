@@ -1,3 +1,4 @@
+-- The numbers before the current one are nodes.
 use Rattle.std.proofs.Common.{◌<◌, take}
 use Rattle.std.specs.Prelude.{All}
 use Rattle.ch_engine.proofs.words.are_nodes.Given as goal

@@ -1,3 +1,4 @@
+-- The words before the current one are those of the table's cells, row after row.
 use Rattle.std.proofs.Common.{◌≡◌, ◌<◌, ◌/◌, ◌%◌, ℕ, [], None, length, slice_index, slice_index_or}
 use Rattle.ch_engine.specs.Cells.{word_of}
 use Rattle.ch_engine.proofs.words.write_table.Given as goal

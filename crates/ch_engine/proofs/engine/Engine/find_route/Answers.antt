@@ -1,3 +1,4 @@
+-- The route by the engine's hierarchy is the one that is asked for, and each of its arcs joins two nodes.
 use Rattle.std.proofs.Common.{rules, ◌≡◌, sym, subst}
 use Rattle.std.specs.Prelude.{All, IfOk, MatchOption, ⊤}
 use Rattle.ch_graph.specs.Graph.{HasEnds}

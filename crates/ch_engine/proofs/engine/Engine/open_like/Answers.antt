@@ -1,3 +1,4 @@
+-- The new engine has a hierarchy in the order of this one, which is the one by depth if all nodes are ordered afresh.
 use Rattle.std.proofs.Common.{rules, ◌≡◌, refl, sym, subst}
 use Rattle.std.specs.Prelude.{None}
 use Rattle.ch_hierarchy.specs.Hierarchy.{LevelsAndLegs}

@@ -1,3 +1,4 @@
+-- The table has a row for each source and a cell for each target, and the words are those of its cells.
 use Rattle.std.proofs.Common.{rules, ◌≡◌, ◌*◌, ◌/◌, ◌%◌, length, slice_index, sym, subst, arith}
 use Rattle.ch_query.specs.Distance.{IsKeptForSome}
 use Rattle.ch_hierarchy.specs.Hierarchy.{LevelsAndLegs}

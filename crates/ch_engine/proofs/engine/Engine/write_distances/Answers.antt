@@ -1,3 +1,4 @@
+-- One more pair has its distance as a word, and the words before it stay as they are.
 use Rattle.std.proofs.Common.{◌∙◌, ℕ, ◌<◌, None, slice_index, sym, subst}
 use Rattle.std.proofs.lemmas.List.{length-set}
 use Rattle.ch_engine.specs.Held.{Held}

@@ -1,3 +1,4 @@
+-- The words of the pairs before the current one are their distances, and the engine is the same.
 use Rattle.std.proofs.Common.{◌≡◌, ◌<◌, ℕ, None, length, slice_index}
 use Rattle.ch_engine.specs.Cells.{IsCell}
 use Rattle.ch_engine.proofs.engine.Engine.write_distances.Given as goal

@@ -1,3 +1,4 @@
+-- One more pair has its weight and the sum along its route, and the pairs before it stay as they are.
 use Rattle.std.proofs.Common.{◌≡◌, ◌∙◌, ◌<◌, length, slice_index, sym, ap, subst, arith}
 use Rattle.std.proofs.lemmas.List.{length-set}
 use Rattle.ch_hierarchy.specs.Hierarchy.{LevelsAndLegs}

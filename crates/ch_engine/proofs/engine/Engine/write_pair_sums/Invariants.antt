@@ -1,3 +1,4 @@
+-- The pairs before the current one have their weights and the sums along their routes, and what is behind is as before.
 use Rattle.std.proofs.Common.{◌≡◌, ◌<◌, ℕ, length, slice_index}
 use Rattle.ch_engine.specs.NearRows.{StaysFrom}
 use Rattle.ch_engine.specs.RouteSums.{IsPairSum}

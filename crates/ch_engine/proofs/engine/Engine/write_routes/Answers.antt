@@ -1,3 +1,4 @@
+-- One more route is behind those before it, with its weight, its end, its nodes and their lines.
 use Rattle.std.proofs.Common.{◌≡◌, ◌∙◌, ◌+◌, ◌<◌, ◌≤◌, length, set, slice_index, sym, ap, subst, arith}
 use Rattle.std.proofs.lemmas.List.{get_or-set_same, length-set}
 use Rattle.ch_hierarchy.specs.Hierarchy.{LevelsAndLegs}

@@ -1,3 +1,4 @@
+-- The routes before the current pair are in the arrays, one after the other, and what is behind them is as before.
 use Rattle.std.proofs.Common.{◌≡◌, ◌<◌, ◌≤◌, ℕ, length, slice_index}
 use Rattle.ch_engine.specs.NearRows.{StaysFrom, begin_of}
 use Rattle.ch_engine.specs.Routes.{AreRoutesAt}

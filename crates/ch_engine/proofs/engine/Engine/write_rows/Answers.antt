@@ -1,3 +1,4 @@
+-- One more near row is behind those before it, with its end, its weights and its places.
 use Rattle.std.proofs.Common.{◌≡◌, ◌∙◌, ◌+◌, ◌<◌, ◌≤◌, ℕ, List, length, set, slice_index, sym, subst, arith}
 use Rattle.std.proofs.lemmas.List.{get_or-set_same, length-set}
 use Rattle.ch_engine.specs.Held.{Held}

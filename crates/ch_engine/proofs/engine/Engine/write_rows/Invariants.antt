@@ -1,3 +1,4 @@
+-- The near rows before the current source are in the arrays, one after the other, and what is behind them is as before.
 use Rattle.std.proofs.Common.{◌≡◌, ◌<◌, ◌≤◌, ℕ, length, slice_index}
 use Rattle.ch_engine.specs.NearRows.{AreRowsAt, StaysFrom, begin_of}
 use Rattle.ch_engine.proofs.engine.Engine.write_rows.Given as goal

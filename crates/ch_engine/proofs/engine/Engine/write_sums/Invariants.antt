@@ -1,3 +1,4 @@
+-- The sources before the current one have a sum for each limit, and what is behind these sums is as before.
 use Rattle.std.proofs.Common.{◌≡◌, ◌*◌, ◌<◌, ℕ, length, slice_index}
 use Rattle.ch_engine.specs.NearRows.{StaysFrom}
 use Rattle.ch_engine.specs.Sums.{AreSumsOf}

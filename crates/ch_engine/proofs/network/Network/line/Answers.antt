@@ -1,3 +1,4 @@
+-- The word beside the leg in the row of the lower of two nodes is the line of the arc between them.
 use Rattle.std.proofs.Common.{◌≢◌, ◌∙◌, ℕ, ◌<◌, ◌≤◌, List, [], get_or, length, sym, ap, subst, arith}
 use Rattle.ch_hierarchy.specs.Hierarchy.{LevelsAndLegs, nodes_of}
 use Rattle.ch_hierarchy.specs.declared.leg.Leg.{Leg}

@@ -1,3 +1,4 @@
+-- One more arc has its line, and the places before and behind those of the arcs are as before.
 use Rattle.std.proofs.Common.{◌≢◌, ◌∙◌, ◌+◌, ◌<◌, ℕ, get_or, length, set, inl, inr, sym, subst, arith}
 use Rattle.std.proofs.lemmas.Bool.{cases_order}
 use Rattle.std.proofs.lemmas.List.{get_or_default, get_or-set_other, get_or-set_same, length-set}

@@ -1,3 +1,4 @@
+-- The arcs before the current one have their lines from the given place on, and all other places are as before.
 use Rattle.std.proofs.Common.{◌≡◌, ◌≢◌, ◌+◌, ◌<◌, ℕ, length, slice_index, slice_index_or}
 use Rattle.ch_graph.specs.declared.arc.InArc.{InArc}
 use Rattle.ch_engine.specs.Lines.{IsLineBy}

@@ -1,3 +1,4 @@
+-- The sum along an answer is that on the lines of its route's arcs, or zero if there is no route.
 use Rattle.std.proofs.Common.{◌≡◌, ◌∙◌, List, Option, Some, refl, sym, ap, subst}
 use Rattle.ch_graph.specs.declared.arc.InArc.{InArc}
 use Rattle.ch_query.specs.declared.routes.Route.{Route}

@@ -1,3 +1,4 @@
+-- Each arc of a route has a line with a value, which one more arc adds to the total.
 use Rattle.std.proofs.Common.{◌+◌, ℕ, [], ◌∷◌, ◌++◌, get_or, Some, sym, subst, arith}
 use Rattle.std.proofs.lemmas.List.{get_or_default, length-append}
 use Rattle.std.proofs.lemmas.List.Sums.{sum_by_push}

@@ -1,3 +1,4 @@
+-- The arcs before the current one have their lines, and the sum is the total of the values on them.
 use Rattle.std.proofs.Common.{◌≡◌, ◌<◌, ℕ, List, length, slice_index, slice_index_or}
 use Rattle.ch_graph.specs.declared.arc.InArc.{InArc}
 use Rattle.ch_engine.specs.Routes.{IsArcLine}
