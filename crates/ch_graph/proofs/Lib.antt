@@ -1,3 +1,4 @@
+-- The lemmas on costs, on walks and their least costs, on relaxed arcs, and on rows made by a counting sort.
 pub mod Numbers
 pub mod Lists
 pub mod CostOrder

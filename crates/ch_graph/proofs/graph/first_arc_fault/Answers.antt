@@ -1,3 +1,4 @@
+-- An arc without a fault extends those before it that are within the limits, so past the last arc all are within them.
 use Rattle.std.proofs.Common.{ℕ, List, All, length, take, subst, ◌≤◌}
 use Rattle.std.proofs.lemmas.List.{take_all}
 use Rattle.std.proofs.lemmas.List.Elements.{All-more}

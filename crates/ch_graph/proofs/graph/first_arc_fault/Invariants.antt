@@ -1,3 +1,4 @@
+-- The arcs before the current one are within the limits.
 use Rattle.std.proofs.Common.{All, take}
 use Rattle.ch_graph.specs.Graph.{IsArcWithin}
 use Rattle.ch_graph.proofs.graph.first_arc_fault.Given as goal

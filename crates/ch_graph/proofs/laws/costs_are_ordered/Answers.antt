@@ -1,3 +1,4 @@
+-- At most is a total order of costs, with no cost as its least element, and below is its strict order.
 use Rattle.ch_graph.proofs.CostOrder.{IsAtMost_refl, IsAtMost_trans, IsAtMost_antisymm, IsAtMost_or_IsBelow, IsBelow_not, IsAtMost-no_cost}
 use Rattle.ch_graph.proofs.laws.costs_are_ordered.Goals as goal
 

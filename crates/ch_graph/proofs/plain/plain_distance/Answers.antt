@@ -1,3 +1,4 @@
+-- Once every arc is relaxed, the label of the end is the distance: a walk has its weight, and no walk weighs less.
 use Rattle.std.proofs.Common.{set, replicate, ◌≡◌, ℕ, ◌<◌, arith, length, Option, Some, None, sym, ◌∙◌, List, All, ◌++◌, get_or, take}
 use Rattle.std.proofs.lemmas.List.{get_or_append_left, get_or_default, get_or-take}
 use Rattle.std.proofs.lemmas.Option.{same_Some, none-some}

@@ -1,3 +1,4 @@
+-- The label of the arc's end changes only to the weight of a lighter walk over this arc.
 use Rattle.std.proofs.Common.{◌≡◌, ℕ, ◌+◌, ◌<◌, arith, Some, sym, ◌∙◌, refl}
 use Rattle.std.proofs.lemmas.Option.{same_Some}
 use Rattle.ch_graph.specs.Relaxing.{weight_at}

@@ -1,3 +1,4 @@
+-- No sum of a label and a weight overflows, labels stay weights of walks, and a round without a change finds all arcs relaxed.
 use Rattle.std.proofs.Common.{◌≡◌, ℕ, ◌+◌, ◌<◌, ◌≤◌, ◌||◌, Bool, true, false, List, All, Contains, Option, length, get_or, take, take_all, arith, ap, subst, sym, refl, ◌∙◌}
 use Rattle.std.proofs.lemmas.List.Elements.{All-more, Contains-get_or}
 use Rattle.ch_graph.specs.declared.arc.InArc.{InArc}

@@ -1,3 +1,4 @@
+-- What the labels know is still true, and the arcs before the current one have had their part of the round.
 use Rattle.std.proofs.Common.{ℕ, take}
 use Rattle.ch_graph.specs.Relaxing.{IsPartial, IsRound}
 use Rattle.ch_graph.proofs.plain.relax_all.Given as goal

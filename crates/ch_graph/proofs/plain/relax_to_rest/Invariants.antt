@@ -1,3 +1,4 @@
+-- What the labels know is true after each round, and each round that changes a label lowers their total, so the rounds end.
 use Rattle.std.proofs.Common.{ℕ}
 use Rattle.ch_graph.specs.Relaxing.{IsPartial, total}
 use Rattle.ch_graph.proofs.plain.relax_to_rest.Given as goal

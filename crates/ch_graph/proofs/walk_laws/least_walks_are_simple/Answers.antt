@@ -1,3 +1,4 @@
+-- Parts of a least walk are least, it visits no node twice, and so it has few arcs and a bounded weight.
 use Rattle.ch_graph.proofs.WalkCosts.{IsLeast-front, IsLeast-back}
 use Rattle.ch_graph.proofs.SimpleWalks.{IsLeast-IsSimple, IsLeast-arcs, IsLeast-weight}
 use Rattle.ch_graph.proofs.walk_laws.least_walks_are_simple.Goals as goal

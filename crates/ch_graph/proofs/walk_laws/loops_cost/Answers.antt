@@ -1,3 +1,4 @@
+-- A walk costs less without the arcs between two visits of a node.
 use Rattle.ch_graph.proofs.WalkCosts.{loop_out}
 use Rattle.ch_graph.proofs.walk_laws.loops_cost.Goals as goal
 

@@ -1,3 +1,4 @@
+-- Each walk has one of no greater cost that visits no node twice, and such a walk is short and light.
 use Rattle.ch_graph.proofs.SimpleWalks.{simple_walk, IsSimple-arcs, IsSimple-weight}
 use Rattle.ch_graph.proofs.walk_laws.simple_walks_are_enough.Goals as goal
 
