@@ -1,3 +1,4 @@
+-- The first fault of order, pairs and bounds is found, and without one the levels and rows are those that are named.
 use Rattle.std.proofs.Common.{Contains, refl, sym, ◌∙◌, ap, subst}
 use Rattle.ch_graph.specs.Saved.{OrderAndLegs}
 use Rattle.ch_hierarchy.specs.declared.fault.CheckFault.TheVariants.{Order, Bound}

@@ -1,3 +1,4 @@
+-- Each node before the current one in the order has its place in the order as its level.
 use Rattle.std.proofs.Common.{◌≡◌, length}
 use Rattle.ch_hierarchy.proofs.code.OrderLevels.{HasLevels}
 use Rattle.ch_hierarchy.proofs.assembling.levels_of.Given as goal

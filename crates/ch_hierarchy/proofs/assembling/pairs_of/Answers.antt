@@ -1,3 +1,4 @@
+-- The first leg that joins no two nodes, or repeats the nodes of an earlier leg, is found, and without one the legs are in order.
 use Rattle.std.proofs.Common.{Contains, take, sym, ap, subst, arith}
 use Rattle.ch_hierarchy.specs.declared.fault.CheckFault.TheVariants.{Pair}
 use Rattle.ch_hierarchy.specs.Placing.{from_of, to_of}

@@ -1,3 +1,4 @@
+-- One more entry is a twin exactly if the last entry of its lower node has the same higher node.
 use Rattle.std.proofs.Common.{◌+◌, get_or, sym, ◌∙◌, subst, arith}
 use Rattle.std.proofs.lemmas.List.{get_or_default}
 use Rattle.std.proofs.lemmas.List.Elements.{Contains-get_or}

@@ -1,3 +1,4 @@
+-- For each lower node the last entry before the current one is known, and so is the least place of a twin among them.
 use Rattle.ch_hierarchy.specs.Doubles.{IsLessened}
 use Rattle.ch_hierarchy.proofs.code.Doubled.{AreLast, IsTwinBelow}
 use Rattle.ch_hierarchy.proofs.doubles.first_twin.Given as goal

@@ -1,3 +1,4 @@
+-- One more leg is placed at its lower node on one side, so in the end each leg is placed on the side where it goes up.
 use Rattle.std.proofs.Common.{None}
 use Rattle.std.proofs.lemmas.List.Elements.{Contains-get_or}
 use Rattle.ch_graph.specs.declared.saved.SavedLeg.{SavedLeg}

@@ -1,3 +1,4 @@
+-- The legs before the current place are placed on their sides, in the order of the list.
 use Rattle.ch_hierarchy.specs.Placing.{from_of, to_of}
 use Rattle.ch_hierarchy.proofs.code.PairFaults.{ArePlacedBefore}
 use Rattle.ch_hierarchy.proofs.placing.place_legs.Given as goal

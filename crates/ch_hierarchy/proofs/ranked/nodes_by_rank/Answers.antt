@@ -1,3 +1,4 @@
+-- One more node is at its rank, and since no two nodes share a rank, in the end each rank has its node.
 use Rattle.std.proofs.Common.{arith}
 use Rattle.ch_hierarchy.proofs.code.Ranked.{rank_in_below, one_by_rank, all_by_rank}
 use Rattle.ch_hierarchy.proofs.ranked.nodes_by_rank.Goals as goal

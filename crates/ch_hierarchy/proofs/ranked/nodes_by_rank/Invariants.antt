@@ -1,3 +1,4 @@
+-- Each node before the current one is at its rank.
 use Rattle.ch_hierarchy.proofs.code.Ranked.{HasByRank}
 use Rattle.ch_hierarchy.proofs.ranked.nodes_by_rank.Given as goal
 

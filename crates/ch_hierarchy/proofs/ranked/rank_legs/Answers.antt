@@ -1,3 +1,4 @@
+-- Each leg of the row leads to a node with a rank.
 use Rattle.std.proofs.lemmas.List.Elements.{Contains-get_or}
 use Rattle.ch_hierarchy.proofs.theory.NoLeg.{no_leg}
 use Rattle.ch_hierarchy.proofs.ranked.rank_legs.Goals as goal

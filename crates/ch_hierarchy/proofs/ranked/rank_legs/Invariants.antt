@@ -1,3 +1,4 @@
+-- The row has the legs before the current one, by rank.
 use Rattle.std.proofs.Common.{◌≡◌, map, take}
 use Rattle.ch_hierarchy.specs.Ranked.{ranked_in}
 use Rattle.ch_hierarchy.proofs.ranked.rank_legs.Given as goal

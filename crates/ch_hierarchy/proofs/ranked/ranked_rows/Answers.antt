@@ -1,3 +1,4 @@
+-- The legs of a levelled hierarchy have ranks, and one more node adds its row up and its row down.
 use Rattle.std.proofs.Common.{Contains, ◌++◌, ◌∷◌, [], get_or, map, take, sym, ◌∙◌, ap, subst}
 use Rattle.std.proofs.lemmas.List.{take_more}
 use Rattle.ch_hierarchy.specs.Ranked.{ranked_in, AreRankedRows}

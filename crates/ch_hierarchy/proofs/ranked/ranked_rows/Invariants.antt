@@ -1,3 +1,4 @@
+-- The rows are those of the nodes before the current one, two for each.
 use Rattle.std.proofs.Common.{take}
 use Rattle.ch_hierarchy.specs.Ranked.{AreRankedRows}
 use Rattle.ch_hierarchy.proofs.ranked.ranked_rows.Given as goal

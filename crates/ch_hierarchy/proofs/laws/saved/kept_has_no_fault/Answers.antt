@@ -1,3 +1,4 @@
+-- A saved hierarchy that names a right one has no fault, and one that names any has none of the first three.
 use Rattle.ch_hierarchy.proofs.theory.SavedFaults.{none_early, no_fault}
 use Rattle.ch_hierarchy.proofs.laws.saved.kept_has_no_fault.Goals as goal
 

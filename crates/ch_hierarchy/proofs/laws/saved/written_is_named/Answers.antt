@@ -1,3 +1,4 @@
+-- The nodes of a hierarchy have one order of level, and written in this order the hierarchy is named, without a fault.
 use Rattle.ch_hierarchy.proofs.theory.LevelOrder.{level_order, one_level_order}
 use Rattle.ch_hierarchy.proofs.theory.SavedFaults.{no_fault}
 use Rattle.ch_hierarchy.proofs.theory.WrittenLegs.{written_names, written_kept}
