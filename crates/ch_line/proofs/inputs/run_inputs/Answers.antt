@@ -1,3 +1,4 @@
+-- Each tool's run has the story of the line, over the same inputs, and its options are allowed with the inputs at hand.
 use Rattle.std.proofs.Common.{refl}
 use Rattle.ch_line.proofs.Refused.{source-allowed}
 use Rattle.ch_line.proofs.inputs.run_inputs.Goals as goal

@@ -1,3 +1,4 @@
+-- Opened files have the bytes known of their names, and a missing file ends the openings with its fault.
 use Rattle.std.proofs.Common.{◌≡◌, refl, subst, sym}
 use Rattle.std.specs.Prelude.{Result, IsErrAnd}
 use Rattle.ch_run.specs.declared.fault.RunFault.{RunFault}

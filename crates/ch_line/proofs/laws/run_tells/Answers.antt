@@ -1,3 +1,4 @@
+-- The story of a run over inputs says what is written, which files are refused, and which failed calls are reported.
 use Rattle.ch_line.proofs.Told.{run_tells}
 use Rattle.ch_line.proofs.laws.run_tells.Goals as goal
 

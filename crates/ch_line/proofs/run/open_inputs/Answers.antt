@@ -1,3 +1,4 @@
+-- The files before the one that can't be opened, or all files, are opened in the order of the line.
 use Rattle.std.proofs.Common.{inl, inr, refl}
 use Rattle.ch_run.proofs.Owed.{own_as}
 use Rattle.ch_line.specs.Inputs.{asked_inputs, source_inputs}

@@ -1,3 +1,4 @@
+-- The run either stops at a file that can't be opened, or opens, uses and closes all files, and reports each failed call once.
 use Rattle.std.proofs.Common.{inl, inr, refl}
 use Rattle.ch_run.proofs.Owed.{err_as}
 use Rattle.ch_line.specs.Line.{line_files, options_for}

@@ -1,3 +1,4 @@
+-- No file before the current one has the name that is looked for.
 use Rattle.std.proofs.Common.{◌≡◌, drop}
 use Rattle.ch_line.specs.Files.{state_among}
 use Rattle.ch_line.proofs.files.memory.MemoryFilesFiles.open.Given as goal
