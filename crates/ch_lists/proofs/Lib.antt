@@ -1,3 +1,4 @@
+-- The lemmas on lists in one array: their places, what edits of one list leave as it is, and how they are moved together.
 pub mod Found
 pub mod Placed
 pub mod Taken

@@ -1,3 +1,4 @@
+-- Each empty list has the place without capacity in the end, and each other list has its own place.
 use Rattle.std.proofs.Common.{◌∙◌, map, arith, sym}
 use Rattle.std.proofs.lemmas.List.{length-map, get_or-map, same_lists}
 use Rattle.ch_lists.specs.Packing.{closed}

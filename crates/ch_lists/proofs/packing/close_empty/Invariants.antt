@@ -1,3 +1,4 @@
+-- The empty lists before the current place have the place without capacity, and the places from there on are unchanged.
 use Rattle.std.proofs.Common.{◌≡◌, ℕ, ◌<◌, ◌≤◌, get_or}
 use Rattle.ch_lists.specs.declared.place.Place.{Place}
 use Rattle.ch_lists.specs.Packing.{closed}

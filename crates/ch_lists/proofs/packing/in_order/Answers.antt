@@ -1,3 +1,4 @@
+-- The sorted entries are still those of the lists that are not empty, and are in the order of their places.
 use Rattle.ch_lists.proofs.Listed.{sorted_entries}
 use Rattle.ch_lists.proofs.packing.in_order.Goals as goal
 

@@ -1,3 +1,4 @@
+-- One more place adds an entry exactly if its list is not empty, so in the end all lists that are not empty have one.
 use Rattle.std.proofs.Common.{◌≡◌, ◌+◌, ◌∙◌, get_or, vec_len, vec_capacity, Some, arith, ap, subst, sym}
 use Rattle.std.specs.List.{slice_get}
 use Rattle.std.proofs.lemmas.Option.{slice_get-get_or}

@@ -1,3 +1,4 @@
+-- The entries are those of the lists before the current one that are not empty, and there is capacity for all lists.
 use Rattle.std.proofs.Common.{◌≤◌, length, vec_len, vec_capacity}
 use Rattle.ch_lists.specs.Packing.{AreListed}
 use Rattle.ch_lists.proofs.packing.listed.Given as goal

@@ -1,3 +1,4 @@
+-- Each list moves within the array without losing a value, and in the end the lists are packed at its front.
 use Rattle.std.proofs.Common.{◌≡◌, ◌+◌, ◌∙◌, length, arith, refl, subst}
 use Rattle.std.specs.List.{SameBelow, SameFrom, CopiedTo}
 use Rattle.std.proofs.lemmas.List.Elements.{Contains-get_or}

@@ -1,3 +1,4 @@
+-- The lists before the current entry are moved up to the end, and all lists have the values that they had.
 use Rattle.std.proofs.Common.{◌≡◌, ℕ, ◌<◌, ◌≤◌, length, get_or}
 use Rattle.ch_lists.specs.Places.{lists_at, ArePlaces}
 use Rattle.ch_lists.specs.Packing.{IsMovedUpTo}

@@ -1,3 +1,4 @@
+-- Empty lists that are closed leave the others ready to be moved, and the array that is cut off after them holds all lists packed.
 use Rattle.std.proofs.Common.{◌∙◌, length}
 use Rattle.ch_lists.proofs.Closed.{closed_ready, packed_from}
 use Rattle.ch_lists.proofs.packing.pack.Goals as goal

@@ -1,3 +1,4 @@
+-- One more capacity puts the place of an empty list behind the places before it.
 use Rattle.std.proofs.Common.{◌+◌, arith, refl, get_or, subst, sym}
 use Rattle.std.proofs.lemmas.List.Sums.{sum_by_more, sum_by_more_le}
 use Rattle.ch_lists.specs.Places.{AreEmptyPlaces}

@@ -1,3 +1,4 @@
+-- Each capacity before the current one has the place of an empty list, and the next place starts at the sum of these capacities.
 use Rattle.std.proofs.Common.{◌≡◌, ◌≤◌, length, take, sum, vec_capacity}
 use Rattle.ch_lists.specs.Places.{AreEmptyPlaces}
 use Rattle.ch_lists.proofs.place.empty_places.Given as goal

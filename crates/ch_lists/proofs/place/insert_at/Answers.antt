@@ -1,3 +1,4 @@
+-- A value that is inserted into a list with capacity for it, or into a moved list, edits that list alone.
 use Rattle.std.proofs.Common.{◌+◌, ◌≤◌, ◌∙◌, arith, length, subst}
 use Rattle.std.proofs.lemmas.List.{with_items_is}
 use Rattle.ch_lists.specs.Places.{HasInserted}

@@ -1,3 +1,4 @@
+-- Values that are moved up by one after a removal edit that list alone.
 use Rattle.ch_lists.proofs.Changed.{removed}
 use Rattle.ch_lists.proofs.place.remove_at.Goals as goal
 

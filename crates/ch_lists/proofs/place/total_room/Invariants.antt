@@ -1,3 +1,4 @@
+-- The total is the sum of the capacities before the current one.
 use Rattle.std.proofs.Common.{◌≡◌, take, sum}
 use Rattle.ch_lists.proofs.place.total_room.Given as goal
 

@@ -1,3 +1,4 @@
+-- One list gets the values of the other, which is left empty, and the places of the lists still do not overlap.
 use Rattle.ch_lists.proofs.Read.{place_read, list_read}
 use Rattle.ch_lists.proofs.Handed.{handed_places, handed_lists}
 use Rattle.ch_lists.proofs.lists.Lists.hand_over.Goals as goal

@@ -1,3 +1,4 @@
+-- One list gets the value at its place, no other list changes, and the places of the lists still do not overlap.
 use Rattle.std.specs.List.{insert}
 use Rattle.ch_lists.proofs.Read.{edited_places, edited_lists}
 use Rattle.ch_lists.proofs.lists.Lists.insert.Goals as goal

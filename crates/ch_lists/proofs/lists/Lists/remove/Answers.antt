@@ -1,3 +1,4 @@
+-- One list loses the value at its place, no other list changes, and the places of the lists still do not overlap.
 use Rattle.std.proofs.Common.{◌∙◌, subst}
 use Rattle.std.specs.List.{remove}
 use Rattle.std.proofs.lemmas.List.{with_items_is}

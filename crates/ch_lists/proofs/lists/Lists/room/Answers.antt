@@ -1,3 +1,4 @@
+-- The values of all lists together are at most as many as the values of the array.
 use Rattle.std.proofs.Common.{arith}
 use Rattle.ch_lists.proofs.Taken.{values_fit}
 use Rattle.ch_lists.proofs.lists.Lists.room.Goals as goal

@@ -1,3 +1,4 @@
+-- The places that remain are those behind the first ones, and the lists at them have the values that they had.
 use Rattle.std.proofs.Common.{◌≡◌, length, vec_len, take, drop, ◌-◌, subst, sym, ap, ◌∙◌}
 use Rattle.ch_lists.specs.Places.{ArePlaces}
 use Rattle.ch_lists.proofs.Skipped.{skipped_places, skipped_lists, moved_to_front}

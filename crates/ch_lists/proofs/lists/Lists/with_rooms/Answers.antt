@@ -1,3 +1,4 @@
+-- Each capacity gets a place with an empty list.
 use Rattle.ch_lists.proofs.Placed.{empty_lists}
 use Rattle.ch_lists.proofs.lists.Lists.with_rooms.Goals as goal
 
