@@ -1,3 +1,4 @@
+-- A near row by a right hierarchy has the first targets by the least weights of walks and then by place.
 use Rattle.ch_near.proofs.GraphRows.{row_of_graph}
 use Rattle.ch_near.proofs.laws.near_rows_are_nearest.Goals as goal
 

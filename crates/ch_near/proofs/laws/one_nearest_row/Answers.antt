@@ -1,3 +1,4 @@
+-- A source has at most one row of the first targets.
 use Rattle.ch_near.specs.Near.{IsWalkTo}
 use Rattle.ch_near.proofs.OneFirst.{one_first}
 use Rattle.ch_near.proofs.laws.one_nearest_row.Goals as goal

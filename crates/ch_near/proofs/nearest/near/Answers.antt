@@ -1,3 +1,4 @@
+-- The rows of the search that was made for these targets are the near rows of the sources.
 use Rattle.std.proofs.Common.{ℕ, IfOk, Vec, subst}
 use Rattle.std.specs.declared.alloc.Global.{Global}
 use Rattle.std.specs.List.{AllZip}

@@ -1,3 +1,4 @@
+-- The spaces that the workers make on the side of the targets are the search spaces of the targets.
 use Rattle.std.proofs.Common.{ℕ, IfOk, Vec, subst}
 use Rattle.std.specs.List.{AllZip}
 use Rattle.std.specs.declared.alloc.Global.{Global}

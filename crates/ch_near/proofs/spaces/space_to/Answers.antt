@@ -1,3 +1,4 @@
+-- The search space on the side of the targets is the one that leads to the target.
 use Rattle.std.proofs.Common.{ℕ, IfOk, Vec, subst}
 use Rattle.std.specs.declared.alloc.Global.{Global}
 use Rattle.std.proofs.lemmas.Result.{IfOk-weaker}

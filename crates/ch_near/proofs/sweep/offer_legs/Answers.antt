@@ -1,3 +1,4 @@
+-- One more leg offers its sums with the row where it leads, so in the end all sums within the limit are offered.
 use Rattle.std.proofs.Common.{◌≡◌, ◌+◌, ◌++◌, ◌∷◌, ◌<◌, [], take, take_all, map, get_or, length, sym, subst, arith}
 use Rattle.std.specs.Prelude.{slice_index_or}
 use Rattle.std.proofs.lemmas.List.{take_more, get_or-map, length-map}

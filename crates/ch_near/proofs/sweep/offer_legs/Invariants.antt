@@ -1,3 +1,4 @@
+-- The sums over the legs before the current one are offered.
 use Rattle.std.proofs.Common.{map, take}
 use Rattle.ch_near.specs.Offers.{AreOffered}
 use Rattle.ch_near.specs.Sums.{IsSumOf}

@@ -1,3 +1,4 @@
+-- The rows within the limit of the search are the rows that were asked for.
 use Rattle.std.proofs.Common.{ℕ, ◌≡◌, Option, IfOk, Vec, subst}
 use Rattle.std.specs.declared.alloc.Global.{Global}
 use Rattle.std.specs.List.{AllZip}

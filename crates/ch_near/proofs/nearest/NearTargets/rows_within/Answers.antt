@@ -1,3 +1,4 @@
+-- The rows that the workers make are those of the search's targets, within the limit of this call.
 use Rattle.std.proofs.Common.{ℕ, IfOk, Vec, subst}
 use Rattle.std.specs.declared.alloc.Global.{Global}
 use Rattle.std.specs.List.{AllZip}

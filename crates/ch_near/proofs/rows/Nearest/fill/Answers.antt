@@ -1,3 +1,4 @@
+-- The least sums over the source's search space and the buckets, in order and cut, are the near row within the bound.
 use Rattle.std.proofs.Common.{ℕ, ◌<◌, ◌≤◌, [], length, sym, subst}
 use Rattle.std.specs.Prelude.{All, slice_index_or}
 use Rattle.ch_graph.specs.declared.limits.TheConstants.{MOST_WEIGHT}

@@ -1,3 +1,4 @@
+-- A row that is full within a lesser bound is the row within the limit.
 use Rattle.std.proofs.Common.{◌≡◌, Some, length, refl, sym, ap, ◌∙◌, subst}
 use Rattle.ch_near.specs.Near.{IsNearRow, Wanted}
 use Rattle.ch_near.proofs.GraphRows.{full_row}

@@ -1,3 +1,4 @@
+-- The least sums over a rank's legs and the rows of higher ranks, with its own targets, are the near row of its node.
 use Rattle.std.proofs.Common.{◌+◌, ◌<◌, ◌++◌, ◌∷◌, [], length, map, sym, ◌∙◌, subst, inl, inr}
 use Rattle.std.specs.Prelude.{slice_index_or}
 use Rattle.ch_hierarchy.proofs.code.Ranked.{node_of_rank}

@@ -1,3 +1,4 @@
+-- The ranks before the current one have their near rows, and no offer is left.
 use Rattle.std.proofs.Common.{length}
 use Rattle.ch_near.specs.Offers.{AreUnoffered}
 use Rattle.ch_near.specs.Sweep.{AreRowsTo}

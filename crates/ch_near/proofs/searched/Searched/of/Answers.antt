@@ -1,3 +1,4 @@
+-- The search spaces of the targets have ranks of nodes, each once, and their buckets are those of the search.
 use Rattle.std.proofs.Common.{ℕ, ◌<◌, List, map, Vec, sym, subst, arith}
 use Rattle.std.specs.Prelude.{All}
 use Rattle.std.specs.declared.alloc.Global.{Global}
