@@ -1,3 +1,4 @@
+-- The lemmas on the construction of a hierarchy: depths, priorities, steps, and what the calls of one contraction leave.
 pub mod Depths
 pub mod PrioritySteps
 pub mod StepsMade

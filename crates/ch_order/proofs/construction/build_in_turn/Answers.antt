@@ -1,3 +1,4 @@
+-- The hierarchy with no given node is the one in this order, and is kept for the graph.
 use Rattle.std.proofs.lemmas.Result.{IfOk-weaker}
 use Rattle.ch_contract.proofs.theory.BuiltKept.{in_turn_kept}
 use Rattle.ch_contract.proofs.theory.GivenNodes.{numbers_given}

@@ -1,3 +1,4 @@
+-- The construction has made some steps in this order after the given nodes, and each turn contracts one more node.
 use Rattle.std.proofs.Common.{◌≡◌, ◌-◌, take}
 use Rattle.ch_order.specs.Construction.{IsSized, IsJudging, progress_of}
 use Rattle.ch_order.proofs.StepsMade.{IsAfterSomeSteps}

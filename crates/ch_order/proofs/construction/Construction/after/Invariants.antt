@@ -1,3 +1,4 @@
+-- The given nodes before the current one are contracted in their order.
 use Rattle.std.proofs.Common.{◌≡◌, take}
 use Rattle.ch_order.specs.Construction.{IsSized, IsJudging, progress_of}
 use Rattle.ch_order.specs.Steps.{IsAfterGiven}

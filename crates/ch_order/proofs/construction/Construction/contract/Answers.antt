@@ -1,3 +1,4 @@
+-- The neighbours of a contracted node are nodes and few enough, and with their new priorities the construction has made a step.
 use Rattle.std.proofs.Common.{◌<◌, ◌∙◌, sym, subst, arith}
 use Rattle.std.specs.Prelude.{All}
 use Rattle.ch_contract.specs.Measures.{IsPriorityIn}

@@ -1,3 +1,4 @@
+-- The neighbours of a contracted node are nodes, and with their new priorities by depth the construction has made a step.
 use Rattle.std.proofs.Common.{◌<◌, ◌∙◌, sym, subst}
 use Rattle.std.specs.Prelude.{All}
 use Rattle.ch_contract.specs.declared.measure.OrderBy.TheVariants.{Depth}

@@ -1,3 +1,4 @@
+-- Once each node is contracted, the levels and the rows that were kept make a levelled hierarchy.
 use Rattle.std.proofs.Common.{refl}
 use Rattle.ch_order.proofs.ConstructionCalls.{all_rows}
 use Rattle.ch_order.proofs.construction.Construction.finish.Goals as goal

@@ -1,3 +1,4 @@
+-- The least entry of the queue is the node that is contracted next.
 use Rattle.ch_order.proofs.ConstructionCalls.{is_next}
 use Rattle.ch_order.proofs.construction.Construction.next.Goals as goal
 

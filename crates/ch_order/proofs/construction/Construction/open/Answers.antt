@@ -1,3 +1,4 @@
+-- A construction starts with the opening legs, depths of zero, and no priorities.
 use Rattle.std.proofs.Common.{ℕ, None, ◌∙◌, ap, arith, length, replicate}
 use Rattle.std.proofs.lemmas.List.{length-replicate}
 use Rattle.ch_order.proofs.ConstructionCalls.{opened}

@@ -1,3 +1,4 @@
+-- The nodes have the priorities that the workers found, and all else is as before.
 use Rattle.std.proofs.Common.{ℕ, List, refl, subst}
 use Rattle.ch_contract.specs.Measures.{IsPriorityIn}
 use Rattle.ch_order.specs.Priorities.{AreRefreshed}

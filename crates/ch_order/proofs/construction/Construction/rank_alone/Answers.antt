@@ -1,3 +1,4 @@
+-- The nodes have the priorities by depth that were found in turn, and all else is as before.
 use Rattle.std.proofs.Common.{ℕ, List, refl, subst}
 use Rattle.ch_contract.specs.declared.measure.OrderBy.TheVariants.{Depth}
 use Rattle.ch_contract.specs.Measures.{IsPriorityIn}

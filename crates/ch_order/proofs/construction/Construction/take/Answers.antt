@@ -1,3 +1,4 @@
+-- The contracted node keeps its level and legs, its neighbours are those in its rows, and only their depths are raised.
 use Rattle.std.proofs.Common.{◌≡◌, ◌+◌, ◌<◌, ℕ, List, refl, sym, ◌∙◌, ap, subst}
 use Rattle.std.specs.Prelude.{All, length, slice_index}
 use Rattle.std.proofs.lemmas.List.{with_items_is}

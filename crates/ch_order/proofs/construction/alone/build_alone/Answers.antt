@@ -1,3 +1,4 @@
+-- The hierarchy with no given node and an order by depth is the one by depth, and is kept for the graph.
 use Rattle.std.proofs.lemmas.Result.{IfOk-weaker}
 use Rattle.ch_contract.specs.declared.measure.OrderBy.TheVariants.{Depth}
 use Rattle.ch_contract.proofs.theory.BuiltKept.{hierarchies_kept}

@@ -1,3 +1,4 @@
+-- The hierarchy from the first nodes of a given order is one in an order like it, and is kept for the graph.
 use Rattle.std.proofs.Common.{◌≤◌, arith, length}
 use Rattle.ch_contract.specs.declared.measure.OrderBy.TheVariants.{Depth}
 use Rattle.ch_contract.proofs.theory.GivenOrders.{from_kept, like_of}

@@ -1,3 +1,4 @@
+-- The construction has made some steps by depth after the given nodes, and each turn contracts one more node.
 use Rattle.std.proofs.Common.{◌≡◌, ◌-◌, take}
 use Rattle.ch_contract.specs.declared.measure.OrderBy.TheVariants.{Depth}
 use Rattle.ch_order.specs.Construction.{IsSized, IsJudging, progress_of}

@@ -1,3 +1,4 @@
+-- One more piece gives its nodes the priorities that they have now.
 use Rattle.std.proofs.Common.{◌<◌, ◌≤◌, length, arith}
 use Rattle.ch_contract.specs.Measures.{IsPriorityIn}
 use Rattle.ch_order.proofs.KeptPriorities.{refreshed_range}

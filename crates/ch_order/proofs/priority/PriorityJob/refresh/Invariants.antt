@@ -1,3 +1,4 @@
+-- The nodes of the pieces so far have the priorities that they have now, and each turn takes a piece of at least one node.
 use Rattle.std.proofs.Common.{◌≤◌, ◌-◌, length, take}
 use Rattle.ch_contract.specs.Rooms.{IsReady}
 use Rattle.ch_contract.specs.Remaining.{legs_of}

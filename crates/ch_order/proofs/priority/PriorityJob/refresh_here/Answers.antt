@@ -1,3 +1,4 @@
+-- One more node gets the priority that it has now, and no other priority changes.
 use Rattle.std.proofs.Common.{◌≡◌, ◌<◌, to_z, of_z, w64, length, get_or, arith}
 use Rattle.std.proofs.lemmas.Int.{to_z-of_z}
 use Rattle.ch_contract.specs.Measures.{IsPriorityIn}

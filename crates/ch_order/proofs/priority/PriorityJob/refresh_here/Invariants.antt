@@ -1,3 +1,4 @@
+-- The nodes before the current one have the priorities that they have now, and the shortcuts of the workspace are still right.
 use Rattle.std.proofs.Common.{take}
 use Rattle.ch_contract.specs.Rooms.{IsReady}
 use Rattle.ch_contract.specs.Remaining.{legs_of}

@@ -1,3 +1,4 @@
+-- One more node gets the priority at its place, so in the end all nodes have theirs.
 use Rattle.std.proofs.Common.{rules, ℕ, Bor, List, ◌≡◌, ◌+◌, ◌<◌, ◌++◌, ◌∷◌, [], to_z, of_z, w64, arith, length, length-append, get_or, subst}
 use Rattle.std.specs.Prelude.{ℤ, pos}
 use Rattle.std.proofs.lemmas.Int.{to_z-of_z}

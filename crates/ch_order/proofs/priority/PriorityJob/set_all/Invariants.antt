@@ -1,3 +1,4 @@
+-- The nodes so far have the priorities at their places.
 use Rattle.std.proofs.Common.{take, length}
 use Rattle.ch_contract.specs.Measures.{IsPriorityIn}
 use Rattle.ch_order.specs.Priorities.{AreRefreshed}

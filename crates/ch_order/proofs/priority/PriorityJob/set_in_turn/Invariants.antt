@@ -1,3 +1,4 @@
+-- The nodes before the current one have the priorities that they have now, and the workspace keeps no shortcuts.
 use Rattle.std.proofs.Common.{take}
 use Rattle.ch_contract.specs.Rooms.{IsIdleRoom}
 use Rattle.ch_order.specs.Priorities.{AreRefreshed}
