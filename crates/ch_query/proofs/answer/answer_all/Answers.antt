@@ -1,3 +1,4 @@
+-- With routes or without them, the answers that the workers gave are the replies to the queries in their order.
 use Rattle.std.proofs.Common.{sym, subst}
 use Rattle.std.specs.Prelude.{IfOk}
 use Rattle.std.specs.List.{AllZip}

@@ -1,3 +1,4 @@
+-- What is refused has this first fault, and what is accepted has none and names a hierarchy that is right for the graph.
 use Rattle.ch_hierarchy.proofs.theory.SavedFaults.{checks_refused}
 use Rattle.ch_query.proofs.faults.Checked.{accepted_by, checks_founded, kept_by}
 use Rattle.ch_query.proofs.checking.check.Goals as goal

@@ -1,3 +1,4 @@
+-- The check that reports to the gate finds the same first fault, and accepts exactly what has none.
 use Rattle.ch_hierarchy.proofs.theory.SavedFaults.{checks_refused}
 use Rattle.ch_query.proofs.faults.Checked.{accepted_by, checks_founded, kept_by}
 use Rattle.ch_query.proofs.checking.check_watched.Goals as goal

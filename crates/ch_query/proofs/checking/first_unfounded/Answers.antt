@@ -1,3 +1,4 @@
+-- The first leg without an arc, then the first false shortcut, then the first arc without a leg is the first fault, if any.
 use Rattle.std.proofs.Common.{All, ◌∙◌, ap, subst}
 use Rattle.ch_graph.specs.Saved.{OrderAndLegs}
 use Rattle.ch_hierarchy.specs.Assembling.{IsFirstFailing}

@@ -1,3 +1,4 @@
+-- The faults that workers look for come in the same order, so the first of them is the first fault, if any.
 use Rattle.std.proofs.Common.{All, ◌∙◌, ap, subst}
 use Rattle.ch_graph.specs.Saved.{OrderAndLegs}
 use Rattle.ch_hierarchy.specs.Assembling.{IsFirstFailing}

@@ -1,3 +1,4 @@
+-- The hierarchy that was assembled is the one that the saved one names.
 use Rattle.std.proofs.Common.{refl}
 use Rattle.ch_query.proofs.checking.founded_by.Goals as goal
 

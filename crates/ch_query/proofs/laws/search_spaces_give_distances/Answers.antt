@@ -1,3 +1,4 @@
+-- The least sum of the weights of a node in two search spaces is the distance, and without a sum there is no walk.
 use Rattle.ch_query.proofs.two_sides.SharedSums.{spaces_give_distance}
 use Rattle.ch_query.proofs.laws.search_spaces_give_distances.Goals as goal
 

@@ -1,3 +1,4 @@
+-- A route that was found is the answer to its query, and no route means that the two nodes never meet.
 use Rattle.std.proofs.Common.{true, Some, sym, subst}
 use Rattle.std.specs.Prelude.{MatchOption}
 use Rattle.ch_hierarchy.specs.Paths.{NeverMeets}

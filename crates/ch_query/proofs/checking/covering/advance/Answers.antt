@@ -1,3 +1,4 @@
+-- The node of the least key is settled, and the searches are connected if it or one of its legs meets the other side.
 use Rattle.std.proofs.Common.{refl, sym, arith}
 use Rattle.ch_query.proofs.two_sides.ConnectedSearches.{connected_at, still_apart}
 use Rattle.ch_query.proofs.two_sides.MeetingSteps.{known_arcs, known_at, at_rank}

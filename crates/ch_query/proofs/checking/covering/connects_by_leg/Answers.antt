@@ -1,3 +1,4 @@
+-- A leg's node that both searches reach within the bound connects them.
 use Rattle.std.proofs.Common.{refl, sym, arith}
 use Rattle.ch_hierarchy.proofs.code.Ranked.{rank_below}
 use Rattle.ch_query.proofs.two_sides.ConnectedSearches.{own_rank}

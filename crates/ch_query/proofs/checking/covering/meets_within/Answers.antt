@@ -1,3 +1,4 @@
+-- Searches that are connected show a way within the bound, and searches that are past it show that there is none.
 use Rattle.std.proofs.Common.{sym}
 use Rattle.ch_query.proofs.two_sides.ConnectedSearches.{shown_covers}
 use Rattle.ch_query.proofs.checking.covering.meets_within.Goals as goal

@@ -1,3 +1,4 @@
+-- Both searches are underway from their ends, and each turn that goes on settles one more node.
 use Rattle.std.proofs.Common.{◌≡◌, ◌+◌}
 use Rattle.ch_query.specs.declared.side.Side.TheVariants.{Up, Down}
 use Rattle.ch_query.specs.Underway.{count_unsettled_in, IsUnderway}

@@ -1,3 +1,4 @@
+-- Whichever side leads, the two sides may be exchanged, and if its keys are past the bound, those of both sides are.
 use Rattle.std.proofs.Common.{arith, ap}
 use Rattle.ch_query.specs.Covering.{is_connected}
 use Rattle.ch_query.proofs.two_sides.ConnectedSearches.{apart_swapped, connected_swapped, both_past_cost, settled_apart}

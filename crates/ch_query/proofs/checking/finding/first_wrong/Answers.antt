@@ -1,3 +1,4 @@
+-- The first number among the values of all ranges is the first item that is not right.
 use Rattle.ch_query.proofs.faults.Firsts.{first_of_all}
 use Rattle.ch_query.proofs.checking.finding.first_wrong.Goals as goal
 

@@ -1,3 +1,4 @@
+-- One more leg is a shortcut with the sum of its two legs or none, or it is the first that fails.
 use Rattle.std.proofs.Common.{refl}
 use Rattle.ch_query.specs.Checking.{IsSumIfShortcut}
 use Rattle.ch_query.proofs.faults.FirstFailing.{read_more, first_failing}

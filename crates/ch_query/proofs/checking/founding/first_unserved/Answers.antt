@@ -1,3 +1,4 @@
+-- One more arc is a loop or has a leg that costs at most as much, or it is the first that fails.
 use Rattle.std.proofs.Common.{refl}
 use Rattle.std.proofs.lemmas.List.Elements.{Contains-get_or}
 use Rattle.ch_query.specs.Checking.{IsServed}

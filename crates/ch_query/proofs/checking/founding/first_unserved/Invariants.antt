@@ -1,3 +1,4 @@
+-- Each arc before the current place is a loop or has a leg that costs at most as much.
 use Rattle.std.proofs.Common.{get_or, ℕ, ◌<◌}
 use Rattle.ch_graph.specs.declared.arc.InArc.{InArc}
 use Rattle.ch_query.specs.Checking.{IsServed}

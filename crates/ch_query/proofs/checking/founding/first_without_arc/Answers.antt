@@ -1,3 +1,4 @@
+-- One more leg has a middle or is an arc of the graph, or it is the first that fails.
 use Rattle.std.proofs.Common.{refl}
 use Rattle.ch_query.specs.Checking.{IsArcIfBase}
 use Rattle.ch_query.proofs.faults.FirstFailing.{read_more, first_failing}

@@ -1,3 +1,4 @@
+-- Each leg before the current place has a middle or is an arc of the graph.
 use Rattle.std.proofs.Common.{get_or, ℕ, ◌<◌}
 use Rattle.ch_graph.specs.declared.saved.SavedLeg.{SavedLeg}
 use Rattle.ch_query.specs.Checking.{IsArcIfBase}

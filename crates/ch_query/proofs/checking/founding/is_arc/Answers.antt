@@ -1,3 +1,4 @@
+-- The row of the leg's start has an arc to its end at its weight exactly if the graph has.
 use Rattle.std.proofs.Common.{arith}
 use Rattle.ch_query.proofs.faults.ArcRows.{row_arc}
 use Rattle.ch_query.proofs.checking.founding.is_arc.Goals as goal

@@ -1,3 +1,4 @@
+-- A leg without a middle is right exactly if it is an arc of the graph.
 use Rattle.ch_query.proofs.faults.ArcRows.{base_arc}
 use Rattle.ch_query.proofs.checking.founding.is_arc_if_base.Goals as goal
 

@@ -1,3 +1,4 @@
+-- The two legs of a middle add up without overflow, and a leg is over the middle exactly if it has their sum.
 use Rattle.std.proofs.Common.{Contains, arith, sym, ◌∙◌, subst}
 use Rattle.std.proofs.lemmas.Bool.{false≢true}
 use Rattle.ch_hierarchy.specs.Rows.{IsRow}

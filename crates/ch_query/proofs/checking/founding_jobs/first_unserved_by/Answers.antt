@@ -1,3 +1,4 @@
+-- The first number whose arc has no leg is the place of the first such arc of the list.
 use Rattle.ch_query.specs.Checking.{IsServed}
 use Rattle.ch_query.proofs.faults.Firsts.{listed}
 use Rattle.ch_query.proofs.checking.founding_jobs.first_unserved_by.Goals as goal

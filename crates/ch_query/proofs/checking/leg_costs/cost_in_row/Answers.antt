@@ -1,3 +1,4 @@
+-- Binary search in an ordered row finds the leg at the node, or the row has none there.
 use Rattle.std.proofs.Common.{rules, refl}
 use Rattle.std.proofs.lemmas.List.Sorted.{answers_always}
 use Rattle.ch_hierarchy.proofs.theory.NoLeg.{no_leg}

@@ -1,3 +1,4 @@
+-- A leg leads there within the bound exactly if there is one and its cost is not above the bound.
 use Rattle.std.proofs.Common.{subst}
 use Rattle.std.proofs.lemmas.Bool.{false≢true}
 use Rattle.ch_query.specs.Checking.{IsLegCost}

@@ -1,3 +1,4 @@
+-- The leg between two nodes is in the row up of its start if the end is higher, and else in the row down of its end.
 use Rattle.std.proofs.Common.{arith, subst}
 use Rattle.ch_hierarchy.specs.Rows.{IsRow}
 use Rattle.ch_query.specs.declared.side.Side.TheVariants.{Up, Down}

@@ -1,3 +1,4 @@
+-- The costs of two legs through a node add up without overflow, and one more leg up is covered together with this one.
 use Rattle.std.proofs.Common.{arith, ◌∙◌, refl}
 use Rattle.ch_hierarchy.proofs.theory.NoLeg.{no_leg}
 use Rattle.ch_query.specs.declared.side.Side.TheVariants.{Up, Down}

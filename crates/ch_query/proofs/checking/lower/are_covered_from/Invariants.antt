@@ -1,3 +1,4 @@
+-- The leg into the node is covered together with each leg up before the current one, and both sides are clean.
 use Rattle.std.proofs.Common.{◌≡◌, ℕ, ◌<◌, get_or}
 use Rattle.ch_hierarchy.specs.declared.leg.Leg.{Leg}
 use Rattle.ch_query.proofs.faults.Pairs.{IsPairCovered}

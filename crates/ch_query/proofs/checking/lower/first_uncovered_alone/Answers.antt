@@ -1,3 +1,4 @@
+-- The first number that is not right is the least numbered node that is not covered.
 use Rattle.ch_query.proofs.faults.Firsts.{nodes_named}
 use Rattle.ch_query.proofs.checking.lower.first_uncovered_alone.Goals as goal
 

@@ -1,3 +1,4 @@
+-- A node is covered once each leg into it is covered together with all legs up.
 use Rattle.std.proofs.Common.{◌∙◌, refl}
 use Rattle.ch_hierarchy.proofs.theory.NoLeg.{no_leg}
 use Rattle.ch_query.specs.Covering.{IsCoveredFrom}

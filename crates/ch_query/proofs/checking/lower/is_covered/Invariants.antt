@@ -1,3 +1,4 @@
+-- Each leg into the node before the current one is covered together with all legs up, and both sides are clean.
 use Rattle.std.proofs.Common.{◌≡◌, ℕ, ◌<◌, get_or}
 use Rattle.ch_hierarchy.specs.declared.leg.Leg.{Leg}
 use Rattle.ch_query.specs.Covering.{IsCoveredFrom}

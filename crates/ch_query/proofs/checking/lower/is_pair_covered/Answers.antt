@@ -1,3 +1,4 @@
+-- A leg within the bound is a way up and down within it.
 use Rattle.std.proofs.Common.{refl}
 use Rattle.ch_query.proofs.faults.Pairs.{leg_covers}
 use Rattle.ch_query.proofs.checking.lower.is_pair_covered.Goals as goal

@@ -1,3 +1,4 @@
+-- Each step back goes to a lower node that is reached, over a leg that is in its row, so it ends at the source.
 use Rattle.std.proofs.Common.{◌∙◌, refl, ap, ◌++◌, ◌∷◌, [], arith}
 use Rattle.ch_query.proofs.routing.DescentSteps.{node_at_within, read_parent, tracing_starts, tracing_ends, parent_within, parent_has, parent_lower, room_for_leg, tracing_step}
 use Rattle.ch_query.proofs.routes.descent.descend.Goals as goal

@@ -1,3 +1,4 @@
+-- The legs that were appended lead from the current node to the meet, and each turn goes to a node of lower level.
 use Rattle.std.specs.Prelude.{◌≡◌, slice_index, vec_capacity}
 use Rattle.ch_graph.specs.declared.cost.Cost.{Cost}
 use Rattle.ch_query.specs.Descents.{HasReached}

@@ -1,3 +1,4 @@
+-- A meet of both sides gives a route with fewer arcs than there are nodes, and without a meet there is no walk.
 use Rattle.std.proofs.Common.{◌<◌, length, sym, subst}
 use Rattle.std.specs.Prelude.{IfOk, MatchOption, ⊤}
 use Rattle.ch_hierarchy.specs.Hierarchy.{nodes_of}

@@ -1,3 +1,4 @@
+-- The legs of both ways back, one of them reversed, fit into their list, and their arcs are the route over the meet.
 use Rattle.std.proofs.Common.{refl, subst}
 use Rattle.ch_query.specs.Descents.{IsTraced}
 use Rattle.ch_query.proofs.routing.RouteArcs.{route_found}

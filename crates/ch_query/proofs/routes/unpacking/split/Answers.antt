@@ -1,3 +1,4 @@
+-- The middle of a shortcut is a node with both of its legs in its rows.
 use Rattle.ch_query.proofs.routing.PendingLegs.{middle_within, first_has, second_has}
 use Rattle.ch_query.proofs.routes.unpacking.split.Goals as goal
 

@@ -1,3 +1,4 @@
+-- A shortcut that is split, or an arc that is appended, leaves the same arcs to come, and capacity for all of them.
 use Rattle.ch_query.proofs.routing.UnpackingSteps.{unpacking_ends, room_for_two, room_for_arc, arc_step, arc_less, split_step, split_less}
 use Rattle.ch_query.proofs.routes.unpacking.unpack.Goals as goal
 

@@ -1,3 +1,4 @@
+-- The arcs so far and those of the pending legs are the arcs of all legs, and each turn leaves fewer legs to unpack.
 use Rattle.ch_query.proofs.routing.PendingLegs.{unpackings}
 use Rattle.ch_query.proofs.routing.UnpackingSteps.{IsPartlyUnpacked}
 use Rattle.ch_query.proofs.routes.unpacking.unpack.Given as goal

@@ -1,3 +1,4 @@
+-- The node of the least key is settled, and with its sum the searches are still meeting, with one node fewer to settle.
 use Rattle.std.proofs.Common.{arith}
 use Rattle.ch_query.proofs.one_side.Popping.{key_rank, popped_at, pop_expands, pop_falls}
 use Rattle.ch_query.proofs.two_sides.MeetingSteps.{known_arcs, met_then}

@@ -1,3 +1,4 @@
+-- If the least key is above the least sum, each key is.
 use Rattle.ch_query.proofs.one_side.PathLaws.{below_then}
 use Rattle.ch_query.proofs.one_side.Popping.{least_key}
 use Rattle.ch_query.proofs.sides.meeting.is_past.Goals as goal

@@ -1,3 +1,4 @@
+-- Once all keys are past the least sum, it is the cost of the meet, or the two nodes never meet.
 use Rattle.std.proofs.Common.{◌∙◌}
 use Rattle.ch_query.proofs.two_sides.LeastMeeting.{meeting_between}
 use Rattle.ch_query.proofs.sides.meeting.meet.Goals as goal

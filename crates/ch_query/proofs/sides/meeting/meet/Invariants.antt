@@ -1,3 +1,4 @@
+-- The two searches from these ends are meeting with the least sum, and each turn settles one more node.
 use Rattle.std.proofs.Common.{◌≡◌, ◌+◌}
 use Rattle.ch_query.specs.declared.side.Side.TheVariants.{Up, Down}
 use Rattle.ch_query.specs.Underway.{count_unsettled_in}

@@ -1,3 +1,4 @@
+-- The two costs of a node that both searches reach have a sum without overflow.
 use Rattle.std.proofs.Common.{sym, arith}
 use Rattle.ch_query.proofs.two_sides.MeetingSteps.{known_arcs, known_at}
 use Rattle.ch_query.proofs.sides.meeting.met.Goals as goal

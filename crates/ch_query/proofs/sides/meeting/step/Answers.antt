@@ -1,3 +1,4 @@
+-- Whichever side leads, the two sides may be exchanged, and if its keys are past the least sum, those of both sides are.
 use Rattle.ch_query.proofs.two_sides.MeetingSteps.{swapped, both_stopped}
 use Rattle.ch_query.proofs.sides.meeting.step.Goals as goal
 

@@ -1,3 +1,4 @@
+-- The least weight of going up and then down is the distance.
 use Rattle.ch_query.proofs.two_sides.Distances.{weight_is_distance}
 use Rattle.ch_query.proofs.weights.distances.distance.Goals as goal
 

@@ -1,3 +1,4 @@
+-- One more entry has the node of its rank, and there is capacity for those that follow.
 use Rattle.std.proofs.Common.{arith}
 use Rattle.ch_query.proofs.by_weight.NamedSpaces.{names_more}
 use Rattle.ch_query.proofs.weights.spaces.named.Goals as goal

@@ -1,3 +1,4 @@
+-- The entries before the current one have the nodes of their ranks and the same weights, and there is capacity for the others.
 use Rattle.std.proofs.Common.{◌≤◌, length, take, vec_len}
 use Rattle.std.specs.Prelude.{vec_capacity}
 use Rattle.std.specs.List.{AllZip}

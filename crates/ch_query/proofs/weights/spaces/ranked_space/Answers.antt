@@ -1,3 +1,4 @@
+-- The copied entries of the search are the search space by ranks.
 use Rattle.std.proofs.Common.{sym, subst}
 use Rattle.ch_query.specs.SearchSpace.{IsRankedSpace}
 use Rattle.ch_query.proofs.by_weight.SearchSpaces.{space_if_listed}

@@ -1,3 +1,4 @@
+-- The search space by ranks, with nodes in place of the ranks and sorted by node, is the search space.
 use Rattle.std.proofs.Common.{sym, subst}
 use Rattle.ch_query.specs.SearchSpace.{IsRankedSpace}
 use Rattle.ch_query.proofs.by_weight.NamedSpaces.{ranks_below, named_space}

@@ -1,3 +1,4 @@
+-- One more item that is right extends the range of those before it, and the workspace stays clean.
 use Rattle.std.proofs.Common.{refl}
 use Rattle.ch_query.proofs.faults.Firsts.{holds_more}
 use Rattle.ch_query.proofs.checking.finding.CheckRangesRoomJob.piece.Goals as goal

@@ -1,3 +1,4 @@
+-- The items before the current one are right, and the workspace is clean.
 use Rattle.std.proofs.Common.{◌≡◌}
 use Rattle.ch_query.specs.Finding.{HoldsIn}
 use Rattle.ch_query.proofs.checking.finding.CheckRangesRoomJob.piece.Given as goal

@@ -1,3 +1,4 @@
+-- The leg at this place is judged by the rows of the graph's arcs.
 use Rattle.std.proofs.Common.{get_or, ◌<◌, List, length, sym, subst}
 use Rattle.std.specs.Prelude.{◌↔◌, IsTrue}
 use Rattle.ch_graph.specs.declared.saved.SavedLeg.{SavedLeg}

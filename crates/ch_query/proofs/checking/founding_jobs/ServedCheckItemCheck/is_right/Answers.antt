@@ -1,3 +1,4 @@
+-- The arc at this place joins two nodes of the hierarchy, and is judged by its legs.
 use Rattle.std.proofs.lemmas.List.Elements.{Contains-get_or}
 use Rattle.ch_query.specs.Checking.{IsServed}
 use Rattle.ch_query.proofs.faults.Firsts.{tells_at}

@@ -1,3 +1,4 @@
+-- The leg at this place is judged by the two legs of its middle.
 use Rattle.ch_query.specs.Checking.{IsSumIfShortcut}
 use Rattle.ch_query.proofs.faults.Firsts.{tells_at}
 use Rattle.ch_query.proofs.checking.founding_jobs.SumCheckItemCheck.is_right.Goals as goal

@@ -1,3 +1,4 @@
+-- A node whose weight is that of none has no cost, and all other costs and all parents stay.
 use Rattle.std.proofs.Common.{refl, ◌∙◌, ap, arith, get_or}
 use Rattle.std.proofs.Math.Seq.{map-set_same}
 use Rattle.ch_query.specs.declared.sides.labels.Label.{Label}

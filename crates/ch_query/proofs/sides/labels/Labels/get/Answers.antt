@@ -1,3 +1,4 @@
+-- The weight and the arcs of a label, with the multiples of its node if it has many arcs, are its cost.
 use Rattle.std.proofs.Common.{ap, arith, sym, ◌∙◌, ◌+◌, ◌*◌, ℕ, get_or}
 use Rattle.std.proofs.lemmas.List.{get_or_default}
 use Rattle.ch_query.specs.declared.sides.labels.TheConstants.{MANY}

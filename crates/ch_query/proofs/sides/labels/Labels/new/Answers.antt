@@ -1,3 +1,4 @@
+-- New labels give no node a cost, and each node the parent zero.
 use Rattle.std.proofs.Common.{rules, ◌≡◌, replicate, map, refl, ap, ◌∙◌}
 use Rattle.std.specs.List.{zip}
 use Rattle.ch_query.specs.declared.sides.labels.Label.{Label}

@@ -1,3 +1,4 @@
+-- The label and the multiples that are written give the node this cost and this parent, and no other node a new one.
 use Rattle.std.proofs.Common.{◌≡◌, ◌-◌, ◌/◌, length, get_or, sym, ◌∙◌, ap, arith}
 use Rattle.std.proofs.lemmas.List.{set-get_or}
 use Rattle.ch_query.specs.declared.sides.labels.TheConstants.{MANY}

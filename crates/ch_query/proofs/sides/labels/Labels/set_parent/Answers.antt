@@ -1,3 +1,4 @@
+-- The node has the new parent, and all costs stay.
 use Rattle.std.proofs.Common.{refl, ap, arith}
 use Rattle.ch_query.specs.Labels.{CostsAndParents}
 use Rattle.ch_query.proofs.one_side.Labelled.{as_many, as_many_parents, costs_stay, parents_set}

@@ -1,3 +1,4 @@
+-- A clean search into which the source is put is underway, and has reached nothing else.
 use Rattle.std.proofs.Common.{◌∙◌, ◌≤◌, ap, set, subst, sym, Some}
 use Rattle.ch_graph.specs.declared.limits.TheConstants.{MOST_WEIGHT}
 use Rattle.ch_graph.specs.Cost.{no_cost, cost_at}

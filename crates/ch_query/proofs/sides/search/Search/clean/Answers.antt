@@ -1,3 +1,4 @@
+-- A touched node that loses its cost leaves the list of touched nodes, so in the end the search is clean.
 use Rattle.std.proofs.Common.{length, length-set, ◌∙◌, ap, subst, sym}
 use Rattle.ch_query.specs.Underway.{IsTouched}
 use Rattle.ch_query.proofs.one_side.Touched.{last_within, touched_less}

@@ -1,3 +1,4 @@
+-- Each node with a cost is still listed as touched, no node has a key, and each turn takes one node off the list.
 use Rattle.std.proofs.Common.{◌≡◌, length, vec_len}
 use Rattle.ch_query.specs.Search.{IsEmpty}
 use Rattle.ch_query.specs.Underway.{IsRoom}

@@ -1,3 +1,4 @@
+-- One more leg lowers the cost of its node if it shows a cheaper way, without overflow, and past the last leg the node is done.
 use Rattle.std.proofs.Common.{sym}
 use Rattle.ch_query.proofs.one_side.Expanding.{partly_whole}
 use Rattle.ch_query.proofs.one_side.RankedLegs.{read_rank, read_unkeyed, read_weights, read_arcs, ranked_step, read_all}

@@ -1,3 +1,4 @@
+-- The legs before the current one were taken from the settled node.
 use Rattle.std.proofs.Common.{take}
 use Rattle.ch_hierarchy.specs.Rows.{row}
 use Rattle.ch_query.specs.Side.{rows_of}

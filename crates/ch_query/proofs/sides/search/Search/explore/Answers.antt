@@ -1,3 +1,4 @@
+-- The node of the least key can be settled, and leaves one node fewer to settle.
 use Rattle.std.proofs.Common.{arith}
 use Rattle.ch_query.proofs.one_side.Popping.{key_rank, popped_at, pop_expands, pop_falls}
 use Rattle.ch_query.proofs.sides.search.Search.explore.Goals as goal

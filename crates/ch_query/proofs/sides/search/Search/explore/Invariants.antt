@@ -1,3 +1,4 @@
+-- The search is underway, with the same source and side, and each turn settles one more node.
 use Rattle.ch_query.specs.Underway.{IsUnderway, IsSameSearch, count_unsettled_in}
 use Rattle.ch_query.proofs.sides.search.Search.explore.Given as goal
 

@@ -1,3 +1,4 @@
+-- A leg from a higher node that was reached at a lesser sum shows that the node may stay unexpanded.
 use Rattle.std.proofs.Common.{subst, sym}
 use Rattle.ch_graph.specs.Cost.{IsBelow}
 use Rattle.ch_query.proofs.one_side.Stalling.{stall_rank, stall_sum, stall_idle}

@@ -1,3 +1,4 @@
+-- The side whose least key is not above the other's leads the keys of both sides.
 use Rattle.ch_query.proofs.one_side.Popping.{leads_as_told}
 use Rattle.ch_query.proofs.sides.search.Search.leads.Goals as goal
 

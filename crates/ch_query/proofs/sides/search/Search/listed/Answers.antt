@@ -1,3 +1,4 @@
+-- One more touched node is listed with its cost, so in the end all reached nodes are, in order.
 use Rattle.std.proofs.Common.{◌∙◌, get_or, refl, ap, map, take_all, arith}
 use Rattle.std.specs.Prelude.{vec_capacity}
 use Rattle.ch_query.specs.ByNode.{costs_of}

@@ -1,3 +1,4 @@
+-- The list has the nodes before the current one with their costs, and there is capacity for the others.
 use Rattle.std.proofs.Common.{◌≡◌, ◌≤◌, map, take, length}
 use Rattle.std.specs.Prelude.{vec_capacity}
 use Rattle.ch_query.specs.ByNode.{costs_of}

@@ -1,3 +1,4 @@
+-- A search without costs, keys and touched nodes is clean.
 use Rattle.std.proofs.Common.{arith, ◌≡◌, ℕ, length, replicate, Option, None, ap, sym, ◌∙◌}
 use Rattle.std.proofs.lemmas.Option.{none-some}
 use Rattle.std.proofs.lemmas.List.{length-replicate}

@@ -1,3 +1,4 @@
+-- A node that had no cost is touched once more and one that had stays touched, and there is capacity for it.
 use Rattle.std.proofs.Common.{Some, sym, ◌∙◌, ap, subst, set}
 use Rattle.std.specs.Prelude.{is_some}
 use Rattle.ch_query.specs.declared.sides.search.Search.{Search}

@@ -1,3 +1,4 @@
+-- A search that ran until no key is left has reached each node at the least cost of an upward path.
 use Rattle.std.proofs.Common.{sym, ◌∙◌, subst}
 use Rattle.std.proofs.lemmas.Result.{IfOk-weaker}
 use Rattle.ch_query.specs.Limits.{IsMost}

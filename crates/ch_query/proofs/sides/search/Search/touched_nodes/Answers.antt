@@ -1,3 +1,4 @@
+-- Each touched rank has its node, and sorted the nodes are those that the search reached, each once.
 use Rattle.std.proofs.Common.{◌∙◌, ◌≤◌, length, subst, take_all, arith}
 use Rattle.ch_query.proofs.one_side.Spreads.{item_rank, ranks_more, within_more, touched_reached}
 use Rattle.ch_query.proofs.sides.search.Search.touched_nodes.Goals as goal

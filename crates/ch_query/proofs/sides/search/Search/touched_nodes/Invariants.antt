@@ -1,3 +1,4 @@
+-- The nodes are those of the ranks before the current one, and there is capacity for the others.
 use Rattle.std.proofs.Common.{◌≡◌, ◌<◌, ◌≤◌, ℕ, Contains, map, take, length, vec_len}
 use Rattle.std.specs.Prelude.{vec_capacity}
 use Rattle.ch_hierarchy.specs.Hierarchy.{nodes_of}

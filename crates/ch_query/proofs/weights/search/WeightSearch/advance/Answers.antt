@@ -1,3 +1,4 @@
+-- The settled state has a sum with the other side, and the lesser of it and the least sum is the least so far.
 use Rattle.std.proofs.Common.{◌/◌, ◌+◌, length, arith, ap, sym, ◌∙◌, subst, inl, inr}
 use Rattle.std.proofs.lemmas.Bool.{cases_lt}
 use Rattle.ch_hierarchy.specs.Hierarchy.{nodes_of}

@@ -1,3 +1,4 @@
+-- A clean search into which both ends are put knows no sum yet.
 use Rattle.std.proofs.Common.{ap, sym, ◌∙◌, get_or, get_or-set_other, set, None, Some}
 use Rattle.ch_hierarchy.specs.Hierarchy.{nodes_of}
 use Rattle.ch_query.specs.declared.side.Side.TheVariants.{Up, Down}

@@ -1,3 +1,4 @@
+-- A clean search into which the source is put on one side has reached nothing else.
 use Rattle.std.proofs.Common.{ap, ◌∙◌, arith}
 use Rattle.ch_query.specs.Side.{state_of}
 use Rattle.ch_hierarchy.specs.Hierarchy.{nodes_of}

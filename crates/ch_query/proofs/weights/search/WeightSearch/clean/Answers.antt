@@ -1,3 +1,4 @@
+-- A touched state that loses its weight leaves the list of touched states, so in the end the search is clean.
 use Rattle.std.proofs.Common.{rules, ◌≡◌, refl, arith, vec_len}
 use Rattle.std.specs.Prelude.{vec_capacity}
 use Rattle.std.proofs.lemmas.List.{length-map}

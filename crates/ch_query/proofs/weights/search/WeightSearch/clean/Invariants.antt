@@ -1,3 +1,4 @@
+-- Each state with a weight is still listed as touched, no state has a key, and each turn takes one state off the list.
 use Rattle.std.proofs.Common.{◌≡◌, ℕ, Some, vec_len}
 use Rattle.std.specs.Prelude.{slice_index_or, None}
 use Rattle.ch_query.specs.Weights.{IsSizedFor}

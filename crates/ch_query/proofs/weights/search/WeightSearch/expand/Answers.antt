@@ -1,3 +1,4 @@
+-- One more leg lowers the weight of its state if it shows a lighter way, and past the last leg the state is done.
 use Rattle.std.proofs.Common.{arith}
 use Rattle.ch_hierarchy.proofs.code.Ranked.{node_of_rank}
 use Rattle.ch_query.proofs.by_weight.LegsRead.{read_leg, read_rank, read_light, read_state, read_whole}

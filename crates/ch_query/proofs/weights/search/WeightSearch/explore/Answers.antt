@@ -1,3 +1,4 @@
+-- The state of least weight is found if the search did not stall at it, and leaves one state fewer to settle.
 use Rattle.std.proofs.Common.{◌/◌, List, Option, None, sym, ap, subst, ℕ}
 use Rattle.std.specs.Option.{option_map}
 use Rattle.ch_query.specs.declared.weights.search.WeightSearch.{WeightSearch}

@@ -1,3 +1,4 @@
+-- The states where a search to its end did not stall are the search space of the source, and the search is clean again.
 use Rattle.std.proofs.Common.{sym, ◌∙◌, subst}
 use Rattle.ch_hierarchy.specs.Hierarchy.{nodes_of}
 use Rattle.ch_query.specs.Limits.{IsMost}

@@ -1,3 +1,4 @@
+-- A leg from a higher node that was reached at a lesser sum shows that the state may stay unexpanded.
 use Rattle.std.proofs.Common.{◌≡◌, map, arith, subst}
 use Rattle.ch_hierarchy.specs.Rows.{row}
 use Rattle.ch_hierarchy.specs.Ranked.{ranked_leg}

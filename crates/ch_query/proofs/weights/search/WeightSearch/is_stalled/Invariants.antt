@@ -1,3 +1,4 @@
+-- Nothing has to be known of the legs before the current one.
 use Rattle.ch_query.proofs.weights.search.WeightSearch.is_stalled.Given as goal
 
 abbrev pub invariant-loop-leg : goal.invariant-loop-leg

@@ -1,3 +1,4 @@
+-- Once no key is below the least sum, it is the least weight of going up and then down, or no node is reached from both.
 use Rattle.std.proofs.Common.{None, Some, ◌∙◌, arith}
 use Rattle.ch_hierarchy.specs.Hierarchy.{nodes_of}
 use Rattle.ch_query.specs.declared.side.Side.TheVariants.{Up}

@@ -1,3 +1,4 @@
+-- The least sum is the least so far of a search from these two ends, and each turn settles one more state.
 use Rattle.std.proofs.Common.{◌≡◌}
 use Rattle.ch_query.specs.Weights.{IsLeastSoFar, count_unsettled_states}
 use Rattle.ch_query.proofs.weights.search.WeightSearch.least_weight.Given as goal

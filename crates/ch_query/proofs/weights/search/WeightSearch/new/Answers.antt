@@ -1,3 +1,4 @@
+-- A search without weights, keys and touched states is clean.
 use Rattle.std.proofs.Common.{rules, ◌≡◌, ◌*◌, replicate, refl}
 use Rattle.ch_query.specs.declared.weights.search.TheConstants.{UNREACHED}
 use Rattle.ch_query.proofs.by_weight.Clean.{clean_at_first}

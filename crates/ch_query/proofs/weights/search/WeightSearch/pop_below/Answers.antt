@@ -1,3 +1,4 @@
+-- If the least key is below the limit its state leaves the queue, and else all keys are at least the limit.
 use Rattle.std.proofs.Common.{refl}
 use Rattle.ch_query.proofs.by_weight.Queues.{keys_from, popped_state}
 use Rattle.ch_query.proofs.weights.search.WeightSearch.pop_below.Goals as goal

@@ -1,3 +1,4 @@
+-- A state that had no weight is touched once more and one that had stays touched, and there is capacity for it.
 use Rattle.std.proofs.Common.{◌≡◌, false, Some, sym, ◌∙◌, ap, subst, set, length, map, ◌<◌, arith}
 use Rattle.std.specs.Prelude.{is_some}
 use Rattle.std.proofs.lemmas.List.{length-map}

@@ -1,3 +1,4 @@
+-- A state at which the search stalls may stay unexpanded, so the search has gone on without its legs.
 use Rattle.ch_hierarchy.proofs.code.Ranked.{node_of_rank}
 use Rattle.ch_query.proofs.by_weight.WeightStalls.{stalled_goes_on}
 use Rattle.ch_query.proofs.weights.search.WeightSearch.settle.Goals as goal
