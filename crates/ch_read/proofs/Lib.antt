@@ -1,3 +1,4 @@
+-- The lemmas on reading: lines and words, numbers, the checks of a line, limits, sections, requests, and texts read back.
 pub mod OneAnswer
 pub mod Splits
 pub mod Cuts

@@ -1,3 +1,4 @@
+-- The text after the two words that query files and lists begin with is found exactly if both are there.
 use Rattle.std.proofs.Common.{[], ◌∷◌}
 use Rattle.std.specs.Prelude.{codes}
 use Rattle.ch_read.specs.Words.{words}

@@ -1,3 +1,4 @@
+-- The text after the words of a form's problem line is found exactly if all of them are there.
 use Rattle.std.proofs.Common.{[], ◌∷◌}
 use Rattle.std.specs.Prelude.{codes}
 use Rattle.ch_read.specs.Words.{words}

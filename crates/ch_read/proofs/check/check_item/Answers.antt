@@ -1,3 +1,4 @@
+-- An item whose numbers are in range and light passes all checks, and any other fails the first of them that it breaks.
 use Rattle.std.proofs.Common.{sym, arith}
 use Rattle.ch_read.proofs.Judging.{read_item, out_of_range, too_heavy, passes_as_item, values_small}
 use Rattle.ch_read.proofs.check.check_item.Goals as goal

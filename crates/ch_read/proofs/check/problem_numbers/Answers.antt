@@ -1,3 +1,4 @@
+-- The numbers of a problem line are those after its words, and there are none without these words.
 use Rattle.ch_read.specs.Words.{words}
 use Rattle.ch_read.specs.Forms.{problem_words, problem_size}
 use Rattle.ch_read.proofs.Judging.{no_numbers, numbers_next}

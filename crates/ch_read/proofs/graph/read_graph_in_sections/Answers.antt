@@ -1,3 +1,4 @@
+-- A file read in sections is a graph within the limits, and an error is the fault of its bytes.
 use Rattle.std.proofs.Common.{sym, subst}
 use Rattle.ch_graph.specs.Graph.{IsWithinLimits}
 use Rattle.ch_read.specs.declared.form.Form.TheVariants.{Graph}

@@ -1,3 +1,4 @@
+-- Each list of bytes names one value or has one fault, for each form of file.
 use Rattle.ch_read.proofs.OneAnswer.{graph_answer, queries_answer, nodes_answer, saved_answer}
 use Rattle.ch_read.proofs.laws.one_answer.Goals as goal
 

@@ -1,3 +1,4 @@
+-- A reader that is fed and asked in turn gives each request once and in order, and holds no whole one back.
 use Rattle.ch_read.proofs.RequestTurns.{given_in_turn, given_to_the_end, given_to_the_fault}
 use Rattle.ch_read.proofs.RequestsHeldBack.{not_held_back}
 use Rattle.ch_read.proofs.laws.requests_whole_in_turn.Goals as goal

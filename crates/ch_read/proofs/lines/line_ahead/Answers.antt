@@ -1,3 +1,4 @@
+-- The first line feed ends the first line whatever follows, and at the end of the input the rest is the last line.
 use Rattle.std.proofs.Common.{sym, ◌<◌, length, arith}
 use Rattle.std.proofs.lemmas.Bool.Decides.{nat_tests}
 use Rattle.ch_read.proofs.Requests.{feed_ahead, feed_within, last_ahead}

@@ -1,3 +1,4 @@
+-- The first line feed after the searched bytes is the first of all bytes.
 use Rattle.std.proofs.Common.{sym, eqb}
 use Rattle.std.proofs.lemmas.List.{take_rest}
 use Rattle.ch_read.proofs.Splits.{found_after, none_after}

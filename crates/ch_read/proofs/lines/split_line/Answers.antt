@@ -1,3 +1,4 @@
+-- The bytes before the first line feed, or all bytes without one, are the first line, and fewer bytes are left.
 use Rattle.std.proofs.Common.{sym}
 use Rattle.ch_read.proofs.Splits.{line_to_feed, line_to_end}
 use Rattle.ch_read.proofs.lines.split_line.Goals as goal

@@ -1,3 +1,4 @@
+-- The bytes from the first that is no blank up to the next blank, or to the end, are the first word.
 use Rattle.std.proofs.Common.{sym, ◌∙◌}
 use Rattle.ch_read.proofs.Splits.{word_found, no_word, word_to_blank, word_to_end}
 use Rattle.ch_read.proofs.lines.split_word.Goals as goal

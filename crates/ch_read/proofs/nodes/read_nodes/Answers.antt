@@ -1,3 +1,4 @@
+-- The nodes that are read are nodes of the graph, and an error is the fault of the bytes.
 use Rattle.std.proofs.Common.{◌≡◌, ◌<◌, sym, subst}
 use Rattle.std.specs.Prelude.{All}
 use Rattle.ch_read.specs.declared.form.Form.TheVariants.{Nodes}

@@ -1,3 +1,4 @@
+-- One more digit gives ten times the value and the digit, up to the cap, and any other byte is no number.
 use Rattle.std.proofs.Common.{sym, refl}
 use Rattle.ch_read.proofs.Numbers.{more_digits, all_digits, not_digits, no_number}
 use Rattle.ch_read.proofs.number.number_of.Goals as goal

@@ -1,3 +1,4 @@
+-- The bytes before the current one are digits, and the value is theirs, up to the cap.
 use Rattle.ch_read.proofs.Numbers.{HasDigits}
 use Rattle.ch_read.proofs.number.number_of.Given as goal
 

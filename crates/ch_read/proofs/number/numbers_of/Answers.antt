@@ -1,3 +1,4 @@
+-- One more word is the next number, and a word that is none, or a word too many or too few, leaves no numbers.
 use Rattle.std.proofs.Common.{◌≡◌, ◌<◌, subst, arith}
 use Rattle.ch_read.specs.Words.{words}
 use Rattle.ch_read.proofs.Numbers.{HasTaken, none_taken, take_one, no_number_next, all_taken}

@@ -1,3 +1,4 @@
+-- The words before the current place are numbers, and their values are at their places.
 use Rattle.ch_read.specs.Words.{words}
 use Rattle.ch_read.proofs.Numbers.{HasTaken}
 use Rattle.ch_read.proofs.number.numbers_of.Given as goal

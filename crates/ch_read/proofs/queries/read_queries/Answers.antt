@@ -1,3 +1,4 @@
+-- Both nodes of each query are nodes of the graph, and an error is the fault of the bytes.
 use Rattle.std.proofs.Common.{◌≡◌, ◌<◌, ℕ, sym, subst}
 use Rattle.std.specs.Prelude.{All}
 use Rattle.ch_read.specs.declared.form.Form.TheVariants.{Queries}

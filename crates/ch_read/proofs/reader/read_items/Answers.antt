@@ -1,3 +1,4 @@
+-- Lines without a fault make a whole file if the counts are right at the end, and else the end has the fault.
 use Rattle.std.proofs.Common.{arith}
 use Rattle.ch_read.proofs.Reading.{error_from_start, fault_at_end, whole_file, counted_by}
 use Rattle.ch_read.proofs.reader.read_items.Goals as goal

@@ -1,3 +1,4 @@
+-- One more line is skipped, is the problem line, or adds an item to its part, and otherwise it has the first fault.
 use Rattle.std.proofs.Common.{arith}
 use Rattle.ch_read.proofs.Reading.{nothing_read, skipped, found, taken_first, taken_second, fault_here, all_lines, counted_by}
 use Rattle.ch_read.proofs.reader.read_lines.Goals as goal

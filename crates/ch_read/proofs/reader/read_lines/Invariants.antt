@@ -1,3 +1,4 @@
+-- The lines before the rest are read without a fault, and each turn leaves fewer bytes.
 use Rattle.std.proofs.Common.{length}
 use Rattle.ch_read.proofs.Reading.{HasRead}
 use Rattle.ch_read.proofs.reader.read_lines.Given as goal

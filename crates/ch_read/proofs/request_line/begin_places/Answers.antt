@@ -1,3 +1,4 @@
+-- Two numbers within the limits start the places of a request, and others have the fault of this line.
 use Rattle.std.proofs.Common.{◌≡◌, ℕ, sym, ◌∙◌}
 use Rattle.ch_read.specs.Words.{words}
 use Rattle.ch_read.proofs.RequestNumbers.{places_read}

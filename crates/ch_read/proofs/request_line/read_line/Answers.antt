@@ -1,3 +1,4 @@
+-- The request that a line completes, and the one that it leaves incomplete, have nodes of the graph.
 use Rattle.std.proofs.Common.{◌≡◌}
 use Rattle.ch_read.proofs.Requests.{node_added, settled_within}
 use Rattle.ch_read.proofs.request_line.read_line.Goals as goal

@@ -1,3 +1,4 @@
+-- An error is the fault of the bytes of a saved hierarchy.
 use Rattle.ch_read.specs.declared.form.Form.TheVariants.{Saved}
 use Rattle.ch_read.proofs.Limits.{fault_both_ways}
 use Rattle.ch_read.proofs.saved.read_saved.Goals as goal

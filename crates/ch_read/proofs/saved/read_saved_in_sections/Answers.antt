@@ -1,3 +1,4 @@
+-- An error of reading in sections is the fault of the bytes of a saved hierarchy.
 use Rattle.ch_read.specs.declared.form.Form.TheVariants.{Saved}
 use Rattle.ch_read.proofs.Limits.{fault_both_ways}
 use Rattle.ch_read.proofs.saved.read_saved_in_sections.Goals as goal

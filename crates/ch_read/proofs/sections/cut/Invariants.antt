@@ -1,3 +1,4 @@
+-- The lines of the sections so far and then those of the rest are the lines of all bytes, and each turn leaves fewer bytes.
 use Rattle.std.proofs.Common.{◌≡◌, ◌++◌, length}
 use Rattle.std.specs.List.{flat_map}
 use Rattle.ch_read.specs.Words.{lines}

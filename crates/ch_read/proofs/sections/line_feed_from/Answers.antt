@@ -1,3 +1,4 @@
+-- The first line feed of the bytes from a place on is a line feed of all bytes at that place.
 use Rattle.std.proofs.Common.{sym}
 use Rattle.std.proofs.lemmas.List.{take_rest}
 use Rattle.ch_read.proofs.Cuts.{feed_from}

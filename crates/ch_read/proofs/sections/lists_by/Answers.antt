@@ -1,3 +1,4 @@
+-- The items of all sections, one after the other, are those of one section with all their lines.
 use Rattle.ch_read.proofs.Cuts.{all_sections}
 use Rattle.ch_read.proofs.sections.lists_by.Goals as goal
 

@@ -1,3 +1,4 @@
+-- One more section adds its two lists of items.
 use Rattle.std.proofs.Common.{◌≡◌, [], ◌∷◌, ◌++◌, sym, ◌∙◌, ap, append_assoc}
 use Rattle.ch_read.proofs.Cuts.{lists_more}
 use Rattle.ch_read.proofs.sections.lists_of.Goals as goal

@@ -1,3 +1,4 @@
+-- The lists are those of the sections so far, and the sections that are left follow them.
 use Rattle.std.proofs.Common.{◌≡◌, ◌++◌}
 use Rattle.ch_read.specs.Sections.{AreListsOf}
 use Rattle.ch_read.proofs.sections.lists_of.Given as goal

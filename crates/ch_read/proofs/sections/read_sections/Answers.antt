@@ -1,3 +1,4 @@
+-- Sections with as many items as the heading says, after the bytes up to the problem line, make a whole file.
 use Rattle.std.proofs.Common.{◌≡◌, ℕ, sym, ◌∙◌, ap, subst, eqb, arith, length}
 use Rattle.std.proofs.lemmas.Bool.{eqb-true}
 use Rattle.std.specs.List.{flat_map}

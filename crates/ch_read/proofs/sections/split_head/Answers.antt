@@ -1,3 +1,4 @@
+-- A line that is skipped leaves the file's lines to come, and the problem line gives the heading.
 use Rattle.ch_read.proofs.Reading.{skip_line, head_line}
 use Rattle.ch_read.proofs.sections.split_head.Goals as goal
 

@@ -1,3 +1,4 @@
+-- The lines before the rest are skipped, and each turn leaves fewer bytes.
 use Rattle.std.proofs.Common.{length}
 use Rattle.ch_read.proofs.Reading.{HasSkipped}
 use Rattle.ch_read.proofs.sections.split_head.Given as goal

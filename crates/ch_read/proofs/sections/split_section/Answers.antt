@@ -1,3 +1,4 @@
+-- A cut after a line feed cuts no line, and leaves fewer bytes.
 use Rattle.std.proofs.Common.{◌+◌, arith, length-drop}
 use Rattle.std.proofs.lemmas.List.{take_rest}
 use Rattle.ch_read.proofs.Cuts.{lines_cut}

@@ -1,3 +1,4 @@
+-- The lines that were read complete no request, and each turn leaves fewer bytes pending.
 use Rattle.std.proofs.Common.{◌≡◌, [], length}
 use Rattle.ch_read.specs.Requests.{Gives}
 use Rattle.ch_read.proofs.request_reader.RequestReader.next.Given as goal

@@ -1,3 +1,4 @@
+-- A line that is too long or has a fault is the error ahead, and any other line completes its request or leaves it incomplete.
 use Rattle.std.proofs.Common.{◌≡◌, sym, subst}
 use Rattle.ch_read.specs.Requests.{IsErrorAhead, IsStopped, Standing}
 use Rattle.ch_read.specs.declared.request_fault.RequestFault.{RequestFault}

@@ -1,3 +1,4 @@
+-- The lines of a section, read without a fault after the heading, are a section of the file.
 use Rattle.ch_read.specs.Words.{lines}
 use Rattle.ch_read.proofs.Reading.{section_read}
 use Rattle.ch_read.proofs.sections.SectionReaderListJob.value.Goals as goal
