@@ -1,3 +1,4 @@
+-- The lemmas on building by rounds: which nodes a round has, what its calls leave, keys that stay, and neighbours.
 pub mod RoundPuts
 pub mod RoundsMade
 pub mod FirstAround

@@ -1,3 +1,4 @@
+-- The construction has made some rounds, its keys are those that the nodes have now, and each turn leaves fewer nodes.
 use Rattle.std.proofs.Common.{◌≡◌, ℕ, List, length}
 use Rattle.std.specs.Prelude.{All}
 use Rattle.ch_contract.specs.Legs.{Legs}

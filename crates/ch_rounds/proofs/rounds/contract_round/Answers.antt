@@ -1,3 +1,4 @@
+-- The nodes taken out, their shortcuts found among the remaining legs, and these put in are the contraction of the round.
 use Rattle.std.proofs.Common.{rules, ◌<◌, ℕ, get_or, sym, ◌∙◌, subst}
 use Rattle.std.specs.List.{AllZip}
 use Rattle.std.specs.Global.{Vec}

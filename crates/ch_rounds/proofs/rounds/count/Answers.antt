@@ -1,3 +1,4 @@
+-- The counts that the workers made, written at the places of their nodes, are those of the nodes' shortcuts.
 use Rattle.std.proofs.Common.{◌∙◌, ℕ, List, sym, ap, subst, length, arith}
 use Rattle.std.specs.List.{AllZip}
 use Rattle.ch_graph.proofs.Lists.{zipped_length}

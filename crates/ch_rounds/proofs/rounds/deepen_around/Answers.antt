@@ -1,3 +1,4 @@
+-- One more node of the round deepens its neighbours, which are neighbours of no other node of the round.
 use Rattle.std.proofs.Common.{◌≡◌, ◌+◌, ◌++◌, ◌<◌, ◌≤◌, ℕ, List, [], length, length-append, vec_len, get_or, take, refl, sym, ◌∙◌, ap, subst, arith}
 use Rattle.std.specs.Prelude.{All, slice_index}
 use Rattle.std.proofs.lemmas.List.{take_all, length-take-le}

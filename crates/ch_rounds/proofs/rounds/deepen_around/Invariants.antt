@@ -1,3 +1,4 @@
+-- The neighbours of the nodes before the current one are collected and have their new depths, and no others have changed.
 use Rattle.std.proofs.Common.{◌≡◌, ℕ, [], length, take}
 use Rattle.std.specs.Prelude.{slice_index}
 use Rattle.ch_contract.specs.Rounds.{depth_after_round}

@@ -1,3 +1,4 @@
+-- All nodes are counted, which are the numbers below the number of nodes.
 use Rattle.std.proofs.Common.{◌∙◌, ◌<◌, ℕ, List, sym, ap, subst, length, arith, replicate}
 use Rattle.std.specs.Prelude.{All}
 use Rattle.std.proofs.lemmas.List.{with_items_is}

@@ -1,3 +1,4 @@
+-- All nodes get keys in place of zeros.
 use Rattle.std.proofs.Common.{◌∙◌, List, sym, ap, subst, replicate}
 use Rattle.std.specs.Prelude.{ℤ, pos}
 use Rattle.std.proofs.lemmas.List.{with_items_is}

@@ -1,3 +1,4 @@
+-- One more node gets the next level, so in the end the nodes have consecutive levels in their order.
 use Rattle.std.proofs.Common.{◌≡◌, ◌+◌, ◌<◌, ◌≤◌, length, get_or, subst, arith}
 use Rattle.std.proofs.lemmas.List.{take_all}
 use Rattle.ch_rounds.specs.SetEach.{AreRanked}

@@ -1,3 +1,4 @@
+-- The nodes before the current one have consecutive levels, and the next level follows them.
 use Rattle.std.proofs.Common.{◌≡◌, ◌+◌, take}
 use Rattle.ch_rounds.specs.SetEach.{AreRanked}
 use Rattle.ch_rounds.proofs.set_each.rank.Given as goal

@@ -1,3 +1,4 @@
+-- One more value is written at the place of its node, and no other place changes.
 use Rattle.std.proofs.Common.{◌<◌, ◌≤◌, sym, ◌∙◌, length, get_or, subst, arith}
 use Rattle.std.proofs.lemmas.List.{take_all, get_or_default}
 use Rattle.ch_rounds.specs.SetEach.{AreGiven}

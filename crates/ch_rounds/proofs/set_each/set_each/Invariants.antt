@@ -1,3 +1,4 @@
+-- The values before the current place are written at the places of their nodes.
 use Rattle.std.proofs.Common.{take}
 use Rattle.ch_rounds.specs.SetEach.{AreGiven}
 use Rattle.ch_rounds.proofs.set_each.set_each.Given as goal

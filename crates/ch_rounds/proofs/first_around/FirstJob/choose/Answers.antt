@@ -1,3 +1,4 @@
+-- The workers found of each node whether it is first, so the split is into those that are and the rest.
 use Rattle.std.proofs.Common.{ℕ, sym, subst}
 use Rattle.std.specs.Prelude.{◌↔◌, Bool, IsTrue}
 use Rattle.std.specs.List.{AllZip}

@@ -1,3 +1,4 @@
+-- The node comes before the nodes of the legs before the current one.
 use Rattle.std.proofs.Common.{All, take}
 use Rattle.ch_hierarchy.specs.declared.leg.Leg.{Leg}
 use Rattle.ch_rounds.specs.FirstAround.{ComesBeforeBy}

@@ -1,3 +1,4 @@
+-- A node comes before the neighbours around all legs once it comes before those around each leg.
 use Rattle.std.proofs.Common.{◌≡◌, ◌≤◌, take, true, get_or, length, subst, refl, arith, All}
 use Rattle.std.proofs.lemmas.List.{take_more, take_all}
 use Rattle.std.proofs.lemmas.List.Elements.{All-push}

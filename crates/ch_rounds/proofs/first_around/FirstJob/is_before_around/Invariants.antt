@@ -1,3 +1,4 @@
+-- The node comes before all neighbours of the nodes of the legs before the current one.
 use Rattle.std.proofs.Common.{All, take}
 use Rattle.ch_hierarchy.specs.declared.leg.Leg.{Leg}
 use Rattle.ch_contract.specs.Remaining.{legs_of}

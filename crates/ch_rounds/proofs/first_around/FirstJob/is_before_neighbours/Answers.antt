@@ -1,3 +1,4 @@
+-- A node comes before all neighbours of another one exactly if it comes before the nodes of its legs in both directions.
 use Rattle.ch_contract.specs.Remaining.{legs_of}
 use Rattle.ch_rounds.specs.FirstAround.{ComesBeforeBy}
 use Rattle.ch_rounds.proofs.FirstAround.{from_nodes, to_nodes, around_all, around_up, around_down}

@@ -1,3 +1,4 @@
+-- A node comes before all neighbours of its neighbours exactly if it does around its legs in both directions.
 use Rattle.ch_contract.specs.Remaining.{legs_of}
 use Rattle.ch_rounds.specs.FirstAround.{IsBeforeNeighbours}
 use Rattle.ch_rounds.proofs.FirstAround.{from_nodes, to_nodes, around_all, around_up, around_down}

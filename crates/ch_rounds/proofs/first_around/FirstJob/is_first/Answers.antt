@@ -1,3 +1,4 @@
+-- A node that comes before its neighbours and before theirs is first within two legs.
 use Rattle.std.proofs.Common.{inl, inr}
 use Rattle.ch_rounds.proofs.first_around.FirstJob.is_first.Goals as goal
 

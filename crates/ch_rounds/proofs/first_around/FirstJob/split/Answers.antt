@@ -1,3 +1,4 @@
+-- One more node goes to the round if it is first, and else to the rest.
 use Rattle.std.proofs.Common.{◌≤◌, ℕ, false, length, get_or, subst, arith}
 use Rattle.std.specs.Prelude.{◌↔◌, Bool, IsTrue}
 use Rattle.std.proofs.lemmas.List.{take_all}

@@ -1,3 +1,4 @@
+-- The nodes before the current place are split into those that are first and the rest.
 use Rattle.std.proofs.Common.{take}
 use Rattle.ch_contract.specs.Remaining.{legs_of}
 use Rattle.ch_rounds.specs.FirstAround.{IsFirstBy}

@@ -1,3 +1,4 @@
+-- The keys that the workers made, written at the places of their nodes, are the keys that these nodes have now.
 use Rattle.std.proofs.Common.{◌∙◌, List, sym, ap, subst, length, arith}
 use Rattle.std.specs.Prelude.{ℤ, pos}
 use Rattle.std.specs.List.{AllZip}

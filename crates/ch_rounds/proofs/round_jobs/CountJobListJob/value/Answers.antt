@@ -1,3 +1,4 @@
+-- A workspace that has forgotten all shortcuts is ready to judge the node.
 use Rattle.ch_contract.specs.Remaining.{legs_of}
 use Rattle.ch_rounds.proofs.round_jobs.CountJobListJob.value.Goals as goal
 

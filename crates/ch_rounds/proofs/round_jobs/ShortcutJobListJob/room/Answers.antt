@@ -1,3 +1,4 @@
+-- A new workspace keeps no shortcuts.
 use Rattle.ch_contract.specs.Remaining.{legs_of}
 use Rattle.ch_rounds.proofs.round_jobs.ShortcutJobListJob.room.Goals as goal
 

@@ -1,3 +1,4 @@
+-- The nodes that come first within two legs are apart, and their contraction with new counts and keys is a step of rounds.
 use Rattle.std.proofs.Common.{◌≡◌, ◌+◌, ◌<◌, ◌≤◌, ◌^◌, ℕ, List, refl, sym, ◌∙◌, ap, subst, length, get_or, arith}
 use Rattle.std.specs.Prelude.{All, AllPairs, slice_index}
 use Rattle.std.proofs.lemmas.List.{with_items_is}

@@ -1,3 +1,4 @@
+-- Once no node remains, the levels and the rows that were kept make a levelled hierarchy.
 use Rattle.std.proofs.Common.{refl, sym, subst}
 use Rattle.std.proofs.lemmas.Result.{IfOk-weaker}
 use Rattle.ch_rounds.specs.RoundProgress.{IsRoundsEnd}

@@ -1,3 +1,4 @@
+-- A construction starts with the opening legs, depths of zero, and counts and keys of all nodes.
 use Rattle.std.proofs.Common.{◌≡◌, ◌∙◌, ℕ, List, [], refl, sym, ap, subst, length, replicate, Contains}
 use Rattle.std.specs.Prelude.{ℤ, pos, slice_index}
 use Rattle.std.specs.List.{range_with_len}

@@ -1,3 +1,4 @@
+-- The nodes that are due have new counts, and with them the neighbours of the round have new keys.
 use Rattle.std.proofs.Common.{◌≤◌, ◌<◌, ◌^◌, ◌∙◌, ℕ, List, refl, sym, ap, subst}
 use Rattle.std.specs.Prelude.{All, slice_index}
 use Rattle.std.specs.Vec.{with_items}

@@ -1,3 +1,4 @@
+-- The counts of all nodes are small enough for keys, and the keys are made of them and of depths of zero.
 use Rattle.std.proofs.Common.{◌∙◌, ◌<◌, ◌≤◌, ◌^◌, ℕ, List, refl, sym, ap, subst, length, get_or, replicate}
 use Rattle.std.specs.Prelude.{All, pos, slice_index}
 use Rattle.std.proofs.lemmas.List.FromFn.{length-range_with_len}
