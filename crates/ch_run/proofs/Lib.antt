@@ -1,3 +1,4 @@
+-- The lemmas on runs: how inputs are read and texts written, what the story of each run says, and that texts are unique.
 pub mod Texts
 pub mod Ranges
 pub mod TableTexts

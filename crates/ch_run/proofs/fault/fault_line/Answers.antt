@@ -1,3 +1,4 @@
+-- The parts of the line of too many cells, joined from its end, are the text of this fault.
 use Rattle.std.proofs.Common.{[], ◌∷◌, ◌++◌, ap, append_assoc, sym}
 use Rattle.std.specs.Prelude.{codes, decimal}
 use Rattle.ch_run.proofs.fault.fault_line.Goals as goal

@@ -1,3 +1,4 @@
+-- The story of a run that answers requests says which faults end it, and counts each failed call exactly.
 use Rattle.ch_run.proofs.AskStory.{ask_tells}
 use Rattle.ch_run.proofs.laws.ask_tells.Goals as goal
 

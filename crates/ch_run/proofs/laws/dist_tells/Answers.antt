@@ -1,3 +1,4 @@
+-- The story of a run that answers queries says which faults end it, and counts each failed call exactly.
 use Rattle.ch_run.proofs.Stories.{dist_tells}
 use Rattle.ch_run.proofs.laws.dist_tells.Goals as goal
 

@@ -1,3 +1,4 @@
+-- The reads of an input whose bytes are known can give these bytes alone.
 use Rattle.std.proofs.Common.{Option, List, ℕ, sym, subst}
 use Rattle.ch_text.specs.Device.{HasGiven}
 use Rattle.ch_text.proofs.Moves.{gave-told}

@@ -1,3 +1,4 @@
+-- The story of a run that writes near rows says which faults end it, and counts each failed call exactly.
 use Rattle.ch_run.proofs.Stories.{near_tells}
 use Rattle.ch_run.proofs.laws.near_tells.Goals as goal
 

@@ -1,3 +1,4 @@
+-- The definitions name one text of near rows, which by any saved hierarchy is that of the graph.
 use Rattle.ch_run.specs.Run.{reading}
 use Rattle.ch_run.proofs.OneNearText.{near_all_of_graph, near_of_graph, one_near_all_text, one_near_text as one_near_text_of}
 use Rattle.ch_run.proofs.laws.one_near_text.Goals as goal

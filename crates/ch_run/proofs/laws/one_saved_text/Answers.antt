@@ -1,3 +1,4 @@
+-- By a saved hierarchy there is one text of answers and of a table, and a graph's own hierarchy has one text.
 use Rattle.ch_run.specs.Run.{reading}
 use Rattle.ch_run.proofs.OneSavedText.{one_like_text, one_save_text, one_saved_table, one_saved_text as one_saved_text_of}
 use Rattle.ch_run.proofs.laws.one_saved_text.Goals as goal

@@ -1,3 +1,4 @@
+-- The definitions name one text of answers and one of a table.
 use Rattle.ch_run.specs.Run.{reading}
 use Rattle.ch_run.proofs.OneText.{one_table, one_text as one_text_of}
 use Rattle.ch_run.proofs.laws.one_text.Goals as goal

@@ -1,3 +1,4 @@
+-- The story of a run that saves a hierarchy says which faults end it, and counts each failed call exactly.
 use Rattle.ch_run.proofs.Stories.{save_tells}
 use Rattle.ch_run.proofs.laws.save_tells.Goals as goal
 

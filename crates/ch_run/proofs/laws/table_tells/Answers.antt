@@ -1,3 +1,4 @@
+-- The story of a run that writes a table says which faults end it, and counts each failed call exactly.
 use Rattle.ch_run.proofs.Stories.{table_tells}
 use Rattle.ch_run.proofs.laws.table_tells.Goals as goal
 

@@ -1,3 +1,4 @@
+-- The first requests are answered and no write has failed, and each turn leaves fewer requests.
 use Rattle.std.proofs.Common.{◌≡◌, ◌≤◌, ◌++◌, All, List, Ok, length}
 use Rattle.ch_graph.specs.declared.limits.TheConstants.{MOST_LISTED}
 use Rattle.ch_read.specs.declared.request.Request.{Request}

@@ -1,3 +1,4 @@
+-- The run ends while it loads, or answers the requests by the hierarchy that it loaded or built.
 use Rattle.std.proofs.Common.{inl, inr, refl}
 use Rattle.ch_run.specs.Ask.{IsRequestText, IsTextOfRequest}
 use Rattle.ch_run.specs.Source.{IsServing, order_built}

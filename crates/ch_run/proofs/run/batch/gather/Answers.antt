@@ -1,3 +1,4 @@
+-- The requests so far, with the one that was not kept or the fault that came, are what the reader gave.
 use Rattle.std.proofs.Common.{◌≡◌, ◌∙◌, sym}
 use Rattle.ch_run.proofs.Served.{batch_more, batch_nothing, batch_refused, batch_stopped, not_pushed}
 use Rattle.ch_run.proofs.run.batch.gather.Goals as goal

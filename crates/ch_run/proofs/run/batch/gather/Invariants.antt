@@ -1,3 +1,4 @@
+-- The reader gave the requests so far, and there are at most as many of them as turns.
 use Rattle.std.proofs.Common.{◌≡◌, ◌≤◌, All, length}
 use Rattle.ch_read.specs.Requests.{Gives, IsRequest}
 use Rattle.ch_run.proofs.run.batch.gather.Given as goal

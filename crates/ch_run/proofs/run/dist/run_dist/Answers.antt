@@ -1,3 +1,4 @@
+-- The run goes as its story says at each end, so the output takes the text that answers the queries, or its first bytes.
 use Rattle.std.proofs.Common.{inl, inr, refl}
 use Rattle.ch_run.proofs.Owed.{err_as}
 use Rattle.ch_run.proofs.Stories.{dist_delivers}

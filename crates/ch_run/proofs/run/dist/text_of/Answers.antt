@@ -1,3 +1,4 @@
+-- The answers by a hierarchy that is right for the graph are those in the order that the options choose.
 use Rattle.std.proofs.Common.{Bool, ◌∙◌, subst, sym, not, ◌&&◌}
 use Rattle.std.proofs.lemmas.Result.{IfOk-weaker}
 use Rattle.ch_run.specs.Source.{IsOfRoutes}

@@ -1,3 +1,4 @@
+-- A table or a list of places in front is answered alone.
 use Rattle.std.proofs.Common.{List, drop, sym, subst, ◌∙◌}
 use Rattle.std.proofs.lemmas.Result.{IfOk-weaker}
 use Rattle.ch_read.specs.declared.request.Request.{Request}

@@ -1,3 +1,4 @@
+-- The queries in front that are like the first one are nodes of the graph, and their text answers all of them.
 use Rattle.std.proofs.Common.{◌<◌, ◌∷◌, refl, sym, ◌∙◌, ap, length, subst}
 use Rattle.ch_query.specs.Replies.{AreQueries}
 use Rattle.ch_run.specs.Ask.{IsTextOfRequest}

@@ -1,3 +1,4 @@
+-- The text of the table of these lists answers the request.
 use Rattle.ch_read.specs.declared.request.Request.TheVariants.{Table}
 use Rattle.ch_run.specs.Ask.{IsTextOfRequest}
 use Rattle.ch_run.proofs.Gathered.{one_answered}

@@ -1,3 +1,4 @@
+-- The pairs are those of the first query and of the queries like it before the current request.
 use Rattle.std.proofs.Common.{◌≡◌, ◌∷◌, map, take}
 use Rattle.ch_run.specs.Serving.{asked_for}
 use Rattle.ch_run.proofs.run.first.pairs_in_front.Given as goal

@@ -1,3 +1,4 @@
+-- The text of the pairs, by the arcs alone or by the hierarchy, answers the queries.
 use Rattle.std.proofs.Common.{Bool, ◌≡◌, sym, subst}
 use Rattle.std.proofs.lemmas.Result.{IfOk-weaker}
 use Rattle.ch_run.specs.Text.{IsTextBy}

@@ -1,3 +1,4 @@
+-- The rows of the search within the limit have places among its targets, and their text is that of the near rows.
 use Rattle.std.proofs.Common.{ℕ, ◌<◌, length, map, Vec, sym, ap, ◌∙◌, subst}
 use Rattle.std.specs.declared.alloc.Global.{Global}
 use Rattle.std.specs.Prelude.{All}

@@ -1,3 +1,4 @@
+-- The sources are those of the first near row and of those with its limit before the current request.
 use Rattle.std.proofs.Common.{◌≡◌, ◌∷◌, map, take}
 use Rattle.ch_run.specs.Serving.{near_row_of}
 use Rattle.ch_run.proofs.run.first.sources_in_front.Given as goal

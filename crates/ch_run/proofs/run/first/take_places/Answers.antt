@@ -1,3 +1,4 @@
+-- New places are answered by no text, and take the place of those before.
 use Rattle.std.proofs.Common.{◌≡◌, [], ◌∷◌, sym, ap, ◌∙◌, subst, refl}
 use Rattle.ch_near.specs.Near.{Wanted}
 use Rattle.ch_read.specs.declared.request.Request.TheVariants.{Places}

@@ -1,3 +1,4 @@
+-- An input that can count no more failures is left unread.
 use Rattle.std.proofs.Common.{[], refl}
 use Rattle.ch_run.proofs.run.inputs.bytes_from.Goals as goal
 

@@ -1,3 +1,4 @@
+-- The bytes that were read name the list of nodes, or have its first fault, or could not be read.
 use Rattle.std.proofs.Common.{◌≡◌, refl, subst}
 use Rattle.ch_read.specs.declared.form.Form.TheVariants.{Nodes}
 use Rattle.ch_read.specs.declared.fault.ReadError.TheVariants.{Fault}

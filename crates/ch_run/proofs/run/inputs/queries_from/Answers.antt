@@ -1,3 +1,4 @@
+-- The bytes that were read name the queries, or have their first fault, or could not be read.
 use Rattle.std.proofs.Common.{◌≡◌, refl, subst}
 use Rattle.ch_read.specs.declared.form.Form.TheVariants.{Queries}
 use Rattle.ch_read.specs.declared.fault.ReadError.TheVariants.{Fault}

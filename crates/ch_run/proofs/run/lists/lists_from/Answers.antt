@@ -1,3 +1,4 @@
+-- The lists that are not accepted end the story at the sources, at the targets, or at too many cells.
 use Rattle.std.proofs.Common.{◌≡◌, ◌∙◌, arith, length, inl, inr, refl}
 use Rattle.std.specs.Prelude.{vec_len}
 use Rattle.ch_run.proofs.Owed.{err_as}

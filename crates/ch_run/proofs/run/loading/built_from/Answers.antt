@@ -1,3 +1,4 @@
+-- The order and the graph that were read give the hierarchy, or the story ends at the first of them that fails.
 use Rattle.std.proofs.Common.{◌∙◌, ℕ, List, inl, inr, refl, subst}
 use Rattle.ch_contract.specs.Like.{IsHierarchyLike}
 use Rattle.ch_hierarchy.specs.Saved.{IsOrderOf}

@@ -1,3 +1,4 @@
+-- The saved hierarchy that was read is right for the graph, or the story ends at the first of them that fails.
 use Rattle.std.proofs.Common.{inl, inr, refl}
 use Rattle.ch_run.proofs.Owed.{err_as}
 use Rattle.ch_run.proofs.Story.{saved_ends}

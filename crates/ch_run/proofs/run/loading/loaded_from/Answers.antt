@@ -1,3 +1,4 @@
+-- Where the graph, the saved hierarchy or the order fails, the story of loading ends there.
 use Rattle.std.proofs.Common.{◌≡◌, Some}
 use Rattle.std.specs.Prelude.{IsOkAnd}
 use Rattle.ch_run.specs.declared.run.loading.Loaded.{Loaded}

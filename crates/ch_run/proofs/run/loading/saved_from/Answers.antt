@@ -1,3 +1,4 @@
+-- The bytes that were read name the saved hierarchy, or have its first fault, or could not be read.
 use Rattle.std.proofs.Common.{◌≡◌, refl, subst}
 use Rattle.ch_read.specs.declared.form.Form.TheVariants.{Saved}
 use Rattle.ch_read.specs.declared.fault.ReadError.TheVariants.{Fault}

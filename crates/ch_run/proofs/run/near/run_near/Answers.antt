@@ -1,3 +1,4 @@
+-- The run goes as its story says at each end, so the output takes the near rows, or their first bytes.
 use Rattle.std.proofs.Common.{◌≡◌, inr, refl}
 use Rattle.ch_run.proofs.Stories.{near_delivers}
 use Rattle.ch_run.proofs.Story.{loads_on, loads_stops, node_lists_stop, sources_on, writes_none, writes_weaker}

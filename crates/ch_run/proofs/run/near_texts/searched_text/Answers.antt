@@ -1,3 +1,4 @@
+-- The rows of one more portion of sources follow the text of those before.
 use Rattle.std.proofs.Common.{◌≡◌, ◌++◌, ℕ, ◌<◌, List, length, map, Vec, refl, sym, ap, ◌∙◌, subst, rules, append_assoc}
 use Rattle.std.specs.declared.alloc.Global.{Global}
 use Rattle.std.specs.Prelude.{All}

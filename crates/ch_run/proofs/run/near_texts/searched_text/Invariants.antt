@@ -1,3 +1,4 @@
+-- The text has the near rows of the portions so far, and the portions that are left have the other sources.
 use Rattle.std.proofs.Common.{◌≡◌, ℕ, List, ◌++◌}
 use Rattle.std.specs.Slice.Iter.{chunks_rest, chunks_size}
 use Rattle.ch_run.specs.NearRows.{HasNearRows}

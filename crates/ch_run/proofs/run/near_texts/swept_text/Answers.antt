@@ -1,3 +1,4 @@
+-- The row that the sweep made for one more source follows the text of those before.
 use Rattle.std.proofs.Common.{◌≡◌, ◌++◌, ℕ, ◌<◌, List, [], length, get_or, sym, ap, ◌∙◌, subst}
 use Rattle.std.specs.Prelude.{All}
 use Rattle.std.specs.List.{flat_map}

@@ -1,3 +1,4 @@
+-- The text has the rows of the sources before the current one.
 use Rattle.std.proofs.Common.{◌≡◌, take, flat_map}
 use Rattle.ch_near.specs.Sweep.{row_at}
 use Rattle.ch_text.specs.NearText.{near_row_text}

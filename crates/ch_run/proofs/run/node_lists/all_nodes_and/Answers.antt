@@ -1,3 +1,4 @@
+-- All nodes of the graph are a list of its nodes, and the story ends at the targets if these fail.
 use Rattle.std.proofs.Common.{◌<◌, inl, inr, rules, sym, subst}
 use Rattle.std.specs.Prelude.{All}
 use Rattle.ch_run.proofs.Nears.{all_below}

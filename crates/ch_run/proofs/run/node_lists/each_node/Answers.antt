@@ -1,3 +1,4 @@
+-- One more node extends the nodes in order.
 use Rattle.std.proofs.Common.{sym}
 use Rattle.ch_run.proofs.Nears.{next_node}
 use Rattle.ch_run.proofs.run.node_lists.each_node.Goals as goal

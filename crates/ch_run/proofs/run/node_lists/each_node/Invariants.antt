@@ -1,3 +1,4 @@
+-- The list has the nodes before the current one, in order.
 use Rattle.std.proofs.Common.{◌≡◌}
 use Rattle.ch_text.specs.NearText.{nodes_in_order}
 use Rattle.ch_run.proofs.run.node_lists.each_node.Given as goal

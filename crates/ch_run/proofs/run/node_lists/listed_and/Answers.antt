@@ -1,3 +1,4 @@
+-- The lists that are not accepted end the story at the sources or at the targets.
 use Rattle.std.proofs.Common.{inl, inr, refl}
 use Rattle.ch_run.proofs.Owed.{err_as}
 use Rattle.ch_run.proofs.Story.{at_err}

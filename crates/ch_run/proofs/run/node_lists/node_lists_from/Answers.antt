@@ -1,3 +1,4 @@
+-- The story of the lists ends as that of all nodes or of a list of sources does.
 use Rattle.ch_run.proofs.run.node_lists.node_lists_from.Goals as goal
 
 -- the story, as far as it went

@@ -1,3 +1,4 @@
+-- One more part follows those before it, and a failed write ends the text within its part.
 use Rattle.std.proofs.Common.{ℕ, List, [], Ok, Err, take, ap, sym, ◌∙◌, subst}
 use Rattle.ch_text.specs.Moves.{Took}
 use Rattle.ch_text.proofs.Moves.{took-counts, took-then}

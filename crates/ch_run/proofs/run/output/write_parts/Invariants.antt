@@ -1,3 +1,4 @@
+-- The parts before the current one are written, and no write has failed.
 use Rattle.std.proofs.Common.{◌≡◌, length, take}
 use Rattle.ch_text.specs.Moves.{Took}
 use Rattle.ch_run.proofs.Parts.{bytes_of}

@@ -1,3 +1,4 @@
+-- The run goes as its story says at each end, so the output takes the text of the hierarchy, or its first bytes.
 use Rattle.std.proofs.Common.{refl}
 use Rattle.ch_run.proofs.Stories.{save_delivers}
 use Rattle.ch_run.proofs.Story.{loads_on, loads_stops, writes_none, writes_weaker}

@@ -1,3 +1,4 @@
+-- The requests of one more batch are given and answered after those before it, up to the first that fails.
 use Rattle.std.proofs.Common.{◌++◌, List, Ok, Err, Result, [], refl, sym, ap, ◌∙◌, subst}
 use Rattle.ch_read.specs.RequestLists.{PlaceList}
 use Rattle.ch_read.specs.declared.request.Request.{Request}

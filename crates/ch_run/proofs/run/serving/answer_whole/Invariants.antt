@@ -1,3 +1,4 @@
+-- The reader gave the requests so far, all of them are answered, and no write has failed.
 use Rattle.std.proofs.Common.{◌≡◌, List, Ok}
 use Rattle.ch_read.specs.declared.request.Request.{Request}
 use Rattle.ch_read.specs.Requests.{Gives}

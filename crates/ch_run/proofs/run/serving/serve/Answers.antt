@@ -1,3 +1,4 @@
+-- A run that can count no more failures, or has no memory for its buffer, answers no request.
 use Rattle.std.proofs.Common.{◌≡◌, ℕ, sym, subst, arith}
 use Rattle.std.specs.Prelude.{All}
 use Rattle.ch_hierarchy.specs.Hierarchy.{nodes_of}

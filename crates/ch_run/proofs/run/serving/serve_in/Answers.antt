@@ -1,3 +1,4 @@
+-- After one more read all whole requests are answered, and a failed read, fault or write ends the answers there.
 use Rattle.std.proofs.Common.{◌≡◌, ◌<◌, ◌==◌, length, refl, ◌∙◌, subst, arith}
 use Rattle.std.specs.Prelude.{IsErrAnd}
 use Rattle.std.proofs.lemmas.Bool.{eq-eqb, ne_eqb}

@@ -1,3 +1,4 @@
+-- All requests that are whole in the bytes read so far are answered, and no call of a device has failed.
 use Rattle.std.proofs.Common.{◌≡◌, ◌<◌, length}
 use Rattle.ch_run.specs.Ask.{IsTextOfRequest}
 use Rattle.ch_run.specs.Serving.{IsRoomFor, places_of}

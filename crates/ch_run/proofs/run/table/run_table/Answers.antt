@@ -1,3 +1,4 @@
+-- The run goes as its story says at each end, so the output takes the table, or its first bytes.
 use Rattle.std.proofs.Common.{◌≡◌, inr, refl}
 use Rattle.ch_run.proofs.Stories.{table_delivers}
 use Rattle.ch_run.proofs.Story.{lists_stop, loads_on, loads_stops, writes_none, writes_weaker}

@@ -1,3 +1,4 @@
+-- The text of the replies by a right hierarchy answers the queries on its graph.
 use Rattle.std.proofs.Common.{arith}
 use Rattle.std.proofs.lemmas.Result.{IfOk-weaker}
 use Rattle.std.proofs.lemmas.Slice.Zip.{AllZip-long}

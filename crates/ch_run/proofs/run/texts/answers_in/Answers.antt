@@ -1,3 +1,4 @@
+-- The text of the replies in the caller's scratch spaces answers the queries on the graph.
 use Rattle.std.proofs.Common.{arith}
 use Rattle.std.proofs.lemmas.Result.{IfOk-weaker}
 use Rattle.std.proofs.lemmas.Slice.Zip.{AllZip-long}

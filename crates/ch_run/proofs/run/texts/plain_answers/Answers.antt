@@ -1,3 +1,4 @@
+-- One more query has its plain distance as the answer.
 use Rattle.std.proofs.Common.{refl}
 use Rattle.ch_run.proofs.Texts.{answered}
 use Rattle.ch_run.proofs.run.texts.plain_answers.Goals as goal

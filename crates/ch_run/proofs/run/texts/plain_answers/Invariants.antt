@@ -1,3 +1,4 @@
+-- The queries before the current place have their plain distances as answers.
 use Rattle.std.proofs.Common.{take}
 use Rattle.std.specs.List.{AllZip}
 use Rattle.ch_text.specs.Distances.{AnswersShortly}

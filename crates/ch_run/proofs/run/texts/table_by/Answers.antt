@@ -1,3 +1,4 @@
+-- The parts of the table, joined, are the text of the table of the graph.
 use Rattle.std.proofs.Common.{sym, subst}
 use Rattle.std.proofs.lemmas.Result.{IfOk-weaker}
 use Rattle.ch_run.specs.TableText.{IsTableTextBy}

@@ -1,3 +1,4 @@
+-- The parts together are the text of the table of the graph, and have fewer than 2^64 bytes.
 use Rattle.std.proofs.Common.{ℕ, ◌<◌, ◌^◌, List, Vec, length, subst}
 use Rattle.std.specs.declared.alloc.Global.{Global}
 use Rattle.ch_run.proofs.Texts.{cells_text}
