@@ -1,3 +1,4 @@
+-- A fault is that of the file's bytes, a refused node is out of range in its graph, and any other answer is the distance.
 use Rattle.std.proofs.Common.{◌≡◌, ◌≤◌, ◌⊎◌, inl, inr, refl, subst, arith}
 use Rattle.ch_read.specs.declared.fault.ReadFault.{ReadFault}
 use Rattle.ch_read.specs.declared.form.Form.TheVariants.{Graph}
