@@ -1,3 +1,4 @@
+-- The lemmas on tables: buckets and their entries, rows that are lowered sum by sum, cells and what they mean, and gathered rows.
 pub mod Deals
 pub mod Entries
 pub mod Gathered

@@ -1,3 +1,4 @@
+-- One more node adds an entry for each node that it reaches, so in the end all nodes have added theirs.
 use Rattle.std.proofs.Common.{◌≡◌, ℕ, List, ◌+◌, ◌++◌, length, map, subst, sym, ◌∙◌, arith}
 use Rattle.ch_graph.specs.declared.cost.Cost.{Cost}
 use Rattle.ch_query.specs.Side.{rows_of}

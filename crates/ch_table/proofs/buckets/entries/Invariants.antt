@@ -1,3 +1,4 @@
+-- The entries are those of the nodes before the current place, and the scratch space is clean.
 use Rattle.std.proofs.Common.{◌≡◌}
 use Rattle.ch_hierarchy.specs.Hierarchy.{nodes_of}
 use Rattle.ch_query.specs.Side.{rows_of}

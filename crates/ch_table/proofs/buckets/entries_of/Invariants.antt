@@ -1,3 +1,4 @@
+-- The entries are those of the lists before the current place.
 use Rattle.std.proofs.Common.{map}
 use Rattle.ch_table.specs.Dealing.{item_of}
 use Rattle.ch_table.specs.Entries.{AreEntriesOf}

@@ -1,3 +1,4 @@
+-- The entries have grown by those of the reached nodes before the current one.
 use Rattle.std.proofs.Common.{◌≡◌, ◌++◌, map, take}
 use Rattle.ch_table.specs.Entries.{entry_at}
 use Rattle.ch_table.proofs.buckets.push_entries.Given as goal

@@ -1,3 +1,4 @@
+-- The entries have grown by those of the ranks before the current one, and there is capacity for the others.
 use Rattle.std.proofs.Common.{◌≡◌, ◌+◌, ◌-◌, ◌≤◌, ◌++◌, length, map, take, vec_len}
 use Rattle.std.specs.Prelude.{vec_capacity}
 use Rattle.ch_table.specs.Dealing.{item_of}

@@ -1,3 +1,4 @@
+-- The rows are the cells before the current row, cut by the number of columns.
 use Rattle.std.proofs.Common.{◌≡◌, map}
 use Rattle.ch_table.specs.Table.{rows_of_cells}
 use Rattle.ch_table.proofs.by_cells.cut.Given as goal

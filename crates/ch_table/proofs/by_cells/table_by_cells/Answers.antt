@@ -1,3 +1,4 @@
+-- The least sums that all pieces owe to a cell are the cell of its row, and the rows are few enough for a table.
 use Rattle.std.proofs.Common.{ℕ, ◌*◌, ◌<◌, Option, List, length, slice_index_or, Vec, ap, sym, ◌∙◌, subst, arith}
 use Rattle.std.specs.declared.alloc.Global.{Global}
 use Rattle.std.specs.List.{AllZip}

@@ -1,3 +1,4 @@
+-- The values of the pieces are gathered from the rows of consecutive ranges of sources.
 use Rattle.std.proofs.Common.{length, refl, subst}
 use Rattle.std.specs.Result.{IfOk}
 use Rattle.std.specs.List.{slice_range}

@@ -1,3 +1,4 @@
+-- The rows of all sources are the table, and they are few enough for one.
 use Rattle.std.proofs.Common.{ℕ, List, Option, Vec, subst, arith}
 use Rattle.std.specs.declared.alloc.Global.{Global}
 use Rattle.std.specs.List.{AllZip}

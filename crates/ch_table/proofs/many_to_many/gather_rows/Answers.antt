@@ -1,3 +1,4 @@
+-- The table that is made by cells has a row for each source, and the value gathered from all of them is the only one.
 use Rattle.std.proofs.Common.{[], ◌∷◌, ◌++◌, ap, ◌∙◌, sym, subst}
 use Rattle.ch_graph.proofs.Lists.{zipped_length}
 use Rattle.ch_table.specs.Table.{IsRowBy, AreGathered}

@@ -1,3 +1,4 @@
+-- The rows that were gathered are kept as they are, and they are few enough for a table.
 use Rattle.std.proofs.Common.{ℕ, List, Option, Vec, map, arith, sym, subst}
 use Rattle.std.specs.declared.alloc.Global.{Global}
 use Rattle.std.specs.List.{AllZip}

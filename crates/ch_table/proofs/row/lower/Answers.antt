@@ -1,3 +1,4 @@
+-- One more entry lowers its place to its sum with the weight, if that is less.
 use Rattle.std.proofs.Common.{◌+◌, ◌<◌, length, get_or, arith}
 use Rattle.std.proofs.lemmas.List.{take_more}
 use Rattle.ch_table.proofs.Lowered.{bucket_none, bucket_more, lowered_one}

@@ -1,3 +1,4 @@
+-- One more rank of the space lowers the row by its sums with the bucket there.
 use Rattle.std.proofs.Common.{[], get_or, length, sym, subst}
 use Rattle.std.specs.Prelude.{All, slice_index_or}
 use Rattle.std.proofs.lemmas.List.{take_more}

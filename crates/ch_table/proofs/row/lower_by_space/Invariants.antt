@@ -1,3 +1,4 @@
+-- The row is lowered by the sums over the ranks before the current one.
 use Rattle.std.proofs.Common.{take}
 use Rattle.ch_table.specs.Rows.{AreLowered, IsSumOf}
 use Rattle.ch_table.proofs.row.lower_by_space.Given as goal

@@ -1,3 +1,4 @@
+-- The cells are those of the words before the current one, and there is capacity for the others.
 use Rattle.std.proofs.Common.{◌≡◌, ◌+◌, ◌-◌, ◌≤◌, length, map, take, vec_len}
 use Rattle.std.specs.Prelude.{vec_capacity}
 use Rattle.ch_table.specs.Rows.{cell_of}

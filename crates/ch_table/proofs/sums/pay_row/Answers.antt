@@ -1,3 +1,4 @@
+-- One more target has its sum paid to its cell, if the sum is within the limit.
 use Rattle.std.proofs.Common.{rules, get_or}
 use Rattle.std.proofs.lemmas.List.{take_more}
 use Rattle.ch_work.specs.Passes.{view_of}

@@ -1,3 +1,4 @@
+-- The sums with the targets before the current one are paid.
 use Rattle.std.proofs.Common.{take}
 use Rattle.ch_table.specs.Sums.{IsOwedInRow}
 use Rattle.ch_work.specs.Owed.{HasPaid}

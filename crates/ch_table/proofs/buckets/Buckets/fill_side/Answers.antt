@@ -1,3 +1,4 @@
+-- The entries have keys below the number of nodes, and their rows are the buckets of the nodes' upward paths.
 use Rattle.std.proofs.Common.{◌<◌, subst, sym}
 use Rattle.std.specs.Prelude.{All}
 use Rattle.ch_graph.specs.Rows.{AreRowsOf}

@@ -1,3 +1,4 @@
+-- The entries of all lists, by the item of their rank, are the buckets that hold the lists.
 use Rattle.std.proofs.Common.{ℕ, ◌<◌, ◌≤◌, List, length, map, Vec, get_or, sym, subst}
 use Rattle.std.specs.Prelude.{All}
 use Rattle.std.specs.declared.alloc.Global.{Global}

@@ -1,3 +1,4 @@
+-- One more source adds its row to what is gathered.
 use Rattle.std.proofs.Common.{◌≡◌, ℕ, List, [], ◌∷◌, ◌++◌, Option, length, get_or, ap, subst, ◌∙◌}
 use Rattle.std.specs.List.{slice_range}
 use Rattle.ch_table.specs.Rows.{Asked}

@@ -1,3 +1,4 @@
+-- The rows of the sources before the current one are gathered, and the scratch space is clean.
 use Rattle.std.proofs.Common.{◌≡◌, take}
 use Rattle.ch_hierarchy.specs.Hierarchy.{nodes_of}
 use Rattle.ch_table.specs.Table.{IsGathered}

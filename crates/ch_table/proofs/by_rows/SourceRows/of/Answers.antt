@@ -1,3 +1,4 @@
+-- The search spaces of the targets have ranks of nodes, and their buckets hold the spaces.
 use Rattle.std.proofs.Common.{ℕ, ◌<◌, ◌≤◌, ◌^◌, List, length, map, Vec, sym, subst, arith}
 use Rattle.std.specs.Prelude.{All}
 use Rattle.std.specs.declared.alloc.Global.{Global}

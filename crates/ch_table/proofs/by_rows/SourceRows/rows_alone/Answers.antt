@@ -1,3 +1,4 @@
+-- One more source adds its row, and there is capacity for those that follow.
 use Rattle.std.proofs.Common.{ℕ, [], ◌∷◌, ◌++◌, Vec, Option, take, get_or, sym, subst, ◌∙◌, arith}
 use Rattle.std.specs.declared.alloc.Global.{Global}
 use Rattle.std.specs.List.{AllZip}

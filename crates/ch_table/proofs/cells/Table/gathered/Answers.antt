@@ -1,3 +1,4 @@
+-- One more row is added to what is gathered, so in the end all rows are.
 use Rattle.std.proofs.Common.{[], ◌∷◌, ◌++◌, ℕ, List, Option, ◌≡◌, length, get_or, subst, arith}
 use Rattle.ch_table.proofs.Gathering.{row_added, all_added}
 use Rattle.ch_table.proofs.cells.Table.gathered.Goals as goal

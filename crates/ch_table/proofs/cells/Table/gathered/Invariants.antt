@@ -1,3 +1,4 @@
+-- The rows before the current place are gathered.
 use Rattle.std.proofs.Common.{take}
 use Rattle.ch_table.proofs.cells.Table.gathered.Given as goal
 

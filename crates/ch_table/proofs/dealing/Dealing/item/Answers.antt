@@ -1,3 +1,4 @@
+-- The item of a rank is computed without an underflow.
 use Rattle.std.proofs.Common.{◌≡◌, sym, ap, ◌∙◌, arith}
 use Rattle.ch_table.specs.Dealing.{Deal, turn_of}
 use Rattle.ch_table.proofs.Deals.{round_fits}

@@ -1,3 +1,4 @@
+-- One more source pays the sums that it owes at the node to the cells of its row.
 use Rattle.std.proofs.Common.{ℕ, ◌*◌, ◌+◌, Option, List, [], take, get_or, ap, sym, ◌∙◌, subst}
 use Rattle.std.specs.Prelude.{All, slice_index_or}
 use Rattle.std.proofs.lemmas.List.{take_more}

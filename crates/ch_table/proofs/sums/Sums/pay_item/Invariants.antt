@@ -1,3 +1,4 @@
+-- The sources before the current one have paid what they owe at the node.
 use Rattle.std.proofs.Common.{[], take}
 use Rattle.std.specs.Prelude.{slice_index_or}
 use Rattle.ch_table.specs.Sums.{IsOwedBy}

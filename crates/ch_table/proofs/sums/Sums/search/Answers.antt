@@ -1,3 +1,4 @@
+-- The search spaces of sources and of targets, dealt over the items, are both sides of the sums.
 use Rattle.std.proofs.Common.{refl, ap, subst}
 use Rattle.ch_query.specs.declared.side.Side.TheVariants.{Up, Down}
 use Rattle.ch_table.specs.Buckets.{HoldSearchSpaces}

@@ -1,3 +1,4 @@
+-- One more item pays what its node owes.
 use Rattle.std.proofs.Common.{rules, ◌≤◌}
 use Rattle.ch_work.specs.Passes.{view_of}
 use Rattle.ch_table.proofs.Owing.{items_none, items_more}

@@ -1,3 +1,4 @@
+-- The items before the current one have paid what their nodes owe.
 use Rattle.ch_table.specs.Sums.{IsOwedAmong}
 use Rattle.ch_work.specs.Owed.{HasPaid}
 use Rattle.ch_work.specs.Passes.{view_of, IsPassOf}
