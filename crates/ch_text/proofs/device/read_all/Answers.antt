@@ -1,3 +1,4 @@
+-- The bytes of one more read follow those before it, and if there is no memory for them the input has still given them.
 use Rattle.std.proofs.Common.{refl, ap, ◌∙◌, ◌++◌, arith, rules}
 use Rattle.ch_text.proofs.Bytes.{front-of-written}
 use Rattle.ch_text.proofs.Moves.{counted-none, gave-memory, gave-more}

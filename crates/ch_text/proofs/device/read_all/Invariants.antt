@@ -1,3 +1,4 @@
+-- The reads so far gave these bytes in order and none failed, and each turn adds at least one byte.
 use Rattle.std.proofs.Common.{◌≡◌, ◌<◌, ◌-◌, ◌^◌, vec_len}
 use Rattle.ch_text.specs.Moves.{Gave}
 use Rattle.ch_text.proofs.device.read_all.Given as goal

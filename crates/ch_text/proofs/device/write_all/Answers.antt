@@ -1,3 +1,4 @@
+-- The bytes that one more write takes follow those before it, and a write that fails or takes none ends the text there.
 use Rattle.std.proofs.Common.{◌∙◌, arith}
 use Rattle.std.proofs.lemmas.Grind.{common_steps}
 use Rattle.ch_text.proofs.Moves.{counted-some, took-fault, took-more}

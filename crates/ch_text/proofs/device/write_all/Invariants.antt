@@ -1,3 +1,4 @@
+-- The writes so far took the first bytes and none failed, and each turn leaves fewer bytes.
 use Rattle.std.proofs.Common.{◌≡◌, ◌≤◌, ◌-◌, length, drop}
 use Rattle.ch_text.specs.Moves.{TookBefore}
 use Rattle.ch_text.proofs.device.write_all.Given as goal

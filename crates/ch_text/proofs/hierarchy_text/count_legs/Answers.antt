@@ -1,3 +1,4 @@
+-- One more node adds the legs of its two rows, and the count does not overflow.
 use Rattle.std.proofs.Common.{◌≡◌, ◌≤◌, ap, arith, length, get_or, refl}
 use Rattle.ch_graph.specs.declared.limits.TheConstants.{MOST_NODES}
 use Rattle.ch_hierarchy.specs.Rows.{row}

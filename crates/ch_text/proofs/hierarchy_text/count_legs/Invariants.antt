@@ -1,3 +1,4 @@
+-- The count is the number of legs of the nodes before the current one, and is small.
 use Rattle.std.proofs.Common.{◌≡◌, ◌≤◌, ◌*◌, take, length, flat_map}
 use Rattle.ch_graph.specs.declared.limits.TheConstants.{MOST_NODES}
 use Rattle.ch_hierarchy.specs.Written.{legs_at}

@@ -1,3 +1,4 @@
+-- With each node at the place of its level, the nodes are in order of level.
 use Rattle.std.proofs.Common.{arith}
 use Rattle.ch_text.proofs.Saving.{all_placed}
 use Rattle.ch_text.proofs.hierarchy_text.nodes_by_level.Goals as goal

@@ -1,3 +1,4 @@
+-- The lines of the legs from higher nodes are the text of these legs in their own direction.
 use Rattle.std.proofs.Common.{◌++◌, ap, sym, ◌∙◌}
 use Rattle.ch_hierarchy.specs.Written.{leg_down}
 use Rattle.ch_text.specs.SaveText.{leg_text}

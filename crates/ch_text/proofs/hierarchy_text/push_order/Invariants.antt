@@ -1,3 +1,4 @@
+-- The text has grown by the lines of the nodes before the current one.
 use Rattle.std.proofs.Common.{◌≡◌, ◌++◌, take, flat_map}
 use Rattle.ch_text.specs.SaveText.{order_text}
 use Rattle.ch_text.proofs.hierarchy_text.push_order.Given as goal

@@ -1,3 +1,4 @@
+-- The texts of the nodes' legs, one after the other, are the text of all their legs.
 use Rattle.std.proofs.Common.{◌++◌, flat_map, ap, sym, ◌∙◌}
 use Rattle.ch_hierarchy.specs.Written.{legs_at}
 use Rattle.ch_text.specs.SaveText.{leg_text}

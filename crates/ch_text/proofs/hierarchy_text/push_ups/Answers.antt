@@ -1,3 +1,4 @@
+-- The lines of the legs to higher nodes are the text of these legs.
 use Rattle.std.proofs.Common.{◌++◌, ap, sym, ◌∙◌}
 use Rattle.ch_hierarchy.specs.Written.{leg_up}
 use Rattle.ch_text.specs.SaveText.{leg_text}

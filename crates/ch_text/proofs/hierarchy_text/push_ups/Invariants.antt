@@ -1,3 +1,4 @@
+-- The text has grown by the lines of the legs before the current one.
 use Rattle.std.proofs.Common.{◌≡◌, ◌++◌, take, flat_map}
 use Rattle.ch_hierarchy.specs.Written.{leg_up}
 use Rattle.ch_text.specs.SaveText.{leg_text}

@@ -1,3 +1,4 @@
+-- The problem line, the order and the legs of its nodes are the text of the hierarchy.
 use Rattle.std.proofs.Common.{◌≡◌, ◌∙◌, arith, length, flat_map}
 use Rattle.std.specs.Prelude.{vec_len}
 use Rattle.ch_hierarchy.specs.Written.{legs_at}

@@ -1,3 +1,4 @@
+-- An input counts a failed read exactly where there was one.
 use Rattle.ch_text.proofs.Moves.{all-counts, until-counts}
 use Rattle.ch_text.proofs.laws.reads_count.Goals as goal
 

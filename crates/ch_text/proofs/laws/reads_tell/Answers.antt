@@ -1,3 +1,4 @@
+-- An input whose bytes are known had exactly the bytes that its reads gave, and has none left.
 use Rattle.ch_text.proofs.Moves.{gave-told}
 use Rattle.ch_text.proofs.laws.reads_tell.Goals as goal
 

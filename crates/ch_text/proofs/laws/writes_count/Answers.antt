@@ -1,3 +1,4 @@
+-- An output counts a write that failed or was idle exactly where there was one.
 use Rattle.std.proofs.Common.{[]}
 use Rattle.ch_text.proofs.Moves.{fault-counts, took-counts}
 use Rattle.ch_text.proofs.laws.writes_count.Goals as goal

@@ -1,3 +1,4 @@
+-- An output whose bytes are known took exactly the bytes that its writes took.
 use Rattle.ch_text.proofs.Moves.{fault-told, whole-told}
 use Rattle.ch_text.proofs.laws.writes_tell.Goals as goal
 

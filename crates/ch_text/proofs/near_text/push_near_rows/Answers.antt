@@ -1,3 +1,4 @@
+-- One more source adds the line of its near row, so in the end all rows are in the text.
 use Rattle.std.proofs.Common.{◌≡◌, ◌++◌, ◌<◌, ℕ, List, [], length, map, Vec, get_or, sym, ap, ◌∙◌, arith}
 use Rattle.std.specs.declared.alloc.Global.{Global}
 use Rattle.std.specs.List.{zip}

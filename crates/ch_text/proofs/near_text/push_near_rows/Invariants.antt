@@ -1,3 +1,4 @@
+-- The text has grown by the near rows of the sources before the current place.
 use Rattle.std.proofs.Common.{◌≡◌, ◌++◌, take, map, flat_map}
 use Rattle.std.specs.List.{zip}
 use Rattle.ch_text.specs.NearText.{near_row_text}

@@ -1,3 +1,4 @@
+-- The text has grown by the targets and distances before the current pair.
 use Rattle.std.proofs.Common.{◌≡◌, ◌++◌, take, flat_map}
 use Rattle.ch_text.specs.NearText.{near_pair_text}
 use Rattle.ch_text.proofs.near_text.push_targets.Given as goal

@@ -1,3 +1,4 @@
+-- The text has grown by the lines of the arcs before the current one.
 use Rattle.std.proofs.Common.{◌≡◌, ◌++◌, take, flat_map}
 use Rattle.ch_text.specs.Routes.{arc_text}
 use Rattle.ch_text.proofs.text.push_arcs.Given as goal

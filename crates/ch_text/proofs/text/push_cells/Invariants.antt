@@ -1,3 +1,4 @@
+-- The text has grown by the cells before the current one.
 use Rattle.std.proofs.Common.{◌≡◌, ◌++◌, take, flat_map}
 use Rattle.ch_text.specs.TableText.{cell_text}
 use Rattle.ch_text.proofs.text.push_cells.Given as goal

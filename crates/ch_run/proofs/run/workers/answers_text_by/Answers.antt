@@ -1,3 +1,4 @@
+-- The texts of consecutive ranges of answers, joined in order, are the text of all answers.
 use Rattle.std.proofs.Common.{length, ◌∙◌, refl, arith}
 use Rattle.std.proofs.lemmas.Result.{IfOk-weaker}
 use Rattle.ch_text.specs.Routes.{answer_text}

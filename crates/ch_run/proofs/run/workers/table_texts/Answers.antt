@@ -1,3 +1,4 @@
+-- The texts that were gathered from consecutive ranges of rows are the text of the table.
 use Rattle.std.proofs.lemmas.Result.{IfOk-weaker}
 use Rattle.ch_run.proofs.TableTexts.{gathered_texts}
 use Rattle.ch_run.proofs.run.workers.table_texts.Goals as goal

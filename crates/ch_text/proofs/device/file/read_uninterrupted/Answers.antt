@@ -1,3 +1,4 @@
+-- One more interrupted read extends those before it, and the last read gives the answer.
 use Rattle.std.proofs.Common.{inl, inr, arith, rules}
 use Rattle.ch_text.specs.Calls.{IsOneRead}
 use Rattle.ch_text.proofs.Calls.{AreInterrupted-more}

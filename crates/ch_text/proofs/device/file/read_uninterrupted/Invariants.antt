@@ -1,3 +1,4 @@
+-- All reads so far were interrupted.
 use Rattle.std.proofs.Common.{◌≡◌, length}
 use Rattle.ch_text.specs.Calls.{AreInterrupted, IsOneRead}
 use Rattle.ch_text.proofs.device.file.read_uninterrupted.Given as goal

@@ -1,3 +1,4 @@
+-- All writes so far were interrupted.
 use Rattle.ch_text.specs.Calls.{AreInterrupted, IsOneWrite}
 use Rattle.ch_text.proofs.device.file.write_uninterrupted.Given as goal
 

@@ -1,3 +1,4 @@
+-- A number has at most 20 digits, which fit in front of the text.
 use Rattle.std.proofs.Common.{length, drop, decimal, ap, arith}
 use Rattle.std.proofs.lemmas.Fmt.{length-decimal-le}
 use Rattle.std.proofs.lemmas.List.{length-drop, length-append}
