@@ -1,2 +1,3 @@
+-- The lemmas on the matches of the command line.
 pub mod Matches
 pub mod Rows

@@ -1,3 +1,4 @@
+-- The program's command has the five tools, each with the options and the files of its form.
 use Rattle.clap.proofs.WalkLemmas.{IfOk-both}
 use Rattle.ch_words.specs.Line.{ask_form, dist_form, near_form, program_form, save_form, table_form}
 use Rattle.ch_words.proofs.form.command.Goals as goal

@@ -1,3 +1,4 @@
+-- The command `near` has exactly the options and the files of its form.
 use Rattle.std.proofs.Common.{◌≡◌, ◌∙◌, ap, codes, false}
 use Rattle.std.proofs.lemmas.Result.{IfOk-weaker}
 use Rattle.clap.specs.Simple.{app_of_fields}

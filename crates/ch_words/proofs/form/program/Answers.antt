@@ -1,3 +1,4 @@
+-- The program's own command reads arguments without its name, needs a tool, and beside tools knows only help and version.
 use Rattle.std.proofs.Common.{◌∙◌, ap}
 use Rattle.std.proofs.lemmas.Result.{IfOk-weaker}
 use Rattle.clap.specs.Simple.{app_of_fields}

@@ -1,3 +1,4 @@
+-- The command `table` has exactly the options and the files of its form.
 use Rattle.std.proofs.Common.{codes}
 use Rattle.std.proofs.lemmas.Result.{IfOk-weaker}
 use Rattle.clap.specs.Words.{new_app}

@@ -1,3 +1,4 @@
+-- The options of one tool, those of all tools and the file of the graph are added to the form, in this order.
 use Rattle.std.proofs.Common.{List, fold, subst}
 use Rattle.std.specs.Prelude.{IfOk}
 use Rattle.clap.specs.Words.{Rule, with_rule}

@@ -1,3 +1,4 @@
+-- One more option adds its rule to the form.
 use Rattle.std.proofs.Common.{sym, subst}
 use Rattle.std.specs.Prelude.{IfOk}
 use Rattle.clap.specs.Words.{App}

@@ -1,3 +1,4 @@
+-- The form has the rules of the options before the current one.
 use Rattle.std.proofs.Common.{fold, take}
 use Rattle.std.specs.Prelude.{IfOk}
 use Rattle.clap.specs.Words.{App, with_rule}

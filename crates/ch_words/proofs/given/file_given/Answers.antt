@@ -1,3 +1,4 @@
+-- The value that clap has for the name is the first that the command line gives for it, or there is none.
 use Rattle.std.proofs.Common.{◌≡◌, Some, None, ◌∙◌, rules}
 use Rattle.clap.specs.Words.{first_of, first_value, found_of, rows_of}
 use Rattle.clap.proofs.WalkLemmas.{first_value-rows}

@@ -1,3 +1,4 @@
+-- The flag that clap has is set exactly if the command line gives it.
 use Rattle.clap.specs.Words.{found_of}
 use Rattle.ch_words.proofs.Matches.{is_flag}
 use Rattle.ch_words.proofs.given.flag_of.Goals as goal

@@ -1,3 +1,4 @@
+-- Clap has a value for the name exactly if the command line gives one.
 use Rattle.std.proofs.Common.{◌≡◌, ◌∙◌, ap, Bor, Option, Some, None, refl}
 use Rattle.std.specs.Prelude.{is_some, option_map}
 use Rattle.clap.specs.Words.{Text, found_of}

@@ -1,3 +1,4 @@
+-- The number that clap has for the name is the one that the command line gives for it, or there is none.
 use Rattle.std.specs.Str.Parse.{ExplainsUnsignedError, HasUnsignedDigitsIfOk, ParsesUnsigned}
 use Rattle.std.proofs.Common.{Some, None, rules}
 use Rattle.clap.specs.Words.{found_of}

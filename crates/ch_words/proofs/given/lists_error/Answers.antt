@@ -1,3 +1,4 @@
+-- The error says that the number of lists is wrong.
 use Rattle.ch_words.proofs.given.lists_error.Goals as goal
 
 pub returns : goal.returns

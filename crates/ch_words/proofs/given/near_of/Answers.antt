@@ -1,3 +1,4 @@
+-- With `--all` one list is read as the targets, without it two as sources and targets, and any other number is refused.
 use Rattle.std.proofs.Common.{◌≡◌, ◌∙◌, ap, ap₂, Some, ◌∷◌, [], Bor, codes, false, map, option_map, subst, sym, true, rules}
 use Rattle.clap.specs.Words.{Text, found_of, matched_of, raw_values, rows_of}
 use Rattle.ch_words.specs.Line.{IsFlagIn}

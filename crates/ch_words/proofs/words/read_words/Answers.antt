@@ -1,3 +1,4 @@
+-- The line is what the command line gives, and a fault is clap's own or that of lists that `near` doesn't read.
 use Rattle.std.proofs.Common.{◌≡◌, Some, [], rules}
 use Rattle.std.proofs.lemmas.Result.{IfErr-weaker, IfOk-weaker}
 use Rattle.clap.proofs.WalkLemmas.{IfOk-both}
