@@ -1,3 +1,4 @@
+-- The lemmas on shared work: pieces and their values, steps on a board, views of passes, and weights that are paid.
 pub mod Items
 pub mod Values
 pub mod PieceLists

@@ -1,3 +1,4 @@
+-- One more worker that handed its pass back without an error has paid off its pieces.
 use Rattle.std.proofs.Common.{rules, ◌≡◌, [], ◌∷◌, arith, length, length-append, vec_len}
 use Rattle.std.proofs.lemmas.List.Elements.{All-push}
 use Rattle.ch_work.specs.Owed.{HasPaidOff, HandsBack}

@@ -1,3 +1,4 @@
+-- The passes of the workers so far have paid off their pieces, and the workers that are left follow them.
 use Rattle.std.proofs.Common.{◌≡◌, ◌++◌, All, length, vec_len}
 use Rattle.ch_work.specs.Owed.{HasPaidOff}
 use Rattle.ch_work.proofs.cells.all_paid.Given as goal

@@ -1,3 +1,4 @@
+-- Once all pieces are claimed and paid, each cell has the least weight that they owe to it.
 use Rattle.std.proofs.Common.{rules, ◌≡◌, ◌<◌, ◌∙◌, ℕ, arith, ap, subst, length, map, vec_len, slice_index_or, IfOk}
 use Rattle.ch_work.specs.declared.board.known.Size.{Size}
 use Rattle.ch_work.specs.Owed.{IsLeastOwed}

@@ -1,3 +1,4 @@
+-- The lists of consecutive pieces, joined in order, have a value for each item.
 use Rattle.std.proofs.Common.{refl}
 use Rattle.std.proofs.lemmas.Result.{IfOk-weaker}
 use Rattle.ch_work.proofs.PieceLists.{all_zipped}

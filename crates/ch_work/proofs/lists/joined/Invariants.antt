@@ -1,3 +1,4 @@
+-- The items so far are those of the lists so far, and the lists that are left follow them.
 use Rattle.std.proofs.Common.{◌≡◌, ◌++◌}
 use Rattle.std.specs.List.{flat_map}
 use Rattle.ch_work.proofs.lists.joined.Given as goal

@@ -1,3 +1,4 @@
+-- One more list adds its length, which stays at the greatest number once it is reached.
 use Rattle.std.proofs.Common.{ap, arith, min, vec_len, refl, ◌∙◌, ◌^◌, ◌-◌}
 use Rattle.std.specs.List.{sum_by}
 use Rattle.std.proofs.lemmas.List.{take_all}

@@ -1,3 +1,4 @@
+-- The length is the number of items in the lists before the current one, or the greatest number if there are more.
 use Rattle.std.proofs.Common.{◌≡◌, ◌^◌, ◌-◌, min, vec_len, take}
 use Rattle.std.specs.List.{sum_by}
 use Rattle.ch_work.proofs.lists.length_of.Given as goal

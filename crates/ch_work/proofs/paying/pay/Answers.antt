@@ -1,3 +1,4 @@
+-- A weight that is offered is paid, and so is one whose cell already has a weight that is no greater.
 use Rattle.std.proofs.Common.{◌≤◌, sym, subst}
 use Rattle.ch_work.specs.declared.board.known.Known.{Known}
 use Rattle.ch_work.specs.Owed.{HasPaid}

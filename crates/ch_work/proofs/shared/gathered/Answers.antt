@@ -1,3 +1,4 @@
+-- One more worker hands back its pass, the pieces that it did, and a clean workspace.
 use Rattle.std.proofs.Common.{rules, ◌≡◌, [], ◌∷◌, arith, length, length-append, vec_len}
 use Rattle.std.proofs.lemmas.List.Elements.{All-push}
 use Rattle.ch_work.specs.Claims.{HasWorked}

@@ -1,3 +1,4 @@
+-- The passes and the pieces of the workers so far are gathered, and the workspaces that came back are clean.
 use Rattle.std.proofs.Common.{◌≡◌, ◌++◌, All, length, vec_len}
 use Rattle.ch_work.specs.Claims.{AreGathered}
 use Rattle.ch_work.proofs.shared.gathered.Given as goal

@@ -1,3 +1,4 @@
+-- One more pass gets a clean workspace while there are any, and none after that.
 use Rattle.std.proofs.Common.{◌≡◌, [], ◌∷◌, arith, length-append}
 use Rattle.std.proofs.lemmas.List.Elements.{All-pop, All-push}
 use Rattle.ch_work.specs.Claims.{IsHand}

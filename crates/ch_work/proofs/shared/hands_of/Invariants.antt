@@ -1,3 +1,4 @@
+-- The passes so far have a clean workspace or none, and the passes that are left follow them.
 use Rattle.std.proofs.Common.{◌≡◌, ◌++◌, All, length, vec_len}
 use Rattle.ch_work.specs.Claims.{IsHand}
 use Rattle.ch_work.proofs.shared.hands_of.Given as goal

@@ -1,3 +1,4 @@
+-- One more place has the value of the piece with its number.
 use Rattle.std.proofs.Common.{◌≡◌, ◌+◌, ◌*◌, ◌∙◌, min, [], ◌∷◌, ◌++◌, length, length-append, IsSomeAnd, arith, sym}
 use Rattle.ch_work.specs.Pieces.{pieces_of}
 use Rattle.ch_work.proofs.Items.{item_has, next_split, next_done}

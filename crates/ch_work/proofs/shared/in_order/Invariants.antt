@@ -1,3 +1,4 @@
+-- The values are those of the pieces before the current place, in order.
 use Rattle.std.proofs.Common.{◌≡◌, ◌++◌, length}
 use Rattle.ch_work.specs.Pieces.{AreValues}
 use Rattle.ch_work.proofs.shared.in_order.Given as goal

@@ -1,3 +1,4 @@
+-- All places so far are empty.
 use Rattle.std.proofs.Common.{◌≡◌, length, All, None}
 use Rattle.ch_work.proofs.shared.no_values.Given as goal
 

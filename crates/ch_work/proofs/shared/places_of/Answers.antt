@@ -1,3 +1,4 @@
+-- One more value is at the place of its piece, and since each piece was done, in the end each place has its value.
 use Rattle.std.proofs.Common.{rules, ◌≡◌, length, subst, sym}
 use Rattle.ch_work.proofs.Claims.{ArePlaced, places_next, places_full}
 use Rattle.ch_work.proofs.Items.{all_done}

@@ -1,3 +1,4 @@
+-- The values of the pieces so far are at the places of their numbers.
 use Rattle.std.proofs.Common.{◌≡◌, ◌++◌, length}
 use Rattle.ch_work.specs.Pieces.{pieces_of}
 use Rattle.ch_work.proofs.Claims.{ArePlaced}

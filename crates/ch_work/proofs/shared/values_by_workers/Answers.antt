@@ -1,3 +1,4 @@
+-- Once all passes are back each piece was claimed and done, so each number has its value.
 use Rattle.std.proofs.Common.{rules, ◌≡◌, ◌<◌, arith, length, vec_len}
 use Rattle.ch_work.specs.Passes.{size_of}
 use Rattle.ch_work.proofs.Claims.{every_done}

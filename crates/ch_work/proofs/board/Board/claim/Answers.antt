@@ -1,3 +1,4 @@
+-- The step that claims a piece is one that the board's rule allows.
 use Rattle.std.proofs.Common.{◌≡◌, ◌+◌, arith, ap, ◌∙◌}
 use Rattle.ch_work.specs.Counts.{bit}
 use Rattle.ch_work.proofs.Moves.{claims}

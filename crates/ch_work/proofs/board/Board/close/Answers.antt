@@ -1,3 +1,4 @@
+-- The words that are read when all passes are back are the cells that their views together settle.
 use Rattle.std.proofs.Common.{rules, ◌≡◌, ◌+◌, ◌∙◌, ◌<◌, sym, ℕ, slice_index, slice_index_or, arith, map, length}
 use Rattle.std.specs.Slots.{slots_items}
 use Rattle.ch_work.specs.Rule.{IsRead, Settled}

@@ -1,3 +1,4 @@
+-- One more pass that is joined adds its view, so in the end the view is that of all passes.
 use Rattle.std.proofs.Common.{◌≡◌, ◌+◌, map, arith, ◌∙◌}
 use Rattle.ch_work.specs.Passes.{view_of}
 use Rattle.ch_work.proofs.Ends.{enters}

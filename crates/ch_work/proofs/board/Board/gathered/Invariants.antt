@@ -1,3 +1,4 @@
+-- The view is that of the passes so far together, and the passes that are left follow them.
 use Rattle.std.proofs.Common.{◌≡◌, ◌++◌, map}
 use Rattle.ch_work.specs.Rule.{Sums}
 use Rattle.ch_work.specs.Passes.{view_of}

@@ -1,3 +1,4 @@
+-- The load of a cell is a step that the board's rule allows.
 use Rattle.std.proofs.Common.{◌≡◌, ◌+◌, arith}
 use Rattle.ch_work.proofs.Ends.{looks}
 use Rattle.ch_work.proofs.board.Board.look.Goals as goal

@@ -1,3 +1,4 @@
+-- The step that lowers a cell to an offer is one that the board's rule allows.
 use Rattle.std.proofs.Common.{◌≡◌, ◌+◌, arith}
 use Rattle.ch_work.proofs.Moves.{offers}
 use Rattle.ch_work.proofs.board.Board.offer.Goals as goal

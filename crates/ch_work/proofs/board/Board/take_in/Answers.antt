@@ -1,3 +1,4 @@
+-- The views of two passes may be joined into one.
 use Rattle.std.proofs.Common.{◌≡◌, ◌+◌, arith}
 use Rattle.ch_work.proofs.Ends.{joins}
 use Rattle.ch_work.proofs.board.Board.take_in.Goals as goal

@@ -1,3 +1,4 @@
+-- A word that was never lowered is a cell without an offer, and any other word is the weight of its cell.
 use Rattle.std.proofs.Common.{rules, ◌+◌, ◌∙◌, slice_index}
 use Rattle.std.specs.Slots.{slots_items}
 use Rattle.ch_work.proofs.Gathers.{index_is, read_none, read_some}

@@ -1,3 +1,4 @@
+-- The passes so far know nothing, and the root has as many passes left as are still to be split off.
 use Rattle.std.proofs.Common.{◌≡◌, ◌-◌, [], vec_len, All}
 use Rattle.ch_work.specs.Steps.{nothing_known}
 use Rattle.ch_work.proofs.board.make.passes_of.Given as goal

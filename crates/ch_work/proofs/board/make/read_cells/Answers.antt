@@ -1,3 +1,4 @@
+-- One more cell has the weight of its word.
 use Rattle.std.proofs.Common.{◌+◌, slice_index, arith, length-append, [], ◌∷◌}
 use Rattle.std.specs.Slots.{slots_items}
 use Rattle.ch_work.specs.Rule.{IsRead}

@@ -1,3 +1,4 @@
+-- The cells before the current one have the weights of their words.
 use Rattle.std.proofs.Common.{◌≡◌, ◌+◌, ◌<◌, ℕ, length, slice_index, slice_index_or}
 use Rattle.std.specs.Slots.{slots_items}
 use Rattle.ch_work.specs.Rule.{IsRead}

@@ -1,3 +1,4 @@
+-- A root that knows nothing may be split into one pass and the passes that are left.
 use Rattle.std.proofs.Common.{sym, subst}
 use Rattle.atomic_table.specs.Table.{Splits, Me}
 use Rattle.ch_work.specs.declared.board.known.Known.{Known}

@@ -1,3 +1,4 @@
+-- One more item has its value, and the workspace stays clean.
 use Rattle.std.proofs.Common.{◌≡◌, ◌+◌, ◌∙◌, [], ◌∷◌, ◌++◌, take, ap, subst, sym}
 use Rattle.std.specs.List.{AllZip, slice_range}
 use Rattle.std.proofs.lemmas.List.{take_more}

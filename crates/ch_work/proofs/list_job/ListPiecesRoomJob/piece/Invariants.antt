@@ -1,3 +1,4 @@
+-- The items before the current one have their values in order, and the workspace is clean.
 use Rattle.std.proofs.Common.{take}
 use Rattle.std.specs.List.{AllZip}
 use Rattle.ch_work.proofs.list_job.ListPiecesRoomJob.piece.Given as goal

@@ -1,3 +1,4 @@
+-- One more claimed piece pays what it owes, and past the last piece all claimed ones have paid.
 use Rattle.std.proofs.Common.{◌<◌, arith}
 use Rattle.ch_work.specs.Passes.{view_of}
 use Rattle.ch_work.specs.Pieces.{pieces_of}

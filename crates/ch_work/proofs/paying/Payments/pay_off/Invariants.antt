@@ -1,3 +1,4 @@
+-- The pieces that this pass claimed so far have paid what they owe, and each turn claims a later piece.
 use Rattle.std.proofs.Common.{◌-◌}
 use Rattle.ch_work.specs.Owed.{Paying}
 use Rattle.ch_work.specs.Passes.{view_of, IsPassOf}

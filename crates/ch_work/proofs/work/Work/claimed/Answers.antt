@@ -1,3 +1,4 @@
+-- One more claimed piece has its value, and the workspace stays clean.
 use Rattle.std.proofs.Common.{◌<◌, arith}
 use Rattle.ch_work.specs.Passes.{view_of}
 use Rattle.ch_work.specs.Pieces.{pieces_of}

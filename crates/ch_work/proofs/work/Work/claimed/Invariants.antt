@@ -1,3 +1,4 @@
+-- The pieces that this pass claimed so far have their values, and each turn claims a later piece.
 use Rattle.std.proofs.Common.{◌-◌}
 use Rattle.ch_work.specs.Claims.{Working}
 use Rattle.ch_work.specs.Passes.{view_of, IsPassOf}

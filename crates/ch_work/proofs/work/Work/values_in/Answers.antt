@@ -1,3 +1,4 @@
+-- One more piece has its value, and the workspace stays clean.
 use Rattle.ch_work.proofs.Values.{values-push}
 use Rattle.ch_work.proofs.work.Work.values_in.Goals as goal
 

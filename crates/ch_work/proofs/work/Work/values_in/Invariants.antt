@@ -1,3 +1,4 @@
+-- The values are those of the pieces before the current number, and the workspace is clean.
 use Rattle.ch_work.specs.Pieces.{AreValues}
 use Rattle.ch_work.proofs.work.Work.values_in.Given as goal
 
