@@ -1,3 +1,4 @@
+-- The answer to the arguments is the answer to their bytes.
 use Rattle.chtab.proofs.program.answer_to.Goals as goal
 
 pub returns-in-Ok : goal.returns-in-Ok

@@ -1,3 +1,4 @@
+-- The run that the arguments ask for is an answer to these arguments.
 use Rattle.std.proofs.Common.{inl}
 use Rattle.chtab.proofs.program.answer_words.Goals as goal
 

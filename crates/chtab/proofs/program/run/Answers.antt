@@ -1,3 +1,4 @@
+-- The status, the text and the line of a fault are those of one answer to the arguments.
 use Rattle.chtab.proofs.program.run.Goals as goal
 
 pub returns : goal.returns

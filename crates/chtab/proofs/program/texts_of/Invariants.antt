@@ -1,3 +1,4 @@
+-- The texts have the bytes of the arguments before the current one.
 use Rattle.std.proofs.Common.{◌≡◌, map, take}
 use Rattle.std.specs.String.{string_bytes}
 use Rattle.chtab.proofs.program.texts_of.Given as goal
