@@ -1,3 +1,4 @@
+-- The definitions of contraction: legs, orders, rounds, witnesses and shortcuts, and the laws of built hierarchies.
 pub use Rattle.ch_hierarchy.specs.Rows
 pub use Rattle.ch_hierarchy.specs.Hierarchy
 pub use Rattle.ch_hierarchy.specs.Paths

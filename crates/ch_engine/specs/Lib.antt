@@ -1,3 +1,4 @@
+-- The definitions of what an engine answers: cells, lines, near rows, routes and sums, and why it refuses a call.
 pub mod Cells
 pub mod Held
 pub mod Lines

@@ -1,3 +1,4 @@
+-- The definitions of graphs, costs, walks and rows, and the laws of costs and walks.
 pub mod Cost
 pub mod CostLaws
 pub mod Graph

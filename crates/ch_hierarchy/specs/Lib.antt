@@ -1,3 +1,4 @@
+-- The definitions of hierarchies: their rows and paths, which of them are right for a graph, and saved ones.
 pub mod Rows
 pub mod Hierarchy
 pub mod Ranked

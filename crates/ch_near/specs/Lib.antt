@@ -1,3 +1,4 @@
+-- The definitions of near rows, of the weights that are offered to places, and of buckets.
 pub mod Buckets
 pub mod Direction
 pub mod First

@@ -1,3 +1,4 @@
+-- The definitions of a construction, its priorities and its steps, one node after the other.
 pub mod Construction
 pub mod Priorities
 pub mod Progress

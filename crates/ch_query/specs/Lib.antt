@@ -1,3 +1,4 @@
+-- The definitions of searches, distances and routes, and of the checks of a saved hierarchy.
 pub mod Values
 pub mod Distance
 pub mod Limits

@@ -1,3 +1,4 @@
+-- The definitions of files and requests: their words and forms, the checks of lines, and what bytes name.
 pub mod Words
 pub mod Forms
 pub mod Checks

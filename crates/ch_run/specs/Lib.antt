@@ -1,3 +1,4 @@
+-- The definitions of runs: their faults, their stories, the texts that they write, and the laws of these texts.
 pub mod Fault
 pub mod Lists
 pub mod Run

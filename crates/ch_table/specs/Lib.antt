@@ -1,3 +1,4 @@
+-- The definitions of tables: buckets and entries, rows, and the sums that nodes owe to cells.
 pub mod Buckets
 pub mod Dealing
 pub mod Entries

@@ -1,3 +1,4 @@
+-- The definitions of devices by their calls, and of the texts of answers, tables, near rows and hierarchies.
 pub mod Steps
 pub mod Calls
 pub mod Device

@@ -1,0 +1,1 @@
+-- Watching a run needs no definition.

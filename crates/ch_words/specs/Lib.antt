@@ -1,2 +1,3 @@
+-- The definitions of the command line.
 pub mod Line
 pub mod Options
