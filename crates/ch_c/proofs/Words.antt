@@ -56,7 +56,8 @@ word_fits (block_ptr b o) = (tt, (tt, (((tt, tt), tt), tt)))
 word_fits null_ptr = (tt, (record { fits = lit< tt }, (((tt, tt), tt), tt)))
 
 -- the parts of a box have this word
-pub parts_word : (R : RattleType) (p : Ptr) (alloc : Heap.the_row.Denot) → Is (Parts.the_row R) (record { at = p; alloc = alloc }) (word p alloc ∷ [])
+pub parts_word : (R : RattleType) (p : Ptr) (alloc : Heap.the_row.Denot) →
+    Is (Parts.the_row R) (record { at = p; alloc = alloc }) (word p alloc ∷ [])
 parts_word R p alloc = fields_word p alloc
 
 -- an allocator has its word
@@ -64,7 +65,8 @@ pub heap_is : (alloc : Heap.the_row.Denot) → Is Heap.the_row alloc (heap_word 
 heap_is alloc = ((vstruct (vcons vunit vnil) ∷ [], tt), (refl, (((vunit ∷ [], tt), (refl, (refl, tt))), tt)))
 
 -- a pointer and an allocator that a call gave back have that word
-pub pair_word : (p : Ptr) (alloc : Heap.the_row.Denot) (vs : List Val) → Is (Tuple (RawPtr ∷ param 1 Heap.the_row ∷ [])) (p, alloc) vs → vs ≡ word p alloc ∷ []
+pub pair_word : (p : Ptr) (alloc : Heap.the_row.Denot) (vs : List Val) → Is (Tuple (RawPtr ∷ param 1 Heap.the_row ∷ [])) (p, alloc) vs →
+    vs ≡ word p alloc ∷ []
 pair_word p alloc vs is =
     is.1.0 ∙ ap (λ ps. vstruct (of_list (ps ++ (is.0.1.0 ++ []))) ∷ []) is.1.1.0 ∙ ap (λ hs. vstruct (of_list (ptr_val p ∷ (hs ++ []))) ∷ []) (struct.tells Heap.the_type heap.the_laws alloc is.0.1.0 is.1.1.1.0)
 

@@ -23,7 +23,8 @@ IsLeft g order i x = (x < g.nodes) × (Contains (take i order) x → ⊥)
 
 -- after any number of steps, the least cost of a walk between two remaining nodes is the least cost of a chain of legs
 abbrev pub AreLeastCostsKept : Network → List ℕ → (ℕ → Legs) → Type 0
-AreLeastCostsKept g order L = (i u w : ℕ) (c : Cost) → i ≤ g.nodes → IsLeft g order i u → IsLeft g order i w → IsLeast g u w c → IsLeastChain (L i) u w c
+AreLeastCostsKept g order L =
+    (i u w : ℕ) (c : Cost) → i ≤ g.nodes → IsLeft g order i u → IsLeft g order i w → IsLeast g u w c → IsLeastChain (L i) u w c
 
 -- contraction in any order keeps the least costs
 abbrev pub ContractionKeepsLeastCosts : Type 0
@@ -35,7 +36,8 @@ EnoughKeepsLeastCosts = (g : Network) (h : ℕ) (order : List ℕ) (L : ℕ → 
 
 -- the contraction hierarchy of a graph is right for the graph, for each order and each bound on hops
 abbrev pub HierarchiesAreKept : Type 0
-HierarchiesAreKept = (by : OrderBy) (g : Network) (h : ℕ) (H : LevelsAndLegs) → IsWithinLimits g → IsHopBound h → IsHierarchyBy by g h H → IsKept g H
+HierarchiesAreKept =
+    (by : OrderBy) (g : Network) (h : ℕ) (H : LevelsAndLegs) → IsWithinLimits g → IsHopBound h → IsHierarchyBy by g h H → IsKept g H
 
 -- each hierarchy of nodes that are contracted in any order with enough shortcuts is right for the graph
 abbrev pub HierarchiesWithEnoughAreKept : Type 0

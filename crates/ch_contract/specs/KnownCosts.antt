@@ -88,7 +88,8 @@ pub record Lowers (P : ℕ → Cost → Type 0) (old new : Known) : Type 0 where
 
 -- the known costs take into account each leg to x in front of a chain from x that costs e
 abbrev pub IsSpread : Legs → Wanted → Known → ℕ → Cost → Type 0
-IsSpread L s h x e = (y : ℕ) (l : Label) → L y x ≡ Some l → y ≢ s.avoided → IsAtMost (cost_sum l.cost e) s.most → IsAtMost (known_at h y) (cost_sum l.cost e)
+IsSpread L s h x e =
+    (y : ℕ) (l : Label) → L y x ≡ Some l → y ≢ s.avoided → IsAtMost (cost_sum l.cost e) s.most → IsAtMost (known_at h y) (cost_sum l.cost e)
 
 -- each step begins a wanted chain of at most k legs
 abbrev pub AreSteps : Legs → Wanted → ℕ → List ChainStart → Type 0

@@ -12,7 +12,8 @@ use Rattle.ch_contract.specs.Built.{IsHierarchyOf}
 -- the priority of x after the first i steps, of which the first k are given: all remaining nodes are judged after step k,
 -- and then a node is judged again only when a neighbour is contracted
 abbrev pub IsPriorityFrom : ℕ → OrderBy → ℕ → ℕ → List ℕ → (ℕ → Legs) → ℕ → ℕ → ℤ → Type 0
-IsPriorityFrom k by n h order L i x p = (j : ℕ) × IsLastTouch order L i x j × IsPriorityBy by n h (L (max k j)) (depth_after order L (max k j)) x p
+IsPriorityFrom k by n h order L i x p =
+    (j : ℕ) × IsLastTouch order L i x j × IsPriorityBy by n h (L (max k j)) (depth_after order L (max k j)) x p
 
 -- at each step after the first k the node comes before all remaining nodes
 abbrev pub TakesFirstFrom : ℕ → OrderBy → Network → ℕ → List ℕ → (ℕ → Legs) → Type 0

@@ -16,7 +16,8 @@ HierarchiesFromGivenNodesAreKept = (by : OrderBy) (g : Network) (h : ℕ) (given
 
 -- if all nodes are ordered afresh, it is the hierarchy by depth, whatever order is given
 abbrev pub AllAfreshIsByDepth : Type 0
-AllAfreshIsByDepth = (g : Network) (h : ℕ) (given : List ℕ) (H : LevelsAndLegs) → IsHierarchyLike g h given 100 H ↔ IsHierarchyBy Depth g h H
+AllAfreshIsByDepth =
+    (g : Network) (h : ℕ) (given : List ℕ) (H : LevelsAndLegs) → IsHierarchyLike g h given 100 H ↔ IsHierarchyBy Depth g h H
 
 -- if no node is ordered afresh, it is the hierarchy in the given order
 abbrev pub NoneAfreshIsAsGiven : Type 0

@@ -21,7 +21,8 @@ IsMetBeyond h legs first most = (l : Leg) × Contains legs l × IsAtMost (cost_s
 
 -- this leg and a known chain cost at most `most`, or this leg, one more leg and a known chain do
 abbrev pub IsMetAt : Known → List (List Leg) → Leg → Cost → ℕ → Type 0
-IsMetAt h lists l most hops = IsAtMost (cost_sum (known_at h l.node) l.cost) most ⊎ ((1 < hops) × IsMetBeyond h (row lists l.node) l.cost most)
+IsMetAt h lists l most hops =
+    IsAtMost (cost_sum (known_at h l.node) l.cost) most ⊎ ((1 < hops) × IsMetBeyond h (row lists l.node) l.cost most)
 
 -- the same for some leg of the start that does not touch the avoided node
 abbrev pub IsMet : Known → List (List Leg) → ℕ → ℕ → Cost → ℕ → Type 0

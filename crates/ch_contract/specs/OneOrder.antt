@@ -24,8 +24,10 @@ GivenNodesNameOneHierarchy = (by : OrderBy) (g : Network) (h : ℕ) (given : Lis
 -- two hierarchies of a graph whose nodes are contracted in the same list, with the same bound on the legs of a witness, are
 -- equal
 abbrev pub OrdersNameOneHierarchy : Type 0
-OrdersNameOneHierarchy = (g : Network) (h : ℕ) (order : List ℕ) (H K : LevelsAndLegs) → IsHierarchyInOrder g h order H → IsHierarchyInOrder g h order K → H ≡ K
+OrdersNameOneHierarchy =
+    (g : Network) (h : ℕ) (order : List ℕ) (H K : LevelsAndLegs) → IsHierarchyInOrder g h order H → IsHierarchyInOrder g h order K → H ≡ K
 
 -- each graph has a hierarchy in each order, for each bound on hops
 abbrev pub GraphsHaveHierarchies : Type 0
-GraphsHaveHierarchies = (by : OrderBy) (g : Network) (h : ℕ) → IsWithinLimits g → IsHopBound h → (H : LevelsAndLegs) × IsHierarchyBy by g h H
+GraphsHaveHierarchies =
+    (by : OrderBy) (g : Network) (h : ℕ) → IsWithinLimits g → IsHopBound h → (H : LevelsAndLegs) × IsHierarchyBy by g h H

@@ -54,7 +54,8 @@ shortcut_between n h L v u w (Some a) None = []
 shortcut_between n h L v u w (Some a) (Some b) = elim (u == w) [ true ↦ [] | false ↦ shortcut_if n h L v u w (cost_sum a.cost b.cost) ]
 
 abbrev pub shortcuts_of : ℕ → ℕ → Legs → ℕ → List Shortcut
-shortcuts_of n h L v = flat_map (λ u. flat_map (λ w. shortcut_between n h L v u w (L u v) (L v w)) (range_with_len 0 n)) (range_with_len 0 n)
+shortcuts_of n h L v =
+    flat_map (λ u. flat_map (λ w. shortcut_between n h L v u w (L u v) (L v w)) (range_with_len 0 n)) (range_with_len 0 n)
 
 abbrev pub priority_of : ℕ → ℕ → Legs → ℕ → ℤ
 priority_of n h L v = pos (length (shortcuts_of n h L v)) -ℤ pos (count_touching n L v)
@@ -76,7 +77,8 @@ first_of a (b ∷ list) = first_of (if comes_first b a then b else a) list
 
 -- the remaining nodes without v, with new priorities of the neighbours of v
 abbrev pub waiting_after : OrderBy → ℕ → ℕ → Legs → Legs → (ℕ → ℕ) → ℕ → Waiting → Waiting
-waiting_after by n h before after depth v list = map (λ e. if are_neighbours before v e.1 then (priority_by by n h after depth e.1, e.1) else e) (filter (λ e. not (e.1 == v)) list)
+waiting_after by n h before after depth v list =
+    map (λ e. if are_neighbours before v e.1 then (priority_by by n h after depth e.1, e.1) else e) (filter (λ e. not (e.1 == v)) list)
 
 abbrev pub legs_in_order : ℕ → (ℕ → Option Label) → List Leg
 legs_in_order n f = filter_map (λ x. option_map (λ l. record { node = x; cost = l.cost; middle = l.middle }) (f x)) (range_with_len 0 n)

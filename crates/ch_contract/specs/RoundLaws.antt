@@ -14,7 +14,8 @@ RoundsAreContractions = (n h : ℕ) (L : Legs) (nodes : List ℕ) (M : Legs) →
 
 -- a hierarchy by rounds is right for its graph, for each bound on hops
 abbrev pub HierarchiesByRoundsAreKept : Type 0
-HierarchiesByRoundsAreKept = (g : Network) (h : ℕ) (H : LevelsAndLegs) → IsWithinLimits g → IsHopBound h → IsHierarchyByRounds g h H → IsKept g H
+HierarchiesByRoundsAreKept =
+    (g : Network) (h : ℕ) (H : LevelsAndLegs) → IsWithinLimits g → IsHopBound h → IsHierarchyByRounds g h H → IsKept g H
 
 -- each graph has a hierarchy by rounds, for each bound on hops
 abbrev pub GraphsHaveHierarchiesByRounds : Type 0

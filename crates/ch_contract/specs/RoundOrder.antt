@@ -34,7 +34,8 @@ is_early n rounds r = nat_lt (10 * length (nodes_before rounds r)) (7 * n)
 -- neighbours of each round
 abbrev pub is_counted : ℕ → List (List ℕ) → (ℕ → Legs) → ℕ → ℕ → Bool
 is_counted n rounds L zero x = true
-is_counted n rounds L (suc r) x = not (is_early n rounds (suc r)) && (is_early n rounds r || list_any (λ v. are_neighbours (L r) v x) (round_at rounds r))
+is_counted n rounds L (suc r) x =
+    not (is_early n rounds (suc r)) && (is_early n rounds r || list_any (λ v. are_neighbours (L r) v x) (round_at rounds r))
 
 -- the shortcuts of x were last counted after the first j of the first r rounds; j is 0 for the opening
 pub record IsLastCount (n : ℕ) (rounds : List (List ℕ)) (L : ℕ → Legs) (r x j : ℕ) : Type 0 where
@@ -44,11 +45,13 @@ pub record IsLastCount (n : ℕ) (rounds : List (List ℕ)) (L : ℕ → Legs) (
 
 -- c is the last count of the shortcuts of x in the first r rounds, or at the opening
 abbrev pub IsCountAfter : ℕ → ℕ → List (List ℕ) → (ℕ → Legs) → ℕ → ℕ → ℕ → Type 0
-IsCountAfter n h rounds L r x c = (j : ℕ) × (list : List Shortcut) × IsLastCount n rounds L r x j × AreShortcuts n h (L j) x list × (c ≡ length list)
+IsCountAfter n h rounds L r x c =
+    (j : ℕ) × (list : List Shortcut) × IsLastCount n rounds L r x j × AreShortcuts n h (L j) x list × (c ≡ length list)
 
 -- p is the key of x after the first r rounds: its last count of shortcuts, its present legs and its present depth
 abbrev pub IsKeyAfter : ℕ → ℕ → List (List ℕ) → (ℕ → Legs) → ℕ → ℕ → ℤ → Type 0
-IsKeyAfter n h rounds L r x p = (c : ℕ) × IsCountAfter n h rounds L r x c × (p ≡ key_by Rounds c (count_touching n (L r) x) (depth_before rounds L r x))
+IsKeyAfter n h rounds L r x p =
+    (c : ℕ) × IsCountAfter n h rounds L r x c × (p ≡ key_by Rounds c (count_touching n (L r) x) (depth_before rounds L r x))
 
 -- x is one of the n nodes, and in none of the first r rounds
 abbrev pub IsLeftAfter : ℕ → List (List ℕ) → ℕ → ℕ → Type 0

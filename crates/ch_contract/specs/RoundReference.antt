@@ -24,7 +24,8 @@ round_of n L keyed = filter (λ e. list_all (λ f. e.1 == f.1 || (not (is_within
 
 -- the shortcuts of v in a round of these nodes
 abbrev pub round_shortcuts_of : ℕ → ℕ → Legs → List ℕ → ℕ → List Shortcut
-round_shortcuts_of n h L nodes v = flat_map (λ u. flat_map (λ w. shortcut_between n h (legs_away nodes L) v u w (L u v) (L v w)) (range_with_len 0 n)) (range_with_len 0 n)
+round_shortcuts_of n h L nodes v =
+    flat_map (λ u. flat_map (λ w. shortcut_between n h (legs_away nodes L) v u w (L u v) (L v w)) (range_with_len 0 n)) (range_with_len 0 n)
 
 -- the legs among n nodes, in a table
 abbrev pub table_of : ℕ → Legs → List (List (Option Label))

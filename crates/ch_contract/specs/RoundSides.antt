@@ -17,7 +17,8 @@ pub record AreTiesOf (lists : List (List Leg)) (nodes near owners : List ℕ) : 
   pub distinct : AllPairs ◌≢◌ nodes
   pub size : length owners ≡ length near
   pub members : (i : ℕ) → i < length near → Contains nodes (slice_index owners i)
-  pub whole : (x v : ℕ) (m : Label) → Contains nodes v → row_leg (row lists x) v ≡ Some m → (i : ℕ) × (i < length near) × (slice_index near i ≡ x) × (slice_index owners i ≡ v)
+  pub whole : (x v : ℕ) (m : Label) → Contains nodes v → row_leg (row lists x) v ≡ Some m →
+      (i : ℕ) × (i < length near) × (slice_index near i ≡ x) × (slice_index owners i ≡ v)
 
 -- the legs of these nodes are set aside, and their lists are empty
 pub record AreAllAside (nodes : List ℕ) (before after : NodeLegs) : Type 0 where
@@ -33,13 +34,15 @@ pub record AreUntied (k : ℕ) (near owners : List ℕ) (old new : List (List Le
   pub rows : AreRows new
   pub here : (i : ℕ) → i < k → row_leg (row new (slice_index near i)) (slice_index owners i) ≡ None
   pub there : (x y : ℕ) → (row_leg (row new x) y ≡ row_leg (row old x) y) ⊎ (row_leg (row new x) y ≡ None)
-  pub kept : (x y : ℕ) → ((i : ℕ) → i < k → slice_index near i ≡ x → slice_index owners i ≡ y → ⊥) → row_leg (row new x) y ≡ row_leg (row old x) y
+  pub kept : (x y : ℕ) → ((i : ℕ) → i < k → slice_index near i ≡ x → slice_index owners i ≡ y → ⊥) →
+      row_leg (row new x) y ≡ row_leg (row old x) y
 
 -- no leg touches these nodes, and their legs are set aside
 pub record AreAway (nodes : List ℕ) (before after : NodeLegs) : Type 0 where
   pub sizes : (length after.rows ≡ length before.rows) × (length after.aside ≡ length before.aside)
   pub rows : AreRows after.rows
-  pub legs : (x y : ℕ) → row_leg (row after.rows x) y ≡ (if is_one_of nodes x || is_one_of nodes y then None else row_leg (row before.rows x) y)
+  pub legs : (x y : ℕ) →
+      row_leg (row after.rows x) y ≡ (if is_one_of nodes x || is_one_of nodes y then None else row_leg (row before.rows x) y)
   pub here : (v : ℕ) → Contains nodes v → row after.aside v ≡ row before.rows v
   pub kept : (x : ℕ) → (Contains nodes x → ⊥) → row after.aside x ≡ row before.aside x
 
@@ -47,4 +50,5 @@ pub record AreAway (nodes : List ℕ) (before after : NodeLegs) : Type 0 where
 abbrev pub ArePutInTurn : (List (List Leg) → Legs) → List ℕ → List (Vec Shortcut) → List (List Leg) → List (List Leg) → Type 0
 ArePutInTurn read [] lists old new = new ≡ old
 ArePutInTurn read (v ∷ nodes) [] old new = ⊥
-ArePutInTurn read (v ∷ nodes) (list ∷ lists) old new = (mid : List (List Leg)) × AreOverridden read v list.items old mid × ArePutInTurn read nodes lists mid new
+ArePutInTurn read (v ∷ nodes) (list ∷ lists) old new =
+    (mid : List (List Leg)) × AreOverridden read v list.items old mid × ArePutInTurn read nodes lists mid new

@@ -30,5 +30,7 @@ ArePutIn n v list = AllPairs IsPairBefore list × All (λ s. IsLegWithin n s.fro
 -- `near` has the neighbours of these nodes, and `owners` has for each the node whose neighbour it is
 pub record AreNeighboursOf (L : Legs) (nodes near owners : List ℕ) : Type 0 where
   pub size : length owners ≡ length near
-  pub each : (i : ℕ) → i < length near → Contains nodes (slice_index owners i) × (are_neighbours L (slice_index owners i) (slice_index near i) ≡ true)
-  pub whole : (v x : ℕ) → Contains nodes v → are_neighbours L v x ≡ true → (i : ℕ) × (i < length near) × (slice_index near i ≡ x) × (slice_index owners i ≡ v)
+  pub each : (i : ℕ) → i < length near →
+      Contains nodes (slice_index owners i) × (are_neighbours L (slice_index owners i) (slice_index near i) ≡ true)
+  pub whole : (v x : ℕ) → Contains nodes v → are_neighbours L v x ≡ true →
+      (i : ℕ) × (i < length near) × (slice_index near i ≡ x) × (slice_index owners i ≡ v)

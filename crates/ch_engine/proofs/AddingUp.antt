@@ -13,10 +13,12 @@ use Rattle.ch_engine.specs.Refusals.{HasValues}
 use Rattle.ch_engine.specs.Sums.{AreSumsAt, AreSumsOf}
 
 -- each place of a row has a value
-pub places_low : (held : Held) (s : ℕ) (row : List (ℕ × ℕ)) (values : List ℕ) → IsKeptRow held s row → HasValues held.near values → All (λ e. e.1 < length values) row
+pub places_low : (held : Held) (s : ℕ) (row : List (ℕ × ℕ)) (values : List ℕ) → IsKeptRow held s row → HasValues held.near values →
+    All (λ e. e.1 < length values) row
 places_low held s row values kept has = at held.near kept has
   where
-    at : (near : Option Asked) → MatchOption near ⊤ (λ asked. IsRowOf held.hierarchy asked s row) → HasValues near values → All (λ e. e.1 < length values) row
+    at : (near : Option Asked) → MatchOption near ⊤ (λ asked. IsRowOf held.hierarchy asked s row) → HasValues near values →
+        All (λ e. e.1 < length values) row
     at None kept has = absurd has
     at (Some asked) kept has = λ k d low. omega (arith, has, (kept.sound (get_or row k d) (k, low, get_or_default row k (get_or row k d) d low)).0)
 

@@ -27,7 +27,8 @@ module _ (H : LevelsAndLegs) (kept : IsKeptForSome H) (s t : ℕ) where
       subst (λ weight. weight ≤ MOST_WEIGHT) least.2 (IsLeast-weight g s t least.0 kept.1 least.1)
 
   -- the word of a distance within a limit is right
-  pub word_within : (limit whole : Option ℕ) → IsDistanceBy H s t whole → (answer : Option ℕ) → IsCut limit whole answer → IsWordOf answer (word_of answer)
+  pub word_within : (limit whole : Option ℕ) → IsDistanceBy H s t whole → (answer : Option ℕ) → IsCut limit whole answer →
+      IsWordOf answer (word_of answer)
   word_within limit None d answer cut = subst (λ a. IsWordOf a (word_of a)) (sym cut) refl
   word_within limit (Some x) d None cut = refl
   word_within limit (Some x) d (Some y) cut = (refl, cut_below limit x y cut (distance_bound x d))

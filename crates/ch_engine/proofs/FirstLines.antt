@@ -21,14 +21,16 @@ precedes_on arcs i j k first then = elim first [
 ]
 
 -- the same line serves for the same lines under another name
-pub word_for : (arcs : List InArc) (P Q : ℕ → Type 0) (word : ℕ) → ((k : ℕ) → P k → Q k) → ((k : ℕ) → Q k → P k) → IsLineWord arcs P word → IsLineWord arcs Q word
+pub word_for : (arcs : List InArc) (P Q : ℕ → Type 0) (word : ℕ) → ((k : ℕ) → P k → Q k) → ((k : ℕ) → Q k → P k) → IsLineWord arcs P word →
+    IsLineWord arcs Q word
 word_for arcs P Q word to from best = elim best [
   | inl first ↦ inl (record { is = to word first.is; least = λ k q. first.least k (from k q) })
   | inr none ↦ inr (none.0, λ k q. none.1 k (from k q))
 ]
 
 -- the word of a line that is found is a line, or none
-pub line_or_none : (arcs : List InArc) (P : ℕ → Type 0) (word : ℕ) → ((k : ℕ) → P k → k < length arcs) → IsLineWord arcs P word → (word ≡ no_line) ⊎ (word < length arcs)
+pub line_or_none : (arcs : List InArc) (P : ℕ → Type 0) (word : ℕ) → ((k : ℕ) → P k → k < length arcs) → IsLineWord arcs P word →
+    (word ≡ no_line) ⊎ (word < length arcs)
 line_or_none arcs P word low best = elim best [
   | inl first ↦ inr (low word first.is)
   | inr none ↦ inl none.0
@@ -66,7 +68,8 @@ module _ (arcs : List InArc) (side : Side) (seen : List ℕ) (i x : ℕ) where
   seen_on line (j, low, is, far) = (j, omega (arith, low), is, far)
 
   -- a line among the first i + 1 is among the first i, or it is the last
-  seen_last : (line : ℕ) → IsSeen arcs side seen (i + 1) x line → IsSeen arcs side seen i x line ⊎ ((line ≡ get_or seen i 0) × (far_end side (arc_on arcs line) ≡ x))
+  seen_last : (line : ℕ) → IsSeen arcs side seen (i + 1) x line →
+      IsSeen arcs side seen i x line ⊎ ((line ≡ get_or seen i 0) × (far_end side (arc_on arcs line) ≡ x))
   seen_last line (j, low, is, far) = elim (cases_lt j i) [
     | inl less ↦ inl (j, less, is, far)
     | inr past ↦ (let same : j ≡ i = omega (arith, past, low) in inr (sym is ∙ ap (λ n. get_or seen n 0) same, far))

@@ -21,7 +21,8 @@ at_place legs l x has is = (has.0, has.1, ap (λ (m : Leg). m.node) (get_or_defa
 
 module _ (g : Network) (H : LevelsAndLegs) (lines : Lines) (kept : IsKept g H) (are : AreLines g H lines) (u w : ℕ) (differ : u ≢ w) where
   -- from a node to a higher one
-  pub line_up : u < length H.up → get_or H.level u 0 < get_or H.level w 0 → (word : ℕ) → IsWordAt (row H.up u) (get_or lines.up u []) w word → IsLineWord g.arcs (Leads g.arcs u w) word
+  pub line_up : u < length H.up → get_or H.level u 0 < get_or H.level w 0 → (word : ℕ) →
+      IsWordAt (row H.up u) (get_or lines.up u []) w word → IsLineWord g.arcs (Leads g.arcs u w) word
   line_up inside rises word at = elim at [
     | inl found ↦ subst (λ (x : ℕ). IsLineWord g.arcs (Leads g.arcs u x) word) found.2 (subst (IsLineWord g.arcs (Leads g.arcs u (node_at (row H.up u) found.0))) (sym found.3) (are.0.each u found.0 inside found.1))
     | inr missed ↦ inr (
@@ -42,7 +43,8 @@ module _ (g : Network) (H : LevelsAndLegs) (lines : Lines) (kept : IsKept g H) (
   ]
 
   -- from a node to a lower one
-  pub line_down : w < length H.down → get_or H.level w 0 ≤ get_or H.level u 0 → (word : ℕ) → IsWordAt (row H.down w) (get_or lines.down w []) u word → IsLineWord g.arcs (Leads g.arcs u w) word
+  pub line_down : w < length H.down → get_or H.level w 0 ≤ get_or H.level u 0 → (word : ℕ) →
+      IsWordAt (row H.down w) (get_or lines.down w []) u word → IsLineWord g.arcs (Leads g.arcs u w) word
   line_down inside falls word at = elim at [
     | inl found ↦ subst (λ (x : ℕ). IsLineWord g.arcs (Leads g.arcs x w) word) found.2 (subst (IsLineWord g.arcs (Leads g.arcs (node_at (row H.down w) found.0) w)) (sym found.3) (are.1.each w found.0 inside found.1))
     | inr missed ↦ inr (

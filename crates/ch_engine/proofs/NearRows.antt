@@ -7,7 +7,8 @@ use Rattle.ch_engine.specs.NearRows.{AreRowsAt, IsKeptRow, IsRowAt, StandsAt, St
 
 -- the arrays agree before a place
 abbrev pub Agree : ℕ → List ℕ → List ℕ → List ℕ → List ℕ → Type 0
-Agree at weights places weights' places' = (k : ℕ) → k < at → (get_or weights' k 0 ≡ get_or weights k 0) × (get_or places' k 0 ≡ get_or places k 0)
+Agree at weights places weights' places' =
+    (k : ℕ) → k < at → (get_or weights' k 0 ≡ get_or weights k 0) × (get_or places' k 0 ≡ get_or places k 0)
 
 -- what stays as before from a place on, and again from a later one on, stays from there on
 pub stays_more : (before now after : List ℕ) (n m : ℕ) → StaysFrom n before now → n ≤ m → StaysFrom m now after → StaysFrom m before after
@@ -56,7 +57,8 @@ module _ (held : Held) (sources ends weights places weights' places' : List ℕ)
       ]
 
 -- no end is above the new one
-pub ends_low : (ends : List ℕ) (i begin end : ℕ) → ((k : ℕ) → k < i → get_or ends k 0 ≤ begin) → begin ≤ end → i < length ends → (k : ℕ) → k < i + 1 → get_or (set ends i end) k 0 ≤ end
+pub ends_low : (ends : List ℕ) (i begin end : ℕ) → ((k : ℕ) → k < i → get_or ends k 0 ≤ begin) → begin ≤ end → i < length ends → (k : ℕ) →
+    k < i + 1 → get_or (set ends i end) k 0 ≤ end
 ends_low ends i begin end low more inside k less = elim (cases_order k i) [
   | inl same ↦ subst (λ (n : ℕ). get_or (set ends i end) n 0 ≤ end) (sym same) (let is = get_or-set_same ends i end 0 inside in omega arith)
   | inr (inl before) ↦ let is = get_or-set_other ends i k end 0 (λ same. omega arith) in let old = low k before in omega arith

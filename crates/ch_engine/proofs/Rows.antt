@@ -11,7 +11,8 @@ use Rattle.ch_engine.specs.Cells.{AreRowWords, IsCell, word_of}
 use Rattle.ch_engine.proofs.Bounds.{word_within}
 
 -- a relation at each place of two lists holds at this place
-at_place : {X Y : Type 0} (R : X → Y → Type 0) (xs : List X) (ys : List Y) → AllZip R xs ys → (i : ℕ) → i < length xs → (d : X) (e : Y) → R (get_or xs i d) (get_or ys i e)
+at_place : {X Y : Type 0} (R : X → Y → Type 0) (xs : List X) (ys : List Y) → AllZip R xs ys → (i : ℕ) → i < length xs → (d : X) (e : Y) →
+    R (get_or xs i d) (get_or ys i e)
 at_place R [] [] h i low d e = absurd (omega arith)
 at_place R [] (y ∷ ys) h i low d e = absurd h
 at_place R (x ∷ xs) [] h i low d e = absurd h
@@ -33,7 +34,8 @@ module _ (H : LevelsAndLegs) (limit : Option ℕ) (sources targets : List ℕ) (
   row_length i low = zipped_length (IsDistanceWithin H limit (get_or sources i 0)) targets (get_or rows i []) (at_place (IsRowBy H limit targets) sources rows all i low 0 [])
 
   -- the word of each answer is the word of its cell
-  pub cell_word : IsKeptForSome H → (i j : ℕ) → i < length sources → j < length targets → IsCell H limit (get_or sources i 0) (get_or targets j 0) (word_of (get_or (get_or rows i []) j None))
+  pub cell_word : IsKeptForSome H → (i j : ℕ) → i < length sources → j < length targets →
+      IsCell H limit (get_or sources i 0) (get_or targets j 0) (word_of (get_or (get_or rows i []) j None))
   cell_word kept i j row column =
       let s = get_or sources i 0 in
       let answer = get_or (get_or rows i []) j None in

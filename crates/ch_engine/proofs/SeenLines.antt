@@ -52,11 +52,13 @@ ended_low g limits side =
     keys_below (with_key (λ line. near_end side (arc_on g.arcs line))) g.nodes (range_with_len 0 (length g.arcs)) (λ line has. end_low g limits side line (line_low (length g.arcs) line has))
 
 -- an arc leads between the two ends from which it is seen
-leads : (arcs : List InArc) (side : Side) (v x line : ℕ) → line < length arcs → near_end side (arc_on arcs line) ≡ v → far_end side (arc_on arcs line) ≡ x → Leads arcs (tail_of side v x) (head_of side v x) line
+leads : (arcs : List InArc) (side : Side) (v x line : ℕ) → line < length arcs → near_end side (arc_on arcs line) ≡ v →
+    far_end side (arc_on arcs line) ≡ x → Leads arcs (tail_of side v x) (head_of side v x) line
 leads arcs Up v x line low near far = (low, near, far)
 leads arcs Down v x line low near far = (low, far, near)
 
-seen_so : (arcs : List InArc) (side : Side) (v x line : ℕ) → Leads arcs (tail_of side v x) (head_of side v x) line → (line < length arcs) × (near_end side (arc_on arcs line) ≡ v) × (far_end side (arc_on arcs line) ≡ x)
+seen_so : (arcs : List InArc) (side : Side) (v x line : ℕ) → Leads arcs (tail_of side v x) (head_of side v x) line →
+    (line < length arcs) × (near_end side (arc_on arcs line) ≡ v) × (far_end side (arc_on arcs line) ≡ x)
 seen_so arcs Up v x line is = is
 seen_so arcs Down v x line is = (is.0, is.2, is.1)
 
@@ -69,10 +71,12 @@ module _ (side : Side) (arcs : List InArc) (n : ℕ) (rows : List (List ℕ)) (a
 
   -- each line of a row is a line of the graph
   pub row_low : (i : ℕ) → i < length (get_or rows v []) → get_or (get_or rows v []) i 0 < length arcs
-  row_low i inside = (row_line (get_or (get_or rows v []) i 0) (i, inside, get_or_default (get_or rows v []) i (get_or (get_or rows v []) i 0) 0 inside)).0
+  row_low i inside =
+      (row_line (get_or (get_or rows v []) i 0) (i, inside, get_or_default (get_or rows v []) i (get_or (get_or rows v []) i 0) 0 inside)).0
 
   -- the first line among those that are seen is the first of all between both ends
-  pub seen_word : (x word : ℕ) → IsLineWord arcs (IsSeen arcs side (get_or rows v []) (length (get_or rows v [])) x) word → IsLineWord arcs (Leads arcs (tail_of side v x) (head_of side v x)) word
+  pub seen_word : (x word : ℕ) → IsLineWord arcs (IsSeen arcs side (get_or rows v []) (length (get_or rows v [])) x) word →
+      IsLineWord arcs (Leads arcs (tail_of side v x) (head_of side v x)) word
   seen_word x word = word_for arcs (IsSeen arcs side (get_or rows v []) (length (get_or rows v [])) x) (Leads arcs (tail_of side v x) (head_of side v x)) word
       (λ line seen. let at = row_line line (seen.0, seen.1, get_or_default (get_or rows v []) seen.0 line 0 seen.1 ∙ seen.2) in leads arcs side v x line at.0 at.1 seen.3)
       (λ line is.

@@ -37,8 +37,10 @@ heads_more arcs begin j nodes d low inside before k less = elim (cases_order k j
 ]
 
 -- one number before a list that is in an array
-pub holds_after : (begin s : ℕ) (list array : List ℕ) → get_or array begin 0 ≡ s → HoldsFrom (begin + 1) list array → HoldsFrom begin (s ∷ list) array
-holds_after begin s list array here rest zero low = let at : begin + zero ≡ begin = omega arith in subst (λ (n : ℕ). get_or array n 0 ≡ s) (sym at) here
+pub holds_after : (begin s : ℕ) (list array : List ℕ) → get_or array begin 0 ≡ s → HoldsFrom (begin + 1) list array →
+    HoldsFrom begin (s ∷ list) array
+holds_after begin s list array here rest zero low =
+    let at : begin + zero ≡ begin = omega arith in subst (λ (n : ℕ). get_or array n 0 ≡ s) (sym at) here
 holds_after begin s list array here rest (suc j) low =
     let at : begin + suc j ≡ begin + 1 + j = omega arith in subst (λ (n : ℕ). get_or array n 0 ≡ get_or list j 0) (sym at) (rest j (omega (arith, low)))
 

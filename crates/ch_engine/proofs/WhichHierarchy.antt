@@ -15,7 +15,8 @@ built g [] H none by = by
 built g (byte ∷ bytes) H none by = absurd (omega (arith, none))
 
 -- with bytes it is the hierarchy that they name
-pub saved_named : (g : Network) (bytes : List ℕ) (s : OrderAndLegs) (H : LevelsAndLegs) → length bytes ≢ 0 → NamesSaved bytes g.nodes s → NamesHierarchy s H → IsSavedOrBuilt g bytes H
+pub saved_named : (g : Network) (bytes : List ℕ) (s : OrderAndLegs) (H : LevelsAndLegs) → length bytes ≢ 0 → NamesSaved bytes g.nodes s →
+    NamesHierarchy s H → IsSavedOrBuilt g bytes H
 saved_named g [] s H some named of = absurd (some refl)
 saved_named g (byte ∷ bytes) s H some named of = (s, named, of)
 

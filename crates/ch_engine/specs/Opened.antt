@@ -21,7 +21,8 @@ IsSavedOrBuilt g (byte ∷ bytes) H = (s : OrderAndLegs) × NamesSaved (byte ∷
 -- the hierarchy is right for the graph that the bytes name, and the lines are those of this graph's arcs. The hierarchy
 -- is saved or built
 abbrev pub IsOpened : List ℕ → List ℕ → LevelsAndLegs → Lines → Type 0
-IsOpened graph saved H lines = (g : Network) × NamesGraph graph g × IsWithinLimits g × IsKept g H × IsSavedOrBuilt g saved H × AreLines g H lines
+IsOpened graph saved H lines =
+    (g : Network) × NamesGraph graph g × IsWithinLimits g × IsKept g H × IsSavedOrBuilt g saved H × AreLines g H lines
 
 -- the hierarchy of a graph in the order of another hierarchy's levels, with so many per cent of the nodes ordered afresh,
 -- and with witnesses of at most 5 legs

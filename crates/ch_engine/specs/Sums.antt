@@ -17,7 +17,8 @@ sum_within values limit row = sum_by (share_of values limit) row
 
 -- the sums of a source's row, one for each limit, are in an array from this place on
 abbrev pub AreSumsAt : List ℕ → List ℕ → List (ℕ × ℕ) → ℕ → List ℕ → Type 0
-AreSumsAt values limits row begin sums = (j : ℕ) → j < length limits → slice_index sums (begin + j) ≡ sum_within values (slice_index limits j) row
+AreSumsAt values limits row begin sums =
+    (j : ℕ) → j < length limits → slice_index sums (begin + j) ≡ sum_within values (slice_index limits j) row
 
 -- the sums of source s are in an array from this place on
 abbrev pub AreSumsOf : Held → List ℕ → List ℕ → ℕ → ℕ → List ℕ → Type 0

@@ -46,7 +46,9 @@ pub IsAtMost-no_cost : (a : Cost) → IsAtMost no_cost a
 IsAtMost-no_cost a = (omega arith, λ tie. omega arith)
 
 -- the order of two costs, from the order of their weights and the order of their numbers of arcs
-tells : (a b : Cost) (w n : Ordering) → MatchOrdering w (a.weight < b.weight) (a.weight ≡ b.weight) (b.weight < a.weight) → MatchOrdering n (a.arcs < b.arcs) (a.arcs ≡ b.arcs) (b.arcs < a.arcs) → MatchOrdering (ordering_then w n) (IsBelow a b) (a ≡ b) (IsBelow b a)
+tells : (a b : Cost) (w n : Ordering) → MatchOrdering w (a.weight < b.weight) (a.weight ≡ b.weight) (b.weight < a.weight) →
+    MatchOrdering n (a.arcs < b.arcs) (a.arcs ≡ b.arcs) (b.arcs < a.arcs) →
+    MatchOrdering (ordering_then w n) (IsBelow a b) (a ≡ b) (IsBelow b a)
 tells a b Less n weights arcs = (omega arith, λ tie. omega arith)
 tells a b Equal Less weights arcs = (omega arith, λ tie. omega arith)
 tells a b Equal Equal weights arcs = same_costs a b weights arcs

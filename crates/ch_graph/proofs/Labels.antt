@@ -16,19 +16,22 @@ use Rattle.ch_graph.specs.Relaxing.{IsPartial, IsLowered, weight_at, total}
 use Rattle.ch_graph.proofs.WalkLemmas.{walk_push, weight_push}
 
 -- the first label of a node raises the number of labels by one
-count-first : (best : List (Option ℕ)) (v x : ℕ) → weight_at best v ≡ None → v < length best → count_by is_some (set best v (Some x)) ≡ count_by is_some best + 1
+count-first : (best : List (Option ℕ)) (v x : ℕ) → weight_at best v ≡ None → v < length best →
+    count_by is_some (set best v (Some x)) ≡ count_by is_some best + 1
 count-first best v x e within =
     let count = sum_by-set (λ (o : Option ℕ). cond (is_some o) 1 0) best v (Some x) None within in
     omega (arith, rw e at count)
 
 -- a label that replaces another keeps the number of labels
-count-next : (best : List (Option ℕ)) (v x now : ℕ) → weight_at best v ≡ Some now → v < length best → count_by is_some (set best v (Some x)) ≡ count_by is_some best
+count-next : (best : List (Option ℕ)) (v x now : ℕ) → weight_at best v ≡ Some now → v < length best →
+    count_by is_some (set best v (Some x)) ≡ count_by is_some best
 count-next best v x now e within =
     let count = sum_by-set (λ (o : Option ℕ). cond (is_some o) 1 0) best v (Some x) None within in
     omega (arith, rw e at count)
 
 -- a label is below MOST_WEIGHT, because at most all nodes have one
-pub known_small : (g : Network) (s : ℕ) (best : List (Option ℕ)) (v d : ℕ) → IsPartial g s best → weight_at best v ≡ Some d → d < MOST_WEIGHT
+pub known_small : (g : Network) (s : ℕ) (best : List (Option ℕ)) (v d : ℕ) → IsPartial g s best → weight_at best v ≡ Some d →
+    d < MOST_WEIGHT
 known_small g s best v d p e =
     let bound = p.small v d e in
     let most = count_by-le-length is_some best in
@@ -48,7 +51,8 @@ weight_small nodes a h =
     omega arith
 
 -- the label of the arc's start and the weight of the arc add up to less than MOST_SUM
-pub sum_fits : (g : Network) (s : ℕ) (best : List (Option ℕ)) (a : InArc) (before : ℕ) → IsPartial g s best → IsArcWithin g.nodes a → weight_at best a.from ≡ Some before → before + a.weight < MOST_SUM
+pub sum_fits : (g : Network) (s : ℕ) (best : List (Option ℕ)) (a : InArc) (before : ℕ) → IsPartial g s best → IsArcWithin g.nodes a →
+    weight_at best a.from ≡ Some before → before + a.weight < MOST_SUM
 sum_fits g s best a before p fits e =
     let label = known_small g s best a.from before p e in
     let weight = weight_small g.nodes a fits in

@@ -27,8 +27,10 @@ least_either P Q (inl p) (inl q) = elim (IsAtMost_or_IsBelow p.0 q.0) [
   | inl first ↦ inl (p.0, record { has = inl p.1.has; least = λ d h. elim h [ inl x ↦ p.1.least d x | inr y ↦ IsAtMost_trans _ _ _ first (q.1.least d y) ] })
   | inr second ↦ inl (q.0, record { has = inr q.1.has; least = λ d h. elim h [ inl x ↦ IsAtMost_trans _ _ _ (IsBelow-IsAtMost _ _ second) (p.1.least d x) | inr y ↦ q.1.least d y ] })
 ]
-least_either P Q (inl p) (inr none) = inl (p.0, record { has = inl p.1.has; least = λ d h. elim h [ inl x ↦ p.1.least d x | inr y ↦ absurd (none d y) ] })
-least_either P Q (inr none) (inl q) = inl (q.0, record { has = inr q.1.has; least = λ d h. elim h [ inl x ↦ absurd (none d x) | inr y ↦ q.1.least d y ] })
+least_either P Q (inl p) (inr none) =
+    inl (p.0, record { has = inl p.1.has; least = λ d h. elim h [ inl x ↦ p.1.least d x | inr y ↦ absurd (none d y) ] })
+least_either P Q (inr none) (inl q) =
+    inl (q.0, record { has = inr q.1.has; least = λ d h. elim h [ inl x ↦ absurd (none d x) | inr y ↦ q.1.least d y ] })
 least_either P Q (inr none) (inr never) = inr (λ d h. elim h [ inl x ↦ none d x | inr y ↦ never d y ])
 
 -- c is the sum of a cost with P and one with Q
@@ -48,8 +50,10 @@ least_sum P Q (inl p) (inr none) = inr (λ d h. none h.1 h.3)
 least_sum P Q (inr none) q = inr (λ d h. none h.0 h.2)
 
 -- if P has a least cost or none, so has R: each cost with P has R, and each cost with R has one with P that is no greater
-pub least_among : (P R : Cost → Type 0) → ((c : Cost) → P c → R c) → ((c : Cost) → R c → (d : Cost) × P d × IsAtMost d c) → LeastOrNone P → LeastOrNone R
-least_among P R to from (inl p) = inl (p.0, record { has = to p.0 p.1.has; least = λ d r. let q = from d r in IsAtMost_trans _ _ _ (p.1.least q.0 q.1) q.2 })
+pub least_among : (P R : Cost → Type 0) → ((c : Cost) → P c → R c) → ((c : Cost) → R c → (d : Cost) × P d × IsAtMost d c) → LeastOrNone P →
+    LeastOrNone R
+least_among P R to from (inl p) =
+    inl (p.0, record { has = to p.0 p.1.has; least = λ d r. let q = from d r in IsAtMost_trans _ _ _ (p.1.least q.0 q.1) q.2 })
 least_among P R to from (inr none) = inr (λ c r. let q = from c r in none q.0 q.1)
 
 -- an arc of the list is its head or in its tail
@@ -116,7 +120,8 @@ module _ (n : ℕ) where
     )
 
     -- if another arc is taken first, it goes in front of the rest
-    taken_before : (s t : ℕ) (x : InArc) (xs : List InArc) → Contains list x → x.from ≡ s → Reduced x.to t (cost_of xs) → Reduced s t (cost_of (x ∷ xs))
+    taken_before : (s t : ℕ) (x : InArc) (xs : List InArc) → Contains list x → x.from ≡ s → Reduced x.to t (cost_of xs) →
+        Reduced s t (cost_of (x ∷ xs))
     unfolding over Once AtMostOnce Reduced
     taken_before s t x xs has here (d, once, le) = (
       cost_sum (arc_cost x) d,

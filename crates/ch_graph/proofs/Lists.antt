@@ -35,7 +35,8 @@ module _ {X : Type 0} (R : X → X → Type 0) where
   pairs_head x y xs h c = let lt = c.1 in subst (R x) c.2 (h zero (suc c.0) y (omega arith) (omega arith))
 
 -- a new head that is related to each element keeps the list related in order
-pub pairs_cons : {X : Type 0} (R : X → X → Type 0) (x : X) (xs : List X) → ((y : X) → Contains xs y → R x y) → AllPairs R xs → AllPairs R (x ∷ xs)
+pub pairs_cons : {X : Type 0} (R : X → X → Type 0) (x : X) (xs : List X) → ((y : X) → Contains xs y → R x y) → AllPairs R xs →
+    AllPairs R (x ∷ xs)
 pairs_cons R x xs head tail zero zero d lt within = absurd (omega arith)
 pairs_cons R x xs head tail zero (suc j) d lt within = head (get_or xs j d) (Contains-get_or xs j d (omega arith))
 pairs_cons R x xs head tail (suc i) zero d lt within = absurd (omega arith)
@@ -71,7 +72,8 @@ module _ {X : Type 0} (p : X → Bool) where
   contains_filter [] x h t = absurd (contains_none x h)
   contains_filter (y ∷ xs) x h t = at (p y) refl (contains_cons y x xs h) (λ later. contains_filter xs x later t)
     where
-      at : (b : Bool) → p y ≡ b → (y ≡ x) ⊎ Contains xs x → (Contains xs x → Contains (filter p xs) x) → Contains (cond b (y ∷ filter p xs) (filter p xs)) x
+      at : (b : Bool) → p y ≡ b → (y ≡ x) ⊎ Contains xs x → (Contains xs x → Contains (filter p xs) x) →
+          Contains (cond b (y ∷ filter p xs) (filter p xs)) x
       at true e (inl is) more = subst (Contains (y ∷ filter p xs)) is (contains_head y (filter p xs))
       at true e (inr later) more = contains_tail x y (filter p xs) (more later)
       at false e (inl is) more = absurd (false≢true (sym e ∙ ap p is ∙ t))

@@ -27,7 +27,8 @@ pub record LeavesAgain (g : Network) (s t : ℕ) (arcs : List InArc) : Type 0 wh
   pub simple : IsSimple t arcs → IsSimple t rest
 
 -- a walk leaves s at some place, or never
-pub leaves_again : (g : Network) (m s t : ℕ) (ys : List InArc) → IsWalk g m t ys → AllByRecursion (λ b. b.from ≡ s → ⊥) ys ⊎ LeavesAgain g s t ys
+pub leaves_again : (g : Network) (m s t : ℕ) (ys : List InArc) → IsWalk g m t ys →
+    AllByRecursion (λ b. b.from ≡ s → ⊥) ys ⊎ LeavesAgain g s t ys
 leaves_again g m s t [] w = inl tt
 leaves_again g m s t (y ∷ ys) w = elim (cases_eq y.from s) [
   | inl here ↦ inr (record { rest = y ∷ ys; is_walk = (w.0, here, w.2); cheap = IsAtMost_refl (cost_of (y ∷ ys)); simple = λ h. h })
@@ -73,7 +74,8 @@ simple_walk g s t (x ∷ xs) w =
     ]
 
 -- if no walk costs less, the walk visits no node twice
-pub least_walk_simple : (g : Network) (s t : ℕ) (xs : List InArc) → IsWalk g s t xs → ((ys : List InArc) → IsWalk g s t ys → IsAtMost (cost_of xs) (cost_of ys)) → IsSimple t xs
+pub least_walk_simple : (g : Network) (s t : ℕ) (xs : List InArc) → IsWalk g s t xs →
+    ((ys : List InArc) → IsWalk g s t ys → IsAtMost (cost_of xs) (cost_of ys)) → IsSimple t xs
 least_walk_simple g s t [] w least = tt
 least_walk_simple g s t (x ∷ xs) w least =
     let after = least_walk_simple g x.to t xs w.2 (λ ys v. IsAtMost-uncons x xs ys (least (x ∷ ys) (w.0, w.1, v))) in (
@@ -123,7 +125,8 @@ module _ (g : Network) (each : All (IsArcWithin g.nodes) g.arcs) where
   below s t [] w q h = cc
   below s t (x ∷ xs) w q h = at (eqb q x.from) refl h (below x.to t xs w.2 q)
     where
-      at : (b : Bool) → eqb q x.from ≡ b → (b || list_any (eqb q) (starts xs)) ≡ true → (list_any (eqb q) (starts xs) ≡ true → q < g.nodes) → q < g.nodes
+      at : (b : Bool) → eqb q x.from ≡ b → (b || list_any (eqb q) (starts xs)) ≡ true →
+          (list_any (eqb q) (starts xs) ≡ true → q < g.nodes) → q < g.nodes
       at true e h' more = let same = eqb-true q x.from e in let lt = (All-contains (IsArcWithin g.nodes) g.arcs x each w.0).ends.0 in omega arith
       at false e h' more = more h'
 
@@ -168,11 +171,13 @@ module _ (g : Network) (each : All (IsArcWithin g.nodes) g.arcs) where
       le_of_mul-le-mul_left sum some
 
 -- a simple walk of a graph within the limits has fewer arcs than there are nodes
-pub IsSimple-arcs : (g : Network) (s t : ℕ) (xs : List InArc) → IsWithinLimits g → t < g.nodes → IsWalk g s t xs → IsSimple t xs → length xs < g.nodes
+pub IsSimple-arcs : (g : Network) (s t : ℕ) (xs : List InArc) → IsWithinLimits g → t < g.nodes → IsWalk g s t xs → IsSimple t xs →
+    length xs < g.nodes
 IsSimple-arcs g s t xs limits = simple_fewer g limits.each s t xs
 
 -- a simple walk of a graph within the limits weighs at most MOST_WEIGHT
-pub IsSimple-weight : (g : Network) (s t : ℕ) (xs : List InArc) → IsWithinLimits g → IsWalk g s t xs → IsSimple t xs → weight_of xs ≤ MOST_WEIGHT
+pub IsSimple-weight : (g : Network) (s t : ℕ) (xs : List InArc) → IsWithinLimits g → IsWalk g s t xs → IsSimple t xs →
+    weight_of xs ≤ MOST_WEIGHT
 IsSimple-weight g s t xs limits = simple_weight g limits.each s t xs
 
 -- a least cost has fewer arcs than there are nodes

@@ -33,7 +33,8 @@ IsAtMost-cons x ys xs h = IsAtMost_between (cost_of-cons x ys) (cost_of-cons x x
 
 -- the same arc in front of both walks can be left out
 pub IsAtMost-uncons : (x : InArc) (ys xs : List InArc) → IsAtMost (cost_of (x ∷ ys)) (cost_of (x ∷ xs)) → IsAtMost (cost_of ys) (cost_of xs)
-IsAtMost-uncons x ys xs h = cost_sum_cancel_left (cost_of ys) (cost_of xs) (arc_cost x) (IsAtMost_between (sym (cost_of-cons x ys)) (sym (cost_of-cons x xs)) h)
+IsAtMost-uncons x ys xs h =
+    cost_sum_cancel_left (cost_of ys) (cost_of xs) (arc_cost x) (IsAtMost_between (sym (cost_of-cons x ys)) (sym (cost_of-cons x xs)) h)
 
 -- adding a cost in front gives no less
 pub IsAtMost-cost_sum_more : (a b c : Cost) → IsAtMost a c → IsAtMost a (cost_sum b c)
@@ -71,7 +72,8 @@ pub IsWalkCost-arc : (g : Network) (a : InArc) → Contains g.arcs a → IsWalkC
 IsWalkCost-arc g a has = (a ∷ [], (has, refl, refl), cost_of-cons a [] ∙ cost_sum-no_cost (arc_cost a))
 
 -- the cost of an arc and a walk from its end
-pub IsWalkCost-cons : (g : Network) (s t : ℕ) (x : InArc) (c : Cost) → Contains g.arcs x → x.from ≡ s → IsWalkCost g x.to t c → IsWalkCost g s t (cost_sum (arc_cost x) c)
+pub IsWalkCost-cons : (g : Network) (s t : ℕ) (x : InArc) (c : Cost) → Contains g.arcs x → x.from ≡ s → IsWalkCost g x.to t c →
+    IsWalkCost g s t (cost_sum (arc_cost x) c)
 IsWalkCost-cons g s t x c has here w = (x ∷ w.0, (has, here, w.1), cost_of-cons x w.0 ∙ ap (cost_sum (arc_cost x)) w.2)
 
 -- the cost of a walk and a walk from its end
@@ -87,7 +89,8 @@ pub IsLeast-IsAtMost : (g : Network) (s t : ℕ) (c d : Cost) → IsLeast g s t 
 IsLeast-IsAtMost g s t c d l w = subst (IsAtMost c) w.2 (l.least w.0 w.1)
 
 -- a walk's cost is the least if no walk costs less
-pub IsLeast-from : (g : Network) (s t : ℕ) (c : Cost) → IsWalkCost g s t c → ((d : Cost) → IsWalkCost g s t d → IsAtMost c d) → IsLeast g s t c
+pub IsLeast-from : (g : Network) (s t : ℕ) (c : Cost) → IsWalkCost g s t c → ((d : Cost) → IsWalkCost g s t d → IsAtMost c d) →
+    IsLeast g s t c
 IsLeast-from g s t c w least = record { walk = w; least = λ arcs v. least (cost_of arcs) (arcs, v, refl) }
 
 -- a walk that costs no more than the least costs the least
@@ -103,11 +106,13 @@ pub IsLeast-no_cost : (g : Network) (s : ℕ) → IsLeast g s s no_cost
 IsLeast-no_cost g s = IsLeast-from g s s no_cost (IsWalkCost-no_cost g s) (λ d w. (omega arith, λ tie. omega arith))
 
 -- the first part of a least walk has the least cost
-pub IsLeast-front : (g : Network) (s m t : ℕ) (a b : Cost) → IsLeast g s t (cost_sum a b) → IsWalkCost g s m a → IsWalkCost g m t b → IsLeast g s m a
+pub IsLeast-front : (g : Network) (s m t : ℕ) (a b : Cost) → IsLeast g s t (cost_sum a b) → IsWalkCost g s m a → IsWalkCost g m t b →
+    IsLeast g s m a
 IsLeast-front g s m t a b l p q =
     IsLeast-from g s m a p (λ d w. cost_sum_cancel_right a d b (IsLeast-IsAtMost g s t (cost_sum a b) (cost_sum d b) l (IsWalkCost-cost_sum g s m t d b w q)))
 
 -- the last part of a least walk has the least cost
-pub IsLeast-back : (g : Network) (s m t : ℕ) (a b : Cost) → IsLeast g s t (cost_sum a b) → IsWalkCost g s m a → IsWalkCost g m t b → IsLeast g m t b
+pub IsLeast-back : (g : Network) (s m t : ℕ) (a b : Cost) → IsLeast g s t (cost_sum a b) → IsWalkCost g s m a → IsWalkCost g m t b →
+    IsLeast g m t b
 IsLeast-back g s m t a b l p q =
     IsLeast-from g m t b q (λ d w. cost_sum_cancel_left b d a (IsLeast-IsAtMost g s t (cost_sum a b) (cost_sum a d) l (IsWalkCost-cost_sum g s m t a d p w)))

@@ -34,7 +34,8 @@ LoopsCost g = (s m t : ℕ) (xs ys zs : List InArc) → IsWalk g s m xs → IsWa
 
 -- for each walk there is a simple one of no greater cost; within the limits, simple walks are short and light
 pub record SimpleWalksAreEnough (g : Network) : Type 0 where
-  pub simple : (s t : ℕ) (xs : List InArc) → IsWalk g s t xs → (ys : List InArc) × IsWalk g s t ys × IsSimple t ys × IsAtMost (cost_of ys) (cost_of xs)
+  pub simple : (s t : ℕ) (xs : List InArc) → IsWalk g s t xs →
+      (ys : List InArc) × IsWalk g s t ys × IsSimple t ys × IsAtMost (cost_of ys) (cost_of xs)
   pub few_arcs : IsWithinLimits g → (s t : ℕ) (xs : List InArc) → t < g.nodes → IsWalk g s t xs → IsSimple t xs → length xs < g.nodes
   pub light : IsWithinLimits g → (s t : ℕ) (xs : List InArc) → IsWalk g s t xs → IsSimple t xs → weight_of xs ≤ MOST_WEIGHT
 
@@ -47,7 +48,8 @@ pub record LeastCostsAreFound (g : Network) : Type 0 where
 
 -- each part of a walk of least cost has least cost, and such a walk is simple
 pub record LeastWalksAreSimple (g : Network) : Type 0 where
-  pub parts : (s m t : ℕ) (a b : Cost) → IsLeast g s t (cost_sum a b) → IsWalkCost g s m a → IsWalkCost g m t b → IsLeast g s m a × IsLeast g m t b
+  pub parts : (s m t : ℕ) (a b : Cost) → IsLeast g s t (cost_sum a b) → IsWalkCost g s m a → IsWalkCost g m t b →
+      IsLeast g s m a × IsLeast g m t b
   pub simple : (s t : ℕ) (xs : List InArc) → IsLeast g s t (cost_of xs) → IsWalk g s t xs → IsSimple t xs
   pub few_arcs : IsWithinLimits g → (s t : ℕ) (c : Cost) → t < g.nodes → IsLeast g s t c → c.arcs < g.nodes
   pub light : IsWithinLimits g → (s t : ℕ) (c : Cost) → IsLeast g s t c → c.weight ≤ MOST_WEIGHT

@@ -12,12 +12,14 @@ use Rattle.ch_hierarchy.specs.Paths.{IsMeeting}
 
 -- a leg from u to w, which is in a row of the lower of the two
 abbrev pub IsLeg : LevelsAndLegs → ℕ → ℕ → Cost → Option ℕ → Type 0
-IsLeg H u w c m = (l : Leg) × (l.cost ≡ c) × (l.middle ≡ m) × ((Contains (row H.up u) l × (l.node ≡ w)) ⊎ (Contains (row H.down w) l × (l.node ≡ u)))
+IsLeg H u w c m =
+    (l : Leg) × (l.cost ≡ c) × (l.middle ≡ m) × ((Contains (row H.up u) l × (l.node ≡ w)) ⊎ (Contains (row H.down w) l × (l.node ≡ u)))
 
 -- a leg without a middle is an arc; a leg with a middle is the sum of the two legs of that middle
 abbrev pub IsFounded : Network → LevelsAndLegs → ℕ → ℕ → Cost → Option ℕ → Type 0
 IsFounded g H u w c None = (c.arcs ≡ 1) × Contains g.arcs (record { from = u; to = w; weight = c.weight })
-IsFounded g H u w c (Some v) = (a b : Leg) × Contains (row H.down v) a × (a.node ≡ u) × Contains (row H.up v) b × (b.node ≡ w) × (c ≡ cost_sum a.cost b.cost)
+IsFounded g H u w c (Some v) =
+    (a b : Leg) × Contains (row H.down v) a × (a.node ≡ u) × Contains (row H.up v) b × (b.node ≡ w) × (c ≡ cost_sum a.cost b.cost)
 
 -- some leg has the ends of the arc and costs no more
 abbrev pub HasLegWithin : LevelsAndLegs → InArc → Type 0

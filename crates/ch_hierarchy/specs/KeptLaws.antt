@@ -25,7 +25,8 @@ KeptHierarchiesHaveWalks = (g : Network) (H : LevelsAndLegs) → IsWithinLimits 
 
 -- each leg stands for a walk of exactly its cost
 abbrev pub LegsAreWalks : Type 0
-LegsAreWalks = (g : Network) (H : LevelsAndLegs) → IsKept g H → (u w : ℕ) (c : Cost) (middle : Option ℕ) → IsLeg H u w c middle → IsWalkCost g u w c
+LegsAreWalks =
+    (g : Network) (H : LevelsAndLegs) → IsKept g H → (u w : ℕ) (c : Cost) (middle : Option ℕ) → IsLeg H u w c middle → IsWalkCost g u w c
 
 -- c is the least cost of going up from s to some node and down from there to t
 pub record IsLeastMeeting (H : LevelsAndLegs) (s t : ℕ) (c : Cost) : Type 0 where

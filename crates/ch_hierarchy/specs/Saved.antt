@@ -52,7 +52,8 @@ HasPairFault n legs i = (l : SavedLeg) × (slice_get legs i ≡ Some l) × ((Joi
 
 -- in the hierarchy that is named, the leg at place i is neither an arc nor the sum of two legs, as its middle says
 abbrev pub IsUnfounded : Network → OrderAndLegs → ℕ → SavedLeg → Type 0
-IsUnfounded g s i l = (slice_get s.legs i ≡ Some l) × ((H : LevelsAndLegs) × NamesHierarchy s H × (IsFounded g H l.from l.to l.cost l.middle → ⊥))
+IsUnfounded g s i l =
+    (slice_get s.legs i ≡ Some l) × ((H : LevelsAndLegs) × NamesHierarchy s H × (IsFounded g H l.from l.to l.cost l.middle → ⊥))
 
 -- the saved hierarchy has this fault
 abbrev pub HasFault : Network → OrderAndLegs → CheckFault → Type 0
@@ -61,7 +62,8 @@ HasFault g s (Pair i) = HasPairFault g.nodes s.legs i
 HasFault g s (Bound i) = (l : SavedLeg) × (slice_get s.legs i ≡ Some l) × (IsWithinBounds g.nodes l → ⊥)
 HasFault g s (Base i) = (l : SavedLeg) × (l.middle ≡ None) × IsUnfounded g s i l
 HasFault g s (Middle i) = (l : SavedLeg) × (v : ℕ) × (l.middle ≡ Some v) × IsUnfounded g s i l
-HasFault g s (Arc i) = (a : InArc) × (slice_get g.arcs i ≡ Some a) × (a.from ≢ a.to) × ((H : LevelsAndLegs) × NamesHierarchy s H × (HasLegWithin H a → ⊥))
+HasFault g s (Arc i) =
+    (a : InArc) × (slice_get g.arcs i ≡ Some a) × (a.from ≢ a.to) × ((H : LevelsAndLegs) × NamesHierarchy s H × (HasLegWithin H a → ⊥))
 HasFault g s (Lower v) = (v < g.nodes) × ((H : LevelsAndLegs) × NamesHierarchy s H × (IsCovered H v → ⊥))
 
 -- the saved hierarchy has none of the seven faults

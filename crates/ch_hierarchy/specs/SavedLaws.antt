@@ -22,7 +22,8 @@ FaultlessIsKept = (g : Network) (s : OrderAndLegs) → IsWithinLimits g → IsFa
 
 -- if they name a hierarchy among the graph's nodes, they have no early fault
 abbrev pub NamedHierarchiesHaveNoEarlyFault : Type 0
-NamedHierarchiesHaveNoEarlyFault = (g : Network) (s : OrderAndLegs) (H : LevelsAndLegs) → NamesFor g s H → (f : CheckFault) → IsEarly f → HasFault g s f → ⊥
+NamedHierarchiesHaveNoEarlyFault =
+    (g : Network) (s : OrderAndLegs) (H : LevelsAndLegs) → NamesFor g s H → (f : CheckFault) → IsEarly f → HasFault g s f → ⊥
 
 -- at most one fault is the first
 abbrev pub OneFaultIsFirst : Type 0
@@ -30,7 +31,8 @@ OneFaultIsFirst = (g : Network) (s : OrderAndLegs) (e f : CheckFault) → IsFirs
 
 -- the nodes of a levelled hierarchy have exactly one order of level
 abbrev pub OneOrderIsByLevel : Type 0
-OneOrderIsByLevel = (H : LevelsAndLegs) → IsLevelled H → (order : List ℕ) × IsByLevel H order × ((other : List ℕ) → IsByLevel H other → order ≡ other)
+OneOrderIsByLevel =
+    (H : LevelsAndLegs) → IsLevelled H → (order : List ℕ) × IsByLevel H order × ((other : List ℕ) → IsByLevel H other → order ≡ other)
 
 -- written in this order, the hierarchy is the one that is named
 abbrev pub WrittenHierarchiesAreNamed : Type 0

@@ -22,10 +22,12 @@ module _ {I : Type 0} (gives : I → List ℕ → Result ℕ DeviceFault → I �
   source-read graph Source.Built (Source.Like new fresh hops) reads same = absurd (let none : ⊥ = cc in none)
   source-read graph (Source.Saved old) Source.Built reads same = absurd reads
   source-read graph (Source.Saved old) (Source.Like new fresh hops) reads same = absurd reads
-  source-read graph (Source.Saved old) (Source.Saved new) reads same = (refl, record { same = same_number (Which.Saved, origin new) (Which.Saved, origin old) same; once = reads.lines.reads.once }, more)
+  source-read graph (Source.Saved old) (Source.Saved new) reads same =
+      (refl, record { same = same_number (Which.Saved, origin new) (Which.Saved, origin old) same; once = reads.lines.reads.once }, more)
   source-read graph (Source.Like old fresh hops) Source.Built reads same = absurd reads
   source-read graph (Source.Like old fresh hops) (Source.Saved new) reads same = absurd reads
-  source-read graph (Source.Like old fresh hops) (Source.Like new fresh' hops') reads same = (refl, record { same = same_number (Which.Order, origin new) (Which.Order, origin old) same; once = reads.lines.reads.once }, more)
+  source-read graph (Source.Like old fresh hops) (Source.Like new fresh' hops') reads same =
+      (refl, record { same = same_number (Which.Order, origin new) (Which.Order, origin old) same; once = reads.lines.reads.once }, more)
 
   -- a list of sources is read, if there is one, and then the other inputs
   pub sources-read : (earlier : List Which) (accepted : Type 0) (P : Reading → ReadFault → Type 0) (old new : Sources I) → ReadsSources earlier accepted r gives failed old new P → sources_origin origin new ≡ sources_origin origin old →
@@ -33,4 +35,5 @@ module _ {I : Type 0} (gives : I → List ℕ → Result ℕ DeviceFault → I �
   sources-read earlier accepted P Sources.All Sources.All reads same = more
   sources-read earlier accepted P Sources.All (Sources.Listed new) reads same = absurd (let none : ⊥ = cc in none)
   sources-read earlier accepted P (Sources.Listed old) Sources.All reads same = absurd reads
-  sources-read earlier accepted P (Sources.Listed old) (Sources.Listed new) reads same = (refl, record { same = cc; once = reads.reads.once }, more)
+  sources-read earlier accepted P (Sources.Listed old) (Sources.Listed new) reads same =
+      (refl, record { same = cc; once = reads.reads.once }, more)

@@ -19,7 +19,8 @@ use Rattle.ch_line.specs.declared.files.OpenFault.{OpenFault}
 use Rattle.ch_line.specs.Line.{File, IsUsedWith, StopsOpening, open_fault}
 
 -- an order that is used with the numbers of a line is within the limits
-pub source-allowed : {I : Type 0} (line : Line) (source : Source I) → IsAllowed line → IsUsedWith line.choices source → IsSourceAllowed source
+pub source-allowed : {I : Type 0} (line : Line) (source : Source I) → IsAllowed line → IsUsedWith line.choices source →
+    IsSourceAllowed source
 source-allowed line Source.Built allowed used = tt
 source-allowed line (Source.Saved input) allowed used = tt
 source-allowed line (Source.Like order fresh hops) allowed used =
@@ -31,10 +32,12 @@ pub source-refused : {I : Type 0} (graph : Reading) (r : Result Unit RunFault) (
 source-refused graph r gives failed Source.Built new reads = tt
 source-refused graph r gives failed (Source.Saved old) Source.Built reads = absurd reads
 source-refused graph r gives failed (Source.Saved old) (Source.Like new fresh hops) reads = absurd reads
-source-refused graph r gives failed (Source.Saved old) (Source.Saved new) reads = record { lines = reads.lines.reads.refused; check = reads.check }
+source-refused graph r gives failed (Source.Saved old) (Source.Saved new) reads =
+    record { lines = reads.lines.reads.refused; check = reads.check }
 source-refused graph r gives failed (Source.Like old fresh hops) Source.Built reads = absurd reads
 source-refused graph r gives failed (Source.Like old fresh hops) (Source.Saved new) reads = absurd reads
-source-refused graph r gives failed (Source.Like old fresh hops) (Source.Like new fresh' hops') reads = record { lines = reads.lines.reads.refused; nodes = reads.order }
+source-refused graph r gives failed (Source.Like old fresh hops) (Source.Like new fresh' hops') reads =
+    record { lines = reads.lines.reads.refused; nodes = reads.order }
 
 -- a refused list of sources, if there is one
 pub list-refused : {I : Type 0} (graph : Reading) (source : SourceReading) (earlier : List Which) (accepted : Type 0) (r : Result Unit RunFault) (gives : I → List ℕ → Result ℕ DeviceFault → I → Type 0) (failed : I → ℕ) (old new : Sources I) →
@@ -48,10 +51,12 @@ open_no_write : (which : Which) (refusal : OpenFault) → IsWrite (open_fault wh
 open_no_write which OpenFault.Refused write = write
 open_no_write which OpenFault.Memory write = write
 
-pub stops_no_write : {F I : Type 0} (opens : F → List ℕ → Result I OpenFault → F → Type 0) (files : List File) (old new : F) (fault : RunFault) → StopsOpening opens files old new fault → IsWrite fault → ⊥
+pub stops_no_write : {F I : Type 0} (opens : F → List ℕ → Result I OpenFault → F → Type 0) (files : List File) (old new : F) (fault : RunFault) →
+    StopsOpening opens files old new fault → IsWrite fault → ⊥
 stops_no_write opens [] old new fault stops write = stops
 stops_no_write opens (file ∷ files) old new fault (inl refused) write = open_no_write file.0 refused.0 (rw refused.2 at write)
 stops_no_write opens (file ∷ files) old new fault (inr later) write = stops_no_write opens files later.1 new fault later.3 write
 
-pub unwritten_so : {T O : Type 0} (r : Result T RunFault) (e : RunFault) → IsErrAnd r (λ y. y ≡ e) → (IsWrite e → ⊥) → (failed idle : O → ℕ) (x : O) → WritesOnce r failed idle x x
+pub unwritten_so : {T O : Type 0} (r : Result T RunFault) (e : RunFault) → IsErrAnd r (λ y. y ≡ e) → (IsWrite e → ⊥) →
+    (failed idle : O → ℕ) (x : O) → WritesOnce r failed idle x x
 unwritten_so r e is other failed idle x = unwritten_once r e is other failed idle x

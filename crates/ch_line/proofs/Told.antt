@@ -23,7 +23,8 @@ use Rattle.ch_line.proofs.Read.{source-read, sources-read}
 use Rattle.ch_line.proofs.Refused.{list-refused, source-refused}
 
 -- requests that were left alone counted no failed read
-none_counted : {J : Type 0} (failed : J → ℕ) (requests requests' : J) → requests' ≡ requests → CountsAtMostOne (failed requests) (failed requests')
+none_counted : {J : Type 0} (failed : J → ℕ) (requests requests' : J) → requests' ≡ requests →
+    CountsAtMostOne (failed requests) (failed requests')
 none_counted failed requests requests' same = inl (ap failed same)
 
 module _ {I J O : Type 0} (gives : Calls I) (origin failed : I → ℕ) (counts : CountsReads gives failed) (gives_requests : Calls J) (failed_requests : J → ℕ) (counts_requests : CountsReads gives_requests failed_requests)
@@ -94,7 +95,8 @@ module _ {I J O : Type 0} (gives : Calls I) (origin failed : I → ℕ) (counts 
         output_told = e.output.writes;
       }
 
-  save_told : RunsSave options (reading gives graph graph') (source_reading gives source source') (source' ≡ source) takes output output' r → requests' ≡ requests → Tells Asked.Hierarchy Asked.Hierarchy
+  save_told : RunsSave options (reading gives graph graph') (source_reading gives source source') (source' ≡ source) takes output output' r →
+      requests' ≡ requests → Tells Asked.Hierarchy Asked.Hierarchy
   save_told went unasked =
       let e = save_tells options gives failed counts graph graph' gives failed counts origin source source' takes failures idle counts_output output output' r same_source went in
       record {
@@ -105,7 +107,8 @@ module _ {I J O : Type 0} (gives : Calls I) (origin failed : I → ℕ) (counts 
         output_told = e.output.writes;
       }
 
-  ask_told : RunsAsk options (reading gives graph graph') (source_reading gives source source') (reading gives_requests requests requests') (source' ≡ source) (requests' ≡ requests) takes output output' r → Tells Asked.Requests Asked.Requests
+  ask_told : RunsAsk options (reading gives graph graph') (source_reading gives source source') (reading gives_requests requests requests') (source' ≡ source) (requests' ≡ requests) takes output output' r →
+      Tells Asked.Requests Asked.Requests
   ask_told went =
       let e = ask_tells options gives failed counts graph graph' gives failed counts origin source source' gives_requests failed_requests counts_requests requests requests' takes failures idle counts_output output output' r same_source went in
       record {

@@ -25,10 +25,12 @@ Opens left (Holds bytes) result = MatchResult result (λ input. left input ≡ S
 abbrev pub OpensWhole : ℕ → FileState → Result MemoryInput OpenFault → Type 0
 OpensWhole most Untold result = ⊥
 OpensWhole most Missing result = result ≡ Err Refused
-OpensWhole most (Holds bytes) result = IsOkAnd result (λ input. (input.left.now ≡ bytes) × (input.most ≡ most) × (input.fault.before ≡ None))
+OpensWhole most (Holds bytes) result =
+    IsOkAnd result (λ input. (input.left.now ≡ bytes) × (input.most ≡ most) × (input.fault.before ≡ None))
 
 -- a file in memory that is opened so has its bytes
-pub whole_opens : (most : ℕ) (state : FileState) (result : Result MemoryInput OpenFault) → OpensWhole most state result → Opens (λ (input : MemoryInput). Some input.left.now) state result
+pub whole_opens : (most : ℕ) (state : FileState) (result : Result MemoryInput OpenFault) → OpensWhole most state result →
+    Opens (λ (input : MemoryInput). Some input.left.now) state result
 whole_opens most Untold result opened = tt
 whole_opens most Missing result opened = rw opened tt
 whole_opens most (Holds bytes) (Ok input) opened = ap (λ (bs : List ℕ). Some bs) opened.0

@@ -42,8 +42,10 @@ pub data QuestionIf : Type 1 where
 -- the question as it is
 abbrev pub question_of : {I : Type 0} → (gives : I → List ℕ → Result ℕ DeviceFault → I → Type 0) → (old new : Asked I) → QuestionIf
 question_of gives (Asked.Queries old) (Asked.Queries new) = OneQuestion (Answers (reading gives old new))
-question_of gives (Asked.Table sources targets) (Asked.Table sources' targets') = OneQuestion (Table (reading gives sources sources') (reading gives targets targets'))
-question_of gives (Asked.Near sources targets) (Asked.Near sources' targets') = OneQuestion (Near (sources_reading gives sources sources') (reading gives targets targets'))
+question_of gives (Asked.Table sources targets) (Asked.Table sources' targets') =
+    OneQuestion (Table (reading gives sources sources') (reading gives targets targets'))
+question_of gives (Asked.Near sources targets) (Asked.Near sources' targets') =
+    OneQuestion (Near (sources_reading gives sources sources') (reading gives targets targets'))
 question_of gives Asked.Hierarchy Asked.Hierarchy = OneQuestion Hierarchy
 question_of gives Asked.Requests Asked.Requests = OneQuestion Requests
 question_of gives _ _ = NoQuestion
@@ -54,8 +56,10 @@ IfAsked graph source NoQuestion P = ⊥
 IfAsked graph source (OneQuestion question) P = P (record { graph = graph; source = source; question = question })
 
 -- the task that inputs are for, with what a run did with each of them, has P
-abbrev pub OfTask : {I : Type 0} → (gives : I → List ℕ → Result ℕ DeviceFault → I → Type 0) → (old new : Inputs I) → (Task → Type 0) → Type 0
-OfTask gives old new P = IfAsked (reading gives old.graph new.graph) (source_reading gives old.source new.source) (question_of gives old.asked new.asked) P
+abbrev pub OfTask : {I : Type 0} → (gives : I → List ℕ → Result ℕ DeviceFault → I → Type 0) → (old new : Inputs I) → (Task → Type 0) →
+    Type 0
+OfTask gives old new P =
+    IfAsked (reading gives old.graph new.graph) (source_reading gives old.source new.source) (question_of gives old.asked new.asked) P
 
 -- a run that answers no requests leaves them alone. The output takes a text with P: the whole text if the run succeeds, its first
 -- bytes if a write failed, and otherwise nothing
@@ -72,14 +76,17 @@ pub record WritesAnswers {J O : Type 0} (IsBefore : RunFault → Type 0) (Serves
   pub device : (result ≡ Err (RunFault.Device Which.Requests)) ↔ (failed requests < failed requests')
 
 -- what the run for a question reads of the requests, and what it writes, with these options
-abbrev pub WritesFor : {J O : Type 0} → Options → Reading → SourceReading → Question → (gives : J → List ℕ → Result ℕ DeviceFault → J → Type 0) → (failed : J → ℕ) → (takes : O → List ℕ → Result ℕ DeviceFault → O → Type 0) → (requests requests' : J) → (old new : O) → Result Unit RunFault → Type 0
+abbrev pub WritesFor : {J O : Type 0} → Options → Reading → SourceReading → Question →
+    (gives : J → List ℕ → Result ℕ DeviceFault → J → Type 0) → (failed : J → ℕ) → (takes : O → List ℕ → Result ℕ DeviceFault → O → Type 0) →
+    (requests requests' : J) → (old new : O) → Result Unit RunFault → Type 0
 WritesFor options graph source (Answers queries) gives failed = WritesText (IsAnsweredBy options graph source queries)
 WritesFor options graph source (Table sources targets) gives failed = WritesText (IsTabledBy options graph source sources targets)
 WritesFor options graph source (Near sources targets) gives failed = WritesText (IsNearBy options graph source sources targets)
 WritesFor options graph source Hierarchy gives failed = WritesText (IsSavedBy options graph source)
 WritesFor options graph source Requests gives failed = WritesAnswers (IsOfLoading source) (ServesBy options graph source) gives failed
 
-abbrev pub Writes : {J O : Type 0} → Options → Task → (gives : J → List ℕ → Result ℕ DeviceFault → J → Type 0) → (failed : J → ℕ) → (takes : O → List ℕ → Result ℕ DeviceFault → O → Type 0) → (requests requests' : J) → (old new : O) → Result Unit RunFault → Type 0
+abbrev pub Writes : {J O : Type 0} → Options → Task → (gives : J → List ℕ → Result ℕ DeviceFault → J → Type 0) → (failed : J → ℕ) →
+    (takes : O → List ℕ → Result ℕ DeviceFault → O → Type 0) → (requests requests' : J) → (old new : O) → Result Unit RunFault → Type 0
 Writes options task gives failed = WritesFor options task.graph task.source task.question gives failed
 
 -- the faults that the run for a question can end in
@@ -109,22 +116,26 @@ RefusesSource graph (OrderFile order fresh hops) result = RefusesOrder graph ord
 -- the lists of a table are refused only for faults that they have
 pub record RefusesTable (graph : Reading) (source : SourceReading) (sources targets : Reading) (result : Result Unit RunFault) : Type 0 where
   pub sources_refused : (fault : ReadFault) → result ≡ Err (RunFault.Read Which.Sources fault) → HasSourcesRefused graph source sources fault
-  pub targets_refused : (fault : ReadFault) → result ≡ Err (RunFault.Read Which.Targets fault) → HasTargetsRefused graph source sources targets fault
+  pub targets_refused : (fault : ReadFault) → result ≡ Err (RunFault.Read Which.Targets fault) →
+      HasTargetsRefused graph source sources targets fault
   pub cells_refused : result ≡ Err RunFault.Cells → HasCellsRefused graph source sources targets
 
 -- a list of sources is refused only for a fault that it has, if one is read
 abbrev pub RefusesSources : Reading → SourceReading → ReadingIf → Result Unit RunFault → Type 0
 RefusesSources graph source NoInput result = ⊤
-RefusesSources graph source (OneInput sources) result = (fault : ReadFault) → result ≡ Err (RunFault.Read Which.Sources fault) → HasSourcesRefused graph source sources fault
+RefusesSources graph source (OneInput sources) result =
+    (fault : ReadFault) → result ≡ Err (RunFault.Read Which.Sources fault) → HasSourcesRefused graph source sources fault
 
 -- the lists of near rows are refused only for faults that they have
 pub record RefusesNear (graph : Reading) (source : SourceReading) (sources : ReadingIf) (targets : Reading) (result : Result Unit RunFault) : Type 0 where
   pub sources_refused : RefusesSources graph source sources result
-  pub targets_refused : (fault : ReadFault) → result ≡ Err (RunFault.Read Which.Targets fault) → HasNearTargetsRefused graph source sources targets fault
+  pub targets_refused : (fault : ReadFault) → result ≡ Err (RunFault.Read Which.Targets fault) →
+      HasNearTargetsRefused graph source sources targets fault
 
 -- the files of a question are refused only for faults that they have. For refused requests, see `Serves`
 abbrev pub RefusesAsked : Reading → SourceReading → Question → Result Unit RunFault → Type 0
-RefusesAsked graph source (Answers queries) result = (fault : ReadFault) → result ≡ Err (RunFault.Read Which.Queries fault) → HasQueriesRefused graph source queries fault
+RefusesAsked graph source (Answers queries) result =
+    (fault : ReadFault) → result ≡ Err (RunFault.Read Which.Queries fault) → HasQueriesRefused graph source queries fault
 RefusesAsked graph source (Table sources targets) result = RefusesTable graph source sources targets result
 RefusesAsked graph source (Near sources targets) result = RefusesNear graph source sources targets result
 RefusesAsked graph source Hierarchy result = ⊤
@@ -184,7 +195,8 @@ abbrev pub AreRead : {I : Type 0} → (origin failed : I → ℕ) → Result Uni
 AreRead origin failed result [] [] = ⊤
 AreRead origin failed result [] (new ∷ news) = ⊥
 AreRead origin failed result (old ∷ olds) [] = ⊥
-AreRead origin failed result (old ∷ olds) (new ∷ news) = (new.0 ≡ old.0) × IsRead origin failed result old.0 old.1 new.1 × AreRead origin failed result olds news
+AreRead origin failed result (old ∷ olds) (new ∷ news) =
+    (new.0 ≡ old.0) × IsRead origin failed result old.0 old.1 new.1 × AreRead origin failed result olds news
 
 -- the run that answers a question about a graph, over the inputs of the question: they are `old` before it and `new` after it. It reads no
 -- requests, unless it answers them. `same_source` says that the source of the hierarchy is as it was
@@ -211,8 +223,10 @@ RunsOver options gives old new gives_requests requests requests' takes output ou
 -- the inputs of a question are still the same ones
 abbrev pub AreSameAsked : {I : Type 0} → (origin : I → ℕ) → (old new : Asked I) → Type 0
 AreSameAsked origin (Asked.Queries old) (Asked.Queries new) = origin new ≡ origin old
-AreSameAsked origin (Asked.Table sources targets) (Asked.Table sources' targets') = (origin sources' ≡ origin sources) × (origin targets' ≡ origin targets)
-AreSameAsked origin (Asked.Near sources targets) (Asked.Near sources' targets') = (sources_origin origin sources' ≡ sources_origin origin sources) × (origin targets' ≡ origin targets)
+AreSameAsked origin (Asked.Table sources targets) (Asked.Table sources' targets') =
+    (origin sources' ≡ origin sources) × (origin targets' ≡ origin targets)
+AreSameAsked origin (Asked.Near sources targets) (Asked.Near sources' targets') =
+    (sources_origin origin sources' ≡ sources_origin origin sources) × (origin targets' ≡ origin targets)
 AreSameAsked origin Asked.Hierarchy Asked.Hierarchy = ⊤
 AreSameAsked origin Asked.Requests Asked.Requests = ⊤
 AreSameAsked origin _ _ = ⊥

@@ -82,7 +82,8 @@ module _ {X : Type 0} where
       (cases_lt k index))
     where
       -- each value after the new one has moved by one
-      moved : (k : ℕ) (d : X) → index ≤ k → index < k → index ≤ length (values_at old was) → k < was.len + 1 → get_or new (room.start + k) d ≡ get_or (insert (values_at old was) index value) k d
+      moved : (k : ℕ) (d : X) → index ≤ k → index < k → index ≤ length (values_at old was) → k < was.len + 1 →
+          get_or new (room.start + k) d ≡ get_or (insert (values_at old was) index value) k d
       moved k d behind above inside below =
           let back : k ≡ (k - 1) + 1 = omega arith in
           ap (λ i. get_or new i d) (let e : room.start + k ≡ room.start + (k - 1) + 1 = omega arith in e)

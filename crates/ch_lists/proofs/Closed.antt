@@ -19,7 +19,8 @@ closed_is p = cases p.len 0
 
 module _ (places : List Place) where
   -- a property of the place without room and of the places of lists that are not empty holds of each of these places
-  closed_from : (P : Place → Type 0) (i : ℕ) (q : Place) → slice_get (map closed places) i ≡ Some q → P nowhere → ((p : Place) → slice_get places i ≡ Some p → 0 < p.len → P p) → P q
+  closed_from : (P : Place → Type 0) (i : ℕ) (q : Place) → slice_get (map closed places) i ≡ Some q → P nowhere →
+      ((p : Place) → slice_get places i ≡ Some p → 0 < p.len → P p) → P q
   closed_from P i q is none some =
       let low = slice_get_within (map closed places) i q is in
       let long = length-map places closed in
@@ -49,7 +50,8 @@ module _ (places : List Place) where
   }
 
   -- with these places the lists can be moved together
-  pub closed_ready : (size : ℕ) (entries : List (ℕ × ℕ)) → ArePlaces places size → AreInOrder places entries → IsReady (map closed places) size entries
+  pub closed_ready : (size : ℕ) (entries : List (ℕ × ℕ)) → ArePlaces places size → AreInOrder places entries →
+      IsReady (map closed places) size entries
   closed_ready size entries are order = record {
     placed = closed_places size are;
     order = record {
@@ -75,7 +77,8 @@ closed_lists values (p ∷ ps) = ap₂ (λ xs ls. xs ∷ ls) (same p) (closed_li
     same q = ⊎_elim (λ w. ap (values_at values) w.1) (λ w. ap (values_at values) w.1 ∙ no_values q w.0) (closed_is q)
 
 -- lists that were moved together from these places were moved together from the places before
-pub packed_from : {X : Type 0} (old new : List X) (places was now : List Place) → was ≡ map closed places → ArePacked old new was now → ArePacked old new places now
+pub packed_from : {X : Type 0} (old new : List X) (places was now : List Place) → was ≡ map closed places → ArePacked old new was now →
+    ArePacked old new places now
 packed_from old new places was now same are = record {
   placed = are.placed;
   same = are.same ∙ ap (lists_at old) same ∙ closed_lists old places;

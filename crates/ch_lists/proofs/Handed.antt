@@ -10,7 +10,8 @@ use Rattle.ch_lists.proofs.Found.{found}
 use Rattle.ch_lists.proofs.Placed.{set_places, apart_back, apart_from, apart_nowhere}
 
 -- the places after a list was handed over
-pub handed_places : (places : List Place) (size from to : ℕ) (p : Place) → ArePlaces places size → slice_get places from ≡ Some p → from ≢ to → ArePlaces (set (set places from nowhere) to p) size
+pub handed_places : (places : List Place) (size from to : ℕ) (p : Place) → ArePlaces places size → slice_get places from ≡ Some p →
+    from ≢ to → ArePlaces (set (set places from nowhere) to p) size
 handed_places places size from to p are at two =
     let emptied = set_places places from size size nowhere are (omega arith) are.small (omega arith) (omega arith) (λ k q _ _. apart_nowhere q) in
     set_places (set places from nowhere) to size size p emptied (omega arith) are.small (are.fits from p at) (are.within from p at)

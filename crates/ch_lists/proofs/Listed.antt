@@ -16,7 +16,8 @@ use Rattle.ch_lists.specs.Packing.{IsEntry, AreListed, AreInOrder}
 use Rattle.ch_lists.proofs.Found.{cases, one}
 
 -- an empty list has no entry
-pub listed_empty : (places : List Place) (n : ℕ) (entries : List (ℕ × ℕ)) (p : Place) → AreListed places n entries → slice_get places n ≡ Some p → p.len ≡ 0 → AreListed places (n + 1) entries
+pub listed_empty : (places : List Place) (n : ℕ) (entries : List (ℕ × ℕ)) (p : Place) → AreListed places n entries →
+    slice_get places n ≡ Some p → p.len ≡ 0 → AreListed places (n + 1) entries
 listed_empty places n entries p are at empty = record {
   entry = λ e has. let w = are.entry e has in (w.0, omega arith);
   each = λ i q low is some. cases i n
@@ -57,7 +58,8 @@ eqb_flips : (a b : ℕ) → eqb a b ≡ eqb b a
 eqb_flips a b = grind (arith, nat_tests)
 
 -- entries of different lists stay so after a permutation
-once_more : (entries sorted : List (ℕ × ℕ)) → AllPairs (λ a b. a.1 ≢ b.1) entries → IsPermutation entries sorted → AllPairs (λ a b. a.1 ≢ b.1) sorted
+once_more : (entries sorted : List (ℕ × ℕ)) → AllPairs (λ a b. a.1 ≢ b.1) entries → IsPermutation entries sorted →
+    AllPairs (λ a b. a.1 ≢ b.1) sorted
 once_more entries sorted once turn i j d before within =
     let numbers = λ (e : ℕ × ℕ). e.1 in
     let distinct = IsDistinct-from_apart eqb (map numbers entries) (λ k m n low high.

@@ -78,7 +78,8 @@ push_places places count size p are start empty small few = record {
 }
 
 -- the lists at empty places are empty
-pub empty_lists : {X : Type 0} (values : List X) (places : List Place) (count size : ℕ) → AreEmptyPlaces count size places → lists_at values places ≡ replicate count []
+pub empty_lists : {X : Type 0} (values : List X) (places : List Place) (count size : ℕ) → AreEmptyPlaces count size places →
+    lists_at values places ≡ replicate count []
 empty_lists {X} values places count size are =
     let l = length-map places (values_at values) in
     let none : List X = [] in

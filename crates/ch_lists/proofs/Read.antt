@@ -18,7 +18,9 @@ module _ {X : Type 0} (values : List X) (places : List Place) (lists : List (Lis
 
   -- the list consists of the values at its place
   pub list_read : get_or lists i [] ≡ values_at values p
-  list_read = ap (λ (ls : List (List X)). get_or ls i []) (sym are) ∙ get_or-map (values_at values) places i p [] within ∙ ap (values_at values) (sym is)
+  list_read =
+      ap (λ (ls : List (List X)). get_or ls i []) (sym are) ∙ get_or-map (values_at values) places i p [] within
+      ∙ ap (values_at values) (sym is)
 
   module _ (placed : ArePlaces places (length values)) (new : List X) (now : Place) (change : List X → List X) (edit : HasEdited values new p now (change (values_at values p))) where
     -- the places after an edit of the list are places of lists

@@ -28,7 +28,8 @@ skipped_places places n size are = record {
 }
 
 -- the remaining lists, at the remaining places
-pub skipped_lists : {X : Type 0} (values : List X) (places left : List Place) (lists : List (List X)) (n : ℕ) → lists_at values places ≡ lists → left ≡ drop n places → lists_at values left ≡ drop n lists
+pub skipped_lists : {X : Type 0} (values : List X) (places left : List Place) (lists : List (List X)) (n : ℕ) →
+    lists_at values places ≡ lists → left ≡ drop n places → lists_at values left ≡ drop n lists
 skipped_lists values places left lists n are is = ap (lists_at values) is ∙ sym (drop-map (values_at values) n places) ∙ ap (drop n) are
 
 -- copying the elements after the first n to the front, and cutting the rest off, drops the first n

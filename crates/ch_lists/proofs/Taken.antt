@@ -17,7 +17,8 @@ abbrev Has : ℕ → Place → Type 0
 Has n p = (p.start ≤ n) × (n < p.start + p.len)
 
 -- the value at n belongs to the list or not, and the list has one more value up to there or no more
-part_more : {P : Type 0} (n : ℕ) (p : Place) → (Has n p → part (n + 1) p ≤ part n p + 1 → P) → ((Has n p → ⊥) → part (n + 1) p ≤ part n p → P) → P
+part_more : {P : Type 0} (n : ℕ) (p : Place) → (Has n p → part (n + 1) p ≤ part n p + 1 → P) →
+    ((Has n p → ⊥) → part (n + 1) p ≤ part n p → P) → P
 part_more n p if_has if_not = ⊎_elim
     (λ (before : n < p.start). if_not (λ h. let a = h.0 in absurd (omega arith)) (omega arith))
     (λ (from : p.start ≤ n). ⊎_elim
@@ -27,7 +28,8 @@ part_more n p if_has if_not = ⊎_elim
     (cases_lt n p.start)
 
 -- if the value at n belongs to no list, the lists have no more values up to there
-none_more : (n : ℕ) (ps : List Place) → ((i : ℕ) (p : Place) → slice_get ps i ≡ Some p → Has n p → ⊥) → sum_by (part (n + 1)) ps ≤ sum_by (part n) ps
+none_more : (n : ℕ) (ps : List Place) → ((i : ℕ) (p : Place) → slice_get ps i ≡ Some p → Has n p → ⊥) →
+    sum_by (part (n + 1)) ps ≤ sum_by (part n) ps
 none_more n [] none = omega arith
 none_more n (p ∷ ps) none =
     let rest = none_more n ps (λ i q is. none (suc i) q is) in
@@ -80,7 +82,8 @@ whole values (p ∷ ps) within =
     omega (arith, sum_by-cons length (values_at values p) (lists_at values ps), sum_by-cons (part (length values)) p ps, length-values_at values p here)
 
 -- the lengths of the lists add up to at most the length of the array
-pub values_fit : {X : Type 0} (values : List X) (places : List Place) (lists : List (List X)) → ArePlaces places (length values) → lists_at values places ≡ lists → sum_by length lists ≤ length values
+pub values_fit : {X : Type 0} (values : List X) (places : List Place) (lists : List (List X)) → ArePlaces places (length values) →
+    lists_at values places ≡ lists → sum_by length lists ≤ length values
 values_fit values places lists are same =
     subst (λ ls. sum_by length ls ≤ length values) same
     (let all = whole values places (λ i p is. let a = are.fits i p is in let b = are.within i p is in omega arith) in

@@ -41,7 +41,8 @@ IsUsed places x = (i : ℕ) × (p : Place) × (slice_get places i ≡ Some p) ×
 -- or after it
 pub record IsMovedUpTo (places : List Place) (entries : List (ℕ × ℕ)) (k end : ℕ) : Type 0 where
   pub ahead : (j : ℕ) (e : ℕ × ℕ) → k ≤ j → slice_get entries j ≡ Some e → IsEntry places e × (end ≤ e.0)
-  pub each : (i : ℕ) (p : Place) → slice_get places i ≡ Some p → (p.start + p.room ≤ end) ⊎ ((j : ℕ) × (e : ℕ × ℕ) × (k ≤ j) × (slice_get entries j ≡ Some e) × (e.1 ≡ i))
+  pub each : (i : ℕ) (p : Place) → slice_get places i ≡ Some p →
+      (p.start + p.room ≤ end) ⊎ ((j : ℕ) × (e : ℕ × ℕ) × (k ≤ j) × (slice_get entries j ≡ Some e) × (e.1 ≡ i))
   pub filled : (x : ℕ) → x < end → IsUsed places x
 
 -- the lists are the same in the new array, and each place of the array is used

@@ -25,14 +25,16 @@ kept_facing To H kept = kept
 kept_facing From H kept = kept_turned H kept
 
 -- a space down is a space up in the reversed hierarchy
-space_down_turned : (H : LevelsAndLegs) (limit : Option ℕ) (s : ℕ) (list : List (ℕ × ℕ)) → IsRankedSpace H Down limit s list → IsRankedSpace (turned_hierarchy H) Up limit s list
+space_down_turned : (H : LevelsAndLegs) (limit : Option ℕ) (s : ℕ) (list : List (ℕ × ℕ)) → IsRankedSpace H Down limit s list →
+    IsRankedSpace (turned_hierarchy H) Up limit s list
 space_down_turned H limit s list space = record {
   distinct = space.distinct;
   sound = space.sound;
   whole = λ v c tight low. space.whole v c (tight.0, least_meeting_turned (turned_hierarchy H) s v c tight.1) low;
 }
 
-space_up_turned : (H : LevelsAndLegs) (limit : Option ℕ) (s : ℕ) (list : List (ℕ × ℕ)) → IsRankedSpace H Up limit s list → IsRankedSpace (turned_hierarchy H) Down limit s list
+space_up_turned : (H : LevelsAndLegs) (limit : Option ℕ) (s : ℕ) (list : List (ℕ × ℕ)) → IsRankedSpace H Up limit s list →
+    IsRankedSpace (turned_hierarchy H) Down limit s list
 space_up_turned H limit s list space = record {
   distinct = space.distinct;
   sound = space.sound;
@@ -53,7 +55,8 @@ target_space From H limit s list space = space_up_turned H limit s list space
 
 -- the distances in the reversed hierarchy are those of each graph that the hierarchy is right for
 module _ (g : Network) (H : LevelsAndLegs) (limits : IsWithinLimits g) (kept : IsKept g H) (limit : Option ℕ) (s t x : ℕ) where
-  pub distance_in : (direction : Direction) → IsDistanceWithin (facing direction H) limit s t (Some x) → IsDistanceIn g direction s t x × IsWithin limit x
+  pub distance_in : (direction : Direction) → IsDistanceWithin (facing direction H) limit s t (Some x) →
+      IsDistanceIn g direction s t x × IsWithin limit x
   distance_in To d =
       let m = least_of H limit s t x d in
       (((meetings_are_distances g H limits kept).distance s t x).1 (m.0, m.1, m.2), m.3)
@@ -61,7 +64,8 @@ module _ (g : Network) (H : LevelsAndLegs) (limits : IsWithinLimits g) (kept : I
       let m = least_of (turned_hierarchy H) limit s t x d in
       (((meetings_are_distances g H limits kept).distance t s x).1 (m.0, least_meeting_turned (turned_hierarchy H) s t m.0 m.1, m.2), m.3)
 
-  pub in_distance : (direction : Direction) → IsDistanceIn g direction s t x → IsWithin limit x → IsDistanceWithin (facing direction H) limit s t (Some x)
+  pub in_distance : (direction : Direction) → IsDistanceIn g direction s t x → IsWithin limit x →
+      IsDistanceWithin (facing direction H) limit s t (Some x)
   in_distance To d low =
       let m = ((meetings_are_distances g H limits kept).distance s t x).0 d in
       subst (λ q. IsDistanceWithin H limit s t (Some q)) m.2 (of_least H limit s t m.0 m.1 (subst (IsWithin limit) (sym m.2) low))

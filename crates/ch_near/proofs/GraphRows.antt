@@ -15,8 +15,10 @@ use Rattle.ch_near.proofs.Distances.{least_of, of_least}
 use Rattle.ch_near.proofs.Facing.{distance_in, in_distance}
 
 -- equivalent properties have the same first pairs
-pub first_alike : (count : Option ℕ) (P Q : ℕ × ℕ → Type 0) (list : List (ℕ × ℕ)) → ((e : ℕ × ℕ) → P e → Q e) → ((e : ℕ × ℕ) → Q e → P e) → AreFirst count P list → AreFirst count Q list
-first_alike count P Q list to from first = record { order = first.order; few = first.few; sound = λ e c. to e (first.sound e c); whole = λ e q. first.whole e (from e q) }
+pub first_alike : (count : Option ℕ) (P Q : ℕ × ℕ → Type 0) (list : List (ℕ × ℕ)) → ((e : ℕ × ℕ) → P e → Q e) → ((e : ℕ × ℕ) → Q e → P e) →
+    AreFirst count P list → AreFirst count Q list
+first_alike count P Q list to from first =
+    record { order = first.order; few = first.few; sound = λ e c. to e (first.sound e c); whole = λ e q. first.whole e (from e q) }
 
 -- a near row is a near row of each graph that the hierarchy is right for
 pub row_of_graph : (g : Network) (H : LevelsAndLegs) (direction : Direction) (limit count : Option ℕ) (targets : List ℕ) (s : ℕ) (row : List (ℕ × ℕ)) → IsWithinLimits g → IsKept g H →

@@ -28,7 +28,8 @@ use Rattle.ch_near.proofs.Orders.{nearer_in_order, apart_in_order, nearer_never}
 use Rattle.ch_near.proofs.Firsts.{IsBeaten, first_of}
 
 -- the elements of related lists are related at each place
-pub zip_at : {X Y : Type 0} (R : X → Y → Type 0) (d : X) (e : Y) (xs : List X) (ys : List Y) → AllZip R xs ys → (j : ℕ) → j < length xs → R (get_or xs j d) (get_or ys j e)
+pub zip_at : {X Y : Type 0} (R : X → Y → Type 0) (d : X) (e : Y) (xs : List X) (ys : List Y) → AllZip R xs ys → (j : ℕ) → j < length xs →
+    R (get_or xs j d) (get_or ys j e)
 zip_at R d e [] [] h j lt = absurd (omega arith)
 zip_at R d e [] (y ∷ ys) h j lt = absurd h
 zip_at R d e (x ∷ xs) [] h j lt = absurd h
@@ -64,7 +65,8 @@ module _ (H : LevelsAndLegs) (limit count : Option ℕ) (targets : List ℕ) (bu
   down_at j lt = zip_at (IsRankedSpace H Down limit) 0 [] targets hold.spaces hold.each j lt
 
   -- an entry of a bucket is an entry of a space
-  pub entry_at : (rank : ℕ) (e : ℕ × ℕ) → rank < nodes_of H → Contains (slice_index_or buckets rank []) e → (e.1 < length targets) × Contains (down e.1) (rank, e.0)
+  pub entry_at : (rank : ℕ) (e : ℕ × ℕ) → rank < nodes_of H → Contains (slice_index_or buckets rank []) e →
+      (e.1 < length targets) × Contains (down e.1) (rank, e.0)
   entry_at rank e lt c =
       let r = (hold.held.each rank lt).sound e c in
       let size = spaces_count in

@@ -70,7 +70,8 @@ in_among n list among f c = All-contains (λ (e : ℕ × ℕ). (e.0 ≤ MOST_WEI
 
 module _ (H : LevelsAndLegs) (kept : IsKeptForSome H) where
   -- the weight of a walk within the limit is at least a distance
-  walk_distance : (limit : Option ℕ) (s t : ℕ) (d : Cost) → IsWalkCost kept.0 s t d → IsWithin limit d.weight → (y : ℕ) × IsDistanceWithin H limit s t (Some y) × (y ≤ d.weight)
+  walk_distance : (limit : Option ℕ) (s t : ℕ) (d : Cost) → IsWalkCost kept.0 s t d → IsWithin limit d.weight →
+      (y : ℕ) × IsDistanceWithin H limit s t (Some y) × (y ≤ d.weight)
   walk_distance limit s t d walk low = elim ((kept_has_walks kept.0 H kept.1 kept.2).decided s t) [
     | inl found ↦
         let c = found.0 in
@@ -82,7 +83,8 @@ module _ (H : LevelsAndLegs) (kept : IsKeptForSome H) where
 
   -- a distance is the weight of a least walk
   distance_walk : (limit : Option ℕ) (s t x : ℕ) → IsDistanceWithin H limit s t (Some x) → (c : Cost) × IsLeast kept.0 s t c × (c.weight ≡ x)
-  distance_walk limit s t x d = let m = least_of H limit s t x d in (m.0, ((meetings_are_distances kept.0 H kept.1 kept.2).least s t m.0).1 m.1, m.2)
+  distance_walk limit s t x d =
+      let m = least_of H limit s t x d in (m.0, ((meetings_are_distances kept.0 H kept.1 kept.2).least s t m.0).1 m.1, m.2)
 
   -- a distance is at most the greatest weight of a path
   pub distance_light : (limit : Option ℕ) (s t x : ℕ) → IsDistanceWithin H limit s t (Some x) → x ≤ MOST_WEIGHT
@@ -180,7 +182,8 @@ module _ (H : LevelsAndLegs) (kept : IsKeptForSome H) where
     row_of_leg l has = let r = leg_row l has in done.each l.node r.0 r.1
 
     -- an entry of the legs comes from a leg
-    leg_of : (rank weight : ℕ) → Contains (map entry_of_leg legs) (rank, weight) → (l : Leg) × Contains (row H.up v) l × (rank_of H l.node ≡ rank) × (l.cost.weight ≡ weight)
+    leg_of : (rank weight : ℕ) → Contains (map entry_of_leg legs) (rank, weight) →
+        (l : Leg) × Contains (row H.up v) l × (rank_of H l.node ≡ rank) × (l.cost.weight ≡ weight)
     leg_of rank weight c =
         let r = contains_map_of entry_of_leg legs (rank, weight) c in
         let l = contains_map_of (ranked_leg H) (row H.up v) r.0 (subst (λ q. Contains q r.0) ranked r.1) in

@@ -16,7 +16,8 @@ IsDistanceIn g From s t x = IsDistance g t s x
 -- the weight is the least of a walk between s and the target at this place, in this direction, and it is within the
 -- limit
 abbrev pub IsWalkTo : Network → Direction → Option ℕ → List ℕ → ℕ → ℕ × ℕ → Type 0
-IsWalkTo g direction limit targets s e = (e.1 < length targets) × IsDistanceIn g direction s (slice_index targets e.1) e.0 × IsWithin limit e.0
+IsWalkTo g direction limit targets s e =
+    (e.1 < length targets) × IsDistanceIn g direction s (slice_index targets e.1) e.0 × IsWithin limit e.0
 
 -- the targets whose least weight of a walk is within the limit, each as that weight and its place. The row has the
 -- first `count` in order of weight and then of place, or all without such a number

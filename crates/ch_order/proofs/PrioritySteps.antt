@@ -20,7 +20,8 @@ use Rattle.ch_contract.proofs.theory.OrderSteps.{ComesBefore, then_legs, last_to
 -- the key of each remaining node is its priority after these steps, and no contracted node has a key
 pub record AreKept (k : ℕ) (by : OrderBy) (n h : ℕ) (order : List ℕ) (L : ℕ → Legs) (keys : List (Option ℤ)) : Type 0 where
   pub size : length keys ≡ n
-  pub left : (x : ℕ) → x < n → (Contains order x → ⊥) → (p : ℤ) × (key_of keys x ≡ Some p) × IsPriorityFrom k by n h order L (length order) x p
+  pub left : (x : ℕ) → x < n → (Contains order x → ⊥) →
+      (p : ℤ) × (key_of keys x ≡ Some p) × IsPriorityFrom k by n h order L (length order) x p
   pub taken : (x : ℕ) → Contains order x → key_of keys x ≡ None
 
 -- a node with a key is below the number of keys
@@ -73,13 +74,15 @@ module _ (k : ℕ) (by : OrderBy) (n h : ℕ) (order : List ℕ) (L : ℕ → Le
 
 module _ (k : ℕ) (by : OrderBy) (n h : ℕ) (order : List ℕ) (L : ℕ → Legs) (keys : List (Option ℤ)) (a : AreKept k by n h order L keys) (from : k ≤ length order) (v : ℕ) (M : Legs) (after : List (Option ℤ)) (size : length after ≡ length keys) (taken : key_of after v ≡ None) (v_left : Contains order v → ⊥) (depth : ℕ → ℕ) (deep : (x : ℕ) → depth x ≡ depth_after (more order L v M) (legs_more order L v M) (length order + 1) x) (anew : (x : ℕ) → are_neighbours (L (length order)) v x ≡ true → HasPriority (IsPriorityBy by n h M depth) after x) (kept : (x : ℕ) → x ≢ v → are_neighbours (L (length order)) v x ≡ false → key_of after x ≡ key_of keys x) (gone : (x : ℕ) → Contains order x → are_neighbours (L (length order)) v x ≡ false) where
   -- a neighbour gets its priority with the legs after the step, and the others keep theirs
-  priority_of : (b : Bool) (x : ℕ) → are_neighbours (L (length order)) v x ≡ b → x < n → x ≢ v → (Contains order x → ⊥) → (p : ℤ) × (key_of after x ≡ Some p) × IsPriorityFrom k by n h (more order L v M) (legs_more order L v M) (length order + 1) x p
+  priority_of : (b : Bool) (x : ℕ) → are_neighbours (L (length order)) v x ≡ b → x < n → x ≢ v → (Contains order x → ⊥) →
+      (p : ℤ) × (key_of after x ≡ Some p) × IsPriorityFrom k by n h (more order L v M) (legs_more order L v M) (length order + 1) x p
   priority_of b x e lt ne away = at b e
     where
       same : are_neighbours (legs_more order L v M (length order)) (slice_index (more order L v M) (length order)) x ≡ are_neighbours (L (length order)) v x
       same = λ i. are_neighbours (now order L v M i) (here order L v M i) x
 
-      at : (b : Bool) → are_neighbours (L (length order)) v x ≡ b → (p : ℤ) × (key_of after x ≡ Some p) × IsPriorityFrom k by n h (more order L v M) (legs_more order L v M) (length order + 1) x p
+      at : (b : Bool) → are_neighbours (L (length order)) v x ≡ b →
+          (p : ℤ) × (key_of after x ≡ Some p) × IsPriorityFrom k by n h (more order L v M) (legs_more order L v M) (length order + 1) x p
       at true e =
           let r = anew x e in
           let deeper = subst (λ (f : ℕ → ℕ). IsPriorityBy by n h M f x r.0) (λ t y. deep y t) r.2 in

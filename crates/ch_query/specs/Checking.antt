@@ -49,7 +49,8 @@ IsSumIfShortcut H l = (v : ℕ) → l.middle ≡ Some v → IsSumOver H l v
 
 -- the cost of the leg of a row at this node, or none if there is no such leg
 abbrev pub IsRowCost : List Leg → ℕ → Option Cost → Type 0
-IsRowCost legs x answer = MatchOption answer ((l : Leg) → Contains legs l → l.node ≢ x) (λ c. (l : Leg) × Contains legs l × (l.node ≡ x) × (l.cost ≡ c))
+IsRowCost legs x answer =
+    MatchOption answer ((l : Leg) → Contains legs l → l.node ≢ x) (λ c. (l : Leg) × Contains legs l × (l.node ≡ x) × (l.cost ≡ c))
 
 -- the cost of the only leg from u to w, or none if there is no such leg
 abbrev pub IsLegCost : LevelsAndLegs → ℕ → ℕ → Option Cost → Type 0

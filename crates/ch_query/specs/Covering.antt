@@ -51,4 +51,5 @@ pub record AreApart (H : LevelsAndLegs) (x y : Search) (most : Cost) : Type 0 wh
   pub there : IsUnderway H y
   pub stalls : (x.stalls ≡ false) × (y.stalls ≡ false)
   pub limits : IsMost (Some most.weight) x.most × IsMost (Some most.weight) y.most
-  pub apart : (v : ℕ) (a b : Cost) → IsSettled (costs_of H x) (keys_of H x) v a → IsSettled (costs_of H y) (keys_of H y) v b → IsBelow most (cost_sum a b)
+  pub apart : (v : ℕ) (a b : Cost) → IsSettled (costs_of H x) (keys_of H x) v a → IsSettled (costs_of H y) (keys_of H y) v b →
+      IsBelow most (cost_sum a b)

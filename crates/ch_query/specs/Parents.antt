@@ -18,13 +18,15 @@ pub record IsParent (rows : List (List Leg)) (best queue : List (Option Cost)) (
 
 -- if the leg l from u gives its end the cost of that end, the parent of that end is at most u
 abbrev pub IsNoEarlier : ℕ → List (Option Cost) → List ℕ → ℕ → Cost → Leg → Type 0
-IsNoEarlier most best parents u c l = c.weight + l.cost.weight ≤ most → cost_at best l.node ≡ Some (cost_sum c l.cost) → slice_index parents l.node ≤ u
+IsNoEarlier most best parents u c l =
+    c.weight + l.cost.weight ≤ most → cost_at best l.node ≡ Some (cost_sum c l.cost) → slice_index parents l.node ≤ u
 
 -- each reached node except the source has a parent, and no settled node of a lesser number gives it its cost
 pub record AreParents (most : ℕ) (rows : List (List Leg)) (s : ℕ) (Idle : ℕ → Cost → Type 0) (best queue : List (Option Cost)) (parents : List ℕ) : Type 0 where
   pub size : length parents ≡ length best
   pub led : (x : ℕ) (e : Cost) → x ≢ s → cost_at best x ≡ Some e → IsParent rows best queue x e (slice_index parents x)
-  pub first : (u : ℕ) (c : Cost) → IsSettled best queue u c → Idle u c ⊎ ((l : Leg) → Contains (row rows u) l → IsNoEarlier most best parents u c l)
+  pub first : (u : ℕ) (c : Cost) → IsSettled best queue u c →
+      Idle u c ⊎ ((l : Leg) → Contains (row rows u) l → IsNoEarlier most best parents u c l)
 
 -- l leads up from u to x, and is the last leg of a least path from a
 abbrev pub IsLast : List (List Leg) → ℕ → ℕ → ℕ → Leg → Type 0

@@ -32,7 +32,8 @@ pub record IsSearch (most : ℕ) (rows : List (List Leg)) (s : ℕ) (Idle : ℕ 
   -- no settled node costs more than a queued one
   pub order : (v w : ℕ) (c d : Cost) → IsSettled best queue v c → cost_at queue w ≡ Some d → IsAtMost c d
   -- the legs of a settled node were taken, or the node is idle
-  pub frontier : (v : ℕ) (c : Cost) → IsSettled best queue v c → Idle v c ⊎ ((l : Leg) → Contains (row rows v) l → IsRelaxedFrom most best c l)
+  pub frontier : (v : ℕ) (c : Cost) → IsSettled best queue v c →
+      Idle v c ⊎ ((l : Leg) → Contains (row rows v) l → IsRelaxedFrom most best c l)
 
 -- v is a node in the queue with the least key, which is c
 pub record IsLeastKey (queue : List (Option Cost)) (v : ℕ) (c : Cost) : Type 0 where
@@ -59,7 +60,8 @@ pub record IsStalled (rows back : List (List Leg)) (s v : ℕ) (c : Cost) : Type
 
 -- no idle node is on an upward path to m that costs at most c
 abbrev pub AvoidsIdle : List (List Leg) → (ℕ → Cost → Type 0) → ℕ → Cost → Type 0
-AvoidsIdle rows Idle m c = (x : ℕ) (e : Cost) (legs : List Leg) → Idle x e → IsUpwardPath rows x m legs → IsAtMost (cost_sum e (path_cost legs)) c → ⊥
+AvoidsIdle rows Idle m c =
+    (x : ℕ) (e : Cost) (legs : List Leg) → Idle x e → IsUpwardPath rows x m legs → IsAtMost (cost_sum e (path_cost legs)) c → ⊥
 
 abbrev pub is_none : Option Cost → Bool
 is_none None = true
@@ -80,7 +82,8 @@ pub record WouldLower (best : List (Option Cost)) (w : ℕ) (d : Cost) : Type 0 
 
 -- the change when a leg of v, settled at cost c, is taken. Either no cost falls, and the lesser parent stays. Or the
 -- leg's node gets the sum as cost and key, and v as parent
-abbrev pub Relaxes : ℕ → List (Option Cost) → List (Option Cost) → List ℕ → ℕ → Cost → Leg → List (Option Cost) → List (Option Cost) → List ℕ → Type 0
+abbrev pub Relaxes : ℕ → List (Option Cost) → List (Option Cost) → List ℕ → ℕ → Cost → Leg → List (Option Cost) → List (Option Cost) →
+    List ℕ → Type 0
 Relaxes most best queue parents v c l best' queue' parents' =
     ((best' ≡ best) × (queue' ≡ queue) × IsRelaxedFrom most best c l
     × (((c.weight + l.cost.weight ≤ most → cost_at best l.node ≡ Some (cost_sum c l.cost) → slice_index parents l.node ≤ v) × (parents' ≡ parents))

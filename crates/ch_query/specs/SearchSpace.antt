@@ -31,5 +31,6 @@ pub record IsSearchSpace (H : LevelsAndLegs) (side : Side) (limit : Option ℕ) 
 -- the same by the ranks of nodes, in any order
 pub record IsRankedSpace (H : LevelsAndLegs) (side : Side) (limit : Option ℕ) (s : ℕ) (list : List (ℕ × ℕ)) : Type 0 where
   pub distinct : AllPairs (λ a b. a.0 ≢ b.0) list
-  pub sound : (rank x : ℕ) → Contains list (rank, x) → (v : ℕ) × (v < nodes_of H) × (rank_of H v ≡ rank) × IsPathWeight (rows_of H side) s v x × IsWithin limit x
+  pub sound : (rank x : ℕ) → Contains list (rank, x) →
+      (v : ℕ) × (v < nodes_of H) × (rank_of H v ≡ rank) × IsPathWeight (rows_of H side) s v x × IsWithin limit x
   pub whole : (v : ℕ) (c : Cost) → IsTight H side s v c → IsWithin limit c.weight → (v < nodes_of H) × Contains list (rank_of H v, c.weight)

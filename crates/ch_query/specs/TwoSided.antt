@@ -16,7 +16,8 @@ IsSeen best_up queue_up best_down queue_down least =
 
 -- the least sum is the sum of the costs of two paths
 abbrev pub IsFound : LevelsAndLegs → ℕ → ℕ → Option (Cost × ℕ) → Type 0
-IsFound H s t least = (e : Cost × ℕ) → least ≡ Some e → (a b : Cost) × IsUpwardCost H.up s e.1 a × IsUpwardCost H.down t e.1 b × (cost_sum a b ≡ e.0)
+IsFound H s t least =
+    (e : Cost × ℕ) → least ≡ Some e → (a b : Cost) × IsUpwardCost H.up s e.1 a × IsUpwardCost H.down t e.1 b × (cost_sum a b ≡ e.0)
 
 -- for each key of the second queue, the first queue has a key that is at most that
 abbrev pub LeadsKeys : List (Option Cost) → List (Option Cost) → Type 0

@@ -82,7 +82,8 @@ leg_of_ranked r = record { node = r.rank; cost = record { weight = r.weight; arc
 
 -- the change of the lists by rank when a leg of v, settled at cost c, is taken
 abbrev pub RelaxesByRank : Search → ℕ → Cost → RankedLeg → Search → Type 0
-RelaxesByRank x v c r y = Relaxes x.most x.labels.costs x.queue x.labels.parents v c (leg_of_ranked r) y.labels.costs y.queue y.labels.parents
+RelaxesByRank x v c r y =
+    Relaxes x.most x.labels.costs x.queue x.labels.parents v c (leg_of_ranked r) y.labels.costs y.queue y.labels.parents
 
 -- the change of the lists by node when a leg of v, settled at cost c, is taken
 abbrev pub RelaxesIn : LevelsAndLegs → Search → ℕ → Cost → Leg → Search → Type 0
@@ -96,7 +97,8 @@ KeepsSettled H x y = (v : ℕ) (c : Cost) → IsSettled (costs_of H y) (keys_of 
 pub record IsPartlyExpanded (H : LevelsAndLegs) (x y : Search) (v : ℕ) (c : Cost) (legs : List Leg) : Type 0 where
   pub same : IsSameSearch x y
   pub expanding : IsExpandingAt H y v c
-  pub relaxed : (l : Leg) → Contains legs l → IsRelaxedFrom y.most (costs_of H y) c l × IsNoEarlier y.most (costs_of H y) (parents_of H y) v c l
+  pub relaxed : (l : Leg) → Contains legs l →
+      IsRelaxedFrom y.most (costs_of H y) c l × IsNoEarlier y.most (costs_of H y) (parents_of H y) v c l
   pub settled : KeepsSettled H x y
   pub measure : count_unsettled_in H y ≡ count_unsettled_in H x
 

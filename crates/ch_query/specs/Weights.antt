@@ -81,7 +81,8 @@ pub record IsSameSide (H : LevelsAndLegs) (side : Side) (x y : WeightSearch) : T
 
 -- each node that is settled on this side in y was settled in x, at the same cost
 abbrev pub KeepsSide : LevelsAndLegs → Side → WeightSearch → WeightSearch → Type 0
-KeepsSide H side x y = (v : ℕ) (c : Cost) → IsSettled (side_costs H side y) (side_keys H side y) v c → IsSettled (side_costs H side x) (side_keys H side x) v c
+KeepsSide H side x y =
+    (v : ℕ) (c : Cost) → IsSettled (side_costs H side y) (side_keys H side y) v c → IsSettled (side_costs H side x) (side_keys H side x) v c
 
 -- the number of states of this side that are not settled
 abbrev pub count_unsettled_on : LevelsAndLegs → Side → WeightSearch → ℕ
@@ -133,8 +134,10 @@ pub record IsCleanFor (n : ℕ) (x : WeightSearch) : Type 0 where
 pub record IsLeastSoFar (H : LevelsAndLegs) (x : WeightSearch) (least : ℕ) : Type 0 where
   pub weighing : IsWeighing H x
   pub small : least ≤ UNREACHED
-  pub seen : (v : ℕ) (a b : Cost) → IsSettled (side_costs H Up x) (side_keys H Up x) v a → IsSettled (side_costs H Down x) (side_keys H Down x) v b → least ≤ a.weight + b.weight
-  pub found : least < UNREACHED → (v : ℕ) × (a b : Cost) × IsUpwardCost (rows_of (weighed H) Up) x.start v a × IsUpwardCost (rows_of (weighed H) Down) x.end v b × (a.weight + b.weight ≡ least)
+  pub seen : (v : ℕ) (a b : Cost) → IsSettled (side_costs H Up x) (side_keys H Up x) v a →
+      IsSettled (side_costs H Down x) (side_keys H Down x) v b → least ≤ a.weight + b.weight
+  pub found : least < UNREACHED →
+      (v : ℕ) × (a b : Cost) × IsUpwardCost (rows_of (weighed H) Up) x.start v a × IsUpwardCost (rows_of (weighed H) Down) x.end v b × (a.weight + b.weight ≡ least)
 
 -- each remaining key is at least this
 abbrev pub AreKeysFrom : List (Option ℕ) → ℕ → Type 0
@@ -156,8 +159,10 @@ without_state x state = record x { queue = slice_set x.queue state None }
 -- ranks and weights of settled states of one side, each rank once, and among them all states that need to be expanded
 pub record AreUnstalledOn (H : LevelsAndLegs) (side : Side) (x : WeightSearch) (list : List (ℕ × ℕ)) : Type 0 where
   pub distinct : AllPairs (λ a b. a.0 ≢ b.0) list
-  pub settled : (rank weight : ℕ) → Contains list (rank, weight) → (v : ℕ) × (v < nodes_of H) × (rank_of H v ≡ rank) × IsSettled (side_costs H side x) (side_keys H side x) v (weight_cost weight)
-  pub whole : (v : ℕ) (c : Cost) → IsSettled (side_costs H side x) (side_keys H side x) v c → is_idle_on H side (source_of x side) v c ⊎ Contains list (rank_of H v, c.weight)
+  pub settled : (rank weight : ℕ) → Contains list (rank, weight) →
+      (v : ℕ) × (v < nodes_of H) × (rank_of H v ≡ rank) × IsSettled (side_costs H side x) (side_keys H side x) v (weight_cost weight)
+  pub whole : (v : ℕ) (c : Cost) → IsSettled (side_costs H side x) (side_keys H side x) v c →
+      is_idle_on H side (source_of x side) v c ⊎ Contains list (rank_of H v, c.weight)
 
 -- a search that has begun on this side alone, and has settled nothing
 pub record HasBegunOn (H : LevelsAndLegs) (side : Side) (x : WeightSearch) : Type 0 where

@@ -87,7 +87,8 @@ onto_first-append : (x : ℕ) (parts more : List (List ℕ)) → 0 < length part
 onto_first-append x [] more some = absurd (omega arith)
 onto_first-append x (part ∷ parts) more some = refl
 
-split-feed : (xs ys : List ℕ) → slice_split (λ b. eqb b 10) (xs ++ 10 ∷ ys) ≡ slice_split (λ b. eqb b 10) xs ++ slice_split (λ b. eqb b 10) ys
+split-feed : (xs ys : List ℕ) →
+    slice_split (λ b. eqb b 10) (xs ++ 10 ∷ ys) ≡ slice_split (λ b. eqb b 10) xs ++ slice_split (λ b. eqb b 10) ys
 split-feed [] ys = refl
 split-feed (x ∷ xs) ys = at (eqb x 10) (split-feed xs ys)
   where
@@ -99,7 +100,8 @@ split-feed (x ∷ xs) ys = at (eqb x 10) (split-feed xs ys)
         let some : 0 < length (slice_split (λ b. eqb b 10) xs) = omega (arith, length-slice_split (λ b. eqb b 10) xs) in
         ap (onto_first x) more ∙ onto_first-append x (slice_split (λ b. eqb b 10) xs) (slice_split (λ b. eqb b 10) ys) some
 
-without_empty_last-append : (front back : List (List ℕ)) → 0 < length back → without_empty_last (front ++ back) ≡ front ++ without_empty_last back
+without_empty_last-append : (front back : List (List ℕ)) → 0 < length back →
+    without_empty_last (front ++ back) ≡ front ++ without_empty_last back
 without_empty_last-append [] back some = refl
 without_empty_last-append (part ∷ parts) back some =
     let more : 0 < length (parts ++ back) = omega (arith, length-append parts back) in
@@ -115,7 +117,8 @@ lines-append xs ys =
     whole ∙ ap (λ ls. ls ++ lines ys) (sym first)
 
 -- the lines of bytes that are cut after a line feed
-pub lines_cut : (bytes : List ℕ) (at : ℕ) → at < length bytes → get_or bytes at 0 ≡ 10 → lines bytes ≡ lines (take (at + 1) bytes) ++ lines (drop (at + 1) bytes)
+pub lines_cut : (bytes : List ℕ) (at : ℕ) → at < length bytes → get_or bytes at 0 ≡ 10 →
+    lines bytes ≡ lines (take (at + 1) bytes) ++ lines (drop (at + 1) bytes)
 lines_cut bytes at within feed =
     let front : take (at + 1) bytes ≡ take at bytes ++ 10 ∷ [] = take_more bytes at 0 within ∙ ap (λ b. take at bytes ++ b ∷ []) feed in
     let back : drop at bytes ≡ 10 ∷ drop (at + 1) bytes = drop_more bytes at 0 within ∙ ap (λ b. b ∷ drop (at + 1) bytes) feed in
@@ -132,10 +135,12 @@ no_lines a b form h = record {
   second_within = λ k d lt. absurd (omega arith);
 }
 
-items_in-append : (form : Form) (part : Part) (front back : List (List ℕ)) → items_in form part (front ++ back) ≡ items_in form part front ++ items_in form part back
+items_in-append : (form : Form) (part : Part) (front back : List (List ℕ)) →
+    items_in form part (front ++ back) ≡ items_in form part front ++ items_in form part back
 items_in-append form part front back = filter_map-append (λ line. item form part (words line)) front back
 
-values_in-append : {T : Type 0} (of : Item → T) (form : Form) (part : Part) (front back : List (List ℕ)) → values_in of form part (front ++ back) ≡ values_in of form part front ++ values_in of form part back
+values_in-append : {T : Type 0} (of : Item → T) (form : Form) (part : Part) (front back : List (List ℕ)) →
+    values_in of form part (front ++ back) ≡ values_in of form part front ++ values_in of form part back
 values_in-append of form part front back =
     ap (map (λ ns. of (item_from ns))) (items_in-append form part front back) ∙ map-append (λ ns. of (item_from ns)) (items_in form part front) (items_in form part back)
 
@@ -160,13 +165,15 @@ first_stays : (xs ys : List Heading) (h : Heading) → slice_get xs 0 ≡ Some h
 first_stays [] ys h e = absurd (none-some h e)
 first_stays (x ∷ xs) ys h e = e
 
-heading_stays : (form : Form) (front back : List (List ℕ)) (h : Heading) → heading_in form front ≡ Some h → heading_in form (front ++ back) ≡ Some h
+heading_stays : (form : Form) (front back : List (List ℕ)) (h : Heading) → heading_in form front ≡ Some h →
+    heading_in form (front ++ back) ≡ Some h
 heading_stays form front back h e =
     ap (λ (hs : List Heading). slice_get hs 0) (filter_map-append (λ line. heading form (words line)) front back)
     ∙ first_stays (filter_map (λ line. heading form (words line)) front) (filter_map (λ line. heading form (words line)) back) h e
 
 -- before an item line there are fewer items of its part than among all lines
-room_at : (form : Form) (part : Part) (ls : List (List ℕ)) (j : ℕ) (ns : List ℕ) → j < length ls → item form part (words (get_or ls j [])) ≡ Some ns → length (items_in form part (take j ls)) < length (items_in form part ls)
+room_at : (form : Form) (part : Part) (ls : List (List ℕ)) (j : ℕ) (ns : List ℕ) → j < length ls →
+    item form part (words (get_or ls j [])) ≡ Some ns → length (items_in form part (take j ls)) < length (items_in form part ls)
 room_at form part ls j ns lt is =
     let whole : ls ≡ take j ls ++ get_or ls j [] ∷ drop (j + 1) ls = sym (take-append-drop j ls) ∙ ap (λ ds. take j ls ++ ds) (drop_more ls j [] lt) in
     let cut : items_in form part ls ≡ items_in form part (take j ls) ++ ns ∷ items_in form part (drop (j + 1) ls) =
@@ -239,13 +246,16 @@ module _ {A B : Type 0} (a : Item → A) (b : Item → B) (form : Form) (front l
   }
 
   pub sections_first : (bytes : List ℕ) → lines bytes ≡ file → first ≡ values_in a form First (lines bytes)
-  sections_first bytes is = section.first_is ∙ ap (map (λ ns. a (item_from ns))) (sym (behind_head First ls)) ∙ ap (values_in a form First) (sym is)
+  sections_first bytes is =
+      section.first_is ∙ ap (map (λ ns. a (item_from ns))) (sym (behind_head First ls)) ∙ ap (values_in a form First) (sym is)
 
   pub sections_second : (bytes : List ℕ) → lines bytes ≡ file → second ≡ values_in b form Second (lines bytes)
-  sections_second bytes is = section.second_is ∙ ap (map (λ ns. b (item_from ns))) (sym (behind_head Second ls)) ∙ ap (values_in b form Second) (sym is)
+  sections_second bytes is =
+      section.second_is ∙ ap (map (λ ns. b (item_from ns))) (sym (behind_head Second ls)) ∙ ap (values_in b form Second) (sym is)
 
 -- the place of a line feed that was found from a place on
-pub feed_from : (bytes : List ℕ) (from at : ℕ) → position (λ b. eqb b 10) (drop from bytes) ≡ Some at → (from + at < length bytes) × (get_or bytes (from + at) 0 ≡ 10)
+pub feed_from : (bytes : List ℕ) (from at : ℕ) → position (λ b. eqb b 10) (drop from bytes) ≡ Some at →
+    (from + at < length bytes) × (get_or bytes (from + at) 0 ≡ 10)
 feed_from bytes from at e =
     let found = split_at (λ b. eqb b 10) (drop from bytes) at e in
     let within : at < length (drop from bytes) = found.0 in
@@ -278,7 +288,8 @@ lists_more {A} {B} {Y} {Z} sections firsts seconds x items is lists =
 module _ {A B Y Z : Type 0} (a : Item → A) (b : Item → B) (form : Form) (h : Heading) where
   -- the clause on the reading of one section
   abbrev pub IsReadOf : Bor (List ℕ) → Option (Vec A Y × Vec B Z) → Type 0
-  IsReadOf section read = MatchOption read (Unit {0}) (λ (items : Vec A Y × Vec B Z). IsSection a b form h (lines section.now) items.0.items items.1.items)
+  IsReadOf section read =
+      MatchOption read (Unit {0}) (λ (items : Vec A Y × Vec B Z). IsSection a b form h (lines section.now) items.0.items items.1.items)
 
   gathered : (sections : List (Bor (List ℕ))) (read : List (Option (Vec A Y × Vec B Z))) → AllZip IsReadOf sections read → All (λ x. is_some x ≡ true) read →
       IsSection a b form h (flat_map (λ (s : Bor (List ℕ)). lines s.now) sections) (flat_map first_of read) (flat_map second_of read)

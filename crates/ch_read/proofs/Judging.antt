@@ -32,7 +32,8 @@ and_next front next ws rest None begins other = λ more count. rw append_assoc (
 and_next front next ws rest (Some after) begins again = λ more count. rw append_assoc (begins (next ++ more) count ∙ again more count)
 
 -- the numbers after the words before them
-pub numbers_next : (front ws rest : List (List ℕ)) (count : ℕ) → IsAfter front ws rest → numbers_after front count ws ≡ numbers_after [] count rest
+pub numbers_next : (front ws rest : List (List ℕ)) (count : ℕ) → IsAfter front ws rest →
+    numbers_after front count ws ≡ numbers_after [] count rest
 numbers_next front ws rest count begins = ap (λ hs. numbers_after hs count ws) (sym (append-nil front)) ∙ begins [] count
 
 pub no_numbers : (front ws : List (List ℕ)) (count : ℕ) → IsOther front ws → numbers_after front count ws ≡ None
@@ -47,7 +48,8 @@ length-numbers_after [] ws count ns e = at (eqb (length ws) count) refl e
 length-numbers_after (h ∷ hs) [] count ns e = absurd (none-some ns e)
 length-numbers_after (h ∷ hs) (w ∷ ws) count ns e = at (bytes_eq w h) e (length-numbers_after hs ws count ns)
   where
-    at : (b : Bool) → cond b (numbers_after hs count ws) None ≡ Some ns → (numbers_after hs count ws ≡ Some ns → length ns ≡ count) → length ns ≡ count
+    at : (b : Bool) → cond b (numbers_after hs count ws) None ≡ Some ns → (numbers_after hs count ws ≡ Some ns → length ns ≡ count) →
+        length ns ≡ count
     at true e more = more e
     at false e more = absurd (none-some ns e)
 
@@ -130,10 +132,13 @@ pub record HasBounds (nodes : ℕ) (ns : List ℕ) : Type 0 where
   pub middle : get_or ns 4 0 ≤ nodes
 
 -- the nodes that must be there are in range
-ends_are : (form : Form) (part : Part) (nodes : ℕ) (ns : List ℕ) → IsItemWithin form part nodes ns → list_all (is_node nodes) (take (node_count form part) ns) ≡ true
-ends_are form part nodes ns within = (both (list_all (is_node nodes) (take (node_count form part) ns)) (is_middle form part nodes ns) within.nodes_are).0
+ends_are : (form : Form) (part : Part) (nodes : ℕ) (ns : List ℕ) → IsItemWithin form part nodes ns →
+    list_all (is_node nodes) (take (node_count form part) ns) ≡ true
+ends_are form part nodes ns within =
+    (both (list_all (is_node nodes) (take (node_count form part) ns)) (is_middle form part nodes ns) within.nodes_are).0
 
-node_at : (nodes k : ℕ) (ns : List ℕ) (i : ℕ) → i < k → i < length ns → list_all (is_node nodes) (take k ns) ≡ true → (1 ≤ get_or ns i 0) × (get_or ns i 0 ≤ nodes)
+node_at : (nodes k : ℕ) (ns : List ℕ) (i : ℕ) → i < k → i < length ns → list_all (is_node nodes) (take k ns) ≡ true →
+    (1 ≤ get_or ns i 0) × (get_or ns i 0 ≤ nodes)
 node_at nodes k ns i lt within h =
     let each = both (leb 1 (get_or ns i 0)) (leb (get_or ns i 0) nodes) (all_at (is_node nodes) k ns i lt within h) in
     (leb-true 1 (get_or ns i 0) each.0, leb-true (get_or ns i 0) nodes each.1)
@@ -199,14 +204,17 @@ module _ (ns : List ℕ) (m : ℕ) where
   exact : (k : ℕ) → get_or ns k 0 ≤ greatest → get_or values k 0 ≡ get_or ns k 0
   exact k le = capped_at ns m k ∙ capped_same (get_or ns k 0) le
 
-  is_middle-capped : (form : Form) (part : Part) (nodes : ℕ) → nodes < 2 ^ 32 → is_middle form part nodes values ≡ is_middle form part nodes ns
+  is_middle-capped : (form : Form) (part : Part) (nodes : ℕ) → nodes < 2 ^ 32 →
+      is_middle form part nodes values ≡ is_middle form part nodes ns
   is_middle-capped Graph part nodes small = refl
   is_middle-capped (Queries n) part nodes small = refl
   is_middle-capped (Nodes n) part nodes small = refl
   is_middle-capped (Saved n) First nodes small = refl
-  is_middle-capped (Saved n) Second nodes small = let fits : nodes < greatest = omega arith in rw (capped_at ns m 4, capped_le (get_or ns 4 0) nodes fits) refl
+  is_middle-capped (Saved n) Second nodes small =
+      let fits : nodes < greatest = omega arith in rw (capped_at ns m 4, capped_le (get_or ns 4 0) nodes fits) refl
 
-  pub are_nodes-capped : (form : Form) (part : Part) (nodes : ℕ) → nodes < 2 ^ 32 → length ns ≡ item_size form part → are_nodes form part nodes values ≡ are_nodes form part nodes ns
+  pub are_nodes-capped : (form : Form) (part : Part) (nodes : ℕ) → nodes < 2 ^ 32 → length ns ≡ item_size form part →
+      are_nodes form part nodes values ≡ are_nodes form part nodes ns
   are_nodes-capped form part nodes small long =
       ap (λ (ends : Bool). ends && is_middle form part nodes values) (nodes-capped nodes small (node_count form part) ns m (omega (arith, long, fewer form part)))
       ∙ ap (λ (middle : Bool). list_all (is_node nodes) (take (node_count form part) ns) && middle) (is_middle-capped form part nodes small)
@@ -219,7 +227,8 @@ module _ (ns : List ℕ) (m : ℕ) where
   is_weight-capped (Saved n) Second nodes =
       rw (capped_at ns m 2, capped_at ns m 3, capped_le (get_or ns 2 0) MOST_WEIGHT (lit< tt), capped_le (get_or ns 3 0) MOST_NODES (lit< tt)) refl
 
-  pub item-capped : (form : Form) (part : Part) (nodes : ℕ) → nodes < 2 ^ 32 → IsItemWithin form part nodes ns → item_from values ≡ item_from ns
+  pub item-capped : (form : Form) (part : Part) (nodes : ℕ) → nodes < 2 ^ 32 → IsItemWithin form part nodes ns →
+      item_from values ≡ item_from ns
   item-capped form part nodes small within =
       let b = bounds form part nodes ns within in
       rw (exact 0 (omega arith), exact 1 (omega arith), exact 2 (omega arith), exact 3 (omega arith), exact 4 (omega arith)) refl
@@ -258,10 +267,12 @@ module _ (form : Form) (part : Part) (seen : Option Heading) (h : Heading) (coun
   weight_is : is_weight form part h.nodes values ≡ is_weight form part h.nodes ns
   weight_is = ap (is_weight form part h.nodes) read.read.2 ∙ is_weight-capped ns (5 - length ns) form part h.nodes
 
-  pub out_of_range : are_nodes form part h.nodes values ≡ false → first_failing (item_checks form part seen count numbers_read) ≡ Some NodeRange
+  pub out_of_range : are_nodes form part h.nodes values ≡ false →
+      first_failing (item_checks form part seen count numbers_read) ≡ Some NodeRange
   out_of_range out = let real : are_nodes form part h.nodes ns ≡ false = sym nodes_are ∙ out in rw (read.declared, has, has_room, real) refl
 
-  pub too_heavy : are_nodes form part h.nodes values ≡ true → is_weight form part h.nodes values ≡ false → first_failing (item_checks form part seen count numbers_read) ≡ Some Sum
+  pub too_heavy : are_nodes form part h.nodes values ≡ true → is_weight form part h.nodes values ≡ false →
+      first_failing (item_checks form part seen count numbers_read) ≡ Some Sum
   too_heavy within heavy =
       let real : are_nodes form part h.nodes ns ≡ true = sym nodes_are ∙ within in
       let weight : is_weight form part h.nodes ns ≡ false = sym weight_is ∙ heavy in
@@ -270,7 +281,8 @@ module _ (form : Form) (part : Part) (seen : Option Heading) (h : Heading) (coun
   pub item_within : are_nodes form part h.nodes values ≡ true → is_weight form part h.nodes values ≡ true → IsItemWithin form part h.nodes ns
   item_within within weight = record { long = long; nodes_are = sym nodes_are ∙ within; weight_is = sym weight_is ∙ weight }
 
-  pub passes_as_item : are_nodes form part h.nodes values ≡ true → is_weight form part h.nodes values ≡ true → IsItem form part seen count numbers_read (item_from values)
+  pub passes_as_item : are_nodes form part h.nodes values ≡ true → is_weight form part h.nodes values ≡ true →
+      IsItem form part seen count numbers_read (item_from values)
   passes_as_item within weight = record {
     declared = h;
     seen_is = read.declared;
@@ -281,7 +293,8 @@ module _ (form : Form) (part : Part) (seen : Option Heading) (h : Heading) (coun
     within = item_within within weight;
   }
 
-  pub values_small : are_nodes form part h.nodes values ≡ true → is_weight form part h.nodes values ≡ true → (get_or values 0 0 < 2 ^ 32) × (get_or values 1 0 < 2 ^ 32) × (get_or values 4 0 < 2 ^ 32)
+  pub values_small : are_nodes form part h.nodes values ≡ true → is_weight form part h.nodes values ≡ true →
+      (get_or values 0 0 < 2 ^ 32) × (get_or values 1 0 < 2 ^ 32) × (get_or values 4 0 < 2 ^ 32)
   values_small within weight =
       let b = bounds form part h.nodes ns (item_within within weight) in
       let small = read.small in

@@ -42,21 +42,24 @@ pub fault_both_ways : {A : Type 0} (form : Form) (bytes : List ℕ) (result : Re
 fault_both_ways form bytes (Ok x) e is of f = absurd is
 fault_both_ways {A} form bytes (Err x) e is of f = at e is of
   where
-    at : (e : ReadError) → x ≡ e → IsErrorOf form bytes e → AnswersWhere (error_of A x) (error_of A (Fault f)) (IsFault form bytes f.line f.kind)
+    at : (e : ReadError) → x ≡ e → IsErrorOf form bytes e →
+        AnswersWhere (error_of A x) (error_of A (Fault f)) (IsFault form bytes f.line f.kind)
     at (Fault g) is of = (
       λ same. subst (λ (h : ReadFault). IsFault form bytes h.line h.kind) (same_fault A g f (ap (error_of A) (sym is) ∙ same)) of,
       λ has. inl (ap (error_of A) (is ∙ ap Fault (one_fault form bytes g f of has))),
     )
     at NoMemory is of = (λ same. absurd (no_fault A f (ap (error_of A) (sym is) ∙ same)), λ has. inr (ap (error_of A) is))
 
-pub error_of_items : {A Z : Type 0} (P : ReadError → Type 0) (result : Result (Vec A Z) ReadError) → IsErrAnd result P → IsErrAnd (seen_by_items result) P
+pub error_of_items : {A Z : Type 0} (P : ReadError → Type 0) (result : Result (Vec A Z) ReadError) → IsErrAnd result P →
+    IsErrAnd (seen_by_items result) P
 error_of_items P (Ok v) is = is
 error_of_items P (Err e) is = is
 
 -- limits
 
 -- query files and lists have the number of nodes of their graph
-heading_nodes : (form : Form) (n : ℕ) → ((ns : List ℕ) → (heading_from form ns).nodes ≡ n) → (all : List (List ℕ)) (h : Heading) → heading_in form all ≡ Some h → h.nodes ≡ n
+heading_nodes : (form : Form) (n : ℕ) → ((ns : List ℕ) → (heading_from form ns).nodes ≡ n) → (all : List (List ℕ)) (h : Heading) →
+    heading_in form all ≡ Some h → h.nodes ≡ n
 heading_nodes form n same [] h e = absurd (none-some h e)
 heading_nodes form n same (line ∷ all) h e = at (numbers_after (codes "p" ∷ problem_words form) (problem_size form) (words line)) e (heading_nodes form n same all h)
   where
@@ -65,7 +68,8 @@ heading_nodes form n same (line ∷ all) h e = at (numbers_after (codes "p" ∷ 
     at None e more = more e
     at (Some ns) e more = ap (λ (h : Heading). h.nodes) (sym (same_Some (heading_from form ns) h e)) ∙ same ns
 
-pub graph_within : (bytes : List ℕ) (h : Heading) → IsFile Graph bytes h → IsWithinLimits (record { nodes = h.nodes; arcs = map arc_from (items_in Graph First (lines bytes)) })
+pub graph_within : (bytes : List ℕ) (h : Heading) → IsFile Graph bytes h →
+    IsWithinLimits (record { nodes = h.nodes; arcs = map arc_from (items_in Graph First (lines bytes)) })
 graph_within bytes h file =
     let size = both (leb h.nodes MOST_NODES) (leb h.items.first MOST_ARCS) file.within.0 in
     let items : h.items.first ≤ MOST_ARCS = leb-true h.items.first MOST_ARCS size.1 in
@@ -80,7 +84,8 @@ graph_within bytes h file =
         let b = bounds Graph First h.nodes ns within in
         record { ends = (b.first_below, b.second_below); weight = leb-true (h.nodes * slice_index ns 2) MOST_WEIGHT within.weight_is }
 
-pub pairs_within : (n : ℕ) (bytes : List ℕ) (h : Heading) → IsFile (Queries n) bytes h → All (λ (p : ℕ × ℕ). (p.0 < n) × (p.1 < n)) (map pair_from (items_in (Queries n) First (lines bytes)))
+pub pairs_within : (n : ℕ) (bytes : List ℕ) (h : Heading) → IsFile (Queries n) bytes h →
+    All (λ (p : ℕ × ℕ). (p.0 < n) × (p.1 < n)) (map pair_from (items_in (Queries n) First (lines bytes)))
 pairs_within n bytes h file =
     All-map (λ (p : ℕ × ℕ). (p.0 < n) × (p.1 < n)) pair_from (items_in (Queries n) First (lines bytes)) (λ k d lt. pair_within (get_or (items_in (Queries n) First (lines bytes)) k d) (file.within.1.each k d lt))
   where
@@ -90,7 +95,8 @@ pairs_within n bytes h file =
         let nodes = heading_nodes (Queries n) n (λ ns. refl) (lines bytes) h file.heading_is in
         (omega (arith, b.first_below, nodes), omega (arith, b.second_below, nodes))
 
-pub nodes_within : (n : ℕ) (bytes : List ℕ) (h : Heading) → IsFile (Nodes n) bytes h → All (λ x. x < n) (map node_from (items_in (Nodes n) First (lines bytes)))
+pub nodes_within : (n : ℕ) (bytes : List ℕ) (h : Heading) → IsFile (Nodes n) bytes h →
+    All (λ x. x < n) (map node_from (items_in (Nodes n) First (lines bytes)))
 nodes_within n bytes h file =
     All-map (λ x. x < n) node_from (items_in (Nodes n) First (lines bytes)) (λ k d lt. node_within (get_or (items_in (Nodes n) First (lines bytes)) k d) (file.within.1.each k d lt))
   where

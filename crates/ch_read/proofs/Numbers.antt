@@ -21,7 +21,8 @@ pub both : (a b : Bool) → (a && b) ≡ true → (a ≡ true) × (b ≡ true)
 both true b e = (refl, e)
 both false b e = cc
 
-digits_suc : (xs : List ℕ) (i : ℕ) → i < length xs → all_ascii_digits (take i xs) ≡ true → is_ascii_digit (get_or xs i 0) ≡ true → all_ascii_digits (take (suc i) xs) ≡ true
+digits_suc : (xs : List ℕ) (i : ℕ) → i < length xs → all_ascii_digits (take i xs) ≡ true → is_ascii_digit (get_or xs i 0) ≡ true →
+    all_ascii_digits (take (suc i) xs) ≡ true
 digits_suc [] i within before here = absurd (omega arith)
 digits_suc (x ∷ xs) zero within before here = rw here refl
 digits_suc (x ∷ xs) (suc i) within before here =
@@ -69,7 +70,8 @@ more_digits word i value next digit within so_far range here digit_is next_is =
       digits = rw (add-one i) (digits_suc word i within so_far.digits here);
     }
 
-pub all_digits : (word : List ℕ) (i value : ℕ) → 0 < length word → length word ≤ i → HasDigits word i value → Some value ≡ option_map capped_number (number word)
+pub all_digits : (word : List ℕ) (i value : ℕ) → 0 < length word → length word ≤ i → HasDigits word i value →
+    Some value ≡ option_map capped_number (number word)
 all_digits word i value some past read =
     let all : take i word ≡ word = take_all i word past in
     let digits : all_ascii_digits word ≡ true = ap all_ascii_digits (sym all) ∙ read.digits in
@@ -77,7 +79,8 @@ all_digits word i value some past read =
 
 -- the numbers of words
 
-pub numbers_push : (taken : List (List ℕ)) (w : List ℕ) (ns : List ℕ) (n : ℕ) → numbers taken ≡ Some ns → number w ≡ Some n → numbers (taken ++ w ∷ []) ≡ Some (ns ++ n ∷ [])
+pub numbers_push : (taken : List (List ℕ)) (w : List ℕ) (ns : List ℕ) (n : ℕ) → numbers taken ≡ Some ns → number w ≡ Some n →
+    numbers (taken ++ w ∷ []) ≡ Some (ns ++ n ∷ [])
 numbers_push [] w ns n e f = let none : ns ≡ [] = sym (same_Some [] ns e) in rw (f, none) refl
 numbers_push (t ∷ taken) w ns n e f = at (number t) refl (numbers taken) refl e (λ ms k. numbers_push taken w ms n k f)
   where
@@ -120,7 +123,8 @@ pub record HasTaken (ws left : List (List ℕ)) (i : ℕ) (values : List ℕ) : 
 pub none_taken : (ws : List (List ℕ)) → HasTaken ws ws 0 (0 ∷ 0 ∷ 0 ∷ 0 ∷ 0 ∷ [])
 none_taken ws = record { taken = []; ns = []; split = refl; long = refl; read = refl; values_are = refl }
 
-read_value : (w : List ℕ) (value : ℕ) → Some value ≡ option_map capped_number (number w) → (n : ℕ) × (number w ≡ Some n) × (value ≡ capped_number n)
+read_value : (w : List ℕ) (value : ℕ) → Some value ≡ option_map capped_number (number w) →
+    (n : ℕ) × (number w ≡ Some n) × (value ≡ capped_number n)
 read_value w value e = at (number w) refl e
   where
     at : (o : Option ℕ) → number w ≡ o → Some value ≡ option_map capped_number o → (n : ℕ) × (number w ≡ Some n) × (value ≡ capped_number n)
@@ -168,7 +172,8 @@ no_number_next ws left more w i count values h next e =
     at true = refl
     at false = refl
 
-pub all_taken : (ws left : List (List ℕ)) (count : ℕ) (values : List ℕ) → HasTaken ws left count values → left ≡ [] → AreCapped (numbers_after [] count ws) values
+pub all_taken : (ws left : List (List ℕ)) (count : ℕ) (values : List ℕ) → HasTaken ws left count values → left ≡ [] →
+    AreCapped (numbers_after [] count ws) values
 all_taken ws left count values h e =
     let whole : ws ≡ h.taken = h.split ∙ ap (λ r. h.taken ++ r) e ∙ append-nil h.taken in
     let long : length ws ≡ count = ap length whole ∙ h.long in

@@ -71,7 +71,8 @@ not_both form bytes f a is =
     let at = is.counted in
     none-some f.kind (sym (a (f.line - 1) (omega arith)) ∙ is.kind_is)
 
-pub one_fault : (form : Form) (bytes : List ℕ) (f g : ReadFault) → IsFault form bytes f.line f.kind → IsFault form bytes g.line g.kind → f ≡ g
+pub one_fault : (form : Form) (bytes : List ℕ) (f g : ReadFault) → IsFault form bytes f.line f.kind → IsFault form bytes g.line g.kind →
+    f ≡ g
 one_fault form bytes f g is other = at (cases_order f.line g.line)
   where
     earlier : (f g : ReadFault) → IsFault form bytes f.line f.kind → IsFault form bytes g.line g.kind → f.line < g.line → ⊥

@@ -40,7 +40,8 @@ module _ (all : List (List ℕ)) (i : ℕ) (text : List ℕ) (more : List (List 
   pub drop_line : drop (i + 1) all ≡ more
   drop_line = ap (λ (xs : List (List ℕ)). drop 1 xs) (sym (drop_more all i [] line_within) ∙ next)
 
-  pub at_line : (form : Form) (begun : Option Heading) → fault_after form begun all i ≡ first_failing (line_checks form (seen_after form begun (take i all)) (counts_in form (take i all)) (words text))
+  pub at_line : (form : Form) (begun : Option Heading) →
+      fault_after form begun all i ≡ first_failing (line_checks form (seen_after form begun (take i all)) (counts_in form (take i all)) (words text))
   at_line form begun = ap (λ (line : List ℕ). first_failing (line_checks form (seen_after form begun (take i all)) (counts_in form (take i all)) (words line))) line_is
 
 -- the items that a line adds
@@ -55,17 +56,20 @@ module _ (form : Form) (before : List (List ℕ)) (text : List ℕ) where
       ap (λ (hs : List Heading). slice_get hs 0) (filter_map-append (λ line. heading form (words line)) before (text ∷ [])
       ∙ ap (λ h. filter_map (λ line. heading form (words line)) before ++ cons_option h []) none ∙ append-nil (filter_map (λ line. heading form (words line)) before))
 
-  heading_found : (h : Heading) → heading_in form before ≡ None → heading form (words text) ≡ Some h → heading_in form (before ++ text ∷ []) ≡ Some h
+  heading_found : (h : Heading) → heading_in form before ≡ None → heading form (words text) ≡ Some h →
+      heading_in form (before ++ text ∷ []) ≡ Some h
   heading_found h none found =
       ap (λ (hs : List Heading). slice_get hs 0) (filter_map-append (λ line. heading form (words line)) before (text ∷ []))
       ∙ first_of_none (filter_map (λ line. heading form (words line)) before) (filter_map (λ line. heading form (words line)) (text ∷ [])) none
       ∙ ap (λ h. slice_get (cons_option h []) 0) found
 
-  seen_same : (begun : Option Heading) → heading form (words text) ≡ None → seen_after form begun (before ++ text ∷ []) ≡ seen_after form begun before
+  seen_same : (begun : Option Heading) → heading form (words text) ≡ None →
+      seen_after form begun (before ++ text ∷ []) ≡ seen_after form begun before
   seen_same None none = heading_same none
   seen_same (Some h) none = refl
 
-  seen_found : (begun : Option Heading) (h : Heading) → seen_after form begun before ≡ None → heading form (words text) ≡ Some h → seen_after form begun (before ++ text ∷ []) ≡ Some h
+  seen_found : (begun : Option Heading) (h : Heading) → seen_after form begun before ≡ None → heading form (words text) ≡ Some h →
+      seen_after form begun (before ++ text ∷ []) ≡ Some h
   seen_found None h none found = heading_found h none found
   seen_found (Some k) h none found = absurd (none-some k (sym none))
 
@@ -73,10 +77,14 @@ module _ (form : Form) (before : List (List ℕ)) (text : List ℕ) where
   items_same part none =
       filter_map-append (λ line. item form part (words line)) before (text ∷ []) ∙ ap (λ h. items_in form part before ++ cons_option h []) none ∙ append-nil (items_in form part before)
 
-  items_more : (part : Part) (ns : List ℕ) → item form part (words text) ≡ Some ns → items_in form part (before ++ text ∷ []) ≡ items_in form part before ++ ns ∷ []
-  items_more part ns found = filter_map-append (λ line. item form part (words line)) before (text ∷ []) ∙ ap (λ h. items_in form part before ++ cons_option h []) found
+  items_more : (part : Part) (ns : List ℕ) → item form part (words text) ≡ Some ns →
+      items_in form part (before ++ text ∷ []) ≡ items_in form part before ++ ns ∷ []
+  items_more part ns found =
+      filter_map-append (λ line. item form part (words line)) before (text ∷ [])
+      ∙ ap (λ h. items_in form part before ++ cons_option h []) found
 
-  values_same : {T : Type 0} (of : Item → T) (part : Part) → item form part (words text) ≡ None → values_in of form part (before ++ text ∷ []) ≡ values_in of form part before
+  values_same : {T : Type 0} (of : Item → T) (part : Part) → item form part (words text) ≡ None →
+      values_in of form part (before ++ text ∷ []) ≡ values_in of form part before
   values_same of part none = ap (λ its. map (λ ns. of (item_from ns)) its) (items_same part none)
 
   values_more : {T : Type 0} (of : Item → T) (part : Part) (ns : List ℕ) (i : Item) → item form part (words text) ≡ Some ns → i ≡ item_from ns →
@@ -101,7 +109,8 @@ more_within form part h its ns within room here = record {
   each = All-append (IsItemWithin form part h.nodes) its (ns ∷ []) within.each (one (IsItemWithin form part h.nodes) ns here);
 }
 
-within_same : (form : Form) (seen : Option Heading) (first second first' second' : List (List ℕ)) → first' ≡ first → second' ≡ second → IsWithin form seen first second → IsWithin form seen first' second'
+within_same : (form : Form) (seen : Option Heading) (first second first' second' : List (List ℕ)) → first' ≡ first → second' ≡ second →
+    IsWithin form seen first second → IsWithin form seen first' second'
 within_same form seen first second first' second' e f within =
     subst (λ its. IsWithin form seen its second') (sym e) (subst (λ its. IsWithin form seen first its) (sym f) within)
 
@@ -120,7 +129,8 @@ none_seen : (form : Form) (begun : Option Heading) → begun ≡ seen_after form
 none_seen form None = refl
 none_seen form (Some h) = refl
 
-pub nothing_read : {A B : Type 0} (a : Item → A) (b : Item → B) (form : Form) (begun : Option Heading) (bytes : List ℕ) → IsWithin form begun [] [] → HasRead a b form begun bytes bytes 0 begun [] []
+pub nothing_read : {A B : Type 0} (a : Item → A) (b : Item → B) (form : Form) (begun : Option Heading) (bytes : List ℕ) →
+    IsWithin form begun [] [] → HasRead a b form begun bytes bytes 0 begun [] []
 nothing_read a b form begun bytes within = record {
   counted = omega arith;
   room = omega arith;
@@ -139,7 +149,8 @@ pub record AreCounted {A B : Type 0} (counts : Counts) (first : List A) (second 
 
 pub counted_by : {A B : Type 0} (counts : Counts) (m n : ℕ) (first : List A) (second : List B) → counts ≡ record { first = m; second = n } → m ≡ length first → n ≡ length second →
     AreCounted counts first second
-counted_by counts m n first second is m_is n_is = record { first_is = ap (λ (c : Counts). c.first) is ∙ m_is; second_is = ap (λ (c : Counts). c.second) is ∙ n_is }
+counted_by counts m n first second is m_is n_is =
+    record { first_is = ap (λ (c : Counts). c.first) is ∙ m_is; second_is = ap (λ (c : Counts). c.second) is ∙ n_is }
 
 counts_are : {A B : Type 0} (a : Item → A) (b : Item → B) (form : Form) (all : List (List ℕ)) (counts : Counts) (first : List A) (second : List B) →
     AreCounted counts first second → first ≡ values_in a form First all → second ≡ values_in b form Second all → counts ≡ counts_in form all
@@ -170,7 +181,8 @@ module _ {A B : Type 0} (a : Item → A) (b : Item → B) (form : Form) (begun :
   checks_are = at_line all line text (lines after) next form begun ∙ sym (ap (λ s. first_failing (line_checks form s counts (words text))) read.seen_is
       ∙ ap (λ n. first_failing (line_checks form (seen_after form begun before) n (words text))) counts_is)
 
-  pub fault_here : (kind : FaultKind) → first_failing (line_checks form seen counts (words text)) ≡ Some kind → IsFaultAfter form begun bytes (line + 1) kind
+  pub fault_here : (kind : FaultKind) → first_failing (line_checks form seen counts (words text)) ≡ Some kind →
+      IsFaultAfter form begun bytes (line + 1) kind
   fault_here kind e =
       let back : line + 1 - 1 ≡ line = omega arith in
       let within = within_all in

@@ -16,7 +16,8 @@ use Rattle.ch_read.proofs.Splits.{line_before}
 pub after_both : (xs ys : List Request) (t : Told) → after_these (xs ++ ys) t ≡ after_these xs (after_these ys t)
 after_both xs ys t = λ i. record { given = append_assoc xs ys t.given i; fault = t.fault }
 
-more_given : (n : ℕ) (xs : List Request) (w : Went) (more : List (List ℕ)) → after_these xs (and_then n w more) ≡ and_then n (went_on xs w) more
+more_given : (n : ℕ) (xs : List Request) (w : Went) (more : List (List ℕ)) →
+    after_these xs (and_then n w more) ≡ and_then n (went_on xs w) more
 more_given n xs w more = at (is_none w.told.fault) refl
   where
     at : (t : Bool) → is_none w.told.fault ≡ t → after_these xs (and_then n w more) ≡ and_then n (went_on xs w) more
@@ -42,7 +43,8 @@ told_append n line begun (text ∷ xs) ys = at (text_fault n (line_after line) b
     parts : Option RequestFault → Told
     parts o = and_then n (if is_none o then went_on given left else record { told = stopping o; line = line; begun = begun }) ys
 
-    at : (o : Option RequestFault) → text_fault n (line_after line) begun text ≡ o → rest ≡ and_then n left ys → told n line begun (text ∷ (xs ++ ys)) ≡ and_then n (went n line begun (text ∷ xs)) ys
+    at : (o : Option RequestFault) → text_fault n (line_after line) begun text ≡ o → rest ≡ and_then n left ys →
+        told n line begun (text ∷ (xs ++ ys)) ≡ and_then n (went n line begun (text ∷ xs)) ys
     at None e others = ap whole e ∙ ap (after_these given) others ∙ more_given n given left ys ∙ sym (ap parts e)
     at (Some fault) e others = ap whole e ∙ sym (ap parts e)
 
@@ -65,7 +67,8 @@ one_clear b last e clear zero d lt = e
 one_clear b last e clear (suc k) d lt = clear k d (omega arith)
 
 -- the parts after a line feed or another byte is put in front
-feed_first : (b : ℕ) (bytes : List ℕ) (ended : List (List ℕ)) (last : List ℕ) → eqb b 10 ≡ true → AreParts bytes ended last → AreParts (b ∷ bytes) ([] ∷ ended) last
+feed_first : (b : ℕ) (bytes : List ℕ) (ended : List (List ℕ)) (last : List ℕ) → eqb b 10 ≡ true → AreParts bytes ended last →
+    AreParts (b ∷ bytes) ([] ∷ ended) last
 feed_first b bytes ended last e are = record {
   parts = rw e (ap (λ (all : List (List ℕ)). [] ∷ all) are.parts);
   clear = are.clear;
@@ -97,7 +100,8 @@ pub parts_are : (bytes : List ℕ) → (ended : List (List ℕ)) × (last : List
 parts_are [] = ([], [], record { parts = refl; clear = none_clear; more = λ more. refl })
 parts_are (b ∷ bytes) = at (eqb b 10) refl (parts_are bytes)
   where
-    at : (t : Bool) → eqb b 10 ≡ t → (ended : List (List ℕ)) × (last : List ℕ) × AreParts bytes ended last → (ended : List (List ℕ)) × (last : List ℕ) × AreParts (b ∷ bytes) ended last
+    at : (t : Bool) → eqb b 10 ≡ t → (ended : List (List ℕ)) × (last : List ℕ) × AreParts bytes ended last →
+        (ended : List (List ℕ)) × (last : List ℕ) × AreParts (b ∷ bytes) ended last
     at true e are = ([] ∷ are.0, are.1, feed_first b bytes are.0 are.1 e are.2)
     at false e are = byte_first b bytes are.0 are.1 e are.2
 
@@ -134,4 +138,5 @@ unended_clear bytes =
     subst (λ (last : List ℕ). All (λ b. eqb b 10 ≡ false) last) (sym (ap last_of are.2.parts ∙ last_is are.0 are.1)) are.2.clear
 
 pub told_by_parts : AreToldByParts
-told_by_parts n first second = ap (told n 0 nothing) (lines_cut first second) ∙ told_append n 0 nothing (ended_lines first) (lines (unended first ++ second))
+told_by_parts n first second =
+    ap (told n 0 nothing) (lines_cut first second) ∙ told_append n 0 nothing (ended_lines first) (lines (unended first ++ second))

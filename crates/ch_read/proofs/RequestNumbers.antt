@@ -23,7 +23,8 @@ limit_capped (Some most) = grind (arith, nat_tests)
 
 pub limit_exact : (o : Option ℕ) → is_limit o ≡ true → option_map capped_number o ≡ o
 limit_exact None is = refl
-limit_exact (Some most) is = let within : most ≤ MOST_WEIGHT = grind (arith, nat_tests) in let same : capped_number most ≡ most = omega arith in ap Some same
+limit_exact (Some most) is =
+    let within : most ≤ MOST_WEIGHT = grind (arith, nat_tests) in let same : capped_number most ≡ most = omega arith in ap Some same
 
 -- the numbers were read without a limit after them
 pub without_limit : (count : ℕ) (ws : List (List ℕ)) (values : List ℕ) → AreCapped (numbers_after [] count ws) values →

@@ -20,7 +20,8 @@ pub starts_whole : (ended : Bool) (n : ℕ) → HasGiven ended n [] (starting n)
 starts_whole ended n more comes = refl
 
 -- the requests stay right after more bytes are fed
-pub feeds_whole : (n : ℕ) (bytes part : List ℕ) (s : Standing) (given : List Request) → HasGiven false n bytes s given → HasGiven false n (bytes ++ part) (fed s part) given
+pub feeds_whole : (n : ℕ) (bytes part : List ℕ) (s : Standing) (given : List Request) → HasGiven false n bytes s given →
+    HasGiven false n (bytes ++ part) (fed s part) given
 feeds_whole n bytes part s given so_far more comes =
     ap (told_by n) (append_assoc bytes part more) ∙ so_far (part ++ more) (may_come (part ++ more))
     ∙ ap (λ (pending : List ℕ). after_these given (told s.nodes s.line s.begun (lines pending))) (sym (append_assoc s.pending part more))
@@ -32,11 +33,13 @@ gives_more_whole ended n bytes s new given more_given so_far gives more comes =
     so_far more comes ∙ ap (after_these given) (gives more comes) ∙ sym (after_both given more_given (ahead new more))
 
 -- the requests stay right when the input ends
-pub ends_whole : (n : ℕ) (bytes : List ℕ) (s : Standing) (given : List Request) → HasGiven false n bytes s given → HasGiven true n bytes s given
+pub ends_whole : (n : ℕ) (bytes : List ℕ) (s : Standing) (given : List Request) → HasGiven false n bytes s given →
+    HasGiven true n bytes s given
 ends_whole n bytes s given so_far more comes = so_far more (may_come more)
 
 -- at the end all requests were given
-pub used_up_whole : (n : ℕ) (bytes : List ℕ) (s : Standing) (given : List Request) → HasGiven true n bytes s given → IsUsedUp true s → told_by n bytes ≡ record { given = given; fault = None }
+pub used_up_whole : (n : ℕ) (bytes : List ℕ) (s : Standing) (given : List Request) → HasGiven true n bytes s given → IsUsedUp true s →
+    told_by n bytes ≡ record { given = given; fault = None }
 used_up_whole n bytes s given so_far none =
     ap (told_by n) (sym (append-nil bytes)) ∙ so_far [] (λ e. refl)
     ∙ ap (λ (pending : List ℕ). after_these given (told s.nodes s.line s.begun (lines (pending ++ [])))) none.0

@@ -22,7 +22,8 @@ use Rattle.ch_read.proofs.Splits.{line_to_feed, line_to_end, none_passes, split_
 use Rattle.ch_read.proofs.Reading.{one}
 
 -- a request that wants more nodes stays within its limits after one more
-pub node_added : (n : ℕ) (begun : Begun) (node : ℕ) → IsBegun n begun → node < n → length begun.listed < wanted begun → IsBegun n (with_node begun node)
+pub node_added : (n : ℕ) (begun : Begun) (node : ℕ) → IsBegun n begun → node < n → length begun.listed < wanted begun →
+    IsBegun n (with_node begun node)
 node_added n begun node is below room = record {
   listed = All-append (λ v. v < n) begun.listed (node ∷ []) is.listed (one (λ v. v < n) node below);
   few = omega (arith, length_push begun.listed node);
@@ -62,7 +63,8 @@ whole_request n begun is whole = at begun.purpose is.purpose
     at (ForPlaces count) of = let few = is.few in let size = is.sizes.1 in record { each = is.listed; size = omega arith }
 
 -- after a line, the request is given with its lists if it is whole, and otherwise it wants more nodes
-pub settled_within : (n : ℕ) (begun new : Begun) (given : Option Request) → IsBegun n begun → settled begun ≡ record { given = at_most_one given; begun = new } → IsGiven n given × IsBegun n new
+pub settled_within : (n : ℕ) (begun new : Begun) (given : Option Request) → IsBegun n begun →
+    settled begun ≡ record { given = at_most_one given; begun = new } → IsGiven n given × IsBegun n new
 settled_within n begun new given is e = at (is_whole begun) refl (sym e)
   where
     at : (t : Bool) → is_whole begun ≡ t → record { given = at_most_one given; begun = new } ≡ settled begun → IsGiven n given × IsBegun n new
@@ -112,7 +114,8 @@ module _ (p : ℕ → Bool) where
       (omega arith, rw inside (ap Some (same ∙ at)))
 
 -- a line that ends with a line feed is the first line, for every continuation
-pub feed_ahead : (xs more : List ℕ) (i : ℕ) → position (λ b. eqb b 10) xs ≡ Some i → lines (xs ++ more) ≡ take i xs ∷ lines (drop (i + 1) xs ++ more)
+pub feed_ahead : (xs more : List ℕ) (i : ℕ) → position (λ b. eqb b 10) xs ≡ Some i →
+    lines (xs ++ more) ≡ take i xs ∷ lines (drop (i + 1) xs ++ more)
 feed_ahead xs more i e =
     let found = found_and_more (λ b. eqb b 10) xs more i e in
     let within : i < length xs = found.0 in
@@ -122,7 +125,8 @@ feed_ahead xs more i e =
     ∙ ap (λ (r : List ℕ). take i xs ∷ lines r) after
 
 -- at the end the bytes without a line feed are the last line
-pub last_ahead : (xs more : List ℕ) → position (λ b. eqb b 10) xs ≡ None → 0 < length xs → more ≡ [] → lines (xs ++ more) ≡ xs ∷ lines (drop (length xs) xs ++ more)
+pub last_ahead : (xs more : List ℕ) → position (λ b. eqb b 10) xs ≡ None → 0 < length xs → more ≡ [] →
+    lines (xs ++ more) ≡ xs ∷ lines (drop (length xs) xs ++ more)
 last_ahead xs more e some none =
     rw none (ap lines (append-nil xs) ∙ line_to_end xs e some ∙ ap (λ (r : List ℕ). xs ∷ lines (r ++ [])) (sym (drop_all (length xs) xs (omega arith))))
 
@@ -137,11 +141,13 @@ module _ (n line : ℕ) (begun : Begun) (text : List ℕ) (more : List (List ℕ
       told n line begun (text ∷ more) ≡ after_these (at_most_one given) (told n (line_after line) new more)
   line_made new given makes = ap after_line makes.0 ∙ ap (λ (m : Made). after_these m.given (told n (line_after line) m.begun more)) makes.1
 
-  pub line_faulty : (fault : RequestFault) → text_fault n (line_after line) begun text ≡ Some fault → told n line begun (text ∷ more) ≡ stopping (Some fault)
+  pub line_faulty : (fault : RequestFault) → text_fault n (line_after line) begun text ≡ Some fault →
+      told n line begun (text ∷ more) ≡ stopping (Some fault)
   line_faulty fault e = ap after_line e
 
 -- the requests that were given and those that are given next
-pub gives_more : (ended : Bool) (a b c : Standing) (xs ys : List Request) → Gives ended a b xs → Gives ended b c ys → Gives ended a c (xs ++ ys)
+pub gives_more : (ended : Bool) (a b c : Standing) (xs ys : List Request) → Gives ended a b xs → Gives ended b c ys →
+    Gives ended a c (xs ++ ys)
 gives_more ended a b c xs ys first next more comes =
     first more comes ∙ ap (after_these xs) (next more comes) ∙ (λ i. record { given = sym (append_assoc xs ys (ahead c more).given) i; fault = (ahead c more).fault })
 
@@ -166,13 +172,15 @@ feed_past xs more i none e = at (ltb i (length xs)) refl
     at false lt = grind (arith, nat_tests)
 
 -- bytes without a line feed are the begin of the first line, for every continuation
-begins_long : (xs more : List ℕ) → position (λ b. eqb b 10) xs ≡ None → 0 < length xs → (line : List ℕ) × (rest : List (List ℕ)) × (lines (xs ++ more) ≡ line ∷ rest) × (length xs ≤ length line)
+begins_long : (xs more : List ℕ) → position (λ b. eqb b 10) xs ≡ None → 0 < length xs →
+    (line : List ℕ) × (rest : List (List ℕ)) × (lines (xs ++ more) ≡ line ∷ rest) × (length xs ≤ length line)
 begins_long xs more none some = at (position (λ b. eqb b 10) (xs ++ more)) refl
   where
     long : length (xs ++ more) ≡ length xs + length more
     long = length-append xs more
 
-    at : (o : Option ℕ) → position (λ b. eqb b 10) (xs ++ more) ≡ o → (line : List ℕ) × (rest : List (List ℕ)) × (lines (xs ++ more) ≡ line ∷ rest) × (length xs ≤ length line)
+    at : (o : Option ℕ) → position (λ b. eqb b 10) (xs ++ more) ≡ o →
+        (line : List ℕ) × (rest : List (List ℕ)) × (lines (xs ++ more) ≡ line ∷ rest) × (length xs ≤ length line)
     at None e = (xs ++ more, [], line_to_end (xs ++ more) e (let size = long in omega arith), let size = long in omega arith)
     at (Some i) e =
         let past = feed_past xs more i none e in
@@ -181,13 +189,17 @@ begins_long xs more none some = at (position (λ b. eqb b 10) (xs ++ more)) refl
 
 -- the requests and the fault that are ahead, if the next line has no fault and if it has one
 module _ (ended : Bool) (s : Standing) (text : List ℕ) (taken : ℕ) (is : IsLineAhead ended s.pending text taken) where
-  pub step_given : (new : Begun) (given : Option Request) → Makes s.nodes (line_after s.line) s.begun new text given → Gives ended s (advanced s new taken) (at_most_one given)
-  step_given new given makes more comes = ap (told s.nodes s.line s.begun) (is.0 more comes) ∙ line_made s.nodes s.line s.begun text (lines (drop taken s.pending ++ more)) new given makes
+  pub step_given : (new : Begun) (given : Option Request) → Makes s.nodes (line_after s.line) s.begun new text given →
+      Gives ended s (advanced s new taken) (at_most_one given)
+  step_given new given makes more comes =
+      ap (told s.nodes s.line s.begun) (is.0 more comes)
+      ∙ line_made s.nodes s.line s.begun text (lines (drop taken s.pending ++ more)) new given makes
 
   pub step_shorter : (new : Begun) → length (advanced s new taken).pending < length s.pending
   step_shorter new = let some = is.1 in let within = is.2 in omega (arith, length-drop taken s.pending)
 
-  pub step_faulty : (error : RequestError) → IsLineError (text_fault s.nodes (line_after s.line) s.begun text) error → IsErrorAhead ended s error
+  pub step_faulty : (error : RequestError) → IsLineError (text_fault s.nodes (line_after s.line) s.begun text) error →
+      IsErrorAhead ended s error
   step_faulty (Fault fault) e = λ more comes. ap (told s.nodes s.line s.begun) (is.0 more comes) ∙ line_faulty s.nodes s.line s.begun text (lines (drop taken s.pending ++ more)) fault e
   step_faulty NoMemory e = tt
 
@@ -208,6 +220,7 @@ no_feed false bytes none = none
 no_feed true bytes none = rw none refl
 
 -- an error that a call passes on
-pub error_passed : {T : Type 0} (P : RequestError → Type 0) (r : Result T RequestError) (e : RequestError) → IsErrAnd r (λ y. y ≡ e) → P e → IfErr r P
+pub error_passed : {T : Type 0} (P : RequestError → Type 0) (r : Result T RequestError) (e : RequestError) → IsErrAnd r (λ y. y ≡ e) → P e →
+    IfErr r P
 error_passed P (Ok x) e is holds = tt
 error_passed P (Err y) e is holds = subst P (sym is) holds

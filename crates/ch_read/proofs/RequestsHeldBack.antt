@@ -29,11 +29,13 @@ use Rattle.ch_read.proofs.RequestTurns.{given_in_turn, may_come}
 ends_with_x : List (List ℕ) → Type 0
 ends_with_x parts = (front : List (List ℕ)) × (word : List ℕ) × (parts ≡ front ++ (word ++ 120 ∷ []) ∷ [])
 
-onto_x : (b : ℕ) (front : List (List ℕ)) (word : List ℕ) → (before : List (List ℕ)) × (last : List ℕ) × (onto_first b (front ++ (word ++ 120 ∷ []) ∷ []) ≡ before ++ (last ++ 120 ∷ []) ∷ [])
+onto_x : (b : ℕ) (front : List (List ℕ)) (word : List ℕ) →
+    (before : List (List ℕ)) × (last : List ℕ) × (onto_first b (front ++ (word ++ 120 ∷ []) ∷ []) ≡ before ++ (last ++ 120 ∷ []) ∷ [])
 onto_x b [] word = ([], b ∷ word, refl)
 onto_x b (part ∷ front) word = ((b ∷ part) ∷ front, word, refl)
 
-split_x : (bytes : List ℕ) → (front : List (List ℕ)) × (word : List ℕ) × (slice_split is_blank (bytes ++ 120 ∷ []) ≡ front ++ (word ++ 120 ∷ []) ∷ [])
+split_x : (bytes : List ℕ) →
+    (front : List (List ℕ)) × (word : List ℕ) × (slice_split is_blank (bytes ++ 120 ∷ []) ≡ front ++ (word ++ 120 ∷ []) ∷ [])
 split_x [] = ([], [], refl)
 split_x (b ∷ bytes) = at (is_blank b) refl (split_x bytes)
   where
@@ -72,12 +74,14 @@ x_no_numbers : (front : List (List ℕ)) (word : List ℕ) → numbers (front ++
 x_no_numbers [] word = rw (x_no_number word) refl
 x_no_numbers (w ∷ front) word = at (number w) (x_no_numbers front word)
   where
-    at : (o : Option ℕ) → numbers (front ++ (word ++ 120 ∷ []) ∷ []) ≡ None → option_and_then (λ n. option_map (λ ns. n ∷ ns) (numbers (front ++ (word ++ 120 ∷ []) ∷ []))) o ≡ None
+    at : (o : Option ℕ) → numbers (front ++ (word ++ 120 ∷ []) ∷ []) ≡ None →
+        option_and_then (λ n. option_map (λ ns. n ∷ ns) (numbers (front ++ (word ++ 120 ∷ []) ∷ []))) o ≡ None
     at None e = refl
     at (Some n) e = rw e refl
 
 -- a line that ends with x does not have the numbers of an item
-x_no_item : (letter : List ℕ) (count : ℕ) (front : List (List ℕ)) (word : List ℕ) → numbers_after (letter ∷ []) (suc count) (front ++ (word ++ 120 ∷ []) ∷ []) ≡ None
+x_no_item : (letter : List ℕ) (count : ℕ) (front : List (List ℕ)) (word : List ℕ) →
+    numbers_after (letter ∷ []) (suc count) (front ++ (word ++ 120 ∷ []) ∷ []) ≡ None
 x_no_item letter count [] word = at (bytes_eq (word ++ 120 ∷ []) letter)
   where
     at : (t : Bool) → cond t (numbers_after [] (suc count) []) None ≡ None
@@ -91,7 +95,8 @@ x_no_item letter count (w ∷ front) word = at (bytes_eq w letter) (eqb (length 
     at false u = refl
 
 -- a line that ends with x does not have the numbers of a request that may have a limit
-x_no_limited : (letter : List ℕ) (count : ℕ) (front : List (List ℕ)) (word : List ℕ) → numbers_and_limit (letter ∷ []) (suc count) (front ++ (word ++ 120 ∷ []) ∷ []) ≡ None
+x_no_limited : (letter : List ℕ) (count : ℕ) (front : List (List ℕ)) (word : List ℕ) →
+    numbers_and_limit (letter ∷ []) (suc count) (front ++ (word ++ 120 ∷ []) ∷ []) ≡ None
 x_no_limited letter count front word = let next : suc count + 1 ≡ suc (suc count) = omega arith in rw (x_no_item letter count front word, next) (x_no_item letter (suc count) front word)
 
 -- a line without numbers completes no request
@@ -141,7 +146,8 @@ x_told_nothing n line begun bytes clear =
     after : Option RequestFault → Told
     after o = if is_none o then after_these here.given (told n (line_after line) here.begun ((120 ∷ []) ∷ [])) else stopping o
 
-    at : (o : Option RequestFault) → text_fault n (line_after line) begun (bytes ++ 120 ∷ []) ≡ o → (after (text_fault n (line_after line) begun (bytes ++ 120 ∷ []))).given ≡ []
+    at : (o : Option RequestFault) → text_fault n (line_after line) begun (bytes ++ 120 ∷ []) ≡ o →
+        (after (text_fault n (line_after line) begun (bytes ++ 120 ∷ []))).given ≡ []
     at None e = ap (λ o. (after o).given) e ∙ append-nil here.given ∙ x_made_nothing n begun bytes
     at (Some fault) e = ap (λ o. (after o).given) e
 

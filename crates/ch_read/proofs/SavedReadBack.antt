@@ -184,7 +184,8 @@ module _ (n : ℕ) (s : OrderAndLegs) (is : AreWithin n s) where
       ∙ (λ i. first_failing ((first i && second i, TooFew) ∷ []))
 
   size_all : length all_lines ≡ suc (length s.order + length s.legs)
-  size_all = ap suc (length-append (map order_of s.order) (map leg_of s.legs) ∙ (λ i. length-map s.order order_of i + length-map s.legs leg_of i))
+  size_all =
+      ap suc (length-append (map order_of s.order) (map leg_of s.legs) ∙ (λ i. length-map s.order order_of i + length-map s.legs leg_of i))
 
   -- the fault of a line is the one after the lines before it
   at_place : (i : ℕ) → i < length all_lines → fault_at (Saved n) all_lines i ≡ line_fault (Saved n) (take i all_lines) (get_or all_lines i [])

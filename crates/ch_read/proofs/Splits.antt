@@ -13,7 +13,8 @@ use Rattle.ch_read.specs.Words.{lines, words, is_word, is_blank, without_empty_l
 
 -- a list that is cut at the first element with p
 module _ (p : ℕ → Bool) where
-  pub split_at : (xs : List ℕ) (i : ℕ) → position p xs ≡ Some i → (i < length xs) × (p (get_or xs i 0) ≡ true) × (slice_split p xs ≡ take i xs ∷ slice_split p (drop (i + 1) xs))
+  pub split_at : (xs : List ℕ) (i : ℕ) → position p xs ≡ Some i →
+      (i < length xs) × (p (get_or xs i 0) ≡ true) × (slice_split p xs ≡ take i xs ∷ slice_split p (drop (i + 1) xs))
   split_at xs i e =
       let found = cond_some _ _ _ e in
       let at : position_or_len p xs ≡ i = found.1 in
@@ -25,7 +26,8 @@ module _ (p : ℕ → Bool) where
   pub none_passes : (xs : List ℕ) → position p xs ≡ None → length xs ≤ position_or_len p xs
   none_passes xs e = at (ltb (position_or_len p xs) (length xs)) refl e
     where
-      at : (t : Bool) → ltb (position_or_len p xs) (length xs) ≡ t → cond t (Some (position_or_len p xs)) None ≡ None → length xs ≤ position_or_len p xs
+      at : (t : Bool) → ltb (position_or_len p xs) (length xs) ≡ t → cond t (Some (position_or_len p xs)) None ≡ None →
+          length xs ≤ position_or_len p xs
       at true f e' = absurd (none-some _ (sym e'))
       at false f e' = grind (arith, nat_tests)
 
@@ -71,12 +73,14 @@ module _ (p : ℕ → Bool) (xs : List ℕ) (searched : ℕ) (inside : searched 
 
 -- lines
 
-pub line_before : (front : List ℕ) (parts : List (List ℕ)) → 0 < length parts → without_empty_last (front ∷ parts) ≡ front ∷ without_empty_last parts
+pub line_before : (front : List ℕ) (parts : List (List ℕ)) → 0 < length parts →
+    without_empty_last (front ∷ parts) ≡ front ∷ without_empty_last parts
 line_before front [] some = absurd (omega arith)
 line_before front (part ∷ parts) some = refl
 
 -- the first line ends at the first line feed
-pub line_to_feed : (xs : List ℕ) (i : ℕ) → position (λ b. eqb b 10) xs ≡ Some i → lines xs ≡ take i xs ∷ lines (take (length xs - (i + 1)) (drop (i + 1) xs))
+pub line_to_feed : (xs : List ℕ) (i : ℕ) → position (λ b. eqb b 10) xs ≡ Some i →
+    lines xs ≡ take i xs ∷ lines (take (length xs - (i + 1)) (drop (i + 1) xs))
 line_to_feed xs i e =
     let rest = drop (i + 1) xs in
     let some : 0 < length (slice_split (λ b. eqb b 10) rest) = omega (arith, length-slice_split (λ b. eqb b 10) rest) in
@@ -101,7 +105,8 @@ words_after_blanks : (xs : List ℕ) → words xs ≡ words (drop (word_begins x
 words_after_blanks [] = refl
 words_after_blanks (x ∷ xs) = at (is_blank x) refl (words_after_blanks xs)
   where
-    at : (t : Bool) → is_blank x ≡ t → words xs ≡ words (drop (word_begins xs) xs) → words (x ∷ xs) ≡ words (drop (cond (not (not t)) (1 + word_begins xs) 0) (x ∷ xs))
+    at : (t : Bool) → is_blank x ≡ t → words xs ≡ words (drop (word_begins xs) xs) →
+        words (x ∷ xs) ≡ words (drop (cond (not (not t)) (1 + word_begins xs) 0) (x ∷ xs))
     at true e more = let step : 1 + word_begins xs ≡ suc (word_begins xs) = omega arith in rw (e, step) more
     at false e more = refl
 

@@ -24,7 +24,8 @@ ArePlain [] = ⊤
 ArePlain (w ∷ ws) = IsPlain w × ArePlain ws
 
 -- splitting cuts off the part before the first element with p
-split_front : (p : ℕ → Bool) (xs rest : List ℕ) (c : ℕ) → All (λ b. p b ≡ false) xs → p c ≡ true → slice_split p (xs ++ c ∷ rest) ≡ xs ∷ slice_split p rest
+split_front : (p : ℕ → Bool) (xs rest : List ℕ) (c : ℕ) → All (λ b. p b ≡ false) xs → p c ≡ true →
+    slice_split p (xs ++ c ∷ rest) ≡ xs ∷ slice_split p rest
 split_front p [] rest c none here = slice_split-cons_yes p c rest here
 split_front p (x ∷ xs) rest c none here =
     slice_split-cons_no p x (xs ++ c ∷ rest) (none 0 0 (omega arith)) ∙ ap (onto_first x) (split_front p xs rest c (λ k d lt. none (suc k) d (omega arith)) here)
@@ -87,7 +88,9 @@ first_line l rest plain =
 -- all lines are those that were written
 pub lines_text : (ls : List Line) → ((l : Line) → Contains ls l → IsPlainLine l) → lines (text_of ls) ≡ map line_of ls
 lines_text [] plain = refl
-lines_text (l ∷ ls) plain = first_line l (text_of ls) (plain l (contains_head l ls)) ∙ ap (λ (t : List (List ℕ)). line_of l ∷ t) (lines_text ls (λ k c. plain k (contains_tail k l ls c)))
+lines_text (l ∷ ls) plain =
+    first_line l (text_of ls) (plain l (contains_head l ls))
+    ∙ ap (λ (t : List (List ℕ)). line_of l ∷ t) (lines_text ls (λ k c. plain k (contains_tail k l ls c)))
 
 -- digits are no blanks
 digits_plain : (ds : List ℕ) → all_ascii_digits ds ≡ true → All (λ b. is_blank b ≡ false) ds

@@ -40,7 +40,8 @@ abbrev pub order_line : ℕ → Line
 order_line v = (codes "o", decimal (v + 1) ∷ [])
 
 abbrev pub leg_line : SavedLeg → Line
-leg_line l = (codes "l", decimal (l.from + 1) ∷ decimal (l.to + 1) ∷ decimal l.cost.weight ∷ decimal l.cost.arcs ∷ middle_word l.middle ∷ [])
+leg_line l =
+    (codes "l", decimal (l.from + 1) ∷ decimal (l.to + 1) ∷ decimal l.cost.weight ∷ decimal l.cost.arcs ∷ middle_word l.middle ∷ [])
 
 -- the lines: the numbers of nodes and legs, then the order, then the legs
 abbrev pub saved_lines : OrderAndLegs → List Line
@@ -134,7 +135,8 @@ module _ {X Y : Type 0} (f : X → List ℕ) (p : List ℕ → Option Y) where
 
 -- checks that all pass
 
-pub problem_clear : (form : Form) (ws : List (List ℕ)) (h : Heading) → heading form ws ≡ Some h → is_size form h ≡ true → first_failing (problem_checks form None ws) ≡ None
+pub problem_clear : (form : Form) (ws : List (List ℕ)) (h : Heading) → heading form ws ≡ Some h → is_size form h ≡ true →
+    first_failing (problem_checks form None ws) ≡ None
 problem_clear form ws h found size =
     ap (λ o. first_failing ((true, SecondProblem) ∷ (is_some o, BadProblem) ∷ (passes (is_size form) o, Size) ∷ [])) found ∙ ap (λ b. first_failing ((b, Size) ∷ [])) size
 

@@ -50,7 +50,8 @@ went_by n bytes = went n 0 nothing (ended_lines bytes)
 -- for each cut: the requests and the fault are those of the lines that end in the first part, then those of its rest
 -- with the second part
 abbrev pub AreToldByParts : Type 0
-AreToldByParts = (n : ℕ) (first second : List ℕ) → told_by n (first ++ second) ≡ and_then n (went_by n first) (lines (unended first ++ second))
+AreToldByParts =
+    (n : ℕ) (first second : List ℕ) → told_by n (first ++ second) ≡ and_then n (went_by n first) (lines (unended first ++ second))
 
 -- a turn: a reader is fed these bytes, and then gives these requests; either may be none
 abbrev pub Turn : Type 0
@@ -70,7 +71,8 @@ GoesBy (turn ∷ turns) old new = (next : Standing) × Gives false (fed old turn
 -- for every continuation of the input: the requests that were given are the first requests of the bytes, and the others
 -- and the fault are ahead of the reader
 abbrev pub AreGivenInTurn : Type 0
-AreGivenInTurn = (n : ℕ) (turns : List Turn) (s : Standing) → GoesBy turns (starting n) s → HasGiven false n (bytes_of turns) s (given_by turns)
+AreGivenInTurn =
+    (n : ℕ) (turns : List Turn) (s : Standing) → GoesBy turns (starting n) s → HasGiven false n (bytes_of turns) s (given_by turns)
 
 -- when the input has ended and all is used up, the reader has given all requests of the bytes, and they have no fault
 abbrev pub AreGivenToTheEnd : Type 0

@@ -111,7 +111,8 @@ failing_at line checks = option_map (λ kind. Line (record { line = line; kind =
 
 -- the cells of a table are judged last
 abbrev pub table_fault : ℕ → Begun → Option (List ℕ) → Option RequestFault
-table_fault line begun numbers = option_or (failing_at line (table_checks begun numbers)) (if passes are_few numbers then None else Some (Cells line))
+table_fault line begun numbers =
+    option_or (failing_at line (table_checks begun numbers)) (if passes are_few numbers then None else Some (Cells line))
 
 -- the fault of a line of these words on a graph of n nodes, after this was begun
 abbrev pub request_fault : ℕ → ℕ → Begun → List (List ℕ) → Option RequestFault
@@ -144,7 +145,8 @@ none_made begun = record { given = []; begun = begun }
 
 -- the request of these lists
 abbrev pub request_for : Purpose → ℕ → List ℕ → Request
-request_for (ForTable within) sources listed = Table (record { sources = take sources listed; targets = drop sources listed; within = within })
+request_for (ForTable within) sources listed =
+    Table (record { sources = take sources listed; targets = drop sources listed; within = within })
 request_for (ForPlaces count) sources listed = Places (record { nodes = listed; count = count })
 
 -- the request that is begun is given as soon as it has its nodes
@@ -180,7 +182,8 @@ abbrev pub places_from : List ℕ → Begun
 places_from ns = record { purpose = ForPlaces (count_or_all (slice_index ns 1)); sources = 0; targets = slice_index ns 0; listed = [] }
 
 abbrev pub with_node : Begun → ℕ → Begun
-with_node begun node = record { purpose = begun.purpose; sources = begun.sources; targets = begun.targets; listed = begun.listed ++ node ∷ [] }
+with_node begun node =
+    record { purpose = begun.purpose; sources = begun.sources; targets = begun.targets; listed = begun.listed ++ node ∷ [] }
 
 -- the result of a line of these words, if it has no fault
 abbrev pub made : ℕ → Begun → List (List ℕ) → Made

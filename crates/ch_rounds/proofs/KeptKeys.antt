@@ -121,7 +121,8 @@ count_small n h M x k limits few count =
     omega (arith, most, square, count.2)
 
 -- counts stay at most 2^50
-pub counts_small : (n h : ℕ) (M : Legs) (due before after : List ℕ) (x : ℕ) → AreLegsWithin n M → n ≤ MOST_NODES → AreCounted n h M due before after → slice_index before x ≤ 2 ^ 50 → slice_index after x ≤ 2 ^ 50
+pub counts_small : (n h : ℕ) (M : Legs) (due before after : List ℕ) (x : ℕ) → AreLegsWithin n M → n ≤ MOST_NODES →
+    AreCounted n h M due before after → slice_index before x ≤ 2 ^ 50 → slice_index after x ≤ 2 ^ 50
 counts_small n h M due before after x limits few counted small = elim (contains_or_not due x) [
   | inl has ↦ count_small n h M x (slice_index after x) limits few (counted.anew x has)
   | inr away ↦ subst (λ z. z ≤ 2 ^ 50) (sym (counted.kept x away)) small

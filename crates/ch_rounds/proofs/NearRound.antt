@@ -29,7 +29,8 @@ pub any_found : (p : ℕ → Bool) (xs : List ℕ) → list_any p xs ≡ true �
 any_found p [] e = absurd (true≢false (sym e))
 any_found p (x ∷ xs) e = at (p x) refl e (any_found p xs)
   where
-    at : (b : Bool) → p x ≡ b → (b || list_any p xs) ≡ true → (list_any p xs ≡ true → (v : ℕ) × Contains xs v × (p v ≡ true)) → (v : ℕ) × Contains (x ∷ xs) v × (p v ≡ true)
+    at : (b : Bool) → p x ≡ b → (b || list_any p xs) ≡ true → (list_any p xs ≡ true → (v : ℕ) × Contains xs v × (p v ≡ true)) →
+        (v : ℕ) × Contains (x ∷ xs) v × (p v ≡ true)
     at true t f more = (x, contains_head x xs, t)
     at false t f more = let r = more f in (r.0, contains_tail r.0 x xs r.1, r.2)
 
@@ -74,7 +75,8 @@ module _ (n : ℕ) (L : Legs) (nodes : List ℕ) (limits : AreLegsWithin n L) (i
   near_few done near a = distinct_most near n a.differ (λ x c. let v = any_found (λ v. are_neighbours L v x) done ((a.each x).0 c) in neighbour_below n L v.0 x limits v.2)
 
   -- a node is a neighbour of one of the first i + 1 nodes exactly if it is one of the first i, or of node i
-  any_more : (i x : ℕ) → i < length nodes → list_any (λ v. are_neighbours L v x) (take (i + 1) nodes) ≡ (list_any (λ v. are_neighbours L v x) (take i nodes) || are_neighbours L (get_or nodes i 0) x)
+  any_more : (i x : ℕ) → i < length nodes →
+      list_any (λ v. are_neighbours L v x) (take (i + 1) nodes) ≡ (list_any (λ v. are_neighbours L v x) (take i nodes) || are_neighbours L (get_or nodes i 0) x)
   any_more i x lt =
       let p : ℕ → Bool = λ v. are_neighbours L v x in
       let v : ℕ = get_or nodes i 0 in
@@ -113,7 +115,8 @@ module _ (n : ℕ) (L : Legs) (nodes : List ℕ) (limits : AreLegsWithin n L) (i
         right true e = refl
         right false e = e
 
-        at : (x : ℕ) (b : Bool) → list_any (λ v. are_neighbours L v x) (take i nodes) ≡ b → (b || are_neighbours L (get_or nodes i 0) x) ≡ true → Contains (near ++ neighbours_in up down) x
+        at : (x : ℕ) (b : Bool) → list_any (λ v. are_neighbours L v x) (take i nodes) ≡ b →
+            (b || are_neighbours L (get_or nodes i 0) x) ≡ true → Contains (near ++ neighbours_in up down) x
         at x true e f = Contains-append_left near (neighbours_in up down) x ((a.each x).1 e)
         at x false e f = Contains-append_right near (neighbours_in up down) x (neighbour_listed L (get_or nodes i 0) up down from to x f)
 

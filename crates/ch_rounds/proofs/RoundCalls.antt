@@ -34,12 +34,14 @@ use Rattle.ch_contract.proofs.code.NodeLists.{numbers_below, number_among}
 -- the parts of a construction after a round of these nodes, which have these neighbours
 pub record IsSteppedByRound (h : ℕ) (before after : ConstructionByRounds) (nodes near : List ℕ) (keys : List ℤ) : Type 0 where
   pub count : after.remaining.nodes ≡ before.remaining.nodes
-  pub keyed : (x : ℕ) → Contains before.left.items x → IsKeyIn before.remaining before.counts.items before.depths.items x (slice_index_or keys x (pos 0))
+  pub keyed : (x : ℕ) → Contains before.left.items x →
+      IsKeyIn before.remaining before.counts.items before.depths.items x (slice_index_or keys x (pos 0))
   pub split : IsSplit (IsFirstBy keys (legs_of before.remaining)) before.left.items nodes after.left.items
   pub legs : ContractsRound before.remaining.nodes h (legs_of before.remaining) nodes (legs_of after.remaining)
   pub up : AreSetAside (legs_of before.remaining) nodes before.remaining.ups after.remaining.ups
   pub down : AreSetAside (turned_legs (legs_of before.remaining)) nodes before.remaining.downs after.remaining.downs
-  pub depths : (x : ℕ) → slice_index after.depths.items x ≡ depth_after_round (legs_of before.remaining) nodes (λ y. slice_index before.depths.items y) x
+  pub depths : (x : ℕ) →
+      slice_index after.depths.items x ≡ depth_after_round (legs_of before.remaining) nodes (λ y. slice_index before.depths.items y) x
   pub deep : length after.depths.items ≡ length before.depths.items
   pub around : (x : ℕ) → Contains near x ↔ (list_any (λ v. are_neighbours (legs_of before.remaining) v x) nodes ≡ true)
   pub counted : AreCounted before.remaining.nodes h (legs_of after.remaining) (due_of before.remaining.nodes before.contracted after.contracted near after.left.items) before.counts.items after.counts.items
@@ -55,15 +57,20 @@ split_apart keys L left nodes rest s = record {
 }
 
 -- the nodes of a round are below the number of nodes
-pub split_left : (P : ℕ → Type 0) (n : ℕ) (left nodes rest : List ℕ) → All (λ x. x < n) left → IsSplit P left nodes rest → All (λ x. x < n) nodes
-split_left P n left nodes rest all s = λ k d lt. All-contains (λ x. x < n) left (get_or nodes k d) all ((s.first (get_or nodes k d)).0 (Contains-get_or nodes k d lt)).0
+pub split_left : (P : ℕ → Type 0) (n : ℕ) (left nodes rest : List ℕ) → All (λ x. x < n) left → IsSplit P left nodes rest →
+    All (λ x. x < n) nodes
+split_left P n left nodes rest all s =
+    λ k d lt. All-contains (λ x. x < n) left (get_or nodes k d) all ((s.first (get_or nodes k d)).0 (Contains-get_or nodes k d lt)).0
 
 -- the nodes of the rest are below the number of nodes
-pub split_rest : (P : ℕ → Type 0) (n : ℕ) (left nodes rest : List ℕ) → All (λ x. x < n) left → IsSplit P left nodes rest → All (λ x. x < n) rest
-split_rest P n left nodes rest all s = λ k d lt. All-contains (λ x. x < n) left (get_or rest k d) all ((s.waits (get_or rest k d)).0 (Contains-get_or rest k d lt)).0
+pub split_rest : (P : ℕ → Type 0) (n : ℕ) (left nodes rest : List ℕ) → All (λ x. x < n) left → IsSplit P left nodes rest →
+    All (λ x. x < n) rest
+split_rest P n left nodes rest all s =
+    λ k d lt. All-contains (λ x. x < n) left (get_or rest k d) all ((s.waits (get_or rest k d)).0 (Contains-get_or rest k d lt)).0
 
 -- the nodes whose shortcuts are counted are below the number of nodes
-pub due_below : (n m before after : ℕ) (near rest : List ℕ) → All (λ x. x < m) near → All (λ x. x < m) rest → All (λ x. x < m) (due_of n before after near rest)
+pub due_below : (n m before after : ℕ) (near rest : List ℕ) → All (λ x. x < m) near → All (λ x. x < m) rest →
+    All (λ x. x < m) (due_of n before after near rest)
 due_below n m before after near rest below others = at (nat_lt (10 * after) (7 * n)) (nat_lt (10 * before) (7 * n))
   where
     at : (early first : Bool) → All (λ x. x < m) (if early then [] else (if first then rest else near))
@@ -72,13 +79,15 @@ due_below n m before after near rest below others = at (nat_lt (10 * after) (7 *
     at false false = below
 
 -- a node of the rest is in the list of nodes to count if its count is due
-due_in : (early first any : Bool) (near rest : List ℕ) (x : ℕ) → Contains rest x → (Contains near x ↔ (any ≡ true)) → (not early && (first || any)) ≡ true → Contains (if early then [] else (if first then rest else near)) x
+due_in : (early first any : Bool) (near rest : List ℕ) (x : ℕ) → Contains rest x → (Contains near x ↔ (any ≡ true)) →
+    (not early && (first || any)) ≡ true → Contains (if early then [] else (if first then rest else near)) x
 due_in true first any near rest x c is e = absurd (true≢false (sym e))
 due_in false true any near rest x c is e = c
 due_in false false any near rest x c is e = is.1 e
 
 -- a node whose count is not due is not in the list of nodes to count
-due_out : (early first any : Bool) (near rest : List ℕ) (x : ℕ) → (Contains near x ↔ (any ≡ true)) → (not early && (first || any)) ≡ false → Contains (if early then [] else (if first then rest else near)) x → ⊥
+due_out : (early first any : Bool) (near rest : List ℕ) (x : ℕ) → (Contains near x ↔ (any ≡ true)) → (not early && (first || any)) ≡ false →
+    Contains (if early then [] else (if first then rest else near)) x → ⊥
 due_out true first any near rest x is e c = contains_none x c
 due_out false true any near rest x is e c = true≢false e
 due_out false false any near rest x is e c = true≢false (sym (is.0 c) ∙ e)
@@ -112,13 +121,15 @@ module _ (h : ℕ) (before after : ConstructionByRounds) (nodes near : List ℕ)
   }
 
   -- a remaining node whose count is due is in the list of nodes to count
-  listed_due : (x : ℕ) → Contains after.left.items x → is_due before.remaining.nodes (round_progress_of before) nodes x ≡ true → Contains (due_of before.remaining.nodes before.contracted after.contracted near after.left.items) x
+  listed_due : (x : ℕ) → Contains after.left.items x → is_due before.remaining.nodes (round_progress_of before) nodes x ≡ true →
+      Contains (due_of before.remaining.nodes before.contracted after.contracted near after.left.items) x
   listed_due x c e =
       let count = s.contracted in
       subst (λ k. Contains (due_of before.remaining.nodes before.contracted k near after.left.items) x) (sym count) (due_in _ _ _ near after.left.items x c (s.around x) e)
 
   -- a node whose count is not due is not in this list
-  not_due : (x : ℕ) → is_due before.remaining.nodes (round_progress_of before) nodes x ≡ false → Contains (due_of before.remaining.nodes before.contracted after.contracted near after.left.items) x → ⊥
+  not_due : (x : ℕ) → is_due before.remaining.nodes (round_progress_of before) nodes x ≡ false →
+      Contains (due_of before.remaining.nodes before.contracted after.contracted near after.left.items) x → ⊥
   not_due x e c =
       let count = s.contracted in
       due_out _ _ _ near after.left.items x (s.around x) e (subst (λ k. Contains (due_of before.remaining.nodes before.contracted k near after.left.items) x) count c)
@@ -183,7 +194,8 @@ module _ (h : ℕ) (before after : ConstructionByRounds) (nodes near : List ℕ)
       ]
 
 -- a property of the neighbours of the round and of the rest is a property of all nodes whose keys are written
-pub stale_below : (P : ℕ → Type 0) (n before after : ℕ) (near rest : List ℕ) → ((x : ℕ) → Contains near x → P x) → ((x : ℕ) → Contains rest x → P x) → All P (stale_of n before after near rest)
+pub stale_below : (P : ℕ → Type 0) (n before after : ℕ) (near rest : List ℕ) → ((x : ℕ) → Contains near x → P x) →
+    ((x : ℕ) → Contains rest x → P x) → All P (stale_of n before after near rest)
 stale_below P n before after near rest first second = at (nat_lt (10 * before) (7 * n) && not (nat_lt (10 * after) (7 * n)))
   where
     at : (b : Bool) → All P (if b then rest else near)
@@ -191,7 +203,8 @@ stale_below P n before after near rest first second = at (nat_lt (10 * before) (
     at false = λ k d lt. first (get_or near k d) (Contains-get_or near k d lt)
 
 -- when no node remains, the hierarchy has the levels and the rows of all nodes
-pub rounds_end : (c : ConstructionByRounds) (H : LevelsAndLegs) → IsSizedByRounds c → length c.left.items ≡ 0 → H.level ≡ c.levels.items → H.up ≡ c.remaining.ups → H.down ≡ c.remaining.downs → IsRoundsEnd c.remaining.nodes (round_progress_of c) H
+pub rounds_end : (c : ConstructionByRounds) (H : LevelsAndLegs) → IsSizedByRounds c → length c.left.items ≡ 0 → H.level ≡ c.levels.items →
+    H.up ≡ c.remaining.ups → H.down ≡ c.remaining.downs → IsRoundsEnd c.remaining.nodes (round_progress_of c) H
 rounds_end c H sizes none level up down = record {
   none = λ x has. let inside = has.1 in absurd (omega arith);
   level = level;

@@ -15,7 +15,9 @@ module _ (r : RemainingLegs) (counts depths : List ℕ) where
   keyed_none before = record { size = refl; anew = λ x c. absurd (contains_none x c); kept = λ x away. refl }
 
   -- the key of one more node is written
-  pub keyed_more : (nodes : List ℕ) (i : ℕ) (before middle : List ℤ) (k : ℤ) → i < length nodes → get_or nodes i 0 < length middle → IsKeyIn r counts depths (get_or nodes i 0) k → AreKeyed r counts depths (take i nodes) before middle → AreKeyed r counts depths (take (i + 1) nodes) before (set middle (get_or nodes i 0) k)
+  pub keyed_more : (nodes : List ℕ) (i : ℕ) (before middle : List ℤ) (k : ℤ) → i < length nodes → get_or nodes i 0 < length middle →
+      IsKeyIn r counts depths (get_or nodes i 0) k → AreKeyed r counts depths (take i nodes) before middle →
+      AreKeyed r counts depths (take (i + 1) nodes) before (set middle (get_or nodes i 0) k)
   keyed_more nodes i before middle k lt within is known =
       let v : ℕ = get_or nodes i 0 in
       let more = take_more nodes i 0 lt in
@@ -32,7 +34,9 @@ module _ (r : RemainingLegs) (counts depths : List ℕ) where
       }
 
 -- the same with equal lists
-pub keyed_as : (r : RemainingLegs) (counts others depths deep nodes list : List ℕ) (before old after new : List ℤ) → counts ≡ others → depths ≡ deep → nodes ≡ list → before ≡ old → after ≡ new → AreKeyed r counts depths nodes before after → AreKeyed r others deep list old new
+pub keyed_as : (r : RemainingLegs) (counts others depths deep nodes list : List ℕ) (before old after new : List ℤ) → counts ≡ others →
+    depths ≡ deep → nodes ≡ list → before ≡ old → after ≡ new → AreKeyed r counts depths nodes before after →
+    AreKeyed r others deep list old new
 keyed_as r counts others depths deep nodes list before old after new a b c d e k =
     subst (λ l. AreKeyed r others deep list old l) e (subst (λ l. AreKeyed r others deep list l after) d (subst (λ l. AreKeyed r others deep l before after) c (subst (λ l. AreKeyed r others l nodes before after) b (subst (λ l. AreKeyed r l depths nodes before after) a k))))
 
@@ -72,7 +76,8 @@ module _ (P : ℕ → Type 0) (nodes : List ℕ) (i : ℕ) (round rest : List �
   after x c = let at = earlier_at nodes i x lt c in subst (λ z. z < v) at.2 (ordered at.0 i 0 at.1 lt)
 
   -- a list of the nodes with Q, after v with Q is appended
-  pushed : (Q : ℕ → Type 0) (list : List ℕ) → Q v → ((x : ℕ) → Contains list x ↔ (Contains (take i nodes) x × Q x)) → (x : ℕ) → Contains (list ++ v ∷ []) x ↔ (Contains (take (i + 1) nodes) x × Q x)
+  pushed : (Q : ℕ → Type 0) (list : List ℕ) → Q v → ((x : ℕ) → Contains list x ↔ (Contains (take i nodes) x × Q x)) → (x : ℕ) →
+      Contains (list ++ v ∷ []) x ↔ (Contains (take (i + 1) nodes) x × Q x)
   pushed Q list is has x =
       let more = take_more nodes i 0 lt in (
         λ c. elim (Contains-push_cases list v x c) [
@@ -86,7 +91,8 @@ module _ (P : ℕ → Type 0) (nodes : List ℕ) (i : ℕ) (round rest : List �
       )
 
   -- a list of the nodes with Q, after v without Q is left out
-  passed : (Q : ℕ → Type 0) (list : List ℕ) → (Q v → ⊥) → ((x : ℕ) → Contains list x ↔ (Contains (take i nodes) x × Q x)) → (x : ℕ) → Contains list x ↔ (Contains (take (i + 1) nodes) x × Q x)
+  passed : (Q : ℕ → Type 0) (list : List ℕ) → (Q v → ⊥) → ((x : ℕ) → Contains list x ↔ (Contains (take i nodes) x × Q x)) → (x : ℕ) →
+      Contains list x ↔ (Contains (take (i + 1) nodes) x × Q x)
   passed Q list away has x =
       let more = take_more nodes i 0 lt in (
         λ c. let r = (has x).0 c in (subst (λ l. Contains l x) (sym more) (Contains-append_left (take i nodes) (v ∷ []) x r.0), r.1),
@@ -119,6 +125,7 @@ module _ (P : ℕ → Type 0) (nodes : List ℕ) (i : ℕ) (round rest : List �
   }
 
   -- the split after the next node goes where its test says
-  pub split_more : (b : Bool) → (IsTrue b ↔ P (get_or nodes i 0)) → IsSplit P (take (i + 1) nodes) (if b then round ++ get_or nodes i 0 ∷ [] else round) (if b then rest else rest ++ get_or nodes i 0 ∷ [])
+  pub split_more : (b : Bool) → (IsTrue b ↔ P (get_or nodes i 0)) →
+      IsSplit P (take (i + 1) nodes) (if b then round ++ get_or nodes i 0 ∷ [] else round) (if b then rest else rest ++ get_or nodes i 0 ∷ [])
   split_more true is = split_in (is.0 refl)
   split_more false is = split_off (λ yes. true≢false (sym (is.1 yes)))

@@ -20,18 +20,22 @@ use Rattle.ch_contract.proofs.code.ListEdits.{no_shortcut}
 use Rattle.ch_contract.proofs.code.Touching.{among_same, touching_from, touching_to, are_touching}
 
 -- a relation at each place of two lists may be replaced by one that follows from it for members of the first list
-pub zipped_also : {A B : Type 0} (R S : A → B → Type 0) (xs : List A) (ys : List B) → ((x : A) (y : B) → Contains xs x → R x y → S x y) → AllZip R xs ys → AllZip S xs ys
+pub zipped_also : {A B : Type 0} (R S : A → B → Type 0) (xs : List A) (ys : List B) → ((x : A) (y : B) → Contains xs x → R x y → S x y) →
+    AllZip R xs ys → AllZip S xs ys
 zipped_also R S [] [] f all = tt
 zipped_also R S [] (y ∷ ys) f all = absurd all
 zipped_also R S (x ∷ xs) [] f all = absurd all
-zipped_also R S (x ∷ xs) (y ∷ ys) f all = (f x y (contains_head x xs) all.0, zipped_also R S xs ys (λ z w c r. f z w (contains_tail z x xs c) r) all.1)
+zipped_also R S (x ∷ xs) (y ∷ ys) f all =
+    (f x y (contains_head x xs) all.0, zipped_also R S xs ys (λ z w c r. f z w (contains_tail z x xs c) r) all.1)
 
 -- two relations at each place of two lists give a third
-zipped_two : {A B : Type 0} (R S T : A → B → Type 0) (xs : List A) (ys : List B) → ((x : A) (y : B) → Contains xs x → R x y → S x y → T x y) → AllZip R xs ys → AllZip S xs ys → AllZip T xs ys
+zipped_two : {A B : Type 0} (R S T : A → B → Type 0) (xs : List A) (ys : List B) →
+    ((x : A) (y : B) → Contains xs x → R x y → S x y → T x y) → AllZip R xs ys → AllZip S xs ys → AllZip T xs ys
 zipped_two R S T [] [] f all also = tt
 zipped_two R S T [] (y ∷ ys) f all also = absurd all
 zipped_two R S T (x ∷ xs) [] f all also = absurd all
-zipped_two R S T (x ∷ xs) (y ∷ ys) f all also = (f x y (contains_head x xs) all.0 also.0, zipped_two R S T xs ys (λ z w c r s. f z w (contains_tail z x xs c) r s) all.1 also.1)
+zipped_two R S T (x ∷ xs) (y ∷ ys) f all also =
+    (f x y (contains_head x xs) all.0 also.0, zipped_two R S T xs ys (λ z w c r s. f z w (contains_tail z x xs c) r s) all.1 also.1)
 
 -- a property at each place of two lists holds of each member of the first list
 zipped_each : {B : Type 0} (P : ℕ → Type 0) (xs : List ℕ) (ys : List B) → AllZip (λ x y. P x) xs ys → (v : ℕ) → Contains xs v → P v
@@ -50,7 +54,8 @@ module _ {A : Type 0} (read : A → List Shortcut) where
   list_for (x ∷ nodes) (list ∷ lists) v = if v == x then read list else list_for nodes lists v
 
   -- each node has its own list
-  pub lists_for : (R : ℕ → A → Type 0) (nodes : List ℕ) (lists : List A) → AllPairs ◌≢◌ nodes → AllZip R nodes lists → AllZip (λ v list. list_for nodes lists v ≡ read list) nodes lists
+  pub lists_for : (R : ℕ → A → Type 0) (nodes : List ℕ) (lists : List A) → AllPairs ◌≢◌ nodes → AllZip R nodes lists →
+      AllZip (λ v list. list_for nodes lists v ≡ read list) nodes lists
   lists_for R [] [] distinct all = tt
   lists_for R [] (y ∷ lists) distinct all = absurd all
   lists_for R (x ∷ nodes) [] distinct all = absurd all
@@ -75,7 +80,9 @@ module _ (n h : ℕ) (nodes : List ℕ) (before away : RemainingLegs) (limits : 
   touched v c = are_touching (legs_of before) v (row away.ups v) (row away.downs v) (t.up.legs v c) (t.down.legs v c) n MOST_WEIGHT limits (λ u w l e. (limits u w l e).weight)
 
   -- the shortcuts of these rows, with witnesses among the remaining legs, are the shortcuts of the round
-  of_round : (v : ℕ) (list : List Shortcut) → Contains nodes v → AreShortcutsAmong n h (legs_touching v (row away.ups v) (row away.downs v)) (legs_of away) v list → AreShortcutsAmong n h (legs_of before) (legs_away nodes (legs_of before)) v list
+  of_round : (v : ℕ) (list : List Shortcut) → Contains nodes v →
+      AreShortcutsAmong n h (legs_touching v (row away.ups v) (row away.downs v)) (legs_of away) v list →
+      AreShortcutsAmong n h (legs_of before) (legs_away nodes (legs_of before)) v list
   of_round v list c are =
       let up = t.up.legs v c in
       let down = t.down.legs v c in

@@ -105,7 +105,8 @@ module _ {g : Network} {h : ℕ} {rounds : List (List ℕ)} {L : ℕ → Legs} {
       (c, one_key g.nodes h rounds L (length rounds) x k k' is (key_now x k' (c, refl)))
 
   -- a round by the present keys is one by the keys after these rounds
-  round_then : (nodes : List ℕ) → IsRound (IsKeyNow g.nodes p) (Contains p.left) p.legs nodes → IsRound (IsKeyAfter g.nodes h rounds L (length rounds)) (IsLeftAfter g.nodes rounds (length rounds)) (L (length rounds)) nodes
+  round_then : (nodes : List ℕ) → IsRound (IsKeyNow g.nodes p) (Contains p.left) p.legs nodes →
+      IsRound (IsKeyAfter g.nodes h rounds L (length rounds)) (IsLeftAfter g.nodes rounds (length rounds)) (L (length rounds)) nodes
   round_then nodes r = subst (λ (N : Legs). IsRound (IsKeyAfter g.nodes h rounds L (length rounds)) (IsLeftAfter g.nodes rounds (length rounds)) N nodes) same (record {
     ordered = r.ordered;
     sound = λ v c. let s = r.sound v c in (u.left v s.0, λ x ne near. let f = s.1 x ne near in (f.0, f.1, key_now v f.0 f.2, key_now x f.1 f.3, f.4));
@@ -113,7 +114,8 @@ module _ {g : Network} {h : ℕ} {rounds : List (List ℕ)} {L : ℕ → Legs} {
   })
 
   -- while a node remains, a round has a node
-  pub rounds_some : (nodes : List ℕ) → IsRound (IsKeyNow g.nodes p) (Contains p.left) p.legs nodes → (x : ℕ) → Contains p.left x → 0 < length nodes
+  pub rounds_some : (nodes : List ℕ) → IsRound (IsKeyNow g.nodes p) (Contains p.left) p.legs nodes → (x : ℕ) → Contains p.left x →
+      0 < length nodes
   rounds_some nodes r x c =
       round_some (IsKeyNow g.nodes p) (Contains p.left) (λ y k k' a b. a.1 ∙ sym b.1) (λ y has. (key_by Rounds (p.counts y) (count_touching g.nodes p.legs y) (p.depth y), (has, refl))) (contains_or_not p.left)
       g.nodes p.legs nodes (λ y has. (u.left y has).0) near_left r x c
@@ -159,17 +161,20 @@ module _ {g : Network} {h : ℕ} {rounds : List (List ℕ)} {L : ℕ → Legs} {
       )
 
   -- the shortcuts of a node are counted exactly if its count is due
-  due : (x : ℕ) → is_counted g.nodes (more rounds L nodes q.legs) (legs_more rounds L nodes q.legs) (suc (length rounds)) x ≡ is_due g.nodes p nodes x
+  due : (x : ℕ) →
+      is_counted g.nodes (more rounds L nodes q.legs) (legs_more rounds L nodes q.legs) (suc (length rounds)) x ≡ is_due g.nodes p nodes x
   due x =
       let count = u.contracted in
       let legs = same limits hops u in
       counted_next rounds L nodes q.legs g.nodes x ∙ sym (λ t. not (nat_lt (10 * (count t + length nodes)) (7 * g.nodes)) && (nat_lt (10 * count t) (7 * g.nodes) || list_any (λ v. are_neighbours (legs t) v x) nodes))
 
   -- the counts are those of the last count
-  counts_next : (x : ℕ) → Contains q.left x → IsCountAfter g.nodes h (more rounds L nodes q.legs) (legs_more rounds L nodes q.legs) (suc (length rounds)) x (q.counts x)
+  counts_next : (x : ℕ) → Contains q.left x →
+      IsCountAfter g.nodes h (more rounds L nodes q.legs) (legs_more rounds L nodes q.legs) (suc (length rounds)) x (q.counts x)
   counts_next x c = at (is_due g.nodes p nodes x) refl
     where
-      at : (b : Bool) → is_due g.nodes p nodes x ≡ b → IsCountAfter g.nodes h (more rounds L nodes q.legs) (legs_more rounds L nodes q.legs) (suc (length rounds)) x (q.counts x)
+      at : (b : Bool) → is_due g.nodes p nodes x ≡ b →
+          IsCountAfter g.nodes h (more rounds L nodes q.legs) (legs_more rounds L nodes q.legs) (suc (length rounds)) x (q.counts x)
       at true e =
           let count = step.anew x c e in
           (suc (length rounds), count.0, count_anew rounds L nodes q.legs g.nodes x (due x ∙ e), subst (λ (N : Legs). AreShortcuts g.nodes h N x count.0) (sym (next rounds L nodes q.legs)) count.1, count.2)
@@ -237,7 +242,8 @@ module _ {g : Network} {h : ℕ} {rounds : List (List ℕ)} {L : ℕ → Legs} {
   }
 
 -- when no node remains, the levels and the rows are the hierarchy by rounds
-pub rounds_at_end : (g : Network) (h : ℕ) (rounds : List (List ℕ)) (L : ℕ → Legs) (p : RoundProgress) (H : LevelsAndLegs) → IsAfterRounds g h rounds L p → IsRoundsEnd g.nodes p H → IsHierarchyByRounds g h H
+pub rounds_at_end : (g : Network) (h : ℕ) (rounds : List (List ℕ)) (L : ℕ → Legs) (p : RoundProgress) (H : LevelsAndLegs) →
+    IsAfterRounds g h rounds L p → IsRoundsEnd g.nodes p H → IsHierarchyByRounds g h H
 rounds_at_end g h rounds L p H u e =
     let all : (x : ℕ) → x < g.nodes → Contains (concat rounds) x = λ x lt. elim (contains_or_not (concat rounds) x) [
       | inl has ↦ has
@@ -257,7 +263,8 @@ rounds_at_end g h rounds L p H u e =
     )
 
 -- a depth is at most the number of contracted nodes
-pub rounds_depth : {g : Network} {h : ℕ} {rounds : List (List ℕ)} {L : ℕ → Legs} {p : RoundProgress} → IsAfterRounds g h rounds L p → (x : ℕ) → p.depth x ≤ p.contracted
+pub rounds_depth : {g : Network} {h : ℕ} {rounds : List (List ℕ)} {L : ℕ → Legs} {p : RoundProgress} → IsAfterRounds g h rounds L p →
+    (x : ℕ) → p.depth x ≤ p.contracted
 rounds_depth {rounds = rounds} {L = L} u x =
     let deep = u.depths x in
     let most = depth_most rounds L (length rounds) x in
@@ -266,14 +273,16 @@ rounds_depth {rounds = rounds} {L = L} u x =
     omega arith
 
 -- the count of a remaining node is at most n * n
-pub rounds_counts : {g : Network} {h : ℕ} {rounds : List (List ℕ)} {L : ℕ → Legs} {p : RoundProgress} → IsWithinLimits g → IsHopBound h → IsAfterRounds g h rounds L p → (x : ℕ) → Contains p.left x → p.counts x ≤ g.nodes * g.nodes
+pub rounds_counts : {g : Network} {h : ℕ} {rounds : List (List ℕ)} {L : ℕ → Legs} {p : RoundProgress} → IsWithinLimits g → IsHopBound h →
+    IsAfterRounds g h rounds L p → (x : ℕ) → Contains p.left x → p.counts x ≤ g.nodes * g.nodes
 rounds_counts {g = g} {h = h} {L = L} limits hops u x c =
     let count = u.counts x c in
     let most = shortcuts_most g.nodes h (L count.0) x count.1 (within_rounds limits hops u.begun count.0 count.2.within) count.3 in
     omega (arith, most, count.4)
 
 -- when no node remains, the hierarchy is levelled
-pub rounds_levelled : (g : Network) (h : ℕ) (rounds : List (List ℕ)) (L : ℕ → Legs) (p : RoundProgress) (H : LevelsAndLegs) → IsWithinLimits g → IsHopBound h → g.nodes ≤ MOST_NODES → IsAfterRounds g h rounds L p → IsRoundsEnd g.nodes p H → IsLevelled H
+pub rounds_levelled : (g : Network) (h : ℕ) (rounds : List (List ℕ)) (L : ℕ → Legs) (p : RoundProgress) (H : LevelsAndLegs) →
+    IsWithinLimits g → IsHopBound h → g.nodes ≤ MOST_NODES → IsAfterRounds g h rounds L p → IsRoundsEnd g.nodes p H → IsLevelled H
 rounds_levelled g h rounds L p H limits hops small u e =
     let is = rounds_at_end g h rounds L p H u e in
     let by = by_steps limits hops (begun_of is.2) (nodes_once is.2) is.3 in

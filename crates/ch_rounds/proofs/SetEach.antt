@@ -18,7 +18,9 @@ pub given_none : {A : Type 0} (values before : List A) → AreGiven [] values be
 given_none values before = record { size = refl; anew = λ x d c. absurd (contains_none x c); kept = λ x d away. refl }
 
 -- the list after one more value is written
-pub given_more : {A : Type 0} (nodes : List ℕ) (i : ℕ) (values before middle : List A) (y : A) → i < length nodes → get_or nodes i 0 < length middle → ((d : A) → get_or values i d ≡ y) → AreGiven (take i nodes) values before middle → AreGiven (take (i + 1) nodes) values before (set middle (get_or nodes i 0) y)
+pub given_more : {A : Type 0} (nodes : List ℕ) (i : ℕ) (values before middle : List A) (y : A) → i < length nodes →
+    get_or nodes i 0 < length middle → ((d : A) → get_or values i d ≡ y) → AreGiven (take i nodes) values before middle →
+    AreGiven (take (i + 1) nodes) values before (set middle (get_or nodes i 0) y)
 given_more {A} nodes i values before middle y lt within is known =
     let v : ℕ = get_or nodes i 0 in
     let size = size_more nodes i lt in
@@ -48,7 +50,8 @@ given_more {A} nodes i values before middle y lt within is known =
     }
 
 -- a relation of the nodes to their values holds of each node and the value in the list
-pub given_by : {A : Type 0} (R : ℕ → A → Type 0) (nodes : List ℕ) (values before after : List A) → AllZip R nodes values → AreGiven nodes values before after → (x : ℕ) (d : A) → Contains nodes x → R x (slice_index_or after x d)
+pub given_by : {A : Type 0} (R : ℕ → A → Type 0) (nodes : List ℕ) (values before after : List A) → AllZip R nodes values →
+    AreGiven nodes values before after → (x : ℕ) (d : A) → Contains nodes x → R x (slice_index_or after x d)
 given_by R nodes values before after all g x d c =
     let r = g.anew x d c in
     subst (R x) (sym r.3) (subst (λ z. R z (get_or values r.0 d)) r.2 (zipped_at R nodes values r.0 0 d all r.1))
@@ -58,7 +61,9 @@ pub ranked_none : (contracted : ℕ) (before : List ℕ) → AreRanked [] contra
 ranked_none contracted before = record { size = refl; anew = λ i lt. absurd (omega arith); kept = λ x away. refl }
 
 -- the levels after one more node gets its level
-pub ranked_more : (nodes : List ℕ) (i contracted : ℕ) (before middle : List ℕ) → i < length nodes → AllPairs ◌<◌ nodes → get_or nodes i 0 < length middle → AreRanked (take i nodes) contracted before middle → AreRanked (take (i + 1) nodes) contracted before (set middle (get_or nodes i 0) (contracted + i + 1))
+pub ranked_more : (nodes : List ℕ) (i contracted : ℕ) (before middle : List ℕ) → i < length nodes → AllPairs ◌<◌ nodes →
+    get_or nodes i 0 < length middle → AreRanked (take i nodes) contracted before middle →
+    AreRanked (take (i + 1) nodes) contracted before (set middle (get_or nodes i 0) (contracted + i + 1))
 ranked_more nodes i contracted before middle lt ordered within known =
     let v : ℕ = get_or nodes i 0 in
     let level : ℕ = contracted + i + 1 in

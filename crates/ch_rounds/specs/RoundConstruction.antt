@@ -27,7 +27,8 @@ pub record IsSizedByRounds (c : ConstructionByRounds) : Type 0 where
 
 -- the key that is kept for each remaining node is its present key
 abbrev pub AreKeysNow : ConstructionByRounds → Type 0
-AreKeysNow c = (x : ℕ) → Contains c.left.items x → IsKeyIn c.remaining c.counts.items c.depths.items x (slice_index_or c.keys.items x (pos 0))
+AreKeysNow c =
+    (x : ℕ) → Contains c.left.items x → IsKeyIn c.remaining c.counts.items c.depths.items x (slice_index_or c.keys.items x (pos 0))
 
 -- these are numbers of nodes, and each has a small count
 abbrev pub AreSmall : ℕ → List ℕ → List ℕ → Type 0

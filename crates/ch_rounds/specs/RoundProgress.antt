@@ -60,7 +60,8 @@ pub record IsRoundStep (n h : ℕ) (before : RoundProgress) (nodes : List ℕ) (
   pub levels : (i : ℕ) → i < length nodes → slice_index after.levels (slice_index nodes i) ≡ before.contracted + i + 1
   pub up : (v : ℕ) → Contains nodes v → AreLegsFrom before.legs v (after.up v)
   pub down : (v : ℕ) → Contains nodes v → AreLegsTo before.legs v (after.down v)
-  pub others : (x : ℕ) → (Contains nodes x → ⊥) → (slice_index after.levels x ≡ slice_index before.levels x) × (after.up x ≡ before.up x) × (after.down x ≡ before.down x)
+  pub others : (x : ℕ) → (Contains nodes x → ⊥) →
+      (slice_index after.levels x ≡ slice_index before.levels x) × (after.up x ≡ before.up x) × (after.down x ≡ before.down x)
 
 -- no node remains, and the hierarchy has these levels and rows, of all n nodes
 pub record IsRoundsEnd (n : ℕ) (p : RoundProgress) (H : LevelsAndLegs) : Type 0 where

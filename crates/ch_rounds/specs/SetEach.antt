@@ -4,7 +4,8 @@ use Rattle.std.specs.Prelude.{◌≡◌, ℕ, ◌+◌, ◌<◌, List, length, sl
 -- each of these nodes now has a value that was given for it, and each other node keeps its value
 pub record AreGiven {A : Type 0} (nodes : List ℕ) (values : List A) (before after : List A) : Type 0 where
   pub size : length after ≡ length before
-  pub anew : (x : ℕ) (d : A) → Contains nodes x → (i : ℕ) × (i < length nodes) × (slice_index nodes i ≡ x) × (slice_index_or after x d ≡ slice_index_or values i d)
+  pub anew : (x : ℕ) (d : A) → Contains nodes x →
+      (i : ℕ) × (i < length nodes) × (slice_index nodes i ≡ x) × (slice_index_or after x d ≡ slice_index_or values i d)
   pub kept : (x : ℕ) (d : A) → (Contains nodes x → ⊥) → slice_index_or after x d ≡ slice_index_or before x d
 
 -- these nodes now have the levels from `contracted` + 1 on, in their order, and each other node keeps its level

@@ -48,7 +48,8 @@ module _ {A : Type 0} (from : A → Request) (requests : List Request) (values :
       let within : k < length (map from values) = omega (arith, length-map values from) in
       so (get_or values k d) (subst (IsRequest n) (get_or-map from values k d) (made k (from d) within))
 
-  places_stay : ((places : PlaceList) (v : A) → places_then places (from v) ≡ places) → (places : PlaceList) (vs : List A) → places_after places (map from vs) ≡ places
+  places_stay : ((places : PlaceList) (v : A) → places_then places (from v) ≡ places) → (places : PlaceList) (vs : List A) →
+      places_after places (map from vs) ≡ places
   places_stay stay places [] = refl
   places_stay stay places (v ∷ vs) = ap (λ (p : PlaceList). places_after p (map from vs)) (stay places v) ∙ places_stay stay places vs
 
@@ -80,7 +81,8 @@ take_one r [] = refl
 take_one r (x ∷ rest) = refl
 
 -- a request that is answered alone
-pub one_answered : (IsTextOf : TextOf) (places : PlaceList) (r : Request) (rest : List Request) (text : List ℕ) → IsTextOf places r text → AnswersFirst IsTextOf places (places_then places r) (r ∷ rest) text 1
+pub one_answered : (IsTextOf : TextOf) (places : PlaceList) (r : Request) (rest : List Request) (text : List ℕ) → IsTextOf places r text →
+    AnswersFirst IsTextOf places (places_then places r) (r ∷ rest) text 1
 one_answered IsTextOf places r rest text is = record {
   some = omega arith;
   few = omega arith;
@@ -97,8 +99,10 @@ no_row g direction limit s = record {
   whole = λ e is. let below = is.0 in absurd (omega arith);
 }
 
-pub none_near : (options : Options) (g : Network) (From : LevelsAndLegs → Type 0) (s : ℕ) (within : Option ℕ) (text : List ℕ) → text ≡ near_row_text [] (s, []) → IsRequestText options g From no_places (near_row_of within s) text
-none_near options g From s within text is = ([] ∷ [], (no_row g options.direction _ s, tt), is ∙ sym (append-nil (near_row_text [] (s, []))))
+pub none_near : (options : Options) (g : Network) (From : LevelsAndLegs → Type 0) (s : ℕ) (within : Option ℕ) (text : List ℕ) →
+    text ≡ near_row_text [] (s, []) → IsRequestText options g From no_places (near_row_of within s) text
+none_near options g From s within text is =
+    ([] ∷ [], (no_row g options.direction _ s, tt), is ∙ sym (append-nil (near_row_text [] (s, []))))
 
 -- near rows in the searched hierarchy are those of the graph
 pub near_answered : (options : Options) (g : Network) (H : LevelsAndLegs) → IsWithinLimits g → IsKept g H → (within : Option ℕ) (near : Wanted) → near.hierarchy ≡ facing options.direction H → (sources text : List ℕ) →

@@ -39,7 +39,8 @@ pub no_rows : (wanted : Wanted) → HasNearRows wanted [] []
 no_rows wanted = ([], tt, refl)
 
 -- the text of some sources, joined with the text of others, is the text of all of them
-pub rows_joined : (wanted : Wanted) (a b s t : List ℕ) → HasNearRows wanted a s → HasNearRows wanted b t → HasNearRows wanted (a ++ b) (s ++ t)
+pub rows_joined : (wanted : Wanted) (a b s t : List ℕ) → HasNearRows wanted a s → HasNearRows wanted b t →
+    HasNearRows wanted (a ++ b) (s ++ t)
 rows_joined wanted a b s t h k =
     let f = near_row_text wanted.targets in
     let both = joined (IsWantedRow wanted) a b h.0 k.0 h.1 k.1 in
@@ -51,7 +52,8 @@ abbrev pub items : Vec (ℕ × ℕ) Global → List (ℕ × ℕ)
 items row = row.items
 
 -- the places in a near row are places of targets
-pub row_places : (wanted : Wanted) (s : ℕ) (row : List (ℕ × ℕ)) → IsWantedRow wanted s row → All (λ (e : ℕ × ℕ). e.1 < length wanted.targets) row
+pub row_places : (wanted : Wanted) (s : ℕ) (row : List (ℕ × ℕ)) → IsWantedRow wanted s row →
+    All (λ (e : ℕ × ℕ). e.1 < length wanted.targets) row
 row_places wanted s row near i d lt = (near.sound (get_or row i d) (Contains-get_or row i d lt)).0
 
 -- the places in all rows are places of targets

@@ -13,7 +13,8 @@ use Rattle.ch_run.proofs.Loading.{built, checked}
 use Rattle.ch_run.proofs.OneText.{one_list, same_graph, same_nodes}
 
 -- the near rows of a graph have one text
-one_rows_text : (options : Options) (g : Network) (sources targets text other : List ℕ) → IsNearTextFor options g sources targets text → IsNearTextFor options g sources targets other → text ≡ other
+one_rows_text : (options : Options) (g : Network) (sources targets text other : List ℕ) → IsNearTextFor options g sources targets text →
+    IsNearTextFor options g sources targets other → text ≡ other
 one_rows_text options g sources targets text other h k =
     let one : (s : ℕ) (a b : List (ℕ × ℕ)) → IsNearestRow g options.direction options.within options.count targets s a → IsNearestRow g options.direction options.within options.count targets s b → a ≡ b
     = λ s a b. one_first options.count (IsWalkTo g options.direction options.within targets s) a b in

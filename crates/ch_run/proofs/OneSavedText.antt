@@ -26,7 +26,8 @@ use Rattle.ch_run.proofs.Loading.{built, built_like, checked}
 use Rattle.ch_run.proofs.OneText.{one_table_text, one_text_by, same_graph, same_nodes, same_queries}
 
 -- the bytes of a saved hierarchy name only one order with its legs
-same_saved : (saved : Reading) (bytes : List ℕ) (n : ℕ) (s t : OrderAndLegs) → GivesOnly saved bytes → ReadsSaved saved n s → ReadsSaved saved n t → s ≡ t
+same_saved : (saved : Reading) (bytes : List ℕ) (n : ℕ) (s t : OrderAndLegs) → GivesOnly saved bytes → ReadsSaved saved n s →
+    ReadsSaved saved n t → s ≡ t
 same_saved saved bytes n s t told a b =
     (saved_answer bytes n).one_value s t (subst (λ xs. NamesSaved xs n s) (told a.0 a.1) a.2) (subst (λ xs. NamesSaved xs n t) (told b.0 b.1) b.2)
 

@@ -27,7 +27,8 @@ use Rattle.ch_read.specs.Names.{NamesGraph, NamesNodes, NamesQueries}
 use Rattle.ch_read.proofs.OneAnswer.{graph_answer, nodes_answer, queries_answer}
 
 -- two lists that answer the same items are equal, if each item has only one answer
-pub one_list : {A B : Type 0} (P : A → B → Type 0) → ((x : A) (y z : B) → P x y → P x z → y ≡ z) → (xs : List A) (ys zs : List B) → AllZip P xs ys → AllZip P xs zs → ys ≡ zs
+pub one_list : {A B : Type 0} (P : A → B → Type 0) → ((x : A) (y z : B) → P x y → P x z → y ≡ z) → (xs : List A) (ys zs : List B) →
+    AllZip P xs ys → AllZip P xs zs → ys ≡ zs
 one_list P one [] [] [] h k = refl
 one_list P one [] [] (z ∷ zs) h k = absurd k
 one_list P one [] (y ∷ ys) zs h k = absurd h
@@ -62,7 +63,8 @@ one_cut (Some most) (Some x) a b h k = elim (cases_lt most x) [
 
 -- two nodes have only one cell
 one_cell_within : (g : Network) (limit : Option ℕ) (s t : ℕ) (a b : Option ℕ) → IsCell g limit s t a → IsCell g limit s t b → a ≡ b
-one_cell_within g limit s t a b h k = one_cut limit h.0 a b h.2 (subst (λ whole. IsCut limit whole b) (sym (one_cell g s t h.0 k.0 h.1 k.1)) k.2)
+one_cell_within g limit s t a b h k =
+    one_cut limit h.0 a b h.2 (subst (λ whole. IsCut limit whole b) (sym (one_cell g s t h.0 k.0 h.1 k.1)) k.2)
 
 -- answers with equal parts are equal
 same_answers : (a b : Answer) → a.from ≡ b.from → a.to ≡ b.to → a.weight ≡ b.weight → a.arcs ≡ b.arcs → a ≡ b
@@ -74,7 +76,8 @@ one_short g query a b h k =
     same_answers a b (h.0.from ∙ sym k.0.from) (h.0.to ∙ sym k.0.to) (one_cell g query.0 query.1 a.weight b.weight h.0.weight k.0.weight) (h.1 ∙ sym k.1)
 
 -- for one weight there is only one list of arcs
-one_arcs : (g : Network) (H : LevelsAndLegs) → IsKept g H → (s t : ℕ) (w : Option ℕ) (xs ys : Option (List InArc)) → HasArcs H true s t w xs → HasArcs H true s t w ys → xs ≡ ys
+one_arcs : (g : Network) (H : LevelsAndLegs) → IsKept g H → (s t : ℕ) (w : Option ℕ) (xs ys : Option (List InArc)) →
+    HasArcs H true s t w xs → HasArcs H true s t w ys → xs ≡ ys
 one_arcs g H kept s t None xs ys h k = h ∙ sym k
 one_arcs g H kept s t (Some x) None ys h k = absurd h
 one_arcs g H kept s t (Some x) (Some xs) None h k = absurd k
@@ -84,45 +87,53 @@ one_arcs g H kept s t (Some x) (Some xs) (Some ys) h k =
     ap (λ (r : Route). Some r.arcs) (route_one H kept.levelled s t a b h k)
 
 -- a query has only one answer with a route
-one_routed : (g : Network) (H : LevelsAndLegs) → IsKept g H → (query : ℕ × ℕ) (a b : Answer) → AnswersWithRoute g H query a → AnswersWithRoute g H query b → a ≡ b
+one_routed : (g : Network) (H : LevelsAndLegs) → IsKept g H → (query : ℕ × ℕ) (a b : Answer) → AnswersWithRoute g H query a →
+    AnswersWithRoute g H query b → a ≡ b
 one_routed g H kept query a b h k =
     let weight = one_cell g query.0 query.1 a.weight b.weight h.answers.weight k.answers.weight in
     let arcs = one_arcs g H kept query.0 query.1 b.weight a.arcs b.arcs (subst (λ w. HasArcs H true query.0 query.1 w a.arcs) weight h.route) k.route in
     same_answers a b (h.answers.from ∙ sym k.answers.from) (h.answers.to ∙ sym k.answers.to) weight arcs
 
 -- if each query has only one answer, there is only one text
-one_answers_text : (written : Answer → List ℕ) (P : ℕ × ℕ → Answer → Type 0) → ((q : ℕ × ℕ) (a b : Answer) → P q a → P q b → a ≡ b) → (queries : List (ℕ × ℕ)) (text other : List ℕ) → HasText written P queries text → HasText written P queries other → text ≡ other
+one_answers_text : (written : Answer → List ℕ) (P : ℕ × ℕ → Answer → Type 0) → ((q : ℕ × ℕ) (a b : Answer) → P q a → P q b → a ≡ b) →
+    (queries : List (ℕ × ℕ)) (text other : List ℕ) → HasText written P queries text → HasText written P queries other → text ≡ other
 one_answers_text written P one queries text other h k = h.2 ∙ ap (flat_map written) (one_list P one queries h.0 k.0 h.1 k.1) ∙ sym k.2
 
 -- the answers have only one text, if the routes go by one hierarchy, which is kept
 pub one_text_by : (routes : Bool) (g : Network) (From : LevelsAndLegs → Type 0) → ((H K : LevelsAndLegs) → From H → From K → H ≡ K) → ((H : LevelsAndLegs) → From H → IsKept g H) →
     (queries : List (ℕ × ℕ)) (text other : List ℕ) → IsTextBy routes g From queries text → IsTextBy routes g From queries other → text ≡ other
-one_text_by false g From one kept queries text other t u = one_answers_text distance_text (AnswersShortly g) (one_short g) queries text other t u
+one_text_by false g From one kept queries text other t u =
+    one_answers_text distance_text (AnswersShortly g) (one_short g) queries text other t u
 one_text_by true g From one kept queries text other t u =
     let same : u.0 ≡ t.0 = one u.0 t.0 u.1 t.1 in
     one_answers_text answer_text (AnswersWithRoute g t.0) (one_routed g t.0 (kept t.0 t.1)) queries text other t.2 (subst (λ (H : LevelsAndLegs). HasText answer_text (AnswersWithRoute g H) queries other) same u.2)
 
 -- the bytes of a graph name only one graph
-pub same_graph : (graph : Reading) (bytes : List ℕ) (g h : Network) → GivesOnly graph bytes → ReadsGraph graph g → ReadsGraph graph h → g ≡ h
+pub same_graph : (graph : Reading) (bytes : List ℕ) (g h : Network) → GivesOnly graph bytes → ReadsGraph graph g → ReadsGraph graph h →
+    g ≡ h
 same_graph graph bytes g h told a b =
     (graph_answer bytes).one_value g h (subst (λ xs. NamesGraph xs g) (told a.0 a.1) a.2) (subst (λ xs. NamesGraph xs h) (told b.0 b.1) b.2)
 
 -- the bytes of queries name only one list of queries
-pub same_queries : (queries : Reading) (bytes : List ℕ) (n : ℕ) (p q : List (ℕ × ℕ)) → GivesOnly queries bytes → ReadsQueries queries n p → ReadsQueries queries n q → p ≡ q
+pub same_queries : (queries : Reading) (bytes : List ℕ) (n : ℕ) (p q : List (ℕ × ℕ)) → GivesOnly queries bytes → ReadsQueries queries n p →
+    ReadsQueries queries n q → p ≡ q
 same_queries queries bytes n p q told a b =
     (queries_answer bytes n).one_value p q (subst (λ xs. NamesQueries xs n p) (told a.0 a.1) a.2) (subst (λ xs. NamesQueries xs n q) (told b.0 b.1) b.2)
 
 -- the bytes of a list of nodes name only one list
-pub same_nodes : (list : Reading) (bytes : List ℕ) (n : ℕ) (p q : List ℕ) → GivesOnly list bytes → ReadsNodes list n p → ReadsNodes list n q → p ≡ q
+pub same_nodes : (list : Reading) (bytes : List ℕ) (n : ℕ) (p q : List ℕ) → GivesOnly list bytes → ReadsNodes list n p →
+    ReadsNodes list n q → p ≡ q
 same_nodes list bytes n p q told a b =
     (nodes_answer bytes n).one_value p q (subst (λ xs. NamesNodes xs n p) (told a.0 a.1) a.2) (subst (λ xs. NamesNodes xs n q) (told b.0 b.1) b.2)
 
 -- a row has only one list of cells
-one_row : (g : Network) (limit : Option ℕ) (targets : List ℕ) (s : ℕ) (xs ys : List (Option ℕ)) → IsTableRow g limit targets s xs → IsTableRow g limit targets s ys → xs ≡ ys
+one_row : (g : Network) (limit : Option ℕ) (targets : List ℕ) (s : ℕ) (xs ys : List (Option ℕ)) → IsTableRow g limit targets s xs →
+    IsTableRow g limit targets s ys → xs ≡ ys
 one_row g limit targets s xs ys h k = one_list (IsCell g limit s) (one_cell_within g limit s) targets xs ys h k
 
 -- a table has only one text
-pub one_table_text : (g : Network) (limit : Option ℕ) (sources targets text other : List ℕ) → IsTableText g limit sources targets text → IsTableText g limit sources targets other → text ≡ other
+pub one_table_text : (g : Network) (limit : Option ℕ) (sources targets text other : List ℕ) → IsTableText g limit sources targets text →
+    IsTableText g limit sources targets other → text ≡ other
 one_table_text g limit sources targets text other h k =
     h.2 ∙ ap (λ rows. flat_map row_text (zip sources rows)) (one_list (IsTableRow g limit targets) (one_row g limit targets) sources h.0 k.0 h.1 k.1) ∙ sym k.2
 

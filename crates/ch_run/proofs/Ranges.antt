@@ -18,7 +18,8 @@ module _ {X : Type 0} (f : X → List ℕ) (items : List X) (p : ℕ) where
   all_texts texts = flat_map (λ (text : Vec ℕ Global). text.items) texts
 
   -- the joined texts from piece k on are the text of the items from there on
-  texts_from : (k : ℕ) (texts : List (Vec ℕ Global)) → length items ≤ (k + length texts) * p → MeanEach IsTextOfRange (length items) p k texts → all_texts texts ≡ flat_map f (drop (k * p) items)
+  texts_from : (k : ℕ) (texts : List (Vec ℕ Global)) → length items ≤ (k + length texts) * p →
+      MeanEach IsTextOfRange (length items) p k texts → all_texts texts ≡ flat_map f (drop (k * p) items)
   texts_from k [] le h = rw (drop_all (k * p) items (omega (arith, le))) refl
   texts_from k (text ∷ texts) le h =
       let next : (k + 1) * p ≡ k * p + p = omega arith in

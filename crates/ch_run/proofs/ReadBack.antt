@@ -38,7 +38,8 @@ same_middle : (m : Option ℕ) → middle_text m ≡ middle_word m
 same_middle None = refl
 same_middle (Some v) = refl
 
-leg_words : (a b c d e : List ℕ) → codes "l " ++ a ++ codes " " ++ b ++ codes " " ++ c ++ codes " " ++ d ++ codes " " ++ e ++ codes "\n" ≡ fed (codes "l") (a ∷ b ∷ c ∷ d ∷ e ∷ [])
+leg_words : (a b c d e : List ℕ) →
+    codes "l " ++ a ++ codes " " ++ b ++ codes " " ++ c ++ codes " " ++ d ++ codes " " ++ e ++ codes "\n" ≡ fed (codes "l") (a ∷ b ∷ c ∷ d ∷ e ∷ [])
 leg_words a b c d e = simp (append_assoc)
 
 same_leg : (l : SavedLeg) → leg_text l ≡ fed (leg_line l).0 (leg_line l).1
@@ -50,7 +51,8 @@ same_texts : {X : Type 0} (f g : X → List ℕ) → ((x : X) → f x ≡ g x) �
 same_texts f g same [] = refl
 same_texts f g same (x ∷ xs) = λ i. same x i ++ same_texts f g same xs i
 
-heading_words : (a b order legs : List ℕ) → codes "p ch " ++ a ++ codes " " ++ b ++ codes "\n" ++ order ++ legs ≡ fed (codes "p") (codes "ch" ∷ a ∷ b ∷ []) ++ (order ++ legs)
+heading_words : (a b order legs : List ℕ) →
+    codes "p ch " ++ a ++ codes " " ++ b ++ codes "\n" ++ order ++ legs ≡ fed (codes "p") (codes "ch" ∷ a ∷ b ∷ []) ++ (order ++ legs)
 heading_words a b order legs = simp (append_assoc)
 
 same_text : (s : OrderAndLegs) → saved_text s ≡ text_of (saved_lines s)
@@ -81,7 +83,8 @@ abbrev pair_of : ℕ → SavedLeg → ℕ
 pair_of n l = l.from * n + l.to
 
 -- there are at most as many legs between different pairs of nodes as there are pairs
-few_pairs : (n : ℕ) (legs : List SavedLeg) → ((l : SavedLeg) → Contains legs l → (l.from < n) × (l.to < n)) → AllPairs (λ k l. IsSamePair k l → ⊥) legs → length legs ≤ n * n
+few_pairs : (n : ℕ) (legs : List SavedLeg) → ((l : SavedLeg) → Contains legs l → (l.from < n) × (l.to < n)) →
+    AllPairs (λ k l. IsSamePair k l → ⊥) legs → length legs ≤ n * n
 few_pairs n legs ends once =
     let size = length-map legs (pair_of n) in
     let few = distinct_few (map (pair_of n) legs) (n * n) (pairs_map (pair_of n) ◌≢◌ legs apart) below in
@@ -117,7 +120,8 @@ module _ (g : Network) (H : LevelsAndLegs) (order : List ℕ) (kept : IsKept g H
           let size = kept.nodes in
           omega arith
 
-      ends : (x : Leg) → x.cost ≡ l.cost → x.cost.weight ≤ MOST_WEIGHT → x.cost.arcs < nodes_of H → l.from < nodes_of H → l.to < nodes_of H → IsFounded g H l.from l.to l.cost l.middle → IsLegWithin g.nodes l
+      ends : (x : Leg) → x.cost ≡ l.cost → x.cost.weight ≤ MOST_WEIGHT → x.cost.arcs < nodes_of H → l.from < nodes_of H →
+          l.to < nodes_of H → IsFounded g H l.from l.to l.cost l.middle → IsLegWithin g.nodes l
       ends x cost weight arcs from to founded =
           let size = kept.nodes in
           let most = kept.levelled.count in
@@ -163,4 +167,5 @@ hierarchy_reads_back g H text kept (order, by, is) =
 
 -- the text that is saved of a graph names its hierarchy again
 pub saved_reads_back : SavedTextsReadBack
-saved_reads_back by g h text limits bound (H, built, is) = (H, built, hierarchy_reads_back g H text (hierarchies_kept by g h H limits bound built) is)
+saved_reads_back by g h text limits bound (H, built, is) =
+    (H, built, hierarchy_reads_back g H text (hierarchies_kept by g h H limits bound built) is)

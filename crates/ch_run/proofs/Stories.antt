@@ -41,7 +41,8 @@ module _ {T O : Type 0} (options : Options) (g : Network) (h : Option LevelsAndL
 
   answering_elim : (Q : Type 0) → Answering → (IsErrAnd r (IsOf Which.Queries) → new ≡ old → Q)
       → ((pairs : List (ℕ × ℕ)) → ReadsAll queries (λ bytes. NamesQueries bytes g.nodes pairs) → Writes takes old new (IsTextBy (writes_routes options) g (IsOfRoutes options g h) pairs) r → Q) → Q
-  answering_elim Q went stop go = reads_elim r Which.Queries queries _ _ _ _ (refused_of Which.Queries (Form.Queries g.nodes)) Q went stop go
+  answering_elim Q went stop go =
+      reads_elim r Which.Queries queries _ _ _ _ (refused_of Which.Queries (Form.Queries g.nodes)) Q went stop go
 
   answering_past : (which : Which) → (which ≡ Which.Queries → ⊥) → Answering → GoesPast which r
   answering_past which not went = reads_past r Which.Queries queries _ _ _ _ (refused_of Which.Queries (Form.Queries g.nodes)) which not went (λ pairs wrote. writes_past takes old new _ r which wrote)
@@ -108,7 +109,8 @@ save_tells options graph_gives graph_failed graph_counts graph graph' saved_give
 -- a run that makes a table
 
 -- lists with too many cells end the run
-pub cells_elim : {T : Type 0} (from to : List ℕ) (r : Result T RunFault) (later next Q : Type 0) → Cells from to r later next → (HasTooManyCells from to → IsErrAnd r (λ fault. fault ≡ RunFault.Cells) → later → Q) → ((HasTooManyCells from to → ⊥) → next → Q) → Q
+pub cells_elim : {T : Type 0} (from to : List ℕ) (r : Result T RunFault) (later next Q : Type 0) → Cells from to r later next →
+    (HasTooManyCells from to → IsErrAnd r (λ fault. fault ≡ RunFault.Cells) → later → Q) → ((HasTooManyCells from to → ⊥) → next → Q) → Q
 cells_elim from to r later next Q (inl (many, is, at)) stop go = stop many (rw is refl) at
 cells_elim from to r later next Q (inr (few, goes)) stop go = go few goes
 
@@ -129,7 +131,8 @@ module _ {T O : Type 0} (options : Options) (g : Network) (sources targets : Rea
   abbrev pub Listing : Type 0
   Listing = Reads Which.Sources sources (λ bytes from. NamesNodes bytes g.nodes from) (IsRefused Which.Sources (Form.Nodes g.nodes)) r (same_targets × (new ≡ old)) Targeting
 
-  cells_past : (from to : List ℕ) (which : Which) → Cells from to r (new ≡ old) (Writes takes old new (IsTableText g options.within from to) r) → GoesPast which r
+  cells_past : (from to : List ℕ) (which : Which) →
+      Cells from to r (new ≡ old) (Writes takes old new (IsTableText g options.within from to) r) → GoesPast which r
   cells_past from to which cells = cells_elim from to r _ _ _ cells (λ many is at. err_past r _ which is (cells_no_stop which)) (λ few wrote. writes_past takes old new _ r which wrote)
 
   targeting_elim : (from : List ℕ) (Q : Type 0) → Targeting from → (IsErrAnd r (IsOf Which.Targets) → new ≡ old → Q) → ((to : List ℕ) → ReadsNodes targets g.nodes to → HasTooManyCells from to → IsErrAnd r (λ fault. fault ≡ RunFault.Cells) → new ≡ old → Q)
@@ -140,7 +143,8 @@ module _ {T O : Type 0} (options : Options) (g : Network) (sources targets : Rea
   targeting_past : (from : List ℕ) (which : Which) → (which ≡ Which.Targets → ⊥) → Targeting from → GoesPast which r
   targeting_past from which not went = reads_past r Which.Targets targets _ _ _ _ (refused_of Which.Targets (Form.Nodes g.nodes)) which not went (λ to cells. cells_past from to which cells)
 
-  listing_elim : (Q : Type 0) → Listing → (IsErrAnd r (IsOf Which.Sources) → same_targets × (new ≡ old) → Q) → ((from : List ℕ) → ReadsNodes sources g.nodes from → Targeting from → Q) → Q
+  listing_elim : (Q : Type 0) → Listing → (IsErrAnd r (IsOf Which.Sources) → same_targets × (new ≡ old) → Q) →
+      ((from : List ℕ) → ReadsNodes sources g.nodes from → Targeting from → Q) → Q
   listing_elim Q went stop go = reads_elim r Which.Sources sources _ _ _ _ (refused_of Which.Sources (Form.Nodes g.nodes)) Q went stop go
 
   listing_past : (which : Which) → (which ≡ Which.Sources → ⊥) → (which ≡ Which.Targets → ⊥) → Listing → GoesPast which r
@@ -219,13 +223,16 @@ module _ {T O : Type 0} (options : Options) (g : Network) (sources : ReadingIf) 
   abbrev pub Starting : Type 0
   Starting = ReadsIf Which.Sources sources (λ bytes listed. NamesNodes bytes g.nodes listed) (IsRefused Which.Sources (Form.Nodes g.nodes)) r (same_targets × (new ≡ old)) (λ listed. Reaching (sources_among g.nodes listed))
 
-  reaching_elim : (from : List ℕ) (Q : Type 0) → Reaching from → (IsErrAnd r (IsOf Which.Targets) → new ≡ old → Q) → ((to : List ℕ) → ReadsNodes targets g.nodes to → Writes takes old new (IsNearTextFor options g from to) r → Q) → Q
-  reaching_elim from Q went stop go = reads_elim r Which.Targets targets _ _ _ _ (refused_of Which.Targets (Form.Nodes g.nodes)) Q went stop go
+  reaching_elim : (from : List ℕ) (Q : Type 0) → Reaching from → (IsErrAnd r (IsOf Which.Targets) → new ≡ old → Q) →
+      ((to : List ℕ) → ReadsNodes targets g.nodes to → Writes takes old new (IsNearTextFor options g from to) r → Q) → Q
+  reaching_elim from Q went stop go =
+      reads_elim r Which.Targets targets _ _ _ _ (refused_of Which.Targets (Form.Nodes g.nodes)) Q went stop go
 
   reaching_past : (from : List ℕ) (which : Which) → (which ≡ Which.Targets → ⊥) → Reaching from → GoesPast which r
   reaching_past from which not went = reads_past r Which.Targets targets _ _ _ _ (refused_of Which.Targets (Form.Nodes g.nodes)) which not went (λ to wrote. writes_past takes old new _ r which wrote)
 
-  starting_elim : (Q : Type 0) → Starting → (IsErrAnd r (IsOfSources sources) → same_targets × (new ≡ old) → Q) → ((from : List ℕ) → AreSources sources g.nodes from → Reaching from → Q) → Q
+  starting_elim : (Q : Type 0) → Starting → (IsErrAnd r (IsOfSources sources) → same_targets × (new ≡ old) → Q) →
+      ((from : List ℕ) → AreSources sources g.nodes from → Reaching from → Q) → Q
   starting_elim Q went stop go =
       sources_elim r sources g.nodes (Form.Nodes g.nodes) _ _ Q went (λ list is own at. stop (rw is own) at) (λ listed are rest. go (sources_among g.nodes listed) are rest)
 
@@ -238,7 +245,8 @@ sources_no_write : (sources : ReadingIf) (e : RunFault) → IsOfSources sources 
 sources_no_write NoInput e own write = own
 sources_no_write (OneInput list) e own write = of_no_write Which.Sources e own write
 
-sources_past : (sources : ReadingIf) (e : RunFault) → IsOfSources sources e → (which : Which) → (which ≡ Which.Sources → ⊥) → StopsAt which e → ⊥
+sources_past : (sources : ReadingIf) (e : RunFault) → IsOfSources sources e → (which : Which) → (which ≡ Which.Sources → ⊥) →
+    StopsAt which e → ⊥
 sources_past NoInput e own which not stops = own
 sources_past (OneInput list) e own which not stops = not (of_one Which.Sources which e own stops)
 

@@ -13,7 +13,8 @@ use Rattle.ch_text.specs.TableText.{row_text}
 use Rattle.ch_run.specs.TableText.{IsTableTextBy}
 
 -- lists of the same length, with more lists of one length behind them, in pairs
-zip_append : {A B : Type 0} (xs : List A) (ys : List B) (more : List A) (others : List B) → length ys ≡ length xs → zip (xs ++ more) (ys ++ others) ≡ zip xs ys ++ zip more others
+zip_append : {A B : Type 0} (xs : List A) (ys : List B) (more : List A) (others : List B) → length ys ≡ length xs →
+    zip (xs ++ more) (ys ++ others) ≡ zip xs ys ++ zip more others
 zip_append [] [] more others same = refl
 zip_append [] (y ∷ ys) more others same = absurd (omega arith)
 zip_append (x ∷ xs) [] more others same = absurd (omega arith)
@@ -46,6 +47,7 @@ module _ (H : LevelsAndLegs) (limit : Option ℕ) (targets : List ℕ) where
       let pairs = zip_append part rows more rest.0 (zipped_length R part rows h.0.1) in
       (rows ++ rest.0, zipped_append R part rows more rest.0 h.0.1 rest.1, ap₂ ◌++◌ h.0.2 rest.2 ∙ sym both ∙ ap (flat_map row_text) (sym pairs))
 
-  pub gathered_texts : (sources : List ℕ) (texts : List (Vec ℕ Global)) → AreGathered IsRowsText H limit targets sources texts → IsTableTextBy H limit sources targets (flat_map (λ (text : Vec ℕ Global). text.items) texts)
+  pub gathered_texts : (sources : List ℕ) (texts : List (Vec ℕ Global)) → AreGathered IsRowsText H limit targets sources texts →
+      IsTableTextBy H limit sources targets (flat_map (λ (text : Vec ℕ Global). text.items) texts)
   gathered_texts sources texts h =
       subst (λ list. IsTableTextBy H limit list targets (flat_map (λ (text : Vec ℕ Global). text.items) texts)) h.1 (texts_of_parts h.0 texts h.2)

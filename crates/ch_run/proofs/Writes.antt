@@ -8,10 +8,12 @@ pub ends_in : {T : Type 0} (r : Result T RunFault) (P : RunFault → Type 0) (fa
 ends_in r P fault own same = subst (λ s. IfErr s P) same own
 
 -- a fault that is passed on has P, if the fault that was met has P
-pub tells : {T : Type 0} (r : Result T RunFault) (e : RunFault) (P : RunFault → Type 0) (fault : RunFault) → IsErrAnd r (λ y. y ≡ e) → P e → r ≡ Err fault → P fault
+pub tells : {T : Type 0} (r : Result T RunFault) (e : RunFault) (P : RunFault → Type 0) (fault : RunFault) → IsErrAnd r (λ y. y ≡ e) → P e →
+    r ≡ Err fault → P fault
 tells (Ok x) e P fault is met same = absurd is
 tells (Err y) e P fault is met same = ends_in (Err y) P fault (subst P (sym is) met) same
 
 -- a fault that is passed on is the one that was met
-pub passed_on : {S T : Type 0} (r : Result T RunFault) (e fault : RunFault) → IsErrAnd r (λ y. y ≡ e) → r ≡ Err fault → ◌≡◌ {A = Result S RunFault} (Err e) (Err fault)
+pub passed_on : {S T : Type 0} (r : Result T RunFault) (e fault : RunFault) → IsErrAnd r (λ y. y ≡ e) → r ≡ Err fault →
+    ◌≡◌ {A = Result S RunFault} (Err e) (Err fault)
 passed_on {S} r e fault is same = tells r e (λ f. ◌≡◌ {A = Result S RunFault} (Err e) (Err f)) fault is refl same

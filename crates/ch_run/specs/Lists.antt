@@ -32,7 +32,8 @@ HaveTargetsRefused sources targets nodes fault = AcceptsList sources nodes × Is
 
 -- the lists were accepted, but they make too many cells
 abbrev pub HaveCellsRefused : Reading → Reading → ℕ → Type 0
-HaveCellsRefused sources targets nodes = (from to : List ℕ) × ReadsNodes sources nodes from × ReadsNodes targets nodes to × HasTooManyCells from to
+HaveCellsRefused sources targets nodes =
+    (from to : List ℕ) × ReadsNodes sources nodes from × ReadsNodes targets nodes to × HasTooManyCells from to
 
 -- the faults that reading the lists can end in: one is refused or can't be read, there is no memory, or there are too many cells
 abbrev pub IsOfLists : RunFault → Type 0

@@ -71,17 +71,21 @@ AcceptsNearSources graph source sources = WithLoaded graph source (λ g _. Accep
 
 -- all of these were accepted, and then the targets
 abbrev pub AcceptsNodeLists : Reading → SourceReading → ReadingIf → Reading → Type 0
-AcceptsNodeLists graph source sources targets = WithLoaded graph source (λ g _. (from to : List ℕ) × ReadsNodeLists sources targets g.nodes from to)
+AcceptsNodeLists graph source sources targets =
+    WithLoaded graph source (λ g _. (from to : List ℕ) × ReadsNodeLists sources targets g.nodes from to)
 
 -- all earlier inputs were accepted, but the targets have this fault
 abbrev pub HasNearTargetsRefused : Reading → SourceReading → ReadingIf → Reading → ReadFault → Type 0
-HasNearTargetsRefused graph source sources targets fault = WithLoaded graph source (λ g _. HaveNearTargetsRefused sources targets g.nodes fault)
+HasNearTargetsRefused graph source sources targets fault =
+    WithLoaded graph source (λ g _. HaveNearTargetsRefused sources targets g.nodes fault)
 
 -- the promise of a run on the input of its sources. If the sources are all nodes, it reads none
-abbrev pub ReadsSources : {T J : Type 0} → (earlier : List Which) → (accepted : Type 0) → Result T RunFault → (gives : J → List ℕ → Result ℕ DeviceFault → J → Type 0) → (J → ℕ) → Sources J → Sources J → (Reading → ReadFault → Type 0) → Type 0
+abbrev pub ReadsSources : {T J : Type 0} → (earlier : List Which) → (accepted : Type 0) → Result T RunFault →
+    (gives : J → List ℕ → Result ℕ DeviceFault → J → Type 0) → (J → ℕ) → Sources J → Sources J → (Reading → ReadFault → Type 0) → Type 0
 ReadsSources earlier accepted result gives failed Each new IsRefused = new ≡ Each
 ReadsSources earlier accepted result gives failed (Listed old) Each IsRefused = ⊥
-ReadsSources earlier accepted result gives failed (Listed old) (Listed new) IsRefused = ReadsAfter earlier accepted Which.Sources result gives failed old new IsRefused
+ReadsSources earlier accepted result gives failed (Listed old) (Listed new) IsRefused =
+    ReadsAfter earlier accepted Which.Sources result gives failed old new IsRefused
 
 -- the faults that reading the list of sources can end in, if one is read
 abbrev pub IsOfSources : ReadingIf → RunFault → Type 0

@@ -154,6 +154,8 @@ pub record WritesAfter {T O : Type 0} (accepted : Type 0) (result : Result T Run
   pub unwritten : (new ≡ old) ⊎ (IfErr result IsWrite × accepted)
 
 -- the output took a text with P: the whole text if the run succeeds, its first bytes if a write failed. `gives` says what one write may do
-abbrev pub Delivers : {T S : Type 0} → Result T RunFault → (gives : S → List ℕ → Result ℕ DeviceFault → S → Type 0) → (old new : S) → (List ℕ → Type 0) → Type 0
+abbrev pub Delivers : {T S : Type 0} → Result T RunFault → (gives : S → List ℕ → Result ℕ DeviceFault → S → Type 0) → (old new : S) →
+    (List ℕ → Type 0) → Type 0
 Delivers (Ok _) gives old new P = (text : List ℕ) × P text × Took gives old text new
-Delivers (Err fault) gives old new P = (count : ℕ) → fault ≡ RunFault.Write count → (text : List ℕ) × P text × TookUntilFault gives old text count new
+Delivers (Err fault) gives old new P =
+    (count : ℕ) → fault ≡ RunFault.Write count → (text : List ℕ) × P text × TookUntilFault gives old text count new

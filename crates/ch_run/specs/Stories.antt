@@ -43,7 +43,8 @@ RunsNear options graph source sources targets same_source same_sources same_targ
     Writes takes old new (IsNearTextFor options g (sources_among g.nodes listed) to) result)))
 
 -- a run that saves a hierarchy
-abbrev pub RunsSave : {T O : Type 0} → Options → (graph : Reading) → (source : SourceReading) → (same_source : Type 0) → (takes : O → List ℕ → Result ℕ DeviceFault → O → Type 0) → (old new : O) → Result T RunFault → Type 0
+abbrev pub RunsSave : {T O : Type 0} → Options → (graph : Reading) → (source : SourceReading) → (same_source : Type 0) →
+    (takes : O → List ℕ → Result ℕ DeviceFault → O → Type 0) → (old new : O) → Result T RunFault → Type 0
 RunsSave options graph source same_source takes old new result =
     Loads graph source same_source result (new ≡ old) (λ g h. Writes takes old new (IsSaveTextOf (IsOfRoutes options g h)) result)
 

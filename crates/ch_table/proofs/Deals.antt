@@ -27,7 +27,8 @@ pub record IsTurn (b z piece rank : ℕ) (turn : ℕ × ℕ) : Type 0 where
   pub count : rank ≡ turn.1 * b + min turn.1 z + turn.0
 
 -- after all pieces have z items each, the rest is dealt to the b pieces that have w more items
-after : (w z b n rank r : ℕ) → b * (w + z) + z ≡ n → rank < n → r + z * (b + 1) ≡ rank → (r % b < b) × (z + r / b < w + z) × (rank ≡ (z + r / b) * b + min (z + r / b) z + r % b)
+after : (w z b n rank r : ℕ) → b * (w + z) + z ≡ n → rank < n → r + z * (b + 1) ≡ rank →
+    (r % b < b) × (z + r / b < w + z) × (rank ≡ (z + r / b) * b + min (z + r / b) z + r % b)
 after w z b n rank r grid lt back =
     let low : r < w * b = omega arith in
     let some : 0 < b = positive_factor w b r low in
@@ -119,13 +120,15 @@ pub items_apart : (d : Deal) → 0 < d.piece → (r s : ℕ) → r < d.nodes →
 items_apart d positive r s low low' same = ranks_apart d (omega arith) positive r s low low' same
 
 -- a round is within its piece
-pub round_fits : (d : Deal) → 0 < d.piece → (rank : ℕ) → rank < d.nodes → (turn : ℕ × ℕ) → turn ≡ turn_of d rank → turn.1 ≤ min ((turn.0 + 1) * d.piece) d.nodes - 1
+pub round_fits : (d : Deal) → 0 < d.piece → (rank : ℕ) → rank < d.nodes → (turn : ℕ × ℕ) → turn ≡ turn_of d rank →
+    turn.1 ≤ min ((turn.0 + 1) * d.piece) d.nodes - 1
 round_fits d positive rank lt turn is =
     let at = stands d (omega arith) positive rank turn (subst (IsTurn (before_last d) (last_size d) d.piece rank) (sym is) (turn_is d (omega arith) positive rank lt)) in
     let sum = at.2 in omega arith
 
 -- the numbers of nodes and items of a deal
-pub dealt_by : (H : LevelsAndLegs) (d : Deal) (nodes piece p : ℕ) → d ≡ record { nodes = nodes; piece = piece } → nodes ≡ nodes_of H → piece ≡ p → d ≡ deal_of H p
+pub dealt_by : (H : LevelsAndLegs) (d : Deal) (nodes piece p : ℕ) → d ≡ record { nodes = nodes; piece = piece } → nodes ≡ nodes_of H →
+    piece ≡ p → d ≡ deal_of H p
 dealt_by H d nodes piece p is same same' =
     let given : Deal = record { nodes = nodes; piece = piece } in
     let there : given ≡ deal_of H p = λ k. record { nodes = same k; piece = same' k } in is ∙ there

@@ -23,7 +23,8 @@ use Rattle.ch_table.specs.Entries.{entry_at, AreEntries}
 use Rattle.ch_graph.proofs.Lists.{contains_map, contains_map_of, contains_filter, contains_filter_of, pairs_map, pairs_append}
 
 -- an upward path from a node ends at a node
-path_within : (H : LevelsAndLegs) (rows : List (List Leg)) → AreLegsUp H rows → (a b : ℕ) (legs : List Leg) → a < nodes_of H → IsUpwardPath rows a b legs → b < nodes_of H
+path_within : (H : LevelsAndLegs) (rows : List (List Leg)) → AreLegsUp H rows → (a b : ℕ) (legs : List Leg) → a < nodes_of H →
+    IsUpwardPath rows a b legs → b < nodes_of H
 path_within H rows up a b [] lt p = subst (λ q. q < nodes_of H) p lt
 path_within H rows up a b (l ∷ legs) lt p = path_within H rows up l.node b legs (All-contains (IsLegUp H a) _ l (up.1 a).1 p.0).node p.1
 
@@ -38,7 +39,8 @@ module _ (rows : List (List Leg)) (limit : Option ℕ) (nodes : List ℕ) where
 
   module _ (k : ℕ) (reached : List (ℕ × Cost)) (spread : IsSpread rows limit (slice_index nodes k) reached) where
     -- an entry of place k is of a node that is reached
-    entry_of : (v j x : ℕ) → Contains (map (entry_at k) reached) (v, (j, x)) → (j ≡ k) × (c : Cost) × IsLeastUpwardPath rows (slice_index nodes j) v c × (c.weight ≡ x) × IsWithin limit x
+    entry_of : (v j x : ℕ) → Contains (map (entry_at k) reached) (v, (j, x)) →
+        (j ≡ k) × (c : Cost) × IsLeastUpwardPath rows (slice_index nodes j) v c × (c.weight ≡ x) × IsWithin limit x
     entry_of v j x h =
         let r = contains_map_of (entry_at k) reached (v, (j, x)) h in
         let place : k ≡ j = ap (λ (e : ℕ × (ℕ × ℕ)). e.1.0) r.2 in
@@ -53,7 +55,8 @@ module _ (rows : List (List Leg)) (limit : Option ℕ) (nodes : List ℕ) where
         )
 
     -- one more place
-    pub entries_more : (entries : List (ℕ × (ℕ × ℕ))) → AreEntries rows limit nodes k entries → AreEntries rows limit nodes (k + 1) (entries ++ map (entry_at k) reached)
+    pub entries_more : (entries : List (ℕ × (ℕ × ℕ))) → AreEntries rows limit nodes k entries →
+        AreEntries rows limit nodes (k + 1) (entries ++ map (entry_at k) reached)
     entries_more entries h = record {
       order = pairs_append (λ a b. a.0 ≡ b.0 → a.1.0 < b.1.0) entries (map (entry_at k) reached) h.order
           (pairs_map (entry_at k) (λ a b. a.0 ≡ b.0 → a.1.0 < b.1.0) reached (λ i j d lt within same. let apart = spread.order i j d lt within in absurd (omega arith)))

@@ -18,7 +18,8 @@ module _ (H : LevelsAndLegs) (side : Side) (limit : Option ℕ) (nodes : List �
   lists_few few = let size = zipped_length (λ node (space : Vec (ℕ × ℕ) Global). IsRankedSpace H side limit node space.items) nodes spaces each in omega (arith, size, few)
 
   -- the ranks in the lists are below the number of nodes
-  pub lists_within : IsLevelled H → (n : ℕ) → n ≡ nodes_of H → All (λ (space : Vec (ℕ × ℕ) Global). All (λ (entry : ℕ × ℕ). entry.0 < n) space.items) spaces
+  pub lists_within : IsLevelled H → (n : ℕ) → n ≡ nodes_of H →
+      All (λ (space : Vec (ℕ × ℕ) Global). All (λ (entry : ℕ × ℕ). entry.0 < n) space.items) spaces
   lists_within levelled n is =
       subst (λ n. All (λ (space : Vec (ℕ × ℕ) Global). All (λ (entry : ℕ × ℕ). entry.0 < n) space.items) spaces) (sym is) (spaces_within H side limit levelled nodes spaces each)
 

@@ -58,7 +58,8 @@ module _ {X : Type 0} (M : List ℕ → List (List (Option ℕ)) → X → Type 
       subst (λ list. IsGathered M H limit targets list after) (sym (take_more sources i 0 within)) (so_far.0 ++ cells ∷ [], all_zipped_more R some so_far.0 (get_or sources i 0) cells so_far.1 row, added)
 
   -- what is gathered from all rows at once is gathered in one part
-  pub one_part : (sources : List ℕ) (rows : List (List (Option ℕ))) (x : X) → AllZip (IsRowBy H limit targets) sources rows → M sources rows x → AreGathered M H limit targets sources (x ∷ [])
+  pub one_part : (sources : List ℕ) (rows : List (List (Option ℕ))) (x : X) → AllZip (IsRowBy H limit targets) sources rows →
+      M sources rows x → AreGathered M H limit targets sources (x ∷ [])
   one_part sources rows x are is = (sources ∷ [], append-nil sources, ((rows, are, is), tt))
 
 module _ (H : LevelsAndLegs) (limit : Option ℕ) (targets : List ℕ) where

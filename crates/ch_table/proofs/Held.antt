@@ -27,7 +27,8 @@ module _ (item : ℕ → ℕ) (lists : List (List (ℕ × ℕ))) where
   }
 
   -- one more list
-  pub entries_of_more : (k : ℕ) (entries : List (ℕ × (ℕ × ℕ))) → AreEntriesOf item lists k entries → AreEntriesOf item lists (k + 1) (entries ++ map (entry_of item k) (slice_index_or lists k []))
+  pub entries_of_more : (k : ℕ) (entries : List (ℕ × (ℕ × ℕ))) → AreEntriesOf item lists k entries →
+      AreEntriesOf item lists (k + 1) (entries ++ map (entry_of item k) (slice_index_or lists k []))
   entries_of_more k entries h =
       let next = slice_index_or lists k [] in record {
         sound = λ q j x c. elim (Contains-append_cases entries (map (entry_of item k) next) (q, (j, x)) c) [
@@ -79,7 +80,8 @@ module _ (item : ℕ → ℕ) (lists : List (List (ℕ × ℕ))) where
     }
 
 -- a pair of the joined lists is a pair of one list, with its place
-pairs_sound : (place : ℕ) (lists : List (List (ℕ × ℕ))) (q j x : ℕ) → Contains (pairs_from place lists) (q, (j, x)) → (i : ℕ) × (i < length lists) × (j ≡ place + i) × Contains (slice_index_or lists i []) (q, x)
+pairs_sound : (place : ℕ) (lists : List (List (ℕ × ℕ))) (q j x : ℕ) → Contains (pairs_from place lists) (q, (j, x)) →
+    (i : ℕ) × (i < length lists) × (j ≡ place + i) × Contains (slice_index_or lists i []) (q, x)
 pairs_sound place [] q j x c = absurd (contains_none (q, (j, x)) c)
 pairs_sound place (list ∷ lists) q j x c = elim (Contains-append_cases (pairs_at place list) (pairs_from (place + 1) lists) (q, (j, x)) c) [
   | inl here ↦
@@ -97,7 +99,8 @@ pairs_sound place (list ∷ lists) q j x c = elim (Contains-append_cases (pairs_
 ]
 
 -- each pair of a list is a pair of the joined lists
-pairs_whole : (place : ℕ) (lists : List (List (ℕ × ℕ))) (i r x : ℕ) → i < length lists → Contains (slice_index_or lists i []) (r, x) → Contains (pairs_from place lists) (r, (place + i, x))
+pairs_whole : (place : ℕ) (lists : List (List (ℕ × ℕ))) (i r x : ℕ) → i < length lists → Contains (slice_index_or lists i []) (r, x) →
+    Contains (pairs_from place lists) (r, (place + i, x))
 pairs_whole place [] i r x lt c = absurd (omega arith)
 pairs_whole place (list ∷ lists) zero r x lt c =
     let at : place ≡ place + 0 = omega arith in

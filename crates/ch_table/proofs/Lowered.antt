@@ -15,7 +15,8 @@ abbrev pub IsOne : ℕ → ℕ → ℕ → ℕ → Type 0
 IsOne place weight j x = (j ≡ place) × (x ≡ weight)
 
 -- one weight lowers one place, if it is less
-pub lowered_one : (place weight : ℕ) (row : List ℕ) → place < length row → AreLowered (IsOne place weight) row (set row place (min (get_or row place 0) weight))
+pub lowered_one : (place weight : ℕ) (row : List ℕ) → place < length row →
+    AreLowered (IsOne place weight) row (set row place (min (get_or row place 0) weight))
 lowered_one place weight row lt =
     let low = min (get_or row place 0) weight in
     let here = get_or-set_same row place low 0 lt in

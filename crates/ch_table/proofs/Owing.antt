@@ -59,7 +59,8 @@ pub items_none : (S : BothSides) (from : ℕ) (v : Known) → HasPaid (IsOwedAmo
 items_none S from v = paid_none (IsOwedAmong S from from) v (λ cell x o. let a = o.1 in let b = o.2 in omega arith)
 
 -- one more item
-pub items_more : (S : BothSides) (from item : ℕ) → from ≤ item → (u v w : Known) → HasPaid (IsOwedAmong S from item) u v → HasPaid (IsOwedAt S item) v w → HasPaid (IsOwedAmong S from (item + 1)) u w
+pub items_more : (S : BothSides) (from item : ℕ) → from ≤ item → (u v w : Known) → HasPaid (IsOwedAmong S from item) u v →
+    HasPaid (IsOwedAt S item) v w → HasPaid (IsOwedAmong S from (item + 1)) u w
 items_more S from item low u v w =
     paid_then (IsOwedAmong S from item) (IsOwedAt S item) (IsOwedAmong S from (item + 1)) u v w
     (λ cell x o. elim (cases_lt o.0 item) [
@@ -70,7 +71,8 @@ items_more S from item low u v w =
     (λ cell x o. (item, low, omega arith, o))
 
 -- the cells of a source's row are cells of the board, and the weights are those of paths
-pub row_cells : (S : BothSides) (cells i : ℕ) (targets : List (ℕ × ℕ)) → i < S.rows → cells ≡ S.rows * S.columns → All (IsEntryAmong S.columns) targets → All (λ entry. (i * S.columns + entry.0 < cells) × (entry.1 ≤ MOST_WEIGHT)) targets
+pub row_cells : (S : BothSides) (cells i : ℕ) (targets : List (ℕ × ℕ)) → i < S.rows → cells ≡ S.rows * S.columns →
+    All (IsEntryAmong S.columns) targets → All (λ entry. (i * S.columns + entry.0 < cells) × (entry.1 ≤ MOST_WEIGHT)) targets
 row_cells S cells i targets lt size all k d within =
     let e = all k d within in
     let fits = mul-add-lt i S.columns (get_or targets k d).0 S.rows lt e.0 in

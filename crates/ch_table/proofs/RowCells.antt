@@ -17,13 +17,15 @@ use Rattle.ch_table.specs.Table.{IsRowBy}
 use Rattle.ch_table.proofs.Tables.{all_zip_at, space_at, space_within, spaces_count}
 
 -- a row that was cleared and then filled to the number of targets
-pub refilled : (n x : ℕ) (row cleared : List ℕ) (len : ℕ) → row ≡ take n cleared ++ replicate (n - len) x → cleared ≡ [] → len ≡ 0 → row ≡ replicate n x
+pub refilled : (n x : ℕ) (row cleared : List ℕ) (len : ℕ) → row ≡ take n cleared ++ replicate (n - len) x → cleared ≡ [] → len ≡ 0 →
+    row ≡ replicate n x
 refilled n x row cleared len is none zero =
     let whole : n - len ≡ n = omega arith in
     is ∙ ap (λ l. take n l ++ replicate (n - len) x) none ∙ ap (λ l. l ++ replicate (n - len) x) (take_all n [] (omega arith)) ∙ ap (λ m. replicate m x) whole
 
 -- the entries of a search space have ranks of nodes and weights of paths
-pub space_among : (H : LevelsAndLegs) (limit : Option ℕ) → IsLevelled H → (s : ℕ) (space : List (ℕ × ℕ)) → IsRankedSpace H Up limit s space → All (λ entry. (entry.0 < nodes_of H) × (entry.1 ≤ MOST_WEIGHT)) space
+pub space_among : (H : LevelsAndLegs) (limit : Option ℕ) → IsLevelled H → (s : ℕ) (space : List (ℕ × ℕ)) →
+    IsRankedSpace H Up limit s space → All (λ entry. (entry.0 < nodes_of H) × (entry.1 ≤ MOST_WEIGHT)) space
 space_among H limit levelled s space up k d lt =
     let e = get_or space k d in
     let path = (up.sound e.0 e.1 (Contains-get_or space k d lt)).3 in

@@ -35,7 +35,8 @@ all_zip_at R d e (x ∷ xs) [] size h = absurd (omega arith)
 all_zip_at R d e (x ∷ xs) (y ∷ ys) size h = (h zero (omega arith), all_zip_at R d e xs ys (omega arith) (λ j lt. h (suc j) (omega arith)))
 
 -- the elements of related lists are related at each place
-zip_at : {X Y : Type 0} (R : X → Y → Type 0) (d : X) (e : Y) (xs : List X) (ys : List Y) → AllZip R xs ys → (j : ℕ) → j < length xs → R (get_or xs j d) (get_or ys j e)
+zip_at : {X Y : Type 0} (R : X → Y → Type 0) (d : X) (e : Y) (xs : List X) (ys : List Y) → AllZip R xs ys → (j : ℕ) → j < length xs →
+    R (get_or xs j d) (get_or ys j e)
 zip_at R d e [] [] h j lt = absurd (omega arith)
 zip_at R d e [] (y ∷ ys) h j lt = absurd h
 zip_at R d e (x ∷ xs) [] h j lt = absurd h
@@ -47,8 +48,10 @@ pub length_rows : (rows columns : ℕ) (cells : List (Option ℕ)) → length (r
 length_rows rows columns cells = length-map-range_with_len (λ i. slice_range cells (i * columns) (i * columns + columns)) 0 rows
 
 -- each row is its part of the cells
-pub row_at : (rows columns : ℕ) (cells : List (Option ℕ)) (i : ℕ) → i < rows → slice_index_or (rows_of_cells rows columns cells) i [] ≡ slice_range cells (i * columns) (i * columns + columns)
-row_at rows columns cells i lt = get_or-map-range_with_len (λ j. slice_range cells (j * columns) (j * columns + columns)) 0 rows i i [] lt (omega arith)
+pub row_at : (rows columns : ℕ) (cells : List (Option ℕ)) (i : ℕ) → i < rows →
+    slice_index_or (rows_of_cells rows columns cells) i [] ≡ slice_range cells (i * columns) (i * columns + columns)
+row_at rows columns cells i lt =
+    get_or-map-range_with_len (λ j. slice_range cells (j * columns) (j * columns + columns)) 0 rows i i [] lt (omega arith)
 
 -- a row is within the cells
 pub row_fits : (rows columns i : ℕ) → i < rows → i * columns + columns ≤ rows * columns
@@ -57,7 +60,8 @@ row_fits rows columns i lt =
     let most = mul-le (i + 1) columns rows columns (omega arith) (omega arith) in omega arith
 
 -- the ranks of a search space are below the number of nodes
-pub space_within : (H : LevelsAndLegs) (side : Side) (limit : Option ℕ) → IsLevelled H → (s rank x : ℕ) (list : List (ℕ × ℕ)) → IsRankedSpace H side limit s list → Contains list (rank, x) → rank < nodes_of H
+pub space_within : (H : LevelsAndLegs) (side : Side) (limit : Option ℕ) → IsLevelled H → (s rank x : ℕ) (list : List (ℕ × ℕ)) →
+    IsRankedSpace H side limit s list → Contains list (rank, x) → rank < nodes_of H
 space_within H side limit levelled s rank x list space c =
     let node = space.sound rank x c in subst (λ q. q < nodes_of H) node.2 (rank_below H levelled node.0 node.1)
 
@@ -71,7 +75,8 @@ module _ (H : LevelsAndLegs) (side : Side) (limit : Option ℕ) (item : ℕ → 
 
   -- the rank of an entry is below the number of nodes
   held_rank : IsLevelled H → (j rank x : ℕ) → j < length nodes → Contains (slice_index_or hold.spaces j []) (rank, x) → rank < nodes_of H
-  held_rank levelled j rank x lt c = space_within H side limit levelled (slice_index nodes j) rank x (slice_index_or hold.spaces j []) (space_at j lt) c
+  held_rank levelled j rank x lt c =
+      space_within H side limit levelled (slice_index nodes j) rank x (slice_index_or hold.spaces j []) (space_at j lt) c
 
   pub entries_among : (q : ℕ) → All (IsEntryAmong (length nodes)) (slice_index_or buckets q [])
   entries_among q k d lt =
@@ -131,7 +136,8 @@ module _ (H : LevelsAndLegs) (limit : Option ℕ) (item : ℕ → ℕ) (sources 
         )
 
     -- a shared weight within the limit is owed by the piece of its rank's item
-    shared_owed : (p x : ℕ) → 0 < p → IsSharedSum up down x → IsWithin limit x → (k : ℕ) × (k < pieces_of (length ups) p) × owed_by (IsOwedAmong sides) (length ups) p k cell x
+    shared_owed : (p x : ℕ) → 0 < p → IsSharedSum up down x → IsWithin limit x →
+        (k : ℕ) × (k < pieces_of (length ups) p) × owed_by (IsOwedAmong sides) (length ups) p k cell x
     shared_owed p x positive h low =
         let r = h.0 in
         let size = spaces_count H Up limit item sources ups rise in

@@ -13,8 +13,10 @@ use Rattle.ch_query.specs.SearchSpace.{IsRankedSpace}
 -- weight, in order of place
 pub record IsBucket (rows : List (List Leg)) (limit : Option ℕ) (nodes : List ℕ) (v : ℕ) (bucket : List (ℕ × ℕ)) : Type 0 where
   pub order : AllPairs (λ a b. a.0 < b.0) bucket
-  pub sound : (j x : ℕ) → Contains bucket (j, x) → (j < length nodes) × (c : Cost) × IsLeastUpwardPath rows (slice_index nodes j) v c × (c.weight ≡ x) × IsWithin limit x
-  pub whole : (j : ℕ) (c : Cost) → j < length nodes → IsLeastUpwardPath rows (slice_index nodes j) v c → IsWithin limit c.weight → Contains bucket (j, c.weight)
+  pub sound : (j x : ℕ) → Contains bucket (j, x) →
+      (j < length nodes) × (c : Cost) × IsLeastUpwardPath rows (slice_index nodes j) v c × (c.weight ≡ x) × IsWithin limit x
+  pub whole : (j : ℕ) (c : Cost) → j < length nodes → IsLeastUpwardPath rows (slice_index nodes j) v c → IsWithin limit c.weight →
+      Contains bucket (j, c.weight)
 
 -- there is a bucket for each node
 pub record AreBuckets (rows : List (List Leg)) (limit : Option ℕ) (nodes : List ℕ) (buckets : List (List (ℕ × ℕ))) : Type 0 where
@@ -25,8 +27,10 @@ pub record AreBuckets (rows : List (List Leg)) (limit : Option ℕ) (nodes : Lis
 -- q
 pub record HoldLists (n : ℕ) (item : ℕ → ℕ) (lists : List (List (ℕ × ℕ))) (buckets : List (List (ℕ × ℕ))) : Type 0 where
   pub count : length buckets ≡ n
-  pub sound : (q j x : ℕ) → Contains (slice_index_or buckets q []) (j, x) → (j < length lists) × (r : ℕ) × Contains (slice_index_or lists j []) (r, x) × (item r ≡ q)
-  pub whole : (r j x : ℕ) → j < length lists → Contains (slice_index_or lists j []) (r, x) → Contains (slice_index_or buckets (item r) []) (j, x)
+  pub sound : (q j x : ℕ) → Contains (slice_index_or buckets q []) (j, x) →
+      (j < length lists) × (r : ℕ) × Contains (slice_index_or lists j []) (r, x) × (item r ≡ q)
+  pub whole : (r j x : ℕ) → j < length lists → Contains (slice_index_or lists j []) (r, x) →
+      Contains (slice_index_or buckets (item r) []) (j, x)
 
 -- the buckets hold a search space within the limit of each of the nodes, by ranks, with each entry at its rank's item
 pub record HoldSearchSpaces (H : LevelsAndLegs) (side : Side) (limit : Option ℕ) (item : ℕ → ℕ) (nodes : List ℕ) (buckets : List (List (ℕ × ℕ))) : Type 0 where

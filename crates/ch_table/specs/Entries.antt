@@ -13,8 +13,10 @@ entry_at j reached = (reached.0, (j, reached.1.weight))
 -- weight. The entries at one node are in order of place
 pub record AreEntries (rows : List (List Leg)) (limit : Option ℕ) (nodes : List ℕ) (k : ℕ) (entries : List (ℕ × (ℕ × ℕ))) : Type 0 where
   pub order : AllPairs (λ a b. a.0 ≡ b.0 → a.1.0 < b.1.0) entries
-  pub sound : (v j x : ℕ) → Contains entries (v, (j, x)) → (j < k) × (c : Cost) × IsLeastUpwardPath rows (slice_index nodes j) v c × (c.weight ≡ x) × IsWithin limit x
-  pub whole : (v j : ℕ) (c : Cost) → j < k → IsLeastUpwardPath rows (slice_index nodes j) v c → IsWithin limit c.weight → Contains entries (v, (j, c.weight))
+  pub sound : (v j x : ℕ) → Contains entries (v, (j, x)) →
+      (j < k) × (c : Cost) × IsLeastUpwardPath rows (slice_index nodes j) v c × (c.weight ≡ x) × IsWithin limit x
+  pub whole : (v j : ℕ) (c : Cost) → j < k → IsLeastUpwardPath rows (slice_index nodes j) v c → IsWithin limit c.weight →
+      Contains entries (v, (j, c.weight))
 
 -- the entry for place j of a rank and a weight, at the rank's item
 abbrev pub entry_of : (ℕ → ℕ) → ℕ → ℕ × ℕ → ℕ × (ℕ × ℕ)

@@ -40,7 +40,8 @@ pub record AreSidesOf (H : LevelsAndLegs) (most : Option ℕ) (item : ℕ → �
 -- what the weight of a source, whose row begins at `first`, owes with these entries of targets: each sum that is
 -- within the limit
 abbrev pub IsOwedInRow : Option ℕ → ℕ → ℕ → List (ℕ × ℕ) → ℕ → ℕ → Type 0
-IsOwedInRow limit first weight targets cell x = (j b : ℕ) × Contains targets (j, b) × (cell ≡ first + j) × (x ≡ weight + b) × IsWithin limit x
+IsOwedInRow limit first weight targets cell x =
+    (j b : ℕ) × Contains targets (j, b) × (cell ≡ first + j) × (x ≡ weight + b) × IsWithin limit x
 
 -- what these entries of sources owe with these entries of targets
 abbrev pub IsOwedBy : Option ℕ → ℕ → List (ℕ × ℕ) → List (ℕ × ℕ) → ℕ → ℕ → Type 0

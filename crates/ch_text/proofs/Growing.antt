@@ -11,7 +11,8 @@ grown f items i d start before after within so_far more =
     more ∙ ap (λ t. t ++ f (get_or items i d)) so_far ∙ flat_map_more f start (take i items) (get_or items i d) ∙ ap (λ xs. start ++ flat_map f xs) (sym (take_more items i d within))
 
 -- all items are written
-pub all_grown : {X : Type 0} (f : X → List ℕ) (items : List X) (i : ℕ) (start text : List ℕ) → length items ≤ i → text ≡ start ++ flat_map f (take i items) → text ≡ start ++ flat_map f items
+pub all_grown : {X : Type 0} (f : X → List ℕ) (items : List X) (i : ℕ) (start text : List ℕ) → length items ≤ i →
+    text ≡ start ++ flat_map f (take i items) → text ≡ start ++ flat_map f items
 all_grown f items i start text past so_far = so_far ∙ ap (λ xs. start ++ flat_map f xs) (take_all i items past)
 
 -- one more row is written
@@ -23,5 +24,6 @@ row_grown f xs ys i d e start before after within same so_far more =
     grown f (zip xs ys) i (d, e) start before after long so_far (more ∙ ap (λ p. before ++ f p) (sym (get_or-zip xs ys i (d, e) within inside)))
 
 -- all rows are written
-pub rows_grown : {X Y : Type 0} (f : X × Y → List ℕ) (xs : List X) (ys : List Y) (i : ℕ) (text : List ℕ) → length xs ≤ i → text ≡ flat_map f (take i (zip xs ys)) → text ≡ flat_map f (zip xs ys)
+pub rows_grown : {X Y : Type 0} (f : X × Y → List ℕ) (xs : List X) (ys : List Y) (i : ℕ) (text : List ℕ) → length xs ≤ i →
+    text ≡ flat_map f (take i (zip xs ys)) → text ≡ flat_map f (zip xs ys)
 rows_grown f xs ys i text past so_far = all_grown f (zip xs ys) i [] text (let l = length-zip xs ys in omega arith) so_far

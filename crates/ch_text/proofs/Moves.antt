@@ -17,17 +17,23 @@ pub leads-more : {A : Type 0} (Step : A → A → Type 0) (old mid new : A) → 
 leads-more Step old mid new (steps, before) step = (suc steps, (mid, before, step))
 
 -- steps, and then more steps
-pub leads-then : {A : Type 0} (Step : A → A → Type 0) (old mid new : A) → Leads Step old mid → (steps : ℕ) → AreSteps Step steps mid new → Leads Step old new
+pub leads-then : {A : Type 0} (Step : A → A → Type 0) (old mid new : A) → Leads Step old mid → (steps : ℕ) → AreSteps Step steps mid new →
+    Leads Step old new
 leads-then Step old mid new before zero same = rw same before
-leads-then Step old mid new before (suc steps) (last, after, step) = leads-more Step old last new (leads-then Step old mid last before steps after) step
+leads-then Step old mid new before (suc steps) (last, after, step) =
+    leads-more Step old last new (leads-then Step old mid last before steps after) step
 
 -- steps that are seen in another way
-pub leads-map : {A B : Type 0} (f : A → B) (Step : A → A → Type 0) (Step' : B → B → Type 0) → ((old new : A) → Step old new → Step' (f old) (f new)) → (old new : A) → (steps : ℕ) → AreSteps Step steps old new → AreSteps Step' steps (f old) (f new)
+pub leads-map : {A B : Type 0} (f : A → B) (Step : A → A → Type 0) (Step' : B → B → Type 0) →
+    ((old new : A) → Step old new → Step' (f old) (f new)) → (old new : A) → (steps : ℕ) → AreSteps Step steps old new →
+    AreSteps Step' steps (f old) (f new)
 leads-map f Step Step' seen old new zero same = ap f same
-leads-map f Step Step' seen old new (suc steps) (mid, before, step) = (f mid, leads-map f Step Step' seen old mid steps before, seen mid new step)
+leads-map f Step Step' seen old new (suc steps) (mid, before, step) =
+    (f mid, leads-map f Step Step' seen old mid steps before, seen mid new step)
 
 -- what each step keeps, all of them keep
-pub leads-keep : {A : Type 0} (Step : A → A → Type 0) (P : A → Type 0) → ((old new : A) → Step old new → P old → P new) → (old new : A) → P old → (steps : ℕ) → AreSteps Step steps old new → P new
+pub leads-keep : {A : Type 0} (Step : A → A → Type 0) (P : A → Type 0) → ((old new : A) → Step old new → P old → P new) → (old new : A) →
+    P old → (steps : ℕ) → AreSteps Step steps old new → P new
 leads-keep Step P kept old new at zero same = rw same at
 leads-keep Step P kept old new at (suc steps) (mid, before, step) = kept mid new step (leads-keep Step P kept old mid at steps before)
 
@@ -39,12 +45,14 @@ module _ {S : Type 0} (gives : S → List ℕ → Result ℕ DeviceFault → S �
       leads-more (ReadsMore gives) _ (mid, bytes) _ before (record { buffer = buffer; count = n; some = some; fits = fits; call = call; more = is })
 
   -- there was no memory for more bytes
-  pub gave-memory : {T : Type 0} (result : Result T ReadAllFault) (old new : S) (bytes : List ℕ) → IsErrAnd result (λ fault. fault ≡ Memory) → Gave gives old bytes new → IfErr result (GaveSome gives old new)
+  pub gave-memory : {T : Type 0} (result : Result T ReadAllFault) (old new : S) (bytes : List ℕ) →
+      IsErrAnd result (λ fault. fault ≡ Memory) → Gave gives old bytes new → IfErr result (GaveSome gives old new)
   gave-memory (Ok value) old new bytes is gave = tt
   gave-memory (Err fault) old new bytes is gave = rw is (bytes, gave)
 
   -- reads, and then more reads
-  pub gave-then : (old mid new : S) (first second : List ℕ) → Gave gives old first mid → Gave gives mid second new → Gave gives old (first ++ second) new
+  pub gave-then : (old mid new : S) (first second : List ℕ) → Gave gives old first mid → Gave gives mid second new →
+      Gave gives old (first ++ second) new
   gave-then old mid new first second before (steps, after) =
       let behind : AreSteps (ReadsMore gives) steps (mid, first ++ []) (new, first ++ second) =
       leads-map (λ (s : S × List ℕ). (s.0, first ++ s.1)) (ReadsMore gives) (ReadsMore gives)
@@ -62,7 +70,8 @@ module _ {S : Type 0} (gives : S → List ℕ → Result ℕ DeviceFault → S �
       (record { count = n; some = some; write = record { offered = drop count text; behind = []; front = sym (append-nil (drop count text)); tried = omega arith; fits = within; call = rw rest at call }; less = sym (drop-drop n count text) })
 
   -- a write with another text behind the one that it writes
-  pub writes-behind : (old new : S) (text left more : List ℕ) (steps : ℕ) → AreSteps (WritesMore gives) steps (old, text) (new, left) → AreSteps (WritesMore gives) steps (old, text ++ more) (new, left ++ more)
+  pub writes-behind : (old new : S) (text left more : List ℕ) (steps : ℕ) → AreSteps (WritesMore gives) steps (old, text) (new, left) →
+      AreSteps (WritesMore gives) steps (old, text ++ more) (new, left ++ more)
   writes-behind old new text left more steps writes =
       leads-map (λ (s : S × List ℕ). (s.0, s.1 ++ more)) (WritesMore gives) (WritesMore gives)
       (λ a b write.
@@ -100,12 +109,14 @@ module _ {S : Type 0} (gives : S → List ℕ → Result ℕ DeviceFault → S �
   took-none old = (0, refl)
 
   -- a text, and then another text
-  pub took-then : (old mid new : S) (first second left : List ℕ) → Took gives old first mid → TookBefore gives mid second left new → TookBefore gives old (first ++ second) left new
+  pub took-then : (old mid new : S) (first second left : List ℕ) → Took gives old first mid → TookBefore gives mid second left new →
+      TookBefore gives old (first ++ second) left new
   took-then old mid new first second left (steps, before) (steps', after) =
       leads-then (WritesMore gives) (old, first ++ second) (mid, second) (new, left) (steps, writes-behind old mid first [] second steps before) steps' after
 
   -- a text, and then the beginning of another one
-  pub took-fault-then : (old mid new : S) (first second : List ℕ) (count : ℕ) → Took gives old first mid → TookUntilFault gives mid second count new → TookUntilFault gives old (first ++ second) (length first + count) new
+  pub took-fault-then : (old mid new : S) (first second : List ℕ) (count : ℕ) → Took gives old first mid →
+      TookUntilFault gives mid second count new → TookUntilFault gives old (first ++ second) (length first + count) new
   took-fault-then old mid new first second count before fault =
       let same : drop (length first + count) (first ++ second) ≡ drop count second = drop-append-add first second count in
       let sum = length-append first second in
@@ -120,7 +131,8 @@ module _ {S : Type 0} (gives : S → List ℕ → Result ℕ DeviceFault → S �
       }
 
   -- the beginning of a text is the beginning of a longer one
-  pub took-fault-longer : (old new : S) (first more : List ℕ) (count : ℕ) → TookUntilFault gives old first count new → TookUntilFault gives old (first ++ more) count new
+  pub took-fault-longer : (old new : S) (first more : List ℕ) (count : ℕ) → TookUntilFault gives old first count new →
+      TookUntilFault gives old (first ++ more) count new
   took-fault-longer old new first more count fault =
       let within = fault.within in
       let sum = length-append first more in
@@ -145,14 +157,16 @@ given-none : (left : Option (List ℕ)) → GivenSoFar left left []
 given-none None = tt
 given-none (Some left) = refl
 
-given-more : (told left left' : Option (List ℕ)) (bytes bytes' buffer : List ℕ) (n : ℕ) → GivenSoFar told left bytes → GivesBytes {E = DeviceFault} left left' (Ok n) buffer → bytes' ≡ bytes ++ take n buffer → GivenSoFar told left' bytes'
+given-more : (told left left' : Option (List ℕ)) (bytes bytes' buffer : List ℕ) (n : ℕ) → GivenSoFar told left bytes →
+    GivesBytes {E = DeviceFault} left left' (Ok n) buffer → bytes' ≡ bytes ++ take n buffer → GivenSoFar told left' bytes'
 given-more None left left' bytes bytes' buffer n before read is = tt
 given-more (Some told) None left' bytes bytes' buffer n before read is = absurd before
 given-more (Some told) (Some left) None bytes bytes' buffer n before read is = absurd read
 given-more (Some told) (Some left) (Some left') bytes bytes' buffer n before read is =
     before ∙ (ap (λ ls. bytes ++ ls) read.0 ∙ (sym (append_assoc bytes (take n buffer) left') ∙ ap (λ bs. bs ++ left') (sym is)))
 
-given-all : (told left left' : Option (List ℕ)) (bytes buffer : List ℕ) → 0 < length buffer → GivenSoFar told left bytes → GivesBytes {E = DeviceFault} left left' (Ok 0) buffer → HasGiven told left' bytes
+given-all : (told left left' : Option (List ℕ)) (bytes buffer : List ℕ) → 0 < length buffer → GivenSoFar told left bytes →
+    GivesBytes {E = DeviceFault} left left' (Ok 0) buffer → HasGiven told left' bytes
 given-all None left left' bytes buffer room before read = tt
 given-all (Some told) None left' bytes buffer room before read = absurd before
 given-all (Some told) (Some left) None bytes buffer room before read = absurd read
@@ -176,7 +190,8 @@ taken-none : (taken : Option (List ℕ)) → HasTaken taken taken []
 taken-none None = tt
 taken-none (Some taken) = ap (λ (ts : List ℕ). Some ts) (sym (append-nil taken))
 
-taken-more : (old taken taken' : Option (List ℕ)) (took more offered : List ℕ) (n : ℕ) → HasTaken old taken took → TakesBytes {E = DeviceFault} taken taken' (Ok n) offered → take n offered ≡ more → HasTaken old taken' (took ++ more)
+taken-more : (old taken taken' : Option (List ℕ)) (took more offered : List ℕ) (n : ℕ) → HasTaken old taken took →
+    TakesBytes {E = DeviceFault} taken taken' (Ok n) offered → take n offered ≡ more → HasTaken old taken' (took ++ more)
 taken-more None taken taken' took more offered n before write is = tt
 taken-more (Some old) None taken' took more offered n before write is = cc
 taken-more (Some old) (Some taken) None took more offered n before write is = absurd write
@@ -210,7 +225,8 @@ whole-told gives taken tells old text new took =
     let whole : text ≡ told.0 = told.1 ∙ append-nil told.0 in
     rw whole told.2
 
-taken-kept : (old taken taken' : Option (List ℕ)) (took offered : List ℕ) (answer : Result ℕ DeviceFault) → HasTaken old taken took → IfOk answer (λ n. n ≡ 0) → TakesBytes taken taken' answer offered → HasTaken old taken' took
+taken-kept : (old taken taken' : Option (List ℕ)) (took offered : List ℕ) (answer : Result ℕ DeviceFault) → HasTaken old taken took →
+    IfOk answer (λ n. n ≡ 0) → TakesBytes taken taken' answer offered → HasTaken old taken' took
 taken-kept None taken taken' took offered answer before none write = tt
 taken-kept (Some old) None taken' took offered answer before none write = cc
 taken-kept (Some old) (Some taken) None took offered answer before none write = absurd write
@@ -256,7 +272,8 @@ module _ {S : Type 0} (gives : S → List ℕ → Result ℕ DeviceFault → S �
       omega arith
 
   -- the count says exactly whether a read has failed
-  pub some-counts : {T : Type 0} (result : Result T ReadAllFault) (old new : S) → IfOk result (λ _. failed new ≡ failed old) → IfErr result (GaveSome gives old new) → failed new ≡ failed old + failed_reads result
+  pub some-counts : {T : Type 0} (result : Result T ReadAllFault) (old new : S) → IfOk result (λ _. failed new ≡ failed old) →
+      IfErr result (GaveSome gives old new) → failed new ≡ failed old + failed_reads result
   some-counts (Ok value) old new all some = let same : failed new ≡ failed old = all in omega arith
   some-counts (Err Device) old new all some = until-counts old some.0 new some.1
   some-counts (Err Memory) old new all some = let same : failed new ≡ failed old = gave-counts old some.0 new some.1 in omega arith
@@ -265,7 +282,8 @@ module _ {S : Type 0} (gives : S → List ℕ → Result ℕ DeviceFault → S �
 module _ {S : Type 0} (gives : S → List ℕ → Result ℕ DeviceFault → S → Type 0) (failed idle : S → ℕ)
     (counts : (old : S) (bytes : List ℕ) (answer : Result ℕ DeviceFault) (new : S) → gives old bytes answer new → (failed new ≡ failed old + failures_in answer) × (idle new ≡ idle old + idle_writes answer bytes)) where
   -- a write that took some bytes raises none
-  pub counted-some : (old : S) (bytes : List ℕ) (n : ℕ) (new : S) → 0 < n → gives old bytes (Ok n) new → (failed new ≡ failed old) × (idle new ≡ idle old)
+  pub counted-some : (old : S) (bytes : List ℕ) (n : ℕ) (new : S) → 0 < n → gives old bytes (Ok n) new →
+      (failed new ≡ failed old) × (idle new ≡ idle old)
   counted-some old bytes n new some call =
       let count = counts old bytes (Ok n) new call in
       let none : failed new ≡ failed old + 0 = count.0 in
@@ -274,14 +292,16 @@ module _ {S : Type 0} (gives : S → List ℕ → Result ℕ DeviceFault → S �
       (omega arith, omega arith)
 
   -- nor do more of them
-  pub took-counts : (old : S) (text left : List ℕ) (new : S) → TookBefore gives old text left new → (failed new ≡ failed old) × (idle new ≡ idle old)
+  pub took-counts : (old : S) (text left : List ℕ) (new : S) → TookBefore gives old text left new →
+      (failed new ≡ failed old) × (idle new ≡ idle old)
   took-counts old text left new took =
       leads-keep (WritesMore gives) (λ (s : S × List ℕ). (failed s.0 ≡ failed old) × (idle s.0 ≡ idle old))
       (λ a b write at. let count = counted-some a.0 write.write.offered write.count b.0 write.some write.write.call in (count.0 ∙ at.0, count.1 ∙ at.1))
       (old, text) (new, left) (refl, refl) took.0 took.1
 
   -- a failed write raises one of them, by one
-  pub fault-counts : (old : S) (text : List ℕ) (count : ℕ) (new : S) → TookUntilFault gives old text count new → CountsFault {T = Unit} {E = ℕ} (failed old) (failed new) (idle old) (idle new) (Err count)
+  pub fault-counts : (old : S) (text : List ℕ) (count : ℕ) (new : S) → TookUntilFault gives old text count new →
+      CountsFault {T = Unit} {E = ℕ} (failed old) (failed new) (idle old) (idle new) (Err count)
   fault-counts old text count new fault =
       let before = took-counts old text (drop count text) fault.last fault.writes in
       one fault.answer fault.write.offered (failed fault.last) (idle fault.last) before.0 before.1 fault.none fault.write.tried (counts fault.last fault.write.offered fault.answer new fault.write.call)

@@ -31,7 +31,8 @@ module _ (H : LevelsAndLegs) (is : IsLevelled H) where
   levels_apart u v less lt = is.levels.1 u v 0 less lt
 
   -- one more node is placed
-  pub one_placed : (order : List ℕ) (v place : ℕ) → HasPlaced H order v → v < nodes_of H → place ≡ slice_index H.level v - 1 → HasPlaced H (set order place v) (v + 1)
+  pub one_placed : (order : List ℕ) (v place : ℕ) → HasPlaced H order v → v < nodes_of H → place ≡ slice_index H.level v - 1 →
+      HasPlaced H (set order place v) (v + 1)
   one_placed order v place h lt at =
       let within = level_within v lt in
       let low = within.0 in
@@ -98,7 +99,8 @@ counted H nodes i count v up down lt is so_far ups downs =
     omega arith
 
 -- the text of items that are made of parts is the text of all their parts
-pub text_of_each : {X Y : Type 0} (f : X → List ℕ) (g : Y → List X) (ys : List Y) → flat_map f (flat_map g ys) ≡ flat_map (λ y. flat_map f (g y)) ys
+pub text_of_each : {X Y : Type 0} (f : X → List ℕ) (g : Y → List X) (ys : List Y) →
+    flat_map f (flat_map g ys) ≡ flat_map (λ y. flat_map f (g y)) ys
 text_of_each f g [] = refl
 text_of_each f g (y ∷ ys) = flat_map-append f (g y) (flat_map g ys) ∙ ap (λ t. flat_map f (g y) ++ t) (text_of_each f g ys)
 

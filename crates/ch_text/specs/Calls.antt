@@ -8,7 +8,8 @@ use Rattle.ch_text.specs.declared.device.DeviceFault.{DeviceFault}
 -- this many calls in a row were interrupted
 abbrev pub AreInterrupted : {S T : Type 0} → (gives : S → Result T Error → S → Type 0) → ℕ → (old new : S) → Type 0
 AreInterrupted gives zero old new = new ≡ old
-AreInterrupted {S} gives (suc calls) old new = (mid : S) × AreInterrupted gives calls old mid × (error : Error) × gives mid (Err error) new × (error_kind error ≡ Interrupted)
+AreInterrupted {S} gives (suc calls) old new =
+    (mid : S) × AreInterrupted gives calls old mid × (error : Error) × gives mid (Err error) new × (error_kind error ≡ Interrupted)
 
 -- after some interrupted calls, one call gave this answer. It is no error, or an error that is no interruption, or the answer of
 -- the call after 2^64 - 1 others
@@ -28,11 +29,13 @@ abbrev pub IsOneWrite : {S : Type 0} → (gives : S → List ℕ → Result ℕ 
 IsOneWrite gives bytes before answer after = gives before bytes answer after
 
 -- reads of a source until one is done, where `gives` says what a read may do
-abbrev pub IsReadOf : {S : Type 0} → (gives : S → List ℕ → Result ℕ Error → S → Type 0) → (old : S) → (buffer : List ℕ) → Result ℕ Error → (new : S) → (buffer' : List ℕ) → Type 0
+abbrev pub IsReadOf : {S : Type 0} → (gives : S → List ℕ → Result ℕ Error → S → Type 0) → (old : S) → (buffer : List ℕ) → Result ℕ Error →
+    (new : S) → (buffer' : List ℕ) → Type 0
 IsReadOf gives old buffer result new buffer' = IsMadeUntilDone (IsOneRead gives) (old, buffer) result (new, buffer')
 
 -- writes to a sink until one is done, where `gives` says what a write may do
-abbrev pub IsWriteOf : {S : Type 0} → (gives : S → List ℕ → Result ℕ Error → S → Type 0) → (old : S) → (bytes : List ℕ) → Result ℕ Error → (new : S) → Type 0
+abbrev pub IsWriteOf : {S : Type 0} → (gives : S → List ℕ → Result ℕ Error → S → Type 0) → (old : S) → (bytes : List ℕ) → Result ℕ Error →
+    (new : S) → Type 0
 IsWriteOf gives old bytes result new = IsMadeUntilDone (IsOneWrite gives bytes) old result new
 
 -- a write has failed because nobody reads the output any more, now or before

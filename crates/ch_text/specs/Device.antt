@@ -23,7 +23,8 @@ CountsAtMostOne count count' = (count' ≡ count) ⊎ (count' ≡ count + 1)
 
 -- at most one more was counted, of two counts together
 abbrev pub CountsAtMostOneOf : (failed failed' idle idle' : ℕ) → Type 0
-CountsAtMostOneOf failed failed' idle idle' = (CountsAtMostOne failed failed' × (idle' ≡ idle)) ⊎ ((failed' ≡ failed) × CountsAtMostOne idle idle')
+CountsAtMostOneOf failed failed' idle idle' =
+    (CountsAtMostOne failed failed' × (idle' ≡ idle)) ⊎ ((failed' ≡ failed) × CountsAtMostOne idle idle')
 
 -- the number of failed reads, by the answer of reading a whole input
 abbrev pub failed_reads : {T : Type 0} → Result T ReadAllFault → ℕ
@@ -37,7 +38,8 @@ failed_reads (Err Memory) = 0
 abbrev pub GivesBytes : {E : Type 0} → Option (List ℕ) → Option (List ℕ) → Result ℕ E → List ℕ → Type 0
 GivesBytes None new result buffer = ⊤
 GivesBytes (Some old) None result buffer = ⊥
-GivesBytes (Some old) (Some new) result buffer = MatchResult result (λ n. (old ≡ take n buffer ++ new) × (n ≡ 0 → 0 < length buffer → old ≡ [])) (λ _. new ≡ old)
+GivesBytes (Some old) (Some new) result buffer =
+    MatchResult result (λ n. (old ≡ take n buffer ++ new) × (n ≡ 0 → 0 < length buffer → old ≡ [])) (λ _. new ≡ old)
 
 -- the same for an output: a write puts the front of these bytes after those that were taken
 abbrev pub TakesBytes : {E : Type 0} → Option (List ℕ) → Option (List ℕ) → Result ℕ E → List ℕ → Type 0

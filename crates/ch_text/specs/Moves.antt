@@ -57,7 +57,8 @@ pub record WritesMore {S : Type 0} (gives : S → List ℕ → Result ℕ Device
   pub less : new.1 ≡ drop count old.1
 
 -- writes took bytes from the front of the text, one after the other, and these are left of it
-abbrev pub TookBefore : {S : Type 0} → (gives : S → List ℕ → Result ℕ DeviceFault → S → Type 0) → (old : S) → (text left : List ℕ) → (new : S) → Type 0
+abbrev pub TookBefore : {S : Type 0} → (gives : S → List ℕ → Result ℕ DeviceFault → S → Type 0) → (old : S) → (text left : List ℕ) →
+    (new : S) → Type 0
 TookBefore gives old text left new = Leads (WritesMore gives) (old, text) (new, left)
 
 -- writes took the whole text

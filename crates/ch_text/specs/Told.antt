@@ -21,9 +21,11 @@ keeps_trans (Some xs) (Some ys) (Some zs) first second = second ∙ first
 pub interrupted_keeps : {S T : Type 0} (gives : S → Result T Error → S → Type 0) (known : S → Option (List ℕ)) → ((old : S) (error : Error) (new : S) → gives old (Err error) new → Keeps (known old) (known new))
     → (calls : ℕ) (old new : S) → AreInterrupted gives calls old new → Keeps (known old) (known new)
 interrupted_keeps gives known law zero old new same = rw same (keeps_refl (known old))
-interrupted_keeps gives known law (suc calls) old new (mid, before, error, call, kind) = keeps_trans _ _ _ (interrupted_keeps gives known law calls old mid before) (law mid error new call)
+interrupted_keeps gives known law (suc calls) old new (mid, before, error, call, kind) =
+    keeps_trans _ _ _ (interrupted_keeps gives known law calls old mid before) (law mid error new call)
 
-pub reading : (known mid known' : Option (List ℕ)) (buffer : List ℕ) (answer : Result ℕ Error) → Keeps known mid → ReadConsumes mid known' answer buffer → GivesBytes known known' (device_answer answer) buffer
+pub reading : (known mid known' : Option (List ℕ)) (buffer : List ℕ) (answer : Result ℕ Error) → Keeps known mid →
+    ReadConsumes mid known' answer buffer → GivesBytes known known' (device_answer answer) buffer
 reading None mid known' buffer answer kept read = tt
 reading (Some xs) None known' buffer answer kept read = absurd kept
 reading (Some xs) (Some ys) None buffer (Ok n) kept read = absurd read.0
@@ -33,7 +35,8 @@ reading (Some xs) (Some ys) (Some zs) buffer (Ok n) kept read =
 reading (Some xs) (Some ys) None buffer (Err error) kept read = absurd read
 reading (Some xs) (Some ys) (Some zs) buffer (Err error) kept read = read ∙ kept
 
-pub writing : (known mid known' : Option (List ℕ)) (bytes : List ℕ) (answer : Result ℕ Error) → Keeps known mid → WriteAppends mid known' answer bytes → TakesBytes known known' (device_answer answer) bytes
+pub writing : (known mid known' : Option (List ℕ)) (bytes : List ℕ) (answer : Result ℕ Error) → Keeps known mid →
+    WriteAppends mid known' answer bytes → TakesBytes known known' (device_answer answer) bytes
 writing None mid known' bytes answer kept write = tt
 writing (Some xs) None known' bytes answer kept write = absurd kept
 writing (Some xs) (Some ys) None bytes (Ok n) kept write = absurd write

@@ -36,7 +36,8 @@ program_set named unnamed requiring helpless versioned text is first second thir
     ap app_of_fields fourth ∙ ap (on_top (λ s. record s { has_version = true })) with_third
 
 -- the text of a flag decides its value
-flag_is : (text : Option Text) (flag : Bool) → (text ≡ None → flag ≡ false) → (text ≡ Some (codes "true") → flag ≡ true) → (text ≡ Some (codes "false") → flag ≡ false) → IsFlag text flag
+flag_is : (text : Option Text) (flag : Bool) → (text ≡ None → flag ≡ false) → (text ≡ Some (codes "true") → flag ≡ true) →
+    (text ≡ Some (codes "false") → flag ≡ false) → IsFlag text flag
 flag_is None flag none on off = none refl
 flag_is (Some text) flag none on off = ((λ e. on (ap (λ t. Some t) e)), (λ e. off (ap (λ t. Some t) e)))
 
@@ -88,7 +89,8 @@ is_limit {E} gives found name read limit parses none value is =
     at (Some text) none value = written text limit (subst (λ (r : Result (Option ℕ) E). TriesOne gives text r) is (value text refl))
 
 -- clap's statements on the faults of a command of this form hold of the faults of the words
-pub of-faults : (P : Kinds → Type 0) (form : App) (words : List Text) → form ≡ chtab_form → (is_simple_and_free form ≡ true → P (fault_of form words)) → P (faults_of words)
+pub of-faults : (P : Kinds → Type 0) (form : App) (words : List Text) → form ≡ chtab_form →
+    (is_simple_and_free form ≡ true → P (fault_of form words)) → P (faults_of words)
 of-faults P form words is said =
     let Q : App → Type 0 = λ f. is_simple_and_free f ≡ true → P (fault_of f words) in
     subst Q is said refl
@@ -121,7 +123,8 @@ given-by form words matches name given is matched is_name is_given =
     sym same.1 ∙ entry_of (subcommand_rows_of matches) name given (is_name ∙ name_of_entry matches) is_given
 
 -- a fault that is reported for an error of the words is a fault of the words
-pub fault-told : (words : List Text) (kind : ErrorKind) (fault : LineFault) → IsToldOf kind fault → (kind ≡ OutOfMemory) ⊎ IsAmong kind (faults_of words) → IsFaultOf words fault
+pub fault-told : (words : List Text) (kind : ErrorKind) (fault : LineFault) → IsToldOf kind fault →
+    (kind ≡ OutOfMemory) ⊎ IsAmong kind (faults_of words) → IsFaultOf words fault
 fault-told words kind (LineFault.Help text) (inl help) (inl memory) = cc
 fault-told words kind (LineFault.Help text) (inr version) (inl memory) = cc
 fault-told words kind (LineFault.Help text) told (inr among) = (kind, told, among)
@@ -142,7 +145,8 @@ other-lists found lists all named flag other =
     (all, flag, λ same. other (sym count ∙ same))
 
 -- a list of one, and then a list of two, by its elements
-pub one-listed : (lists : List (Bor Text)) (d : Bor Text) → length lists ≡ 1 → map (λ (v : Bor Text). v.now) lists ≡ (slice_index_or lists 0 d).now ∷ []
+pub one-listed : (lists : List (Bor Text)) (d : Bor Text) → length lists ≡ 1 →
+    map (λ (v : Bor Text). v.now) lists ≡ (slice_index_or lists 0 d).now ∷ []
 one-listed [] d one = cc
 one-listed (x ∷ []) d one = refl
 one-listed (x ∷ y ∷ rest) d one = absurd (omega arith)
@@ -155,14 +159,16 @@ two-listed (x ∷ y ∷ []) d e two = refl
 two-listed (x ∷ y ∷ z ∷ rest) d e two = absurd (omega arith)
 
 -- the fault that is reported for a wrong number of lists refuses them
-pub refused-lists : (given : List Row) (fault : LineFault) → IsToldOf WrongNumberOfValues fault → HasOtherLists given → AreRefusedLists (codes "near") given fault
+pub refused-lists : (given : List Row) (fault : LineFault) → IsToldOf WrongNumberOfValues fault → HasOtherLists given →
+    AreRefusedLists (codes "near") given fault
 refused-lists given (LineFault.Help text) (inl help) other = cc
 refused-lists given (LineFault.Help text) (inr version) other = cc
 refused-lists given (LineFault.Refused text) told other = (refl, other)
 refused-lists given LineFault.NoMemory told other = tt
 
 -- the fault that is reported for a conflict of arguments refuses both orders
-pub refused-orders : (given : List Row) (fault : LineFault) → IsToldOf ArgumentConflict fault → HasTwoOrders given → AreRefusedOrders given fault
+pub refused-orders : (given : List Row) (fault : LineFault) → IsToldOf ArgumentConflict fault → HasTwoOrders given →
+    AreRefusedOrders given fault
 refused-orders given (LineFault.Help text) (inl help) both = cc
 refused-orders given (LineFault.Help text) (inr version) both = cc
 refused-orders given (LineFault.Refused text) told both = both

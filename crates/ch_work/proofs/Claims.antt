@@ -23,7 +23,8 @@ times-append x [] ys = omega arith
 times-append x (d ∷ xs) ys = let h = times-append x xs ys in omega arith
 
 -- if all of at least one pass have ended, the total of ended passes is positive
-pub some_ended : (passes : List Pass) → All HasEnded passes → 0 < length passes → 0 < total (λ (view : Known). view.ended) (map view_of passes)
+pub some_ended : (passes : List Pass) → All HasEnded passes → 0 < length passes →
+    0 < total (λ (view : Known). view.ended) (map view_of passes)
 some_ended [] all some_pass = absurd (omega arith)
 some_ended (pass ∷ passes) all some_pass =
     let same : pass.seat.me.0.ended ≡ bit pass.ended = pass.same_end in
@@ -61,7 +62,8 @@ module _ {X : Type 0} (m : ℕ → ℕ → X → Type 0) (n p : ℕ) where
       }
 
   -- each claim is greater than those before it, so fewer numbers are left
-  pub nearer : (v : Known) (next k : ℕ) (ds : List (Done X)) → Working m n p v next ds → k < pieces_of n p → ((y : ℕ) → 0 < times y v.claims → y < k) → pieces_of n p - (k + 1) < pieces_of n p - next
+  pub nearer : (v : Known) (next k : ℕ) (ds : List (Done X)) → Working m n p v next ds → k < pieces_of n p →
+      ((y : ℕ) → 0 < times y v.claims → y < k) → pieces_of n p - (k + 1) < pieces_of n p - next
   nearer v next k ds h lt above = dite (dec_lt 0 next) (λ q. let b = above (next - 1) (h.last q) in omega arith) (λ z. omega arith)
 
   module _ (board : Board) where
@@ -134,4 +136,5 @@ module _ {X : Type 0} (m : ℕ → ℕ → X → Type 0) (n p : ℕ) where
   -- if every piece is done, every place has its value
   pub places_full : (places : List (Option X)) (done : List (Done X)) → ArePlaced places done → ((x : ℕ) → x < pieces_of n p → 0 < times x (numbers done)) →
       (k : ℕ) (d : Option X) → k < pieces_of n p → IsSomeAnd (slice_index_or places k d) (λ x. m (k * p) (min (k * p + p) n) x)
-  places_full places done h every k d lt = full (λ x. m (k * p) (min (k * p + p) n) x) (slice_index_or places k d) (times k (numbers done)) (every k lt) (h k d lt)
+  places_full places done h every k d lt =
+      full (λ x. m (k * p) (min (k * p + p) n) x) (slice_index_or places k d) (times k (numbers done)) (every k lt) (h k d lt)

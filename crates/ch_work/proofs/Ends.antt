@@ -18,7 +18,8 @@ use Rattle.ch_work.proofs.Moves.{fits_set, numbers_same, cells_same, knows_below
 
 module _ (k : Size) (c : ℕ) (ws : List ℕ) (views : List Known) (h : Holds k c ws views) (id : ℕ) (v : Known) (at : get_elem? views id ≡ some v) (cell : ℕ) where
   -- a look keeps the rule
-  pub looks_holds : cell < k.cells → slice_index ws cell < none_yet → 0 < v.parts → Holds k c ws (set views id (with_look v cell (slice_index ws cell)))
+  pub looks_holds : cell < k.cells → slice_index ws cell < none_yet → 0 < v.parts →
+      Holds k c ws (set views id (with_look v cell (slice_index ws cell)))
   looks_holds inside less part =
       let x = slice_index ws cell in
       let w = with_look v cell x in
@@ -100,7 +101,8 @@ same_totals k c ws old now h ended claims parts offers shown fits = record {
 }
 
 -- splitting off a pass that has done nothing keeps the rule
-pub splits : (k : Size) (id p n : ℕ) → 0 < n → Splits (Kept k) id (nothing_known p n) (less_one (nothing_known p n)) (one_part (nothing_known p n))
+pub splits : (k : Size) (id p n : ℕ) → 0 < n →
+    Splits (Kept k) id (nothing_known p n) (less_one (nothing_known p n)) (one_part (nothing_known p n))
 splits k id p n some_part s kept at =
     let h = kept.holds in
     let v = nothing_known p n in
@@ -124,7 +126,8 @@ splits k id p n some_part s kept at =
     }
 
 -- joining a pass to others keeps the rule
-pub joins : (k : Size) (id : ℕ) (v : Known) (other : ℕ) (w : Known) → 0 < w.parts → Joins (Kept k) id v other w (both v w) (nothing_known 0 0)
+pub joins : (k : Size) (id : ℕ) (v : Known) (other : ℕ) (w : Known) → 0 < w.parts →
+    Joins (Kept k) id v other w (both v w) (nothing_known 0 0)
 joins k id v other w some_w s kept at apart there =
     let h = kept.holds in
     let b = both v w in
@@ -169,7 +172,8 @@ enters k slots s kept homes fits =
     )
 
 -- a new board keeps the rule
-pub opens : (pieces cells passes : ℕ) → pieces + passes + 1 < 2 ^ 64 → Kept record { pieces = pieces; cells = cells; passes = passes } (opening (0 ∷ replicate cells none_yet) [] (nothing_known pieces passes))
+pub opens : (pieces cells passes : ℕ) → pieces + passes + 1 < 2 ^ 64 →
+    Kept record { pieces = pieces; cells = cells; passes = passes } (opening (0 ∷ replicate cells none_yet) [] (nothing_known pieces passes))
 opens pieces cells passes room =
     let k : Size = record { pieces = pieces; cells = cells; passes = passes } in
     let v = nothing_known pieces passes in record {
@@ -190,12 +194,14 @@ opens pieces cells passes room =
       };
     }
   where
-    one : (j : ℕ) (u : Known) → get_elem? (nothing_known pieces passes ∷ []) j ≡ some u → Fits record { pieces = pieces; cells = cells; passes = passes } u
+    one : (j : ℕ) (u : Known) → get_elem? (nothing_known pieces passes ∷ []) j ≡ some u →
+        Fits record { pieces = pieces; cells = cells; passes = passes } u
     one zero u e = let k : Size = record { pieces = pieces; cells = cells; passes = passes } in subst (λ (y : Known). Fits k y) (some-injective _ _ e) record { pieces = λ q. refl; ended = omega arith; idle = λ z. (refl, refl, refl) }
     one (suc j) u e = absurd (some-ne-none u (sym e))
 
 -- a view that stands for all passes knows all that was done
-pub settles : (k : Size) (c : ℕ) (ws : List ℕ) (views : List Known) → Holds k c ws views → (id : ℕ) (v : Known) → get_elem? views id ≡ some v → v.parts ≡ k.passes → IsWhole k v ws
+pub settles : (k : Size) (c : ℕ) (ws : List ℕ) (views : List Known) → Holds k c ws views → (id : ℕ) (v : Known) →
+    get_elem? views id ≡ some v → v.parts ≡ k.passes → IsWhole k v ws
 settles k c ws views h id v at all =
     let whole : total (λ (u : Known). u.parts) views ≡ v.parts = h.numbers.parts ∙ sym all in
     let claims : (x : ℕ) → total (λ (u : Known). times x u.claims) views ≡ times x v.claims

@@ -36,10 +36,12 @@ parts_count [] = refl
 parts_count (p ∷ ps) = let h = parts_count ps in let one : p.seat.me.0.parts ≡ 1 = p.one_part in omega arith
 
 -- the word of a cell gives the least weight that was offered to it
-is_least : (k : Size) (v : Known) (views : List Known) (ws : List ℕ) → Sums v views → IsWhole k v ws → (i : ℕ) → i < k.cells → slice_index ws i < 2 ^ 64 → IsLeast views i (read_cell (slice_index ws i))
+is_least : (k : Size) (v : Known) (views : List Known) (ws : List ℕ) → Sums v views → IsWhole k v ws → (i : ℕ) → i < k.cells →
+    slice_index ws i < 2 ^ 64 → IsLeast views i (read_cell (slice_index ws i))
 is_least k v views ws s h i lt fits = go (slice_index ws i == none_yet) refl
   where
-    none_here : slice_index ws i ≡ none_yet → (x : ℕ) → Dec (0 < total (λ (u : Known). times_at i x u.offers) views) → total (λ (u : Known). times_at i x u.offers) views ≡ 0
+    none_here : slice_index ws i ≡ none_yet → (x : ℕ) → Dec (0 < total (λ (u : Known). times_at i x u.offers) views) →
+        total (λ (u : Known). times_at i x u.offers) views ≡ 0
     none_here e x (yes p) = let t = s.offers i x in let l = h.low i x (omega arith) in let m = (h.small i x (omega arith)).1 in absurd (omega arith)
     none_here e x (no n) = omega arith
 

@@ -17,7 +17,8 @@ module _ {A : Type 0} where
   -- a property of each place holds of an item at its place
   pub item_has : (Q : ℕ → A → Type 0) (zs : List A) (n : ℕ) → length zs ≡ n → ((i : ℕ) (d : A) → i < n → Q i (slice_index_or zs i d)) →
       (xs ys : List A) (x : A) → zs ≡ xs ++ x ∷ ys → Q (length xs) x
-  item_has Q zs n len each xs ys x e = subst (Q (length xs)) (item_here xs ys x zs x e) (each (length xs) x (omega (arith, len, item_within xs ys x zs e)))
+  item_has Q zs n len each xs ys x e =
+      subst (Q (length xs)) (item_here xs ys x zs x e) (each (length xs) x (omega (arith, len, item_within xs ys x zs e)))
 
   -- the rest of a list begins with the next item
   pub next_split : (zs xs rest : List A) (x : A) (ys : List A) → zs ≡ xs ++ rest → rest ≡ x ∷ ys → zs ≡ xs ++ x ∷ ys
@@ -38,7 +39,8 @@ module _ {A : Type 0} where
 
 module _ {A : Type 0} (Q : ℕ → A → Type 0) where
   -- one more item, when a relation holds of each item and its place
-  pub each_push : (xs : List A) (n : ℕ) (x : A) → length xs ≡ n → ((j : ℕ) (d : A) → j < n → Q j (slice_index_or xs j d)) → Q n x → (j : ℕ) (d : A) → j < n + 1 → Q j (slice_index_or (xs ++ x ∷ []) j d)
+  pub each_push : (xs : List A) (n : ℕ) (x : A) → length xs ≡ n → ((j : ℕ) (d : A) → j < n → Q j (slice_index_or xs j d)) → Q n x →
+      (j : ℕ) (d : A) → j < n + 1 → Q j (slice_index_or (xs ++ x ∷ []) j d)
   each_push xs n x len each mine j d lt = dite (dec_lt j n)
       (λ l. subst (λ (y : A). Q j y) (sym (get_or_append_left xs (x ∷ []) d j (omega arith))) (each j d l))
       (λ ge. let e : length xs ≡ j = omega arith in subst (λ (y : A). Q j y) (sym (item_here xs [] x (xs ++ x ∷ []) d refl) ∙ ap (λ (m : ℕ). slice_index_or (xs ++ x ∷ []) m d) e) (let e' : n ≡ j = omega arith in subst (λ (m : ℕ). Q m x) e' mine))

@@ -25,7 +25,8 @@ pub numbers_same : (k : Size) (c : ℕ) (views now : List Known) → Numbers k c
     → ((x : ℕ) → total (λ v. times x v.claims) now ≡ total (λ v. times x v.claims) views)
     → total (λ v. v.parts) now ≡ total (λ v. v.parts) views
     → Numbers k c now
-numbers_same k c views now h e cl p = record { counted = h.counted ∙ ap (λ n. min c k.pieces + n) (sym e); claimed = λ x. cl x ∙ h.claimed x; parts = p ∙ h.parts }
+numbers_same k c views now h e cl p =
+    record { counted = h.counted ∙ ap (λ n. min c k.pieces + n) (sym e); claimed = λ x. cl x ∙ h.claimed x; parts = p ∙ h.parts }
 
 -- the facts about the cells hold of changed views if the totals of offers and of shown weights are the same
 pub cells_same : (k : Size) (ws : List ℕ) (views now : List Known) → Cells k ws views
@@ -151,16 +152,20 @@ module _ (ws : List ℕ) (cell : ℕ) (y : ℕ) (inside : cell < length ws) wher
 
 module _ (k : Size) (c : ℕ) (ws : List ℕ) (views : List Known) (h : Holds k c ws views) (id : ℕ) (v : Known) (at : get_elem? views id ≡ some v) (cell weight : ℕ) (inside : cell < k.cells) where
   -- the offers of all passes after one more offer
-  more_offers : (i x : ℕ) → total (λ (u : Known). times_at i x u.offers) (set views id (with_offer v cell weight)) ≡ total (λ (u : Known). times_at i x u.offers) views + bit ((cell == i) && (weight == x))
+  more_offers : (i x : ℕ) →
+      total (λ (u : Known). times_at i x u.offers) (set views id (with_offer v cell weight)) ≡ total (λ (u : Known). times_at i x u.offers) views + bit ((cell == i) && (weight == x))
   more_offers i x = total_grow (λ (u : Known). times_at i x u.offers) views id v (with_offer v cell weight) (bit ((cell == i) && (weight == x))) at (total_push (λ (p : ℕ × ℕ). bit ((p.0 == i) && (p.1 == x))) v.offers (cell, weight))
 
   -- an offer shows nothing
-  same_shown : (i x : ℕ) → total (λ (u : Known). times_at i x u.shown) (set views id (with_offer v cell weight)) ≡ total (λ (u : Known). times_at i x u.shown) views
-  same_shown i x = let e = total_grow (λ (u : Known). times_at i x u.shown) views id v (with_offer v cell weight) 0 at (omega arith) in omega arith
+  same_shown : (i x : ℕ) →
+      total (λ (u : Known). times_at i x u.shown) (set views id (with_offer v cell weight)) ≡ total (λ (u : Known). times_at i x u.shown) views
+  same_shown i x =
+      let e = total_grow (λ (u : Known). times_at i x u.shown) views id v (with_offer v cell weight) 0 at (omega arith) in omega arith
 
   module _ (new : ℕ) (is_new : new ≡ min (slice_index ws cell) weight) (bound : weight ≤ MOST_OFFER) where
     -- after an offer, the word of each cell was offered to it
-    hit_after : (i : ℕ) → i < k.cells → slice_index (set ws cell new) i < none_yet → 0 < total (λ (u : Known). times_at i (slice_index (set ws cell new) i) u.offers) (set views id (with_offer v cell weight))
+    hit_after : (i : ℕ) → i < k.cells → slice_index (set ws cell new) i < none_yet →
+        0 < total (λ (u : Known). times_at i (slice_index (set ws cell new) i) u.offers) (set views id (with_offer v cell weight))
     hit_after i lt less = dite (ℕ_discrete i cell)
         (λ e. let P : ℕ → Type 0 = λ j. 0 < total (λ (u : Known). times_at j (slice_index (set ws cell new) j) u.offers) (set views id (with_offer v cell weight)) in
         subst P (sym e) (let Q : ℕ → Type 0 = λ z. 0 < total (λ (u : Known). times_at cell z u.offers) (set views id (with_offer v cell weight)) in
@@ -179,7 +184,8 @@ module _ (k : Size) (c : ℕ) (ws : List ℕ) (views : List Known) (h : Holds k 
             subst Q (sym e) (let m = more_offers cell weight in let o = pair_same cell weight in omega arith))
 
     -- after an offer, no lesser weight than a cell's word was offered to it
-    low_after : (i x : ℕ) → 0 < total (λ (u : Known). times_at i x u.offers) (set views id (with_offer v cell weight)) → (slice_index (set ws cell new) i ≤ x) × (i < k.cells) × (x ≤ MOST_OFFER)
+    low_after : (i x : ℕ) → 0 < total (λ (u : Known). times_at i x u.offers) (set views id (with_offer v cell weight)) →
+        (slice_index (set ws cell new) i ≤ x) × (i < k.cells) × (x ≤ MOST_OFFER)
     low_after i x some_now =
         let in_ws : cell < length ws = rw h.cells inside in
         let less = put_less ws cell new in_ws (omega arith) i in

@@ -36,12 +36,15 @@ seen_less v cell weight x le = (
 
 -- from v to u only a look may have happened
 abbrev Shows : Known → Known → Type 0
-Shows v u = (u.pieces ≡ v.pieces) × (u.ended ≡ v.ended) × (u.claims ≡ v.claims) × (u.offers ≡ v.offers) × ((i x : ℕ) → Knows v i x → Knows u i x)
+Shows v u =
+    (u.pieces ≡ v.pieces) × (u.ended ≡ v.ended) × (u.claims ≡ v.claims) × (u.offers ≡ v.offers) × ((i x : ℕ) → Knows v i x → Knows u i x)
 
 -- this holds after a look, for each result of the look
-pub after_look : (v u : Known) (cell : ℕ) (P : ℕ → Type 0) (Q : Type 0) (o : Option ℕ) → IfSome o (λ x. (x ≤ MOST_OFFER) × (u ≡ with_look v cell x) × P x) → IfNone o ((u ≡ v) × Q) → Shows v u
+pub after_look : (v u : Known) (cell : ℕ) (P : ℕ → Type 0) (Q : Type 0) (o : Option ℕ) →
+    IfSome o (λ x. (x ≤ MOST_OFFER) × (u ≡ with_look v cell x) × P x) → IfNone o ((u ≡ v) × Q) → Shows v u
 after_look v u cell P Q None some none = subst (Shows v) (sym none.0) (refl, refl, refl, refl, λ i x k. k)
-after_look v u cell P Q (Some x) some none = subst (Shows v) (sym some.1) (refl, refl, refl, refl, λ i y k. let m = more v.shown cell x i y in omega arith)
+after_look v u cell P Q (Some x) some none =
+    subst (Shows v) (sym some.1) (refl, refl, refl, refl, λ i y k. let m = more v.shown cell x i y in omega arith)
 
 -- the weight is paid by an offer
 pub offers_it : (v u : Known) (cell weight : ℕ) → Shows v u → HasPaid (One cell weight) v (with_offer u cell weight)

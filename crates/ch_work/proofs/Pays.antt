@@ -31,7 +31,8 @@ module _ (owes : ℕ → ℕ → ℕ → ℕ → Type 0) (n p : ℕ) where
   }
 
   -- one more claim, after its piece has paid what it owes
-  pub pays_on : (v u w : Known) (next k : ℕ) → Paying owes n p v next → k < pieces_of n p → u ≡ with_claim v k → OffersOwed (owed_by owes n p k) u w → Covers (owed_by owes n p k) w → Paying owes n p w (k + 1)
+  pub pays_on : (v u w : Known) (next k : ℕ) → Paying owes n p v next → k < pieces_of n p → u ≡ with_claim v k →
+      OffersOwed (owed_by owes n p k) u w → Covers (owed_by owes n p k) w → Paying owes n p w (k + 1)
   pays_on v u w next k h lt e offers covers =
       let o : OffersOwed (owed_by owes n p k) (with_claim v k) w = subst (λ (z : Known). OffersOwed (owed_by owes n p k) z w) e offers in
       let t : (j : ℕ) → times j w.claims ≡ times j v.claims + bit (k == j) = λ j. ap (λ (l : List ℕ). times j l) o.claims ∙ total_push (λ (y : ℕ). bit (y == j)) v.claims k in record {
@@ -76,7 +77,8 @@ some_pass P f (q ∷ qs) all some_one = dite (dec_lt 0 (f (view_of q)))
 module _ (owes : ℕ → ℕ → ℕ → ℕ → Type 0) (n p : ℕ) (board : Board) (k : Size) (passes : List Pass) (cells : List (Option ℕ)) (s : Settled k (map view_of passes) cells) (count : k.pieces ≡ pieces_of n p)
     (all : All (HasPaidOff owes n p board) passes) (some_one : 0 < length passes) where
   -- for each weight that a piece owes, a weight that is no greater was offered
-  covered : (j i x : ℕ) → j < pieces_of n p → owed_by owes n p j i x → (y : ℕ) × (0 < total (λ (v : Known). times_at i y v.offers) (map view_of passes)) × (y ≤ x)
+  covered : (j i x : ℕ) → j < pieces_of n p → owed_by owes n p j i x →
+      (y : ℕ) × (0 < total (λ (v : Known). times_at i y v.offers) (map view_of passes)) × (y ≤ x)
   covered j i x lt owed =
       let ended = some_ended passes (λ m d within. (all m d within).1) some_one in
       let one = s.every ended j (omega arith) in

@@ -29,7 +29,8 @@ pub covers : (n p : ℕ) → 0 < p → n ≤ pieces_of n p * p
 covers n p positive = omega (arith, div-add-mod' n p, covered (n / p) (n % p) p (mod-lt n positive))
 
 -- the items from place a on are those of one piece and the rest
-pub piece_split : {A : Type 0} (items : List A) (a p : ℕ) → slice_range items a (min (a + p) (length items)) ++ drop (a + p) items ≡ drop a items
+pub piece_split : {A : Type 0} (items : List A) (a p : ℕ) →
+    slice_range items a (min (a + p) (length items)) ++ drop (a + p) items ≡ drop a items
 piece_split items a p =
     let count : min (a + p) (length items) - a ≡ min p (length (drop a items)) = omega (arith, length-drop a items) in
     rw (count, take_min p (drop a items), sym (drop-drop p a items)) (take-append-drop p (drop a items))

@@ -13,7 +13,8 @@ module _ {A : Type 0} (f : A → ℕ) where
   total_set (x ∷ xs) (suc j) v w e = let h = total_set xs j v w e in omega arith
 
   -- the total after one view grows
-  pub total_grow : (views : List A) (j : ℕ) (v w : A) (d : ℕ) → get_elem? views j ≡ some v → f w ≡ f v + d → total f (set views j w) ≡ total f views + d
+  pub total_grow : (views : List A) (j : ℕ) (v w : A) (d : ℕ) → get_elem? views j ≡ some v → f w ≡ f v + d →
+      total f (set views j w) ≡ total f views + d
   total_grow views j v w d at e = let h = total_set views j v w at in omega arith
 
   -- the total of two lists one after the other
@@ -32,12 +33,15 @@ module _ {A : Type 0} (f : A → ℕ) where
   total_at (x ∷ xs) (suc j) v e = let h = total_at xs j v e in omega arith
 
   -- splitting a view in two keeps the total
-  pub total_split : (views : List A) (i : ℕ) (v left right : A) → get_elem? views i ≡ some v → f left + f right ≡ f v → total f (set views i left ++ right ∷ []) ≡ total f views
+  pub total_split : (views : List A) (i : ℕ) (v left right : A) → get_elem? views i ≡ some v → f left + f right ≡ f v →
+      total f (set views i left ++ right ∷ []) ≡ total f views
   total_split views i v left right at e = let s = total_set views i v left at in let p = total_push (set views i left) right in omega arith
 
   -- joining a view to another keeps the total
-  pub total_join : (views : List A) (i j : ℕ) (v w both spent : A) → get_elem? views i ≡ some v → get_elem? (set views i both) j ≡ some w → f both ≡ f v + f w → f spent ≡ 0 → total f (set (set views i both) j spent) ≡ total f views
-  total_join views i j v w both spent at there e z = let s = total_set views i v both at in let t = total_set (set views i both) j w spent there in omega arith
+  pub total_join : (views : List A) (i j : ℕ) (v w both spent : A) → get_elem? views i ≡ some v → get_elem? (set views i both) j ≡ some w →
+      f both ≡ f v + f w → f spent ≡ 0 → total f (set (set views i both) j spent) ≡ total f views
+  total_join views i j v w both spent at there e z =
+      let s = total_set views i v both at in let t = total_set (set views i both) j w spent there in omega arith
 
   -- if f is at most g at each view, so it is in total
   pub total_le : (g : A → ℕ) (views : List A) → ((j : ℕ) (u : A) → get_elem? views j ≡ some u → f u ≤ g u) → total f views ≤ total g views
@@ -45,12 +49,14 @@ module _ {A : Type 0} (f : A → ℕ) where
   total_le g (x ∷ xs) each = let a : f x ≤ g x = each 0 x refl in let b = total_le g xs (λ j u e. each (suc j) u e) in omega arith
 
   -- if g is 0 in total, and f is 0 wherever g is, f is 0 in total
-  total_none : (g : A → ℕ) (views : List A) → total g views ≡ 0 → ((j : ℕ) (u : A) → get_elem? views j ≡ some u → g u ≡ 0 → f u ≡ 0) → total f views ≡ 0
+  total_none : (g : A → ℕ) (views : List A) → total g views ≡ 0 → ((j : ℕ) (u : A) → get_elem? views j ≡ some u → g u ≡ 0 → f u ≡ 0) →
+      total f views ≡ 0
   total_none g [] e none = refl
   total_none g (x ∷ xs) e none = let a : f x ≡ 0 = none 0 x refl (omega arith) in let b = total_none g xs (omega arith) (λ j u at z. none (suc j) u at z) in omega arith
 
   -- if one view has the whole total of g, and f is 0 wherever g is, that view has the whole total of f
-  pub total_whole : (g : A → ℕ) (views : List A) (i : ℕ) (v : A) → get_elem? views i ≡ some v → total g views ≡ g v → ((j : ℕ) (u : A) → get_elem? views j ≡ some u → g u ≡ 0 → f u ≡ 0) → total f views ≡ f v
+  pub total_whole : (g : A → ℕ) (views : List A) (i : ℕ) (v : A) → get_elem? views i ≡ some v → total g views ≡ g v →
+      ((j : ℕ) (u : A) → get_elem? views j ≡ some u → g u ≡ 0 → f u ≡ 0) → total f views ≡ f v
   total_whole g [] i v at e none = absurd (some-ne-none v (sym at))
   total_whole g (x ∷ xs) zero v at e none =
       let a : f x ≡ f v = ap f (some-injective x v at) in

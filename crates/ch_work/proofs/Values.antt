@@ -13,5 +13,6 @@ module _ {X : Type 0} (m : ℕ → ℕ → X → Type 0) (n p : ℕ) where
   values-append xs ys a b c hx hy = (omega (arith, length-append xs ys, hx.0, hy.0), means-append xs ys a b (omega (arith, hx.0)) hx.1 hy.1)
 
   -- one more value
-  pub values-push : (xs : List X) (x : X) (a k : ℕ) → AreValues m n p a k xs → m (k * p) (min (k * p + p) n) x → AreValues m n p a (k + 1) (xs ++ x ∷ [])
+  pub values-push : (xs : List X) (x : X) (a k : ℕ) → AreValues m n p a k xs → m (k * p) (min (k * p + p) n) x →
+      AreValues m n p a (k + 1) (xs ++ x ∷ [])
   values-push xs x a k hx h = values-append xs (x ∷ []) a k (k + 1) hx (refl, (h, tt))

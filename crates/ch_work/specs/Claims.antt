@@ -32,7 +32,8 @@ IsHand clean n p board hand = IsPassOf board hand.0 × (view_of hand.0 ≡ nothi
 
 -- what a worker hands back: its pass; if it was refused no memory, also its room and the pieces that it claimed until
 -- none was left
-abbrev pub HasWorked : {X R E : Type 0} → (ℕ → ℕ → X → Type 0) → (R → Type 0) → ℕ → ℕ → Board → Pass → Result (R × Vec (Done X) Global) E → Type 0
+abbrev pub HasWorked : {X R E : Type 0} → (ℕ → ℕ → X → Type 0) → (R → Type 0) → ℕ → ℕ → Board → Pass → Result (R × Vec (Done X) Global) E →
+    Type 0
 HasWorked meaning clean n p board pass outcome =
     IsPassOf board pass × IfOk outcome (λ w. HasEnded pass × ((view_of pass).claims ≡ numbers w.1.items) × All (IsDone meaning n p) w.1.items × clean w.0)
 

@@ -50,8 +50,10 @@ written_answer (Ok done) = Ok done
 written_answer (Err count) = Err (ProgramFault.Run (RunFault.Write count))
 
 -- if the words ask for help, the text of help is written. Otherwise their fault is the answer, and the output is unchanged
-abbrev pub AnswersFault : {O : Type 0} → (takes : O → List ℕ → Result ℕ DeviceFault → O → Type 0) → LineFault → O → O → Result Unit ProgramFault → Type 0
-AnswersFault takes (LineFault.Help text) old new answer = (written : Result Unit ℕ) × (answer ≡ written_answer written) × IsWritten takes (string_bytes text) old new written
+abbrev pub AnswersFault : {O : Type 0} → (takes : O → List ℕ → Result ℕ DeviceFault → O → Type 0) → LineFault → O → O →
+    Result Unit ProgramFault → Type 0
+AnswersFault takes (LineFault.Help text) old new answer =
+    (written : Result Unit ℕ) × (answer ≡ written_answer written) × IsWritten takes (string_bytes text) old new written
 AnswersFault takes (LineFault.Refused text) old new answer = (answer ≡ Err (ProgramFault.Line (LineFault.Refused text))) × (new ≡ old)
 AnswersFault takes LineFault.NoMemory old new answer = (answer ≡ Err (ProgramFault.Line LineFault.NoMemory)) × (new ≡ old)
 
@@ -80,7 +82,8 @@ IsUnheard closed (ProgramFault.Run fault) = IsTrue closed × IsWrite fault
 -- the end of the program with this answer. Without a fault the status is 0, and the errors are unchanged.
 -- If a write failed and the reader of the output has gone away, the status is 141, and the errors are unchanged.
 -- Any other fault is reported, and has its own status
-abbrev pub IsEnd : {E : Type 0} → (takes : E → List ℕ → Result ℕ DeviceFault → E → Type 0) → Bool → Result Unit ProgramFault → E → E → ℕ → Type 0
+abbrev pub IsEnd : {E : Type 0} → (takes : E → List ℕ → Result ℕ DeviceFault → E → Type 0) → Bool → Result Unit ProgramFault → E → E → ℕ →
+    Type 0
 IsEnd takes closed (Ok done) old new status = (status ≡ 0) × (new ≡ old)
 IsEnd takes closed (Err fault) old new status =
     (IsUnheard closed fault × (status ≡ 141) × (new ≡ old))

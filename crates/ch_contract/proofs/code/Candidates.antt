@@ -60,7 +60,8 @@ module _ (n : ℕ) (outs ins : List (List Leg)) (within : IsWithinLimits n outs 
           record { node = is.ends.0; cost = record { limited = up_to l.node x (label_of l) leg; weight = is.weight; arcs = omega (arith, is.arcs) } }
 
   -- the known costs are small enough for one more leg
-  pub known_small : (limit : ℕ) (s : Wanted) (k : ℕ) (h : Known) → k ≤ MOST_HOPS → s.end < n → IsHeld limit s.most → AreLeastCosts (legs_into outs) s k h → AreSmall limit h
+  pub known_small : (limit : ℕ) (s : Wanted) (k : ℕ) (h : Known) → k ≤ MOST_HOPS → s.end < n → IsHeld limit s.most →
+      AreLeastCosts (legs_into outs) s k h → AreSmall limit h
   known_small limit s k h few inside most least x = elim (least.sound x) [
     | inl none ↦ inl none
     | inr w ↦ inr (wanted_small limit n (legs_into outs) s k x (known_at h x) into_within within.nodes few inside most w).1
@@ -85,7 +86,8 @@ module _ (n : ℕ) (outs ins : List (List Leg)) (within : IsWithinLimits n outs 
       (omega (arith, p.weight, q.weight), omega (arith, p.arcs, q.arcs))
 
   -- the leg at a place of a list is a leg from its node
-  pub out_at : (v i : ℕ) (d : Leg) → i < length (row outs v) → legs_from outs v (get_or (row outs v) i d).node ≡ Some (label_of (get_or (row outs v) i d))
+  pub out_at : (v i : ℕ) (d : Leg) → i < length (row outs v) →
+      legs_from outs v (get_or (row outs v) i d).node ≡ Some (label_of (get_or (row outs v) i d))
   out_at v i d lt = row_has (row outs v) (get_or (row outs v) i d) (within.rows.0 v) (Contains-get_or (row outs v) i d lt)
 
   -- a leg leads from one node to another node
@@ -95,7 +97,8 @@ module _ (n : ℕ) (outs ins : List (List Leg)) (within : IsWithinLimits n outs 
   -- after a search the costs of chains of at most `hops` - 2 legs are known
   pub known_after : (ups downs : List (List Leg)) (s : Wanted) (hops k : ℕ) (h : Known) (o : Result (Unit {0}) AllocError) → k ≡ hops - 2 →
       OnOk o (length h.costs ≡ length outs) → OnOk o (AreLeastCosts (legs_into outs) s k h) → OnOk o (IsKnown (record { nodes = n; rows = outs; ups = ups; downs = downs }) s hops h)
-  known_after ups downs s hops k h (Ok x) e size least = record { size = size ∙ within.sizes.0; least = subst (λ j. AreLeastCosts (legs_into outs) s j h) e least }
+  known_after ups downs s hops k h (Ok x) e size least =
+      record { size = size ∙ within.sizes.0; least = subst (λ j. AreLeastCosts (legs_into outs) s j h) e least }
   known_after ups downs s hops k h (Err x) e size least = least
 
 -- a candidate of a list is also one of a longer list
@@ -119,12 +122,15 @@ bounded_more n first l up (Some c) cost most is can le more all = (
 )
 
 -- the greatest cost of the candidates after one more leg that makes none
-pub bounded_skip : (n : ℕ) (first l : Leg) (up : List Leg) (so_far : Option Cost) → (IsCandidate n first l → ⊥) → AreBounded n first up so_far → AreBounded n first (up ++ l ∷ []) so_far
+pub bounded_skip : (n : ℕ) (first l : Leg) (up : List Leg) (so_far : Option Cost) → (IsCandidate n first l → ⊥) →
+    AreBounded n first up so_far → AreBounded n first (up ++ l ∷ []) so_far
 bounded_skip n first l up None never none = All-push (λ (k : Leg). IsCandidate n first k → ⊥) up l none never
-bounded_skip n first l up (Some c) never all = (more_candidate n first l up c all.0, All-push (IsMostFor n first c) up l all.1 (λ it. absurd (never it)))
+bounded_skip n first l up (Some c) never all =
+    (more_candidate n first l up c all.0, All-push (IsMostFor n first c) up l all.1 (λ it. absurd (never it)))
 
 -- the cost of two legs that are a candidate is a bound that a search can hold
-pub candidate_held : (limit n : ℕ) (first l : Leg) → n ≤ MOST_NODES → first.cost.weight ≤ limit → l.cost.weight ≤ limit → IsCandidate n first l → IsHeld limit (cost_sum first.cost l.cost)
+pub candidate_held : (limit n : ℕ) (first l : Leg) → n ≤ MOST_NODES → first.cost.weight ≤ limit → l.cost.weight ≤ limit →
+    IsCandidate n first l → IsHeld limit (cost_sum first.cost l.cost)
 candidate_held limit n first l small a b is = record { limited = omega arith; weight = is.weight; arcs = omega (arith, is.arcs) }
 
 -- the greatest cost of the candidates is a bound that a search can hold
@@ -142,7 +148,8 @@ pub before_no_candidate : (n h : ℕ) (L W : Legs) (v : ℕ) (first : Leg) (up :
 before_no_candidate n h L W v first up list here row none are =
     before_raise n h L W v first.node 0 (first.node + 1) 0 list are (omega arith, λ e. absurd (omega arith)) (λ s is e. early s is e (cases_eq first.node s.from))
   where
-    early : (s : Shortcut) → IsShortcutAmong n h L W v s → EndsBefore s (first.node + 1) 0 → (first.node ≡ s.from) ⊎ (first.node ≢ s.from) → EndsBefore s first.node 0
+    early : (s : Shortcut) → IsShortcutAmong n h L W v s → EndsBefore s (first.node + 1) 0 → (first.node ≡ s.from) ⊎ (first.node ≢ s.from) →
+        EndsBefore s first.node 0
     early s is e (inr ne) = elim (cases_lt s.from (first.node + 1)) [
       | inl lt ↦ (omega arith, λ le. absurd (ne (omega arith)))
       | inr ge ↦ let no = e.1 ge in absurd (omega (arith, no))

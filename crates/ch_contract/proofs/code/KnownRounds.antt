@@ -24,10 +24,12 @@ use Rattle.ch_graph.proofs.CostSums.{IsAtMost-cost_sum}
 
 -- a wanted chain of at most k legs has at most k + 1 legs
 pub wanted_more : (L : Legs) (s : Wanted) (k x : ℕ) (d : Cost) → IsWanted L s k x d → IsWanted L s (k + 1) x d
-wanted_more L s k x d w = let short = w.0.short in (record { nodes = w.0.nodes; chain = w.0.chain; short = omega arith; away = w.0.away; cost = w.0.cost }, w.1)
+wanted_more L s k x d w =
+    let short = w.0.short in (record { nodes = w.0.nodes; chain = w.0.chain; short = omega arith; away = w.0.away; cost = w.0.cost }, w.1)
 
 -- a leg of the list of a node is a leg into the node
-listed_leg : (lists : List (List Leg)) (x : ℕ) (l : Leg) → AreRows lists → Contains (row lists x) l → legs_into lists l.node x ≡ Some (label_of l)
+listed_leg : (lists : List (List Leg)) (x : ℕ) (l : Leg) → AreRows lists → Contains (row lists x) l →
+    legs_into lists l.node x ≡ Some (label_of l)
 listed_leg lists x l rows c = row_has (row lists x) l (rows x) c
 
 -- one more leg in front of a wanted chain makes a wanted chain
@@ -151,11 +153,13 @@ rounds_start n L s old new off most inside clean none low = record {
     only : (x : ℕ) (d : Cost) → IsOnly s.end no_cost x d → IsWanted L s 0 x d
     only x d m = (record { nodes = []; chain = m.0; short = omega arith; away = ((λ e. off (sym m.0 ∙ e)), tt); cost = sym m.1 }, subst (λ z. IsAtMost z s.most) (sym m.1) (IsAtMost-no_cost s.most))
 
-    sound : (x : ℕ) → (known_at new x ≡ known_at old x) ⊎ IsOnly s.end no_cost x (known_at new x) → (known_at new x ≡ never) ⊎ IsWanted L s 0 x (known_at new x)
+    sound : (x : ℕ) → (known_at new x ≡ known_at old x) ⊎ IsOnly s.end no_cost x (known_at new x) →
+        (known_at new x ≡ never) ⊎ IsWanted L s 0 x (known_at new x)
     sound x (inl e) = inl (e ∙ clean.rest x)
     sound x (inr m) = inr (only x _ m)
 
-    whole : (x : ℕ) (d : Cost) (nodes : List ℕ) → IsChain L x s.end nodes → length nodes ≤ 0 → chain_cost L x nodes ≡ d → IsAtMost (known_at new x) d
+    whole : (x : ℕ) (d : Cost) (nodes : List ℕ) → IsChain L x s.end nodes → length nodes ≤ 0 → chain_cost L x nodes ≡ d →
+        IsAtMost (known_at new x) d
     whole x d [] chain short cost = low.whole x d (chain, sym cost)
     whole x d (y ∷ ys) chain short cost = absurd (omega arith)
 
@@ -204,7 +208,8 @@ product : (k n : ℕ) → k ≤ MOST_HOPS → n ≤ MOST_NODES → k * n ≤ MOS
 product k n h m = omega (arith, mul-le-mul_right {m = k} {n = MOST_HOPS} n h)
 
 -- a chain with at most as many legs as a witness may have stands for at most MOST_CHAIN_ARCS arcs
-pub chain_small : (n : ℕ) (L : Legs) (u w : ℕ) (xs : List ℕ) → AreLegsWithin n L → n ≤ MOST_NODES → length xs ≤ MOST_HOPS → IsChain L u w xs → (chain_cost L u xs).arcs ≤ MOST_CHAIN_ARCS
+pub chain_small : (n : ℕ) (L : Legs) (u w : ℕ) (xs : List ℕ) → AreLegsWithin n L → n ≤ MOST_NODES → length xs ≤ MOST_HOPS →
+    IsChain L u w xs → (chain_cost L u xs).arcs ≤ MOST_CHAIN_ARCS
 chain_small n L u w xs limits small few chain =
     let arcs = chain_arcs n L u w xs limits chain in
     let bound = product (length xs) n few small in omega arith

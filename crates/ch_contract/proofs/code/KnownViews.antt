@@ -14,7 +14,8 @@ use Rattle.ch_contract.specs.KnownCosts.{known_in, known_at, AreTouched, known_o
 use Rattle.ch_contract.proofs.code.Lowering.{lowers_here, lowers_none}
 
 -- the known cost of a node is the cost of its held cost
-pub known_cost_of : {K : Type 0} (cost : K → Cost) (h : KnownCosts K) (x : ℕ) (d : K) → x < length h.costs.items → known_at (known_of cost h) x ≡ cost (get_or h.costs.items x d)
+pub known_cost_of : {K : Type 0} (cost : K → Cost) (h : KnownCosts K) (x : ℕ) (d : K) → x < length h.costs.items →
+    known_at (known_of cost h) x ≡ cost (get_or h.costs.items x d)
 known_cost_of cost h x d lt = get_or-map cost h.costs.items x d never lt
 
 -- a property of all values of a mapped list holds of all elements after the mapping
@@ -84,7 +85,8 @@ touched_less cost h node held_cost rest none touched t = record {
         let lt = All-contains (λ y. y < length (map cost h.costs.items)) h.touched.items x t.within c in
         omega (arith, ap length same, length-set (map cost h.costs.items) node (cost held_cost))
 
-    each : (x : ℕ) → (x ≡ node) ⊎ (x ≢ node) → (known_at (known_of cost h) x ≡ never) ⊎ Contains h.touched.items x → (known_in (map cost (set h.costs.items node held_cost)) x ≡ never) ⊎ Contains rest x
+    each : (x : ℕ) → (x ≡ node) ⊎ (x ≢ node) → (known_at (known_of cost h) x ≡ never) ⊎ Contains h.touched.items x →
+        (known_in (map cost (set h.costs.items node held_cost)) x ≡ never) ⊎ Contains rest x
     each x (inl e) _ =
         let lt = All-contains (λ y. y < length (map cost h.costs.items)) h.touched.items node t.within (subst (λ z. Contains z node) (sym touched) (Contains-push rest node)) in
         inl (ap (known_in (map cost (set h.costs.items node held_cost))) e ∙ ap (λ z. known_in z node) same ∙ get_or-set_same (map cost h.costs.items) node (cost held_cost) never lt ∙ none)

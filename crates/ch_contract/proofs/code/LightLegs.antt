@@ -32,14 +32,16 @@ opened_light limit g L light same u w l e =
     subst (λ (z : Label). z.cost.weight ≤ limit) (sym is.label) (All-contains (λ (a : InArc). a.weight ≤ limit) g.arcs (arc u w is.weight) light is.arc_is)
 
 -- light legs stay light when a node is taken out
-pub cleared_light : (limit : ℕ) (L : Legs) (v : ℕ) (M : Legs) → AreLegsUpTo limit L → SameLegs M (legs_after_contraction L v []) → AreLegsUpTo limit M
+pub cleared_light : (limit : ℕ) (L : Legs) (v : ℕ) (M : Legs) → AreLegsUpTo limit L → SameLegs M (legs_after_contraction L v []) →
+    AreLegsUpTo limit M
 cleared_light limit L v M before same u w l e = elim (contracted_cases L v [] u w l (sym (same u w) ∙ e)) [
   | inl old ↦ before u w l old
   | inr made ↦ absurd (contains_none made.0 made.1)
 ]
 
 -- light legs stay light when light shortcuts are put in
-pub put_light : (limit : ℕ) (L : Legs) (v : ℕ) (list : List Shortcut) (M : Legs) → AreLegsUpTo limit L → All (λ s. s.cost.weight ≤ limit) list → ((u w : ℕ) → M u w ≡ leg_after_shortcuts v list u w (L u w)) → AreLegsUpTo limit M
+pub put_light : (limit : ℕ) (L : Legs) (v : ℕ) (list : List Shortcut) (M : Legs) → AreLegsUpTo limit L →
+    All (λ s. s.cost.weight ≤ limit) list → ((u w : ℕ) → M u w ≡ leg_after_shortcuts v list u w (L u w)) → AreLegsUpTo limit M
 put_light limit L v list M before light same u w l e = elim (override_cases v list u w (L u w)) [
   | inl stays ↦ before u w l (sym stays ∙ sym (same u w) ∙ e)
   | inr s ↦ subst (λ (z : Label). z.cost.weight ≤ limit) (same_Some _ _ (sym s.4 ∙ sym (same u w) ∙ e)) (All-contains (λ (t : Shortcut). t.cost.weight ≤ limit) list s.0 light s.1)

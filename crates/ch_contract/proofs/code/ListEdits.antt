@@ -59,7 +59,9 @@ module _ (n node : ℕ) (all rows : List (List Leg)) (are : take n all ≡ rows)
     edited_aside = ap (drop n) edited ∙ drop-set-lt n all node (row new node) below
 
     -- if the list of the node changes at one other node, the leg there is set
-    pub edited_set : (other : ℕ) (label : Option Label) → AreRows rows → IsRow (row new node) → ((y : ℕ) → row_leg (row new node) y ≡ (if other == y then label else row_leg (row all node) y)) → IsSet node other label rows (take n new)
+    pub edited_set : (other : ℕ) (label : Option Label) → AreRows rows → IsRow (row new node) →
+        ((y : ℕ) → row_leg (row new node) y ≡ (if other == y then label else row_leg (row all node) y)) →
+        IsSet node other label rows (take n new)
     edited_set other label ordered is legs =
         set_row node other label rows (take n new) inside ordered
         (ap (take n) edited ∙ take-set-lt n all node (row new node) below ∙ ap (λ l. set l node (row new node)) are ∙ ap (set rows node) (sym here))
@@ -67,7 +69,8 @@ module _ (n node : ℕ) (all rows : List (List Leg)) (are : take n all ≡ rows)
         (λ y. ap (λ l. row_leg l y) here ∙ legs y ∙ ap (λ l. if other == y then label else row_leg l y) list_row)
 
 -- the leg that is set is the new one
-pub set_here : (node other : ℕ) (label : Option Label) (old new : List (List Leg)) → IsSet node other label old new → row_leg (row new node) other ≡ label
+pub set_here : (node other : ℕ) (label : Option Label) (old new : List (List Leg)) → IsSet node other label old new →
+    row_leg (row new node) other ≡ label
 set_here node other label old new s =
     let first : (node == node) ≡ true = grind (arith, nat_tests) in
     let second : (other == other) ≡ true = grind (arith, nat_tests) in
@@ -88,7 +91,8 @@ not_among x m = let at = m.1.1 in omega arith
 
 -- at first no leg is taken out
 pub taken_none : (v : ℕ) (lists : List (List Leg)) → AreRows lists → AreTaken v [] lists lists
-taken_none v lists rows = record { size = refl; rows = rows; kept = λ x y ne. refl; here = λ x m. absurd (not_among x m); there = λ x. inl refl }
+taken_none v lists rows =
+    record { size = refl; rows = rows; kept = λ x y ne. refl; here = λ x m. absurd (not_among x m); there = λ x. inl refl }
 
 -- the lists after one more leg is taken out
 pub taken_more : (v : ℕ) (others : List Leg) (l : Leg) (old mid new : List (List Leg)) → AreTaken v others old mid →
@@ -123,7 +127,8 @@ pub taken_all : (v : ℕ) (others : List Leg) (old new : List (List Leg)) → Ar
     (x y : ℕ) → row_leg (row new x) y ≡ (if v == y then None else row_leg (row old x) y)
 taken_all v others old new t all x y = at (v == y) refl
   where
-    none : (o : Option Label) → row_leg (row old x) v ≡ o → (row_leg (row new x) v ≡ row_leg (row old x) v) ⊎ (row_leg (row new x) v ≡ None) → row_leg (row new x) v ≡ None
+    none : (o : Option Label) → row_leg (row old x) v ≡ o →
+        (row_leg (row new x) v ≡ row_leg (row old x) v) ⊎ (row_leg (row new x) v ≡ None) → row_leg (row new x) v ≡ None
     none o e (inr gone) = gone
     none None e (inl same) = same ∙ e
     none (Some m) e (inl same) = t.here x (all x m e)
@@ -133,7 +138,8 @@ taken_all v others old new t all x y = at (v == y) refl
     at false e = t.kept x y (let differs : y ≢ v = grind (arith, nat_tests) in differs)
 
 -- at first no shortcut is put in
-pub overridden_none : (read : List (List Leg) → Legs) (v : ℕ) (lists : List (List Leg)) → AreRows lists → AreOverridden read v [] lists lists
+pub overridden_none : (read : List (List Leg) → Legs) (v : ℕ) (lists : List (List Leg)) → AreRows lists →
+    AreOverridden read v [] lists lists
 overridden_none read v lists rows = record { size = refl; rows = rows; legs = λ u w. refl }
 
 -- the legs after the next shortcut is put in
@@ -158,7 +164,8 @@ turn false false a b = refl
 overridden_from : (v : ℕ) (xs : List Shortcut) (i : ℕ) (d : Shortcut) (old mid new : List (List Leg)) → i < length xs →
     AllPairs IsPairBefore xs → AreOverridden legs_from v (take i xs) old mid →
     IsSet (get_or xs i d).from (get_or xs i d).to (Some (shortcut_label v (get_or xs i d))) mid new → AreOverridden legs_from v (take (i + 1) xs) old new
-overridden_from v xs i d old mid new lt ordered so_far s = overridden_more legs_from v xs i d old mid new lt ordered so_far s.size s.rows s.legs
+overridden_from v xs i d old mid new lt ordered so_far s =
+    overridden_more legs_from v xs i d old mid new lt ordered so_far s.size s.rows s.legs
 
 -- the next shortcut is put into the list of its second node
 overridden_into : (v : ℕ) (xs : List Shortcut) (i : ℕ) (d : Shortcut) (old mid new : List (List Leg)) → i < length xs →

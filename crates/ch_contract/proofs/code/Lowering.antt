@@ -28,7 +28,8 @@ lowers_none P h whole = record {
 }
 
 -- P may be replaced by a property that the same costs have
-pub lowers_as : (P Q : ℕ → Cost → Type 0) (a b : Known) → ((x : ℕ) (d : Cost) → P x d → Q x d) → ((x : ℕ) (d : Cost) → Q x d → P x d) → Lowers P a b → Lowers Q a b
+pub lowers_as : (P Q : ℕ → Cost → Type 0) (a b : Known) → ((x : ℕ) (d : Cost) → P x d → Q x d) → ((x : ℕ) (d : Cost) → Q x d → P x d) →
+    Lowers P a b → Lowers Q a b
 lowers_as P Q a b there back p = record {
   size = p.size;
   sound = λ x. sound x (p.sound x);
@@ -129,7 +130,8 @@ lowers_here node cost old new inside less costs next touched = record {
       subst (λ z. Contains z node) (sym touched) (Contains-push old.touched node),
     )
 
-    fresh : (x : ℕ) → (x ≡ node) ⊎ (x ≢ node) → (known_at new x ≡ known_at old x) ⊎ (Contains new.next (step_to x (known_at new x)) × Contains new.touched x)
+    fresh : (x : ℕ) → (x ≡ node) ⊎ (x ≢ node) →
+        (known_at new x ≡ known_at old x) ⊎ (Contains new.next (step_to x (known_at new x)) × Contains new.touched x)
     fresh x (inl e) = inr (subst (λ z. Contains new.next (step_to z (known_at new z)) × Contains new.touched z) (sym e) stands)
     fresh x (inr ne) = inl (there x ne)
 
@@ -163,7 +165,8 @@ leg_where l f s is_wanted a b tells = lowers_as (IsOnlyWhere is_wanted l.node (c
     ]
 
 -- the known costs after one more leg, wanted or not
-pub legs_more : (taken : List Leg) (l : Leg) (f : ChainStart) (s : Wanted) (a b c : Known) → Lowers (IsOneMore taken f s) a b → Lowers (IsOneMore (l ∷ []) f s) b c → Lowers (IsOneMore (taken ++ l ∷ []) f s) a c
+pub legs_more : (taken : List Leg) (l : Leg) (f : ChainStart) (s : Wanted) (a b c : Known) → Lowers (IsOneMore taken f s) a b →
+    Lowers (IsOneMore (l ∷ []) f s) b c → Lowers (IsOneMore (taken ++ l ∷ []) f s) a c
 legs_more taken l f s a b c = lowers_then (IsOneMore taken f s) (IsOneMore (l ∷ []) f s) (IsOneMore (taken ++ l ∷ []) f s) a b c
     (λ x d m. (m.0, Contains-append_left taken _ _ m.1, m.2, m.3, m.4, m.5)) (λ x d m. (m.0, Contains-append_right taken _ _ m.1, m.2, m.3, m.4, m.5)) either
   where
@@ -179,7 +182,8 @@ pub one_step_more : (lists : List (List Leg)) (taken : List ChainStart) (f : Cha
 one_step_more lists taken f s a b c = lowers_then (IsOneMoreOf lists taken s) (IsOneMore (row lists f.node) f s) (IsOneMoreOf lists (taken ++ f ∷ []) s) a b c
     (λ x d m. (m.0, Contains-append_left taken _ _ m.1, m.2)) (λ x d m. (f, Contains-push taken f, m)) either
   where
-    either : (x : ℕ) (d : Cost) → IsOneMoreOf lists (taken ++ f ∷ []) s x d → IsOneMoreOf lists taken s x d ⊎ IsOneMore (row lists f.node) f s x d
+    either : (x : ℕ) (d : Cost) → IsOneMoreOf lists (taken ++ f ∷ []) s x d →
+        IsOneMoreOf lists taken s x d ⊎ IsOneMore (row lists f.node) f s x d
     either x d m = elim (Contains-push_cases taken f m.0 m.1) [
       | inl early ↦ inl (m.0, early, m.2)
       | inr same ↦ inr (subst (λ z. IsOneMore (row lists z.node) z s x d) (sym same) m.2)

@@ -38,7 +38,8 @@ module _ (n : ℕ) (L : Legs) (lists : List (List Leg)) (s : Wanted) (hops : ℕ
     | inr w ↦ w.0
   ]
 
-  found_one : (l : Leg) → Contains (row lists start) l → IsAtMost (cost_sum (known_at h l.node) l.cost) most → HasWitness L s.avoided start s.end most hops
+  found_one : (l : Leg) → Contains (row lists start) l → IsAtMost (cost_sum (known_at h l.node) l.cost) most →
+      HasWitness L s.avoided start s.end most hops
   found_one l c le =
       let r = known l.node l.cost le in
       let leg = leg_of start l c in
@@ -127,5 +128,6 @@ pub all_taken : {X : Type 0} (xs : List X) (i : ℕ) (x : X) → length xs ≤ i
 all_taken xs i x past c = subst (λ z. Contains z x) (sym (take_all i xs past)) c
 
 -- one of the first i + 1 elements is one of the first i, or is element i
-pub one_more_taken : {X : Type 0} (xs : List X) (i : ℕ) (d x : X) → i < length xs → Contains (take (i + 1) xs) x → Contains (take i xs) x ⊎ (get_or xs i d ≡ x)
+pub one_more_taken : {X : Type 0} (xs : List X) (i : ℕ) (d x : X) → i < length xs → Contains (take (i + 1) xs) x →
+    Contains (take i xs) x ⊎ (get_or xs i d ≡ x)
 one_more_taken xs i d x lt c = Contains-push_cases (take i xs) (get_or xs i d) x (subst (λ z. Contains z x) (take_more xs i d lt) c)

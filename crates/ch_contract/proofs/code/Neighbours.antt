@@ -21,7 +21,8 @@ node_found : (legs : List Leg) (x : ℕ) → has_node legs x ≡ true → (l : L
 node_found [] x e = cc
 node_found (k ∷ legs) x e = at (k.node == x) refl e (node_found legs x)
   where
-    at : (b : Bool) → (k.node == x) ≡ b → (b || has_node legs x) ≡ true → (has_node legs x ≡ true → (l : Leg) × Contains legs l × (l.node ≡ x)) → (l : Leg) × Contains (k ∷ legs) l × (l.node ≡ x)
+    at : (b : Bool) → (k.node == x) ≡ b → (b || has_node legs x) ≡ true →
+        (has_node legs x ≡ true → (l : Leg) × Contains legs l × (l.node ≡ x)) → (l : Leg) × Contains (k ∷ legs) l × (l.node ≡ x)
     at true t f more = (k, contains_head k legs, eqb-true k.node x t)
     at false t f more = let r = more f in (r.0, contains_tail r.0 k legs r.1, r.2)
 
@@ -45,7 +46,8 @@ others_more list middle after legs others i lt known pushed =
     ∙ append_assoc list (other_nodes others (take i legs)) (other_nodes others (k ∷ []))
     ∙ ap (λ l. list ++ l) (sym more)
   where
-    at : (b : Bool) → (if b then list ++ other_nodes others (take i legs) else (list ++ other_nodes others (take i legs)) ++ (get_or legs i no_leg).node ∷ []) ≡ (list ++ other_nodes others (take i legs)) ++ map (λ (l : Leg). l.node) (if not b then (get_or legs i no_leg) ∷ [] else [])
+    at : (b : Bool) →
+        (if b then list ++ other_nodes others (take i legs) else (list ++ other_nodes others (take i legs)) ++ (get_or legs i no_leg).node ∷ []) ≡ (list ++ other_nodes others (take i legs)) ++ map (λ (l : Leg). l.node) (if not b then (get_or legs i no_leg) ∷ [] else [])
     at true = sym (append-nil (list ++ other_nodes others (take i legs)))
     at false = refl
 
@@ -106,7 +108,9 @@ module _ (L : Legs) (v : ℕ) (up down : List Leg) (from : AreLegsFrom L v up) (
       at None None p q t = cc
 
 -- the depths after one more node gets at least this depth
-pub deepened_more : (nodes : List ℕ) (i deep : ℕ) (before middle : List ℕ) → i < length nodes → get_or nodes i 0 < length middle → AreDeepened (take i nodes) deep before middle → AreDeepened (take (i + 1) nodes) deep before (set middle (get_or nodes i 0) (max (slice_index middle (get_or nodes i 0)) deep))
+pub deepened_more : (nodes : List ℕ) (i deep : ℕ) (before middle : List ℕ) → i < length nodes → get_or nodes i 0 < length middle →
+    AreDeepened (take i nodes) deep before middle →
+    AreDeepened (take (i + 1) nodes) deep before (set middle (get_or nodes i 0) (max (slice_index middle (get_or nodes i 0)) deep))
 deepened_more nodes i deep before middle lt within known =
     let more = take_more nodes i 0 lt in
     let v : ℕ = get_or nodes i 0 in
@@ -134,6 +138,7 @@ pub deeper_by : (L : Legs) (v : ℕ) (up down : List Leg) (before after : List �
     (x : ℕ) → slice_index after x ≡ next_depth L v (λ y. slice_index before y) x
 deeper_by L v up down before after from to d x = at (are_neighbours L v x) refl
   where
-    at : (b : Bool) → are_neighbours L v x ≡ b → slice_index after x ≡ (if are_neighbours L v x then max (slice_index before x) (slice_index before v + 1) else slice_index before x)
+    at : (b : Bool) → are_neighbours L v x ≡ b →
+        slice_index after x ≡ (if are_neighbours L v x then max (slice_index before x) (slice_index before v + 1) else slice_index before x)
     at true e = rw e (d.anew x (neighbour_listed L v up down from to x e))
     at false e = rw e (d.kept x (not_listed L v up down from to x e))

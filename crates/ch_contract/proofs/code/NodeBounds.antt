@@ -18,6 +18,7 @@ zeros n x = elim (cases_lt x n) [
 ]
 
 -- the neighbours are below the number of nodes
-pub neighbours_within : (n : ℕ) (L : Legs) (v : ℕ) (up down : List Leg) (list : List ℕ) → AreLegsFrom L v up → AreLegsTo L v down → AreLegsWithin n L → list ≡ neighbours_in up down → All (λ x. x < n) list
+pub neighbours_within : (n : ℕ) (L : Legs) (v : ℕ) (up down : List Leg) (list : List ℕ) → AreLegsFrom L v up → AreLegsTo L v down →
+    AreLegsWithin n L → list ≡ neighbours_in up down → All (λ x. x < n) list
 neighbours_within n L v up down list from to within e k d lt =
     neighbour_within L v up down from to n (get_or list k d) within (subst (λ l. Contains l (get_or list k d)) e (Contains-get_or list k d lt))

@@ -7,7 +7,8 @@ use Rattle.std.proofs.lemmas.List.Elements.{Contains-append_left, Contains-push,
 use Rattle.std.proofs.lemmas.List.FromFn.{length-range_with_len, get_or-range_with_len}
 
 -- if a relation holds at each place of two lists, it holds at this place
-pub zipped_at : {A B : Type 0} (R : A → B → Type 0) (xs : List A) (ys : List B) (i : ℕ) (d : A) (e : B) → AllZip R xs ys → i < length xs → R (get_or xs i d) (get_or ys i e)
+pub zipped_at : {A B : Type 0} (R : A → B → Type 0) (xs : List A) (ys : List B) (i : ℕ) (d : A) (e : B) → AllZip R xs ys → i < length xs →
+    R (get_or xs i d) (get_or ys i e)
 zipped_at R [] ys i d e are lt = absurd (omega arith)
 zipped_at R (x ∷ xs) [] i d e are lt = absurd are
 zipped_at R (x ∷ xs) (y ∷ ys) zero d e are lt = are.0
@@ -30,7 +31,8 @@ number_among n x lt =
     subst (Contains (range_with_len 0 n)) at (Contains-get_or (range_with_len 0 n) x 0 (omega (arith, length-range_with_len 0 n)))
 
 -- a number that is none of the first i + 1 nodes is not node i, and none of the first i
-pub away_both : (nodes : List ℕ) (i x : ℕ) → i < length nodes → (Contains (take (i + 1) nodes) x → ⊥) → (x ≢ get_or nodes i 0) × (Contains (take i nodes) x → ⊥)
+pub away_both : (nodes : List ℕ) (i x : ℕ) → i < length nodes → (Contains (take (i + 1) nodes) x → ⊥) →
+    (x ≢ get_or nodes i 0) × (Contains (take i nodes) x → ⊥)
 away_both nodes i x lt away =
     let more = take_more nodes i 0 lt in
     let v : ℕ = get_or nodes i 0 in (

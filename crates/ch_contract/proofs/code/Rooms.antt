@@ -27,7 +27,8 @@ ready_more n h L old new mid v list ready idle judged lists inside same are = re
     views_are : views new.lists.items ≡ set (views mid) (length old.judged.items) list.items
     views_are = ap views lists ∙ map-set (λ (w : Vec Shortcut). w.items) mid (length old.judged.items) list
 
-    kept : (k : ℕ) → (k ≡ length old.judged.items) ⊎ (k ≢ length old.judged.items) → k < length old.judged.items + 1 → AreShortcuts n h L (slice_index new.judged.items k) (list_at new k)
+    kept : (k : ℕ) → (k ≡ length old.judged.items) ⊎ (k ≢ length old.judged.items) → k < length old.judged.items + 1 →
+        AreShortcuts n h L (slice_index new.judged.items k) (list_at new k)
     kept k (inl e) lt =
         let here : slice_index new.judged.items k ≡ v = ap (slice_index new.judged.items) e ∙ ap (λ z. slice_index z (length old.judged.items)) judged ∙ get_or-append_seam old.judged.items v [] 0 in
         let there : list_at new k ≡ list.items = ap (list_at new) e ∙ ap (λ z. get_or z (length old.judged.items) []) views_are ∙ get_or-set_same (views mid) (length old.judged.items) list.items [] (omega (arith, length-map mid (λ (w : Vec Shortcut). w.items))) in
@@ -39,7 +40,8 @@ ready_more n h L old new mid v list ready idle judged lists inside same are = re
         subst (λ x. AreShortcuts n h L x (list_at new k)) (sym here) (subst (AreShortcuts n h L (slice_index old.judged.items k)) (sym there) (ready.kept k early))
 
 -- one more spare list leaves the other lists as they are
-pub spare_more : (lists mid : List (Vec Shortcut)) (list : Vec Shortcut) (k : ℕ) → mid ≡ lists ++ list ∷ [] → k < length lists → get_or (views mid) k [] ≡ get_or (views lists) k []
+pub spare_more : (lists mid : List (Vec Shortcut)) (list : Vec Shortcut) (k : ℕ) → mid ≡ lists ++ list ∷ [] → k < length lists →
+    get_or (views mid) k [] ≡ get_or (views lists) k []
 spare_more lists mid list k is lt =
     ap (λ z. get_or (views z) k []) is ∙ ap (λ z. get_or z k []) (map-append (λ (v : Vec Shortcut). v.items) lists (list ∷ []))
     ∙ get_or_append_left (views lists) (list.items ∷ []) [] k (omega (arith, length-map lists (λ (v : Vec Shortcut). v.items)))

@@ -24,7 +24,8 @@ put_last : (read : List (List Leg) → Legs) (nodes : List ℕ) (lists : List (V
 put_last read [] [] v list old mid new size is put = (new, subst (λ z. AreOverridden read v list.items z new) is put, refl)
 put_last read [] (l ∷ lists) v list old mid new size is put = absurd (omega (arith, size))
 put_last read (x ∷ nodes) [] v list old mid new size is put = absurd is
-put_last read (x ∷ nodes) (l ∷ lists) v list old mid new size is put = (is.0, is.1, put_last read nodes lists v list is.0 mid new (omega (arith, size)) is.2 put)
+put_last read (x ∷ nodes) (l ∷ lists) v list old mid new size is put =
+    (is.0, is.1, put_last read nodes lists v list is.0 mid new (omega (arith, size)) is.2 put)
 
 -- the shortcuts of the next node are put in
 pub put_next : (read : List (List Leg) → Legs) (nodes : List ℕ) (lists : List (Vec Shortcut)) (i : ℕ) (d : Vec Shortcut) (old mid new : List (List Leg)) → length nodes ≡ length lists → i < length nodes → ArePutInTurn read (take i nodes) (take i lists) old mid →
@@ -40,7 +41,8 @@ put_next read nodes lists i d old mid new size lt is put =
 -- both sides keep the limits
 pub puts_leave : (n : ℕ) (nodes : List ℕ) (lists : List (Vec Shortcut)) → AllZip (λ v (list : Vec Shortcut). ArePutIn n v list.items) nodes lists → (outs ins new_outs new_ins : List (List Leg)) → IsWithinLimits n outs ins →
     ArePutInTurn legs_from nodes lists outs new_outs → ArePutInTurn legs_into nodes lists ins new_ins → IsWithinLimits n new_outs new_ins
-puts_leave n [] lists all outs ins new_outs new_ins within from into = subst (λ z. IsWithinLimits n z new_ins) (sym from) (subst (IsWithinLimits n outs) (sym into) within)
+puts_leave n [] lists all outs ins new_outs new_ins within from into =
+    subst (λ z. IsWithinLimits n z new_ins) (sym from) (subst (IsWithinLimits n outs) (sym into) within)
 puts_leave n (v ∷ nodes) [] all outs ins new_outs new_ins within from into = absurd from
 puts_leave n (v ∷ nodes) (list ∷ lists) all outs ins new_outs new_ins within from into =
     puts_leave n nodes lists all.1 from.0 into.0 new_outs new_ins (putting_leaves n outs ins within v list.items all.0.1 from.0 into.0 from.1 into.1) from.2 into.2

@@ -66,10 +66,12 @@ aside_rows_all nodes before after aside rows x = elim (contains_or_not nodes x) 
 
 -- at first no leg is taken out
 pub untied_none : (near owners : List ℕ) (lists : List (List Leg)) → AreRows lists → AreUntied 0 near owners lists lists
-untied_none near owners lists rows = record { size = refl; rows = rows; here = λ i lt. absurd (omega arith); there = λ x y. inl refl; kept = λ x y off. refl }
+untied_none near owners lists rows =
+    record { size = refl; rows = rows; here = λ i lt. absurd (omega arith); there = λ x y. inl refl; kept = λ x y off. refl }
 
 -- the lists after one more leg is taken out
-pub untied_more : (k : ℕ) (near owners : List ℕ) (old mid new : List (List Leg)) → AreUntied k near owners old mid → IsSet (slice_index near k) (slice_index owners k) None mid new → AreUntied (k + 1) near owners old new
+pub untied_more : (k : ℕ) (near owners : List ℕ) (old mid new : List (List Leg)) → AreUntied k near owners old mid →
+    IsSet (slice_index near k) (slice_index owners k) None mid new → AreUntied (k + 1) near owners old new
 untied_more k near owners old mid new t s = record {
   size = s.size ∙ t.size;
   rows = s.rows;
@@ -95,7 +97,9 @@ module _ (nodes near owners : List ℕ) (before mid after : NodeLegs) (ties : Ar
   untied : (x y : ℕ) → (Contains nodes x → ⊥) → Contains nodes y → row_leg (row after.rows x) y ≡ None
   untied x y out c = at (row_leg (row before.rows x) y) refl (t.there x y)
     where
-      at : (o : Option Label) → row_leg (row before.rows x) y ≡ o → (row_leg (row after.rows x) y ≡ row_leg (row mid.rows x) y) ⊎ (row_leg (row after.rows x) y ≡ None) → row_leg (row after.rows x) y ≡ None
+      at : (o : Option Label) → row_leg (row before.rows x) y ≡ o →
+          (row_leg (row after.rows x) y ≡ row_leg (row mid.rows x) y) ⊎ (row_leg (row after.rows x) y ≡ None) →
+          row_leg (row after.rows x) y ≡ None
       at o e (inr gone) = gone
       at None e (inl same) = same ∙ ap (λ l. row_leg l y) (aside.others x out) ∙ e
       at (Some m) e (inl same) =
@@ -106,13 +110,15 @@ module _ (nodes near owners : List ℕ) (before mid after : NodeLegs) (ties : Ar
   emptied : (x y : ℕ) → Contains nodes x → row_leg (row after.rows x) y ≡ None
   emptied x y c = at (t.there x y)
     where
-      at : (row_leg (row after.rows x) y ≡ row_leg (row mid.rows x) y) ⊎ (row_leg (row after.rows x) y ≡ None) → row_leg (row after.rows x) y ≡ None
+      at : (row_leg (row after.rows x) y ≡ row_leg (row mid.rows x) y) ⊎ (row_leg (row after.rows x) y ≡ None) →
+          row_leg (row after.rows x) y ≡ None
       at (inl same) = same ∙ ap (λ l. row_leg l y) (aside.none x c)
       at (inr gone) = gone
 
   -- a leg that touches no node of the round stays
   unmoved : (x y : ℕ) → (Contains nodes x → ⊥) → (Contains nodes y → ⊥) → row_leg (row after.rows x) y ≡ row_leg (row before.rows x) y
-  unmoved x y out off = t.kept x y (λ i lt p q. off (subst (Contains nodes) q (ties.members i lt))) ∙ ap (λ l. row_leg l y) (aside.others x out)
+  unmoved x y out off =
+      t.kept x y (λ i lt p q. off (subst (Contains nodes) q (ties.members i lt))) ∙ ap (λ l. row_leg l y) (aside.others x out)
 
   -- after both steps no leg touches these nodes
   pub away_by : after.aside ≡ mid.aside → AreAway nodes before after

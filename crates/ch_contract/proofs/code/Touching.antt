@@ -18,7 +18,8 @@ use Rattle.ch_contract.specs.ShortcutLists.{legs_touching, AreTouching}
 use Rattle.ch_contract.proofs.theory.Contracting.{pair_of_shortcut}
 
 -- pairs of legs through v depend only on the legs at v
-pair_same : (n : ℕ) (K L : Legs) (v : ℕ) → ((x : ℕ) → K v x ≡ L v x) → ((x : ℕ) → K x v ≡ L x v) → (s : Shortcut) → IsPairThrough n K v s → IsPairThrough n L v s
+pair_same : (n : ℕ) (K L : Legs) (v : ℕ) → ((x : ℕ) → K v x ≡ L v x) → ((x : ℕ) → K x v ≡ L x v) → (s : Shortcut) → IsPairThrough n K v s →
+    IsPairThrough n L v s
 pair_same n K L v from to s is = record {
   apart = is.apart;
   legs = (is.legs.0, is.legs.1, sym (to s.from) ∙ is.legs.2, sym (from s.to) ∙ is.legs.3, is.legs.4);
@@ -27,7 +28,8 @@ pair_same n K L v from to s is = record {
 }
 
 -- the shortcuts of v depend only on the legs at v and on the legs of witnesses
-pub among_same : (n h : ℕ) (K L W : Legs) (v : ℕ) (list : List Shortcut) → ((x : ℕ) → K v x ≡ L v x) → ((x : ℕ) → K x v ≡ L x v) → AreShortcutsAmong n h K W v list → AreShortcutsAmong n h L W v list
+pub among_same : (n h : ℕ) (K L W : Legs) (v : ℕ) (list : List Shortcut) → ((x : ℕ) → K v x ≡ L v x) → ((x : ℕ) → K x v ≡ L x v) →
+    AreShortcutsAmong n h K W v list → AreShortcutsAmong n h L W v list
 among_same n h K L W v list from to are = record {
   ordered = are.ordered;
   sound = λ s c. let is = are.sound s c in record { pair = pair_same n K L v from to s is.pair; needed = is.needed };
@@ -78,7 +80,8 @@ module _ (L : Legs) (v : ℕ) (up down : List Leg) (from : AreLegsFrom L v up) (
   own_shortcuts n h list are = among_own n h L v list (among_same n h (legs_touching v up down) L L v list touching_from touching_to are)
 
 -- rows of legs within a lower limit touch v within this limit
-pub lighter_touching : (n limit most v : ℕ) (up down : List Leg) → AreTouching n most v up down → All (λ l. l.cost.weight ≤ limit) up → All (λ l. l.cost.weight ≤ limit) down → AreTouching n limit v up down
+pub lighter_touching : (n limit most v : ℕ) (up down : List Leg) → AreTouching n most v up down → All (λ l. l.cost.weight ≤ limit) up →
+    All (λ l. l.cost.weight ≤ limit) down → AreTouching n limit v up down
 lighter_touching n limit most v up down are above below = record {
   from = are.from;
   to = are.to;

@@ -12,7 +12,8 @@ pub cost_in_word : (c : Cost) → c.weight < 2 ^ 32 → c.arcs < WEIGHT_UNIT →
 cost_in_word c weight arcs = same_costs _ c (omega arith) (omega arith)
 
 -- the sum of two words fits into a word and has the sum of the costs
-pub cost_in_sum : (a b : ℕ) → a < 2 ^ 64 → b < 2 ^ 64 → IsKnownCost MOST_LIGHT (cost_in a) → IsAddend MOST_LIGHT (cost_in b) → (a + b < 2 ^ 64) × (cost_in (a + b) ≡ cost_sum (cost_in a) (cost_in b))
+pub cost_in_sum : (a b : ℕ) → a < 2 ^ 64 → b < 2 ^ 64 → IsKnownCost MOST_LIGHT (cost_in a) → IsAddend MOST_LIGHT (cost_in b) →
+    (a + b < 2 ^ 64) × (cost_in (a + b) ≡ cost_sum (cost_in a) (cost_in b))
 cost_in_sum a b fits_a fits_b (inl none) held =
     let limited = held.limited in
     let arcs = held.arcs in

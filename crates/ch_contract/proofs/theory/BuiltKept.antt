@@ -13,8 +13,10 @@ use Rattle.ch_contract.proofs.theory.EnoughKept.{hierarchies_with_enough_kept}
 use Rattle.ch_contract.proofs.theory.RoundOrders.{hierarchies_by_rounds_kept}
 
 -- the hierarchy of nodes that are contracted one after the other is kept
-pub in_turn_kept : (by : OrderBy) (g : Network) (h : ℕ) (H : LevelsAndLegs) → IsWithinLimits g → IsHopBound h → IsHierarchyInTurn by g h H → IsKept g H
-in_turn_kept by g h H limits hops is = hierarchies_with_enough_kept g h H is.0 is.1 limits (hierarchy_with_enough g h H is.0 is.1 limits hops is.2)
+pub in_turn_kept : (by : OrderBy) (g : Network) (h : ℕ) (H : LevelsAndLegs) → IsWithinLimits g → IsHopBound h → IsHierarchyInTurn by g h H →
+    IsKept g H
+in_turn_kept by g h H limits hops is =
+    hierarchies_with_enough_kept g h H is.0 is.1 limits (hierarchy_with_enough g h H is.0 is.1 limits hops is.2)
 
 -- the hierarchy in each order is kept
 pub hierarchies_kept : HierarchiesAreKept

@@ -48,27 +48,35 @@ module _ {g : Network} {h : ℕ} {H : LevelsAndLegs} {order : List ℕ} {L : ℕ
   after_earlier i k le lt j below e = let same : j ≡ k = step_once j k (omega arith) lt e in absurd (omega arith)
 
   -- each leg from a node when it is contracted is one of its up legs
-  pub up_leg : (i x : ℕ) (m : Label) → i < g.nodes → L i (slice_index order i) x ≡ Some m → Contains (row H.up (slice_index order i)) (leg_at x m)
+  pub up_leg : (i x : ℕ) (m : Label) → i < g.nodes → L i (slice_index order i) x ≡ Some m →
+      Contains (row H.up (slice_index order i)) (leg_at x m)
   up_leg i x m lt e = row_member (row H.up (slice_index order i)) x m ((built.hierarchy.up i lt).1 x ∙ e)
 
   -- each leg to a node when it is contracted is one of its down legs
-  pub down_leg : (i x : ℕ) (m : Label) → i < g.nodes → L i x (slice_index order i) ≡ Some m → Contains (row H.down (slice_index order i)) (leg_at x m)
+  pub down_leg : (i x : ℕ) (m : Label) → i < g.nodes → L i x (slice_index order i) ≡ Some m →
+      Contains (row H.down (slice_index order i)) (leg_at x m)
   down_leg i x m lt e = row_member (row H.down (slice_index order i)) x m ((built.hierarchy.down i lt).1 x ∙ e)
 
   -- each up leg was a leg from the node when it was contracted
-  up_leg_was : (i : ℕ) (l : Leg) → i < g.nodes → Contains (row H.up (slice_index order i)) l → L i (slice_index order i) l.node ≡ Some (label_of l)
-  up_leg_was i l lt has = sym ((built.hierarchy.up i lt).1 l.node) ∙ row_has (row H.up (slice_index order i)) l (built.hierarchy.up i lt).0 has
+  up_leg_was : (i : ℕ) (l : Leg) → i < g.nodes → Contains (row H.up (slice_index order i)) l →
+      L i (slice_index order i) l.node ≡ Some (label_of l)
+  up_leg_was i l lt has =
+      sym ((built.hierarchy.up i lt).1 l.node) ∙ row_has (row H.up (slice_index order i)) l (built.hierarchy.up i lt).0 has
 
   -- each down leg was a leg to the node when it was contracted
-  down_leg_was : (i : ℕ) (l : Leg) → i < g.nodes → Contains (row H.down (slice_index order i)) l → L i l.node (slice_index order i) ≡ Some (label_of l)
-  down_leg_was i l lt has = sym ((built.hierarchy.down i lt).1 l.node) ∙ row_has (row H.down (slice_index order i)) l (built.hierarchy.down i lt).0 has
+  down_leg_was : (i : ℕ) (l : Leg) → i < g.nodes → Contains (row H.down (slice_index order i)) l →
+      L i l.node (slice_index order i) ≡ Some (label_of l)
+  down_leg_was i l lt has =
+      sym ((built.hierarchy.down i lt).1 l.node) ∙ row_has (row H.down (slice_index order i)) l (built.hierarchy.down i lt).0 has
 
   -- an up leg of the node of step i is a leg before that step
-  pub up_step_leg : (i : ℕ) (l : Leg) → i < g.nodes → Contains (row H.up (slice_index order i)) l → IsStepLeg g order L i (slice_index order i) l.node (label_of l)
+  pub up_step_leg : (i : ℕ) (l : Leg) → i < g.nodes → Contains (row H.up (slice_index order i)) l →
+      IsStepLeg g order L i (slice_index order i) l.node (label_of l)
   up_step_leg i l lt has = step_leg contraction i (omega arith) (slice_index order i) l.node (label_of l) (up_leg_was i l lt has)
 
   -- a down leg of the node of step i is a leg before that step
-  pub down_step_leg : (i : ℕ) (l : Leg) → i < g.nodes → Contains (row H.down (slice_index order i)) l → IsStepLeg g order L i l.node (slice_index order i) (label_of l)
+  pub down_step_leg : (i : ℕ) (l : Leg) → i < g.nodes → Contains (row H.down (slice_index order i)) l →
+      IsStepLeg g order L i l.node (slice_index order i) (label_of l)
   down_step_leg i l lt has = step_leg contraction i (omega arith) l.node (slice_index order i) (label_of l) (down_leg_was i l lt has)
 
   -- a node with an up leg is the node of a step

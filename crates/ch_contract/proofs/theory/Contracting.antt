@@ -11,7 +11,8 @@ use Rattle.ch_hierarchy.proofs.theory.Ordered.{same_ends}
 
 -- one of the shortcuts is the leg between the two nodes
 abbrev pub IsOverridden : ℕ → List Shortcut → ℕ → ℕ → Option Label → Type 0
-IsOverridden v list u w before = (s : Shortcut) × Contains list s × (s.from ≡ u) × (s.to ≡ w) × (leg_after_shortcuts v list u w before ≡ Some (shortcut_label v s))
+IsOverridden v list u w before =
+    (s : Shortcut) × Contains list s × (s.from ≡ u) × (s.to ≡ w) × (leg_after_shortcuts v list u w before ≡ Some (shortcut_label v s))
 
 -- the leg before stays, or a shortcut replaces it
 pub override_cases : (v : ℕ) (list : List Shortcut) (u w : ℕ) (before : Option Label) →
@@ -87,4 +88,5 @@ module _ (n : ℕ) (L : Legs) (v : ℕ) (list : List Shortcut) (limits : AreLegs
 -- removing the legs of v and putting its shortcuts in is the contraction
 pub after : (n h v : ℕ) (L removed M : Legs) (list : List Shortcut) → AreLegsWithin n L → AreShortcuts n h L v list →
     SameLegs removed (legs_after_contraction L v []) → ((u w : ℕ) → M u w ≡ leg_after_shortcuts v list u w (removed u w)) → SameLegs M (legs_after_contraction L v list)
-after n h v L removed M list limits are gone put u w = put u w ∙ ap (leg_after_shortcuts v list u w) (gone u w) ∙ put_over n L v list limits (pairs_of_shortcuts n h L v list are) u w
+after n h v L removed M list limits are gone put u w =
+    put u w ∙ ap (leg_after_shortcuts v list u w) (gone u w) ∙ put_over n L v list limits (pairs_of_shortcuts n h L v list are) u w

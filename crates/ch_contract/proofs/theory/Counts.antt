@@ -21,7 +21,9 @@ one_if b = if b then 1 else 0
 -- two tests that agree below n pass the same number
 pub count_same : (n : ℕ) (p q : ℕ → Bool) → ((x : ℕ) → x < n → p x ≡ q x) → count_below n p ≡ count_below n q
 count_same zero p q same = refl
-count_same (suc n) p q same = ap (λ b. one_if b + count_below n p) (same n (omega arith)) ∙ ap (λ z. one_if (q n) + z) (count_same n p q (λ x lt. same x (omega arith)))
+count_same (suc n) p q same =
+    ap (λ b. one_if b + count_below n p) (same n (omega arith))
+    ∙ ap (λ z. one_if (q n) + z) (count_same n p q (λ x lt. same x (omega arith)))
 
 -- the count if one more number passes
 pub count_one_more : (n a : ℕ) (p q : ℕ → Bool) → a < n → p a ≡ false → q a ≡ true → ((x : ℕ) → x ≢ a → p x ≡ q x) →
@@ -113,7 +115,8 @@ place_next n s t to before = elim (cases_lt s.from t.from) [
 ]
 
 -- there are at most n * n pairs in order
-pairs_most : (n m : ℕ) (list : List Shortcut) → m ≤ n * n → AllPairs IsPairBefore list → ((s : Shortcut) → Contains list s → (m ≤ place n s) × (s.from < n) × (s.to < n)) → m + length list ≤ n * n
+pairs_most : (n m : ℕ) (list : List Shortcut) → m ≤ n * n → AllPairs IsPairBefore list →
+    ((s : Shortcut) → Contains list s → (m ≤ place n s) × (s.from < n) × (s.to < n)) → m + length list ≤ n * n
 pairs_most n m [] le ordered each = omega arith
 pairs_most n m (s ∷ list) le ordered each =
     let here = each s (zero, omega arith, refl) in
@@ -121,11 +124,13 @@ pairs_most n m (s ∷ list) le ordered each =
     let rest = pairs_most n (suc m) list (omega (arith, here.0, small)) (pairs_tail IsPairBefore s list ordered) (λ t c. after t c (each t (suc c.0, omega (arith, c.1), c.2)) here) in
     omega (arith, rest)
   where
-    after : (t : Shortcut) → Contains list t → (m ≤ place n t) × (t.from < n) × (t.to < n) → (m ≤ place n s) × (s.from < n) × (s.to < n) → (suc m ≤ place n t) × (t.from < n) × (t.to < n)
+    after : (t : Shortcut) → Contains list t → (m ≤ place n t) × (t.from < n) × (t.to < n) → (m ≤ place n s) × (s.from < n) × (s.to < n) →
+        (suc m ≤ place n t) × (t.from < n) × (t.to < n)
     after t c later here = let next = place_next n s t here.2 (pairs_head IsPairBefore s t list ordered c) in (omega (arith, here.0, next), later.1, later.2)
 
 -- a node has at most n * n shortcuts
-pub shortcuts_most : (n h : ℕ) (L : Legs) (v : ℕ) (list : List Shortcut) → AreLegsWithin n L → AreShortcuts n h L v list → length list ≤ n * n
+pub shortcuts_most : (n h : ℕ) (L : Legs) (v : ℕ) (list : List Shortcut) → AreLegsWithin n L → AreShortcuts n h L v list →
+    length list ≤ n * n
 shortcuts_most n h L v list limits are =
     let each : (s : Shortcut) → Contains list s → (0 ≤ place n s) × (s.from < n) × (s.to < n) = λ s c. let r = (are.sound s c).legs in (omega arith, (limits s.from v r.0 r.2).ends.0, (limits v s.to r.1 r.3).ends.1) in
     omega (arith, pairs_most n 0 list (omega arith) are.ordered each)

@@ -19,11 +19,13 @@ use Rattle.ch_contract.proofs.theory.Contracting.{ContractsWithPairs, pairs_of_s
 use Rattle.ch_contract.proofs.theory.Levelled.{within_steps}
 
 -- a leg is a witness if the shortcut costs at least as much
-pub own_witness : (h : ℕ) (L : Legs) (v x y : ℕ) (l : Label) (c : Cost) → 1 ≤ h → x ≢ v → y ≢ v → L x y ≡ Some l → IsAtMost l.cost c → HasWitness L v x y c h
+pub own_witness : (h : ℕ) (L : Legs) (v x y : ℕ) (l : Label) (c : Cost) → 1 ≤ h → x ≢ v → y ≢ v → L x y ≡ Some l → IsAtMost l.cost c →
+    HasWitness L v x y c h
 own_witness h L v x y l c most p q e le = (y ∷ [], record { chain = (rw e refl, refl); hops = (omega arith, omega arith); away = (p, (q, tt)); cheap = subst (λ z. IsAtMost z c) (sym (chain_cost-one L x y l e)) le })
 
 -- the shortcuts of a node are enough
-needed_are_enough : (n h : ℕ) (L : Legs) (v : ℕ) (list : List Shortcut) → 1 ≤ h → AreLegsWithin n L → AreShortcuts n h L v list → AreEnough n h L v list
+needed_are_enough : (n h : ℕ) (L : Legs) (v : ℕ) (list : List Shortcut) → 1 ≤ h → AreLegsWithin n L → AreShortcuts n h L v list →
+    AreEnough n h L v list
 needed_are_enough n h L v list most limits are = record {
   pairs = pairs_of_shortcuts n h L v list are;
   no_dearer = λ s l c e. elim (IsAtMost_or_IsBelow l.cost s.cost) [
@@ -36,7 +38,8 @@ needed_are_enough n h L v list most limits are = record {
 }
 
 -- contraction is contraction with enough shortcuts
-pub enough_by_needed : (n h : ℕ) (L : Legs) (v : ℕ) (M : Legs) → 1 ≤ h → AreLegsWithin n L → Contracts n h L v M → ContractsWithEnough n h L v M
+pub enough_by_needed : (n h : ℕ) (L : Legs) (v : ℕ) (M : Legs) → 1 ≤ h → AreLegsWithin n L → Contracts n h L v M →
+    ContractsWithEnough n h L v M
 enough_by_needed n h L v M most limits c = (c.0, needed_are_enough n h L v c.0 most limits c.1, c.2)
 
 -- if each step of one kind is one of another kind, so is the hierarchy
@@ -51,23 +54,29 @@ hierarchy_by IsStep IsOther g H order L p f = record {
 }
 
 -- a hierarchy of contracted nodes is one of nodes that are contracted with sums of two legs
-pub hierarchy_with_pairs : (g : Network) (h : ℕ) (H : LevelsAndLegs) (order : List ℕ) (L : ℕ → Legs) → IsHierarchyOf g h H order L → IsHierarchyIn (ContractsWithPairs g.nodes) g H order L
-hierarchy_with_pairs g h H order L p = hierarchy_by (Contracts g.nodes h) (ContractsWithPairs g.nodes) g H order L p (λ i lt. pairs_by_needed g.nodes h _ _ _)
+pub hierarchy_with_pairs : (g : Network) (h : ℕ) (H : LevelsAndLegs) (order : List ℕ) (L : ℕ → Legs) → IsHierarchyOf g h H order L →
+    IsHierarchyIn (ContractsWithPairs g.nodes) g H order L
+hierarchy_with_pairs g h H order L p =
+    hierarchy_by (Contracts g.nodes h) (ContractsWithPairs g.nodes) g H order L p (λ i lt. pairs_by_needed g.nodes h _ _ _)
 
 -- for a graph within the limits, the legs before each contraction are within the limits
-contracted_limits : (g : Network) (h : ℕ) (order : List ℕ) (L : ℕ → Legs) → IsWithinLimits g → AreContracted g h order L → (i : ℕ) → i ≤ g.nodes → AreLegsWithin g.nodes (L i)
+contracted_limits : (g : Network) (h : ℕ) (order : List ℕ) (L : ℕ → Legs) → IsWithinLimits g → AreContracted g h order L → (i : ℕ) →
+    i ≤ g.nodes → AreLegsWithin g.nodes (L i)
 contracted_limits g h order L limits p =
     let start = subst (AreLegsWithin g.nodes) (sym (one_map (L 0) (opening g) p.start)) (opening_within g limits) in
     within_steps g.nodes g.nodes order L start (λ i lt. pairs_by_needed g.nodes h _ _ _ (p.step i lt))
 
 -- each step is a contraction with enough shortcuts
-enough_at : (g : Network) (h : ℕ) (order : List ℕ) (L : ℕ → Legs) → IsWithinLimits g → IsHopBound h → AreContracted g h order L → (i : ℕ) → i < g.nodes → ContractsWithEnough g.nodes h (L i) (slice_index order i) (L (i + 1))
+enough_at : (g : Network) (h : ℕ) (order : List ℕ) (L : ℕ → Legs) → IsWithinLimits g → IsHopBound h → AreContracted g h order L → (i : ℕ) →
+    i < g.nodes → ContractsWithEnough g.nodes h (L i) (slice_index order i) (L (i + 1))
 enough_at g h order L limits hops p i lt = enough_by_needed g.nodes h (L i) (slice_index order i) (L (i + 1)) hops.0 (contracted_limits g h order L limits p i (omega arith)) (p.step i lt)
 
 -- the contraction of all nodes is one with enough shortcuts
-pub taken_with_enough : (g : Network) (h : ℕ) (order : List ℕ) (L : ℕ → Legs) → IsWithinLimits g → IsHopBound h → AreContracted g h order L → AreTaken (ContractsWithEnough g.nodes h) g order L
+pub taken_with_enough : (g : Network) (h : ℕ) (order : List ℕ) (L : ℕ → Legs) → IsWithinLimits g → IsHopBound h →
+    AreContracted g h order L → AreTaken (ContractsWithEnough g.nodes h) g order L
 taken_with_enough g h order L limits hops p = record { nodes = p.nodes; start = p.start; step = enough_at g h order L limits hops p }
 
 -- the hierarchy of all nodes is one with enough shortcuts
-pub hierarchy_with_enough : (g : Network) (h : ℕ) (H : LevelsAndLegs) (order : List ℕ) (L : ℕ → Legs) → IsWithinLimits g → IsHopBound h → IsHierarchyOf g h H order L → IsHierarchyIn (ContractsWithEnough g.nodes h) g H order L
+pub hierarchy_with_enough : (g : Network) (h : ℕ) (H : LevelsAndLegs) (order : List ℕ) (L : ℕ → Legs) → IsWithinLimits g → IsHopBound h →
+    IsHierarchyOf g h H order L → IsHierarchyIn (ContractsWithEnough g.nodes h) g H order L
 hierarchy_with_enough g h H order L limits hops p = hierarchy_by (Contracts g.nodes h) (ContractsWithEnough g.nodes h) g H order L p (λ i lt c. enough_at g h order L limits hops p.contracted i lt)

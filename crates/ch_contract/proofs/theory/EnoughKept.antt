@@ -92,7 +92,8 @@ module _ {g : Network} {h : ℕ} {H : LevelsAndLegs} {order : List ℕ} {L : ℕ
   to_step i u d lt leg = (leg.0.cost, leg.0.middle, (leg_at u leg.0, refl, refl, inr (down_leg built i u leg.0 lt leg.1, refl)), leg.2)
 
   -- two nodes with a leg before the first step have one in the hierarchy
-  leg_by_step : (i j : ℕ) (d : Cost) → i < g.nodes → j < g.nodes → HasLeg (L zero) (slice_index order i) (slice_index order j) d → HasLegWithin (slice_index order i) (slice_index order j) d
+  leg_by_step : (i j : ℕ) (d : Cost) → i < g.nodes → j < g.nodes → HasLeg (L zero) (slice_index order i) (slice_index order j) d →
+      HasLegWithin (slice_index order i) (slice_index order j) d
   leg_by_step i j d li lj leg = elim (cases_lt i j) [
     | inl first ↦ from_step i (slice_index order j) d li
         (leg_stays i (slice_index order i) (slice_index order j) d (omega arith) (after_earlier built i i (omega arith) li) (after_earlier built i j (omega arith) lj) leg)
@@ -121,7 +122,8 @@ module _ {g : Network} {h : ℕ} {H : LevelsAndLegs} {order : List ℕ} {L : ℕ
       (meets.0, least.0, meets.1, least.2)
 
   -- for two legs through a lower node, going up and then down costs at most as much
-  pub built_covered : (v : ℕ) (a b : Leg) → Contains (row H.down v) a → Contains (row H.up v) b → a.node ≢ b.node → MeetsWithin H a.node b.node (cost_sum a.cost b.cost)
+  pub built_covered : (v : ℕ) (a b : Leg) → Contains (row H.down v) a → Contains (row H.up v) b → a.node ≢ b.node →
+      MeetsWithin H a.node b.node (cost_sum a.cost b.cost)
   built_covered v a b down up ne =
       let s = up_step built v b up in
       let first = down_step_leg built s.0 a s.1 (subst (λ x. Contains (row H.down x) a) (sym s.2) down) in

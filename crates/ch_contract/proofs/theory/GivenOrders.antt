@@ -19,12 +19,14 @@ use Rattle.ch_contract.proofs.theory.Enough.{hierarchy_with_enough}
 use Rattle.ch_contract.proofs.theory.EnoughKept.{hierarchies_with_enough_kept}
 
 -- a priority with no given nodes is the priority
-from_none : (by : OrderBy) (n h : ℕ) (order : List ℕ) (L : ℕ → Legs) (i x : ℕ) (p : ℤ) → IsPriorityAfter by n h order L i x p → IsPriorityFrom 0 by n h order L i x p
+from_none : (by : OrderBy) (n h : ℕ) (order : List ℕ) (L : ℕ → Legs) (i x : ℕ) (p : ℤ) → IsPriorityAfter by n h order L i x p →
+    IsPriorityFrom 0 by n h order L i x p
 from_none by n h order L i x p r =
     let same : r.0 ≡ max 0 r.0 = omega arith in
     (r.0, r.1, subst (λ z. IsPriorityBy by n h (L z) (depth_after order L z) x p) same r.2)
 
-none_from : (by : OrderBy) (n h : ℕ) (order : List ℕ) (L : ℕ → Legs) (i x : ℕ) (p : ℤ) → IsPriorityFrom 0 by n h order L i x p → IsPriorityAfter by n h order L i x p
+none_from : (by : OrderBy) (n h : ℕ) (order : List ℕ) (L : ℕ → Legs) (i x : ℕ) (p : ℤ) → IsPriorityFrom 0 by n h order L i x p →
+    IsPriorityAfter by n h order L i x p
 none_from by n h order L i x p r =
     let same : max 0 r.0 ≡ r.0 = omega arith in
     (r.0, r.1, subst (λ z. IsPriorityBy by n h (L z) (depth_after order L z) x p) same r.2)
@@ -38,10 +40,12 @@ in_turn_from by g h H is = (is.0, is.1, is.2, λ i x lt inside away. let r = is.
 
 -- a hierarchy with given nodes is kept
 pub from_kept : HierarchiesFromGivenNodesAreKept
-from_kept by g h given H limits hops is = hierarchies_with_enough_kept g h H is.0 is.1 limits (hierarchy_with_enough g h H is.0 is.1 limits hops is.2)
+from_kept by g h given H limits hops is =
+    hierarchies_with_enough_kept g h H is.0 is.1 limits (hierarchy_with_enough g h H is.0 is.1 limits hops is.2)
 
 -- the hierarchy is like the given order if as many nodes are given as the per cent leaves
-pub like_of : (g : Network) (h : ℕ) (given : List ℕ) (fresh k : ℕ) (H : LevelsAndLegs) → k ≡ given_count g.nodes fresh → IsHierarchyFrom Depth g h (take k given) H → IsHierarchyLike g h given fresh H
+pub like_of : (g : Network) (h : ℕ) (given : List ℕ) (fresh k : ℕ) (H : LevelsAndLegs) → k ≡ given_count g.nodes fresh →
+    IsHierarchyFrom Depth g h (take k given) H → IsHierarchyLike g h given fresh H
 like_of g h given fresh k H e is = subst (λ z. IsHierarchyFrom Depth g h (take z given) H) e is
 
 -- if all are ordered afresh, no node is given

@@ -27,7 +27,8 @@ abbrev pub IsChainCost : Legs → ℕ → ℕ → Cost → Type 0
 IsChainCost L u w c = (xs : List ℕ) × IsChain L u w xs × (chain_cost L u xs ≡ c)
 
 -- for each walk there is a chain of opening legs that costs at most as much: it leaves out loops
-pub walk_chain : (g : Network) (L : Legs) (s t : ℕ) (xs : List InArc) → SameLegs L (opening g) → IsWalk g s t xs → HasChain L s t (cost_of xs)
+pub walk_chain : (g : Network) (L : Legs) (s t : ℕ) (xs : List InArc) → SameLegs L (opening g) → IsWalk g s t xs →
+    HasChain L s t (cost_of xs)
 walk_chain g L s t [] start w = subst (λ q. HasChain L s q (cost_of [])) w (no_chain L s _ (IsAtMost_refl _))
 walk_chain g L s t (a ∷ xs) start w =
     let rest : HasChain L a.to t (cost_of xs) = walk_chain g L a.to t xs start w.2 in
@@ -59,7 +60,8 @@ module _ {g : Network} {h : ℕ} {order : List ℕ} {L : ℕ → Legs} {m : ℕ}
   least_light u w c lt least = (IsLeast-weight g u w c all.limits least, IsLeast-arcs g u w c all.limits lt least)
 
   -- the least cost of a walk between remaining nodes is the cost of a chain
-  pub least_chain : (i : ℕ) → i ≤ m → (u w : ℕ) (c : Cost) → w < g.nodes → IsAfter order i u → IsAfter order i w → IsLeast g u w c → IsChainCost (L i) u w c
+  pub least_chain : (i : ℕ) → i ≤ m → (u w : ℕ) (c : Cost) → w < g.nodes → IsAfter order i u → IsAfter order i w → IsLeast g u w c →
+      IsChainCost (L i) u w c
   least_chain zero le u w c lt p q least =
       least_exact zero le u w c least (subst (HasChain (L zero) u w) least.walk.2 (walk_chain g (L zero) u w least.walk.0 all.start least.walk.1))
   least_chain (suc i) le u w c lt p q least =

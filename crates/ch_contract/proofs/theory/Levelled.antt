@@ -29,7 +29,8 @@ abbrev pub IsMade : ℕ → List Shortcut → ℕ → ℕ → Label → Type 0
 IsMade v list u w l = (s : Shortcut) × Contains list s × (s.from ≡ u) × (s.to ≡ w) × (shortcut_label v s ≡ l)
 
 -- a leg after a contraction was there before, or is that of a shortcut
-pub contracted_cases : (L : Legs) (v : ℕ) (list : List Shortcut) (u w : ℕ) (l : Label) → legs_after_contraction L v list u w ≡ Some l → (L u w ≡ Some l) ⊎ IsMade v list u w l
+pub contracted_cases : (L : Legs) (v : ℕ) (list : List Shortcut) (u w : ℕ) (l : Label) → legs_after_contraction L v list u w ≡ Some l →
+    (L u w ≡ Some l) ⊎ IsMade v list u w l
 contracted_cases L v list u w l e = at (u == v || w == v) e
   where
     at : (b : Bool) → cond b None (leg_after_shortcuts v list u w (L u w)) ≡ Some l → (L u w ≡ Some l) ⊎ IsMade v list u w l
@@ -71,14 +72,17 @@ gone_more n L v M z gone step x = (
 )
 
 -- the legs after each step are within the limits
-pub within_steps : (n m : ℕ) (order : List ℕ) (L : ℕ → Legs) → AreLegsWithin n (L 0) → ((i : ℕ) → i < m → ContractsWithPairs n (L i) (slice_index order i) (L (i + 1))) → (k : ℕ) → k ≤ m → AreLegsWithin n (L k)
+pub within_steps : (n m : ℕ) (order : List ℕ) (L : ℕ → Legs) → AreLegsWithin n (L 0) →
+    ((i : ℕ) → i < m → ContractsWithPairs n (L i) (slice_index order i) (L (i + 1))) → (k : ℕ) → k ≤ m → AreLegsWithin n (L k)
 within_steps n m order L start step zero le = start
 within_steps n m order L start step (suc k) le =
     let e : k + 1 ≡ suc k = omega arith in
     subst (λ z. AreLegsWithin n (L z)) e (within_more n (L k) (slice_index order k) (L (k + 1)) (within_steps n m order L start step k (omega arith)) (step k (omega arith)))
 
 -- no leg touches a node after the step that contracted it
-pub gone_steps : (n m : ℕ) (order : List ℕ) (L : ℕ → Legs) → ((i : ℕ) → i < m → ContractsWithPairs n (L i) (slice_index order i) (L (i + 1))) → (j k : ℕ) → j < k → k ≤ m → IsGone (L k) (slice_index order j)
+pub gone_steps : (n m : ℕ) (order : List ℕ) (L : ℕ → Legs) →
+    ((i : ℕ) → i < m → ContractsWithPairs n (L i) (slice_index order i) (L (i + 1))) → (j k : ℕ) → j < k → k ≤ m →
+    IsGone (L k) (slice_index order j)
 gone_steps n m order L step j zero lt le = absurd (omega arith)
 gone_steps n m order L step j (suc k) lt le =
     let e : k + 1 ≡ suc k = omega arith in
@@ -107,10 +111,13 @@ module _ (g : Network) (H : LevelsAndLegs) (order : List ℕ) (L : ℕ → Legs)
 
   -- each node has the level of its step
   level_of : (x : ℕ) → x < g.nodes → (i : ℕ) × (i < g.nodes) × (slice_index order i ≡ x) × (slice_index H.level x ≡ i + 1)
-  level_of x lt = let at = taken_at g.nodes order x p.contracted.nodes lt in (at.0, at.1, at.2, ap (slice_index H.level) (sym at.2) ∙ p.level at.0 at.1)
+  level_of x lt =
+      let at = taken_at g.nodes order x p.contracted.nodes lt in (at.0, at.1, at.2, ap (slice_index H.level) (sym at.2) ∙ p.level at.0 at.1)
 
   -- a leg of the node of step i leads to a node that is contracted later
-  leg_up : (i : ℕ) (l : Leg) → i < g.nodes → l.node < g.nodes → l.node ≢ slice_index order i → ((j : ℕ) → j < i → slice_index order j ≡ l.node → ⊥) → l.cost.weight ≤ MOST_WEIGHT → l.cost.arcs < g.nodes → IsLegUp H (slice_index order i) l
+  leg_up : (i : ℕ) (l : Leg) → i < g.nodes → l.node < g.nodes → l.node ≢ slice_index order i →
+      ((j : ℕ) → j < i → slice_index order j ≡ l.node → ⊥) → l.cost.weight ≤ MOST_WEIGHT → l.cost.arcs < g.nodes →
+      IsLegUp H (slice_index order i) l
   leg_up i l lt node apart later weight arcs =
       let size = p.sizes.0 in
       let at = level_of l.node node in
@@ -139,15 +146,19 @@ module _ (g : Network) (H : LevelsAndLegs) (order : List ℕ) (L : ℕ → Legs)
   )
 
   -- the legs from the node of a step lead to higher nodes
-  up_row : (i : ℕ) → i < g.nodes → IsRow (row H.up (slice_index order i)) × All (IsLegUp H (slice_index order i)) (row H.up (slice_index order i))
+  up_row : (i : ℕ) → i < g.nodes →
+      IsRow (row H.up (slice_index order i)) × All (IsLegUp H (slice_index order i)) (row H.up (slice_index order i))
   up_row i lt = row_up (L i) i _ lt (within i (omega arith)) (λ j before. gone j i before (omega arith)) (p.up i lt)
 
   -- the legs to the node of a step come from higher nodes
-  down_row : (i : ℕ) → i < g.nodes → IsRow (row H.down (slice_index order i)) × All (IsLegUp H (slice_index order i)) (row H.down (slice_index order i))
+  down_row : (i : ℕ) → i < g.nodes →
+      IsRow (row H.down (slice_index order i)) × All (IsLegUp H (slice_index order i)) (row H.down (slice_index order i))
   down_row i lt = row_up (turned_legs (L i)) i _ lt (turned_within g.nodes (L i) (within i (omega arith))) (λ j before x. let none = gone j i before (omega arith) x in (none.1, none.0)) (p.down i lt)
 
   -- if the row of each step leads up, all rows do
-  legs_up : (rows : List (List Leg)) → length rows ≡ g.nodes → ((i : ℕ) → i < g.nodes → IsRow (row rows (slice_index order i)) × All (IsLegUp H (slice_index order i)) (row rows (slice_index order i))) → AreLegsUp H rows
+  legs_up : (rows : List (List Leg)) → length rows ≡ g.nodes →
+      ((i : ℕ) → i < g.nodes → IsRow (row rows (slice_index order i)) × All (IsLegUp H (slice_index order i)) (row rows (slice_index order i))) →
+      AreLegsUp H rows
   legs_up rows size each = (
     size ∙ sym p.sizes.0,
     λ v. elim (cases_lt v g.nodes) [

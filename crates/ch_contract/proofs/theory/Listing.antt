@@ -13,11 +13,13 @@ use Rattle.ch_contract.specs.LegRows.{label_of, row_leg}
 use Rattle.ch_contract.proofs.theory.RowLegs.{none_unless, leg_at, row_has, row_member}
 
 -- a list in order stays in order when a value is appended that comes after all others
-pub one_more : {X : Type 0} (R : X → X → Type 0) (xs : List X) (y : X) → AllPairs R xs → ((x : X) → Contains xs x → R x y) → AllPairs R (xs ++ y ∷ [])
+pub one_more : {X : Type 0} (R : X → X → Type 0) (xs : List X) (y : X) → AllPairs R xs → ((x : X) → Contains xs x → R x y) →
+    AllPairs R (xs ++ y ∷ [])
 one_more R xs y pairs after = pairs_append R xs (y ∷ []) pairs (λ i j d lt inside. absurd (omega arith)) (λ x z c one. elim (Contains-push_cases [] y z one) [ inl none ↦ absurd (contains_none z none) | inr e ↦ subst (R x) e (after x c) ])
 
 -- if each number below m has a value, there is a list of the values
-pub table : {A : Type 0} (R : ℕ → A → Type 0) (d : A) (m : ℕ) → ((x : ℕ) → x < m → (a : A) × R x a) → (list : List A) × (length list ≡ m) × ((x : ℕ) → x < m → R x (get_or list x d))
+pub table : {A : Type 0} (R : ℕ → A → Type 0) (d : A) (m : ℕ) → ((x : ℕ) → x < m → (a : A) × R x a) →
+    (list : List A) × (length list ≡ m) × ((x : ℕ) → x < m → R x (get_or list x d))
 table R d zero each = ([], refl, λ x lt. absurd (omega arith))
 table R d (suc m) each =
     let rest = table R d m (λ x lt. each x (omega arith)) in
@@ -33,7 +35,8 @@ table R d (suc m) each =
     )
 
 -- there is a list of the numbers below m with P, in order
-pub chosen : (P : ℕ → Type 0) → ((x : ℕ) → P x ⊎ (P x → ⊥)) → (m : ℕ) → (list : List ℕ) × AllPairs ◌<◌ list × ((x : ℕ) → Contains list x → (x < m) × P x) × ((x : ℕ) → x < m → P x → Contains list x)
+pub chosen : (P : ℕ → Type 0) → ((x : ℕ) → P x ⊎ (P x → ⊥)) → (m : ℕ) →
+    (list : List ℕ) × AllPairs ◌<◌ list × ((x : ℕ) → Contains list x → (x < m) × P x) × ((x : ℕ) → x < m → P x → Contains list x)
 chosen P decide zero = ([], (λ i j d lt inside. absurd (omega arith)), (λ x c. absurd (contains_none x c)), λ x lt is. absurd (omega arith))
 chosen P decide (suc m) = at (decide m) (chosen P decide m)
   where
@@ -66,7 +69,8 @@ pub all_below : (P : ℕ → Type 0) → ((x : ℕ) → P x ⊎ (P x → ⊥)) �
 all_below P decide zero = inl (λ x lt. absurd (omega arith))
 all_below P decide (suc m) = at (decide m) (all_below P decide m)
   where
-    at : P m ⊎ (P m → ⊥) → ((x : ℕ) → x < m → P x) ⊎ ((x : ℕ) × (x < m) × (P x → ⊥)) → ((x : ℕ) → x < suc m → P x) ⊎ ((x : ℕ) × (x < suc m) × (P x → ⊥))
+    at : P m ⊎ (P m → ⊥) → ((x : ℕ) → x < m → P x) ⊎ ((x : ℕ) × (x < m) × (P x → ⊥)) →
+        ((x : ℕ) → x < suc m → P x) ⊎ ((x : ℕ) × (x < suc m) × (P x → ⊥))
     at (inr away) rest = inr (m, omega arith, away)
     at (inl is) (inr bad) = inr (bad.0, omega (arith, bad.1), bad.2)
     at (inl is) (inl good) = inl (λ x lt. elim (cases_eq x m) [
@@ -75,7 +79,8 @@ all_below P decide (suc m) = at (decide m) (all_below P decide m)
     ])
 
 -- there is a row of the legs of a node at nodes below m
-row_below : (f : ℕ → Option Label) (m : ℕ) → (legs : List Leg) × IsRow legs × ((l : Leg) → Contains legs l → (l.node < m) × (f l.node ≡ Some (label_of l))) × ((x : ℕ) (l : Label) → x < m → f x ≡ Some l → Contains legs (leg_at x l))
+row_below : (f : ℕ → Option Label) (m : ℕ) →
+    (legs : List Leg) × IsRow legs × ((l : Leg) → Contains legs l → (l.node < m) × (f l.node ≡ Some (label_of l))) × ((x : ℕ) (l : Label) → x < m → f x ≡ Some l → Contains legs (leg_at x l))
 row_below f zero = ([], (λ i j d lt inside. absurd (omega arith)), (λ l c. absurd (contains_none l c)), λ x l lt e. absurd (omega arith))
 row_below f (suc m) = at (f m) refl (row_below f m)
   where
@@ -106,7 +111,8 @@ row_below f (suc m) = at (f m) refl (row_below f m)
     )
 
 -- there is a row of the legs of a node
-pub row_of : (n : ℕ) (f : ℕ → Option Label) → ((x : ℕ) (l : Label) → f x ≡ Some l → x < n) → (legs : List Leg) × IsRow legs × ((x : ℕ) → row_leg legs x ≡ f x)
+pub row_of : (n : ℕ) (f : ℕ → Option Label) → ((x : ℕ) (l : Label) → f x ≡ Some l → x < n) →
+    (legs : List Leg) × IsRow legs × ((x : ℕ) → row_leg legs x ≡ f x)
 row_of n f within = let r = row_below f n in (r.0, r.1, λ x. at x (f x) refl)
   where
     at : (x : ℕ) (o : Option Label) → f x ≡ o → row_leg (row_below f n).0 x ≡ o

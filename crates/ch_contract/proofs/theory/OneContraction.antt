@@ -22,7 +22,8 @@ use Rattle.ch_contract.proofs.theory.Contracting.{IsOverridden, override_cases}
 use Rattle.ch_contract.proofs.theory.Chains.{HasChain, HasLeg, IsLight, light_left, light_right, chain_cost-cons, chain_of_leg, leg_then_chain, chain_then_chain, chain_at_most, no_loop}
 
 -- a pair is overridden by the first shortcut of the list, or by a later one
-first_or : (v : ℕ) (t : Shortcut) (list : List Shortcut) (u w : ℕ) (before : Option Label) (b : Bool) → (t.from == u && t.to == w) ≡ b → (b ≡ false → IsOverridden v list u w before) → IsOverridden v (t ∷ list) u w before
+first_or : (v : ℕ) (t : Shortcut) (list : List Shortcut) (u w : ℕ) (before : Option Label) (b : Bool) → (t.from == u && t.to == w) ≡ b →
+    (b ≡ false → IsOverridden v list u w before) → IsOverridden v (t ∷ list) u w before
 first_or v t list u w before true e more = (t, contains_head t list, grind (arith, nat_tests), grind (arith, nat_tests), rw e refl)
 first_or v t list u w before false e more = let h = more refl in (h.0, contains_tail h.0 t list h.1, h.2, h.3, rw e h.4)
 
@@ -31,10 +32,13 @@ matches : (t s : Shortcut) → t ≡ s → (t.from == s.from && t.to == s.to) �
 matches t s e = rw e (rw (eqb-refl s.from, eqb-refl s.to) refl)
 
 -- the pair of each shortcut of the list is overridden
-override_found : (v : ℕ) (list : List Shortcut) (k : ℕ) (s : Shortcut) (before : Option Label) → k < length list → get_or list k s ≡ s → IsOverridden v list s.from s.to before
+override_found : (v : ℕ) (list : List Shortcut) (k : ℕ) (s : Shortcut) (before : Option Label) → k < length list → get_or list k s ≡ s →
+    IsOverridden v list s.from s.to before
 override_found v [] k s before lt e = absurd (omega arith)
-override_found v (t ∷ list) zero s before lt e = first_or v t list s.from s.to before _ refl (λ f. let m = matches t s e in absurd (false≢true (sym f ∙ m)))
-override_found v (t ∷ list) (suc k) s before lt e = first_or v t list s.from s.to before _ refl (λ f. override_found v list k s before (omega arith) e)
+override_found v (t ∷ list) zero s before lt e =
+    first_or v t list s.from s.to before _ refl (λ f. let m = matches t s e in absurd (false≢true (sym f ∙ m)))
+override_found v (t ∷ list) (suc k) s before lt e =
+    first_or v t list s.from s.to before _ refl (λ f. override_found v list k s before (omega arith) e)
 
 -- legs within the limits lead below n
 leads_within : (n : ℕ) (L : Legs) → AreLegsWithin n L → LeadsWithin n L
@@ -63,7 +67,8 @@ module _ {n h : ℕ} {L M : Legs} {v : ℕ} (step : IsOneContraction n h L v M) 
   IsOldOrShortcut x y m = (L x y ≡ Some m) ⊎ ((a b : Label) × (L x v ≡ Some a) × (L v y ≡ Some b) × (m ≡ record { cost = cost_sum a.cost b.cost; middle = Some v }) × IsLight n m.cost × (x ≢ y))
 
   -- a shortcut is the sum of two legs through v
-  shortcut_legs : (x y : ℕ) (m : Label) (s : Shortcut) → s.from ≡ x → s.to ≡ y → Some (shortcut_label v s) ≡ Some m → IsPairThrough n L v s → IsOldOrShortcut x y m
+  shortcut_legs : (x y : ℕ) (m : Label) (s : Shortcut) → s.from ≡ x → s.to ≡ y → Some (shortcut_label v s) ≡ Some m →
+      IsPairThrough n L v s → IsOldOrShortcut x y m
   shortcut_legs x y m s ex ey em is =
       let legs = is.legs in
       let same : shortcut_label v s ≡ m = same_Some _ _ em in
@@ -96,7 +101,8 @@ module _ {n h : ℕ} {L M : Legs} {v : ℕ} (step : IsOneContraction n h L v M) 
       (leg_then_chain M u x w l.0.cost (chain_cost L x xs) (leg_kept u x l.0 p away.0 l.1) (chain_kept x w xs away.0 away.1 chain.1))
 
   -- the shortcut of a pair costs as much as the two legs
-  shortcut_cost : (s : Shortcut) (u y : ℕ) (a b : Label) → IsPairThrough n L v s → s.from ≡ u → s.to ≡ y → L u v ≡ Some a → L v y ≡ Some b → s.cost ≡ cost_sum a.cost b.cost
+  shortcut_cost : (s : Shortcut) (u y : ℕ) (a b : Label) → IsPairThrough n L v s → s.from ≡ u → s.to ≡ y → L u v ≡ Some a → L v y ≡ Some b →
+      s.cost ≡ cost_sum a.cost b.cost
   shortcut_cost s u y a b is eu ey ea eb =
       let legs = is.legs in
       let sa = same_Some _ _ (sym legs.2 ∙ ap (λ q. L q v) eu ∙ ea) in
@@ -104,12 +110,14 @@ module _ {n h : ℕ} {L M : Legs} {v : ℕ} (step : IsOneContraction n h L v M) 
       legs.4 ∙ ap (λ (z : Label). cost_sum z.cost legs.1.cost) sa ∙ ap (λ (z : Label). cost_sum a.cost z.cost) sb
 
   -- if the pair is overridden, its shortcut is a chain of one leg
-  by_shortcut : (u y : ℕ) (a b : Label) → u ≢ v → y ≢ v → L u v ≡ Some a → L v y ≡ Some b → IsOverridden v step.contracts.0 u y (L u y) → HasChain M u y (cost_sum a.cost b.cost)
+  by_shortcut : (u y : ℕ) (a b : Label) → u ≢ v → y ≢ v → L u v ≡ Some a → L v y ≡ Some b → IsOverridden v step.contracts.0 u y (L u y) →
+      HasChain M u y (cost_sum a.cost b.cost)
   by_shortcut u y a b p q ea eb f =
       chain_of_leg M u y _ (shortcut_label v f.0, outside u y p q ∙ f.4, subst (IsAtMost f.0.cost) (shortcut_cost f.0 u y a b (step.contracts.1.pairs f.0 f.1) f.2 f.3 ea eb) (IsAtMost_refl f.0.cost))
 
   -- for two legs through v there is a shortcut or a witness, so there is a chain that costs at most as much
-  through : (u y : ℕ) (a b : Label) → u ≢ v → y ≢ v → u ≢ y → L u v ≡ Some a → L v y ≡ Some b → IsLight n (cost_sum a.cost b.cost) → HasChain M u y (cost_sum a.cost b.cost)
+  through : (u y : ℕ) (a b : Label) → u ≢ v → y ≢ v → u ≢ y → L u v ≡ Some a → L v y ≡ Some b → IsLight n (cost_sum a.cost b.cost) →
+      HasChain M u y (cost_sum a.cost b.cost)
   through u y a b p q ne ea eb light = elim (witness_or_none n L v u y (cost_sum a.cost b.cost) h ne p (leads_within n L step.within)) [
     | inl w ↦ chain_at_most M u y _ _ (chain_kept u y w.0 p w.1.away.1 w.1.chain) w.1.cheap
     | inr none ↦
@@ -119,7 +127,8 @@ module _ {n h : ℕ} {L M : Legs} {v : ℕ} (step : IsOneContraction n h L v M) 
   ]
 
   -- two legs through v and then a chain: if the two legs lead back, they are left out
-  via : (u w y : ℕ) (a b : Label) (c : Cost) → u ≢ v → L u v ≡ Some a → L v y ≡ Some b → IsLight n (cost_sum a.cost (cost_sum b.cost c)) → y ≢ v → HasChain M y w c → HasChain M u w (cost_sum a.cost (cost_sum b.cost c))
+  via : (u w y : ℕ) (a b : Label) (c : Cost) → u ≢ v → L u v ≡ Some a → L v y ≡ Some b → IsLight n (cost_sum a.cost (cost_sum b.cost c)) →
+      y ≢ v → HasChain M y w c → HasChain M u w (cost_sum a.cost (cost_sum b.cost c))
   via u w y a b c p ea eb light q rest =
       let sum = cost_sum_assoc a.cost b.cost c in
       elim (cases_eq u y) [
@@ -128,7 +137,8 @@ module _ {n h : ℕ} {L M : Legs} {v : ℕ} (step : IsOneContraction n h L v M) 
       ]
 
   -- for each light chain between other nodes there is one after the contraction that costs at most as much
-  pub chain_stays : (u w : ℕ) (xs : List ℕ) → u ≢ v → w ≢ v → IsChain L u w xs → IsLight n (chain_cost L u xs) → HasChain M u w (chain_cost L u xs)
+  pub chain_stays : (u w : ℕ) (xs : List ℕ) → u ≢ v → w ≢ v → IsChain L u w xs → IsLight n (chain_cost L u xs) →
+      HasChain M u w (chain_cost L u xs)
   chain_stays u w [] p q chain light = ([], chain, IsAtMost_refl _)
   chain_stays u w (x ∷ []) p q chain light = chain_kept u w (x ∷ []) p (subst (λ z. z ≢ v) (sym chain.1) q, tt) chain
   chain_stays u w (x ∷ y ∷ ys) p q chain light =

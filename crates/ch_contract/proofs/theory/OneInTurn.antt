@@ -36,7 +36,8 @@ one_contraction n h L v M N p q =
     one_map M N (λ u w. p.2 u w ∙ ap (λ l. legs_after_contraction L v l u w) list ∙ sym (q.2 u w))
 
 -- a node has one priority
-pub one_priority : (by : OrderBy) (n h : ℕ) (L : Legs) (depth : ℕ → ℕ) (v : ℕ) (p q : ℤ) → IsPriorityBy by n h L depth v p → IsPriorityBy by n h L depth v q → p ≡ q
+pub one_priority : (by : OrderBy) (n h : ℕ) (L : Legs) (depth : ℕ → ℕ) (v : ℕ) (p q : ℤ) → IsPriorityBy by n h L depth v p →
+    IsPriorityBy by n h L depth v q → p ≡ q
 one_priority by n h L depth v p q a b =
     let list = one_list n h L v a.0 b.0 a.1 b.1 in
     a.2 ∙ ap (λ l. key_by by (length l) (count_touching n L v) (depth v)) list ∙ sym b.2
@@ -51,11 +52,14 @@ pub agree_back : (i : ℕ) (order : List ℕ) (L : ℕ → Legs) (other : List �
 agree_back i order L other M a = record { nodes = λ k lt. sym (a.nodes k lt); legs = λ k le. sym (a.legs k le) }
 
 -- a step has the same neighbours in orders that agree
-neighbours_along : (i : ℕ) (order : List ℕ) (L : ℕ → Legs) (other : List ℕ) (M : ℕ → Legs) (x k : ℕ) → Agree i order L other M → k < i → are_neighbours (M k) (slice_index other k) x ≡ are_neighbours (L k) (slice_index order k) x
-neighbours_along i order L other M x k a lt = let le : k ≤ i = omega arith in λ t. are_neighbours (sym (a.legs k le) t) (sym (a.nodes k lt) t) x
+neighbours_along : (i : ℕ) (order : List ℕ) (L : ℕ → Legs) (other : List ℕ) (M : ℕ → Legs) (x k : ℕ) → Agree i order L other M → k < i →
+    are_neighbours (M k) (slice_index other k) x ≡ are_neighbours (L k) (slice_index order k) x
+neighbours_along i order L other M x k a lt =
+    let le : k ≤ i = omega arith in λ t. are_neighbours (sym (a.legs k le) t) (sym (a.nodes k lt) t) x
 
 -- depths are the same in orders that agree
-pub depth_along : (i : ℕ) (order : List ℕ) (L : ℕ → Legs) (other : List ℕ) (M : ℕ → Legs) → Agree i order L other M → (j : ℕ) → j ≤ i → depth_after order L j ≡ depth_after other M j
+pub depth_along : (i : ℕ) (order : List ℕ) (L : ℕ → Legs) (other : List ℕ) (M : ℕ → Legs) → Agree i order L other M → (j : ℕ) → j ≤ i →
+    depth_after order L j ≡ depth_after other M j
 depth_along i order L other M a zero le = λ t x. 0
 depth_along i order L other M a (suc j) le =
     let rest = depth_along i order L other M a j (omega arith) in
@@ -64,7 +68,8 @@ depth_along i order L other M a (suc j) le =
     λ t x. next_depth (legs t) (node t) (rest t) x
 
 -- the last touch of a node is the same in orders that agree
-pub touch_along : (i : ℕ) (order : List ℕ) (L : ℕ → Legs) (other : List ℕ) (M : ℕ → Legs) (x j : ℕ) → Agree i order L other M → IsLastTouch order L i x j → IsLastTouch other M i x j
+pub touch_along : (i : ℕ) (order : List ℕ) (L : ℕ → Legs) (other : List ℕ) (M : ℕ → Legs) (x j : ℕ) → Agree i order L other M →
+    IsLastTouch order L i x j → IsLastTouch other M i x j
 touch_along i order L other M x j a t = record {
   within = t.within;
   touched = λ first. let le = t.within in neighbours_along i order L other M x (j - 1) a (omega arith) ∙ t.touched first;
@@ -72,7 +77,8 @@ touch_along i order L other M x j a t = record {
 }
 
 -- a priority after some given steps is the same in orders that agree
-pub from_along : (k : ℕ) (by : OrderBy) (n h i : ℕ) (order : List ℕ) (L : ℕ → Legs) (other : List ℕ) (M : ℕ → Legs) (x : ℕ) (p : ℤ) → k ≤ i → Agree i order L other M → IsPriorityFrom k by n h order L i x p → IsPriorityFrom k by n h other M i x p
+pub from_along : (k : ℕ) (by : OrderBy) (n h i : ℕ) (order : List ℕ) (L : ℕ → Legs) (other : List ℕ) (M : ℕ → Legs) (x : ℕ) (p : ℤ) →
+    k ≤ i → Agree i order L other M → IsPriorityFrom k by n h order L i x p → IsPriorityFrom k by n h other M i x p
 from_along k by n h i order L other M x p ge a r =
     let within = r.1.within in
     let most : max k r.0 ≤ i = omega arith in
@@ -95,7 +101,8 @@ one_touch : (order : List ℕ) (L : ℕ → Legs) (i x j k : ℕ) → IsLastTouc
 one_touch order L i x j k t s = let le = not_later order L i x j k t s in let ge = not_later order L i x k j s t in omega arith
 
 -- after some steps a node has one priority
-pub one_priority_from : (k : ℕ) (by : OrderBy) (n h : ℕ) (order : List ℕ) (L : ℕ → Legs) (i x : ℕ) (p q : ℤ) → IsPriorityFrom k by n h order L i x p → IsPriorityFrom k by n h order L i x q → p ≡ q
+pub one_priority_from : (k : ℕ) (by : OrderBy) (n h : ℕ) (order : List ℕ) (L : ℕ → Legs) (i x : ℕ) (p q : ℤ) →
+    IsPriorityFrom k by n h order L i x p → IsPriorityFrom k by n h order L i x q → p ≡ q
 one_priority_from k by n h order L i x p q a b = one_priority by n h (L (max k a.0)) (depth_after order L (max k a.0)) x p q a.2 (subst (λ j. IsPriorityBy by n h (L (max k j)) (depth_after order L (max k j)) x q) (sym (one_touch order L i x a.0 b.0 a.1 b.1)) b.2)
 
 -- in an order of different nodes, no node is among those before its place
@@ -168,7 +175,8 @@ module _ (k : ℕ) (by : OrderBy) (g : Network) (h : ℕ) (order : List ℕ) (L 
           }
 
 -- each node is taken at some step
-pub taken_at : (n : ℕ) (order : List ℕ) (x : ℕ) → (length order ≡ n) × All (λ v. v < n) order × AllPairs ◌≢◌ order → x < n → (i : ℕ) × (i < n) × (slice_index order i ≡ x)
+pub taken_at : (n : ℕ) (order : List ℕ) (x : ℕ) → (length order ≡ n) × All (λ v. v < n) order × AllPairs ◌≢◌ order → x < n →
+    (i : ℕ) × (i < n) × (slice_index order i ≡ x)
 taken_at n order x nodes lt =
     let size = nodes.0 in
     let c = every_number order n x size nodes.1 nodes.2 lt in

@@ -8,6 +8,7 @@ use Rattle.ch_contract.proofs.theory.OneRounds.{one_hierarchy_by_rounds}
 
 -- two hierarchies of a graph in the same order are equal
 pub one_hierarchy : RulesNameOneHierarchy
-one_hierarchy Difference g h H K p q = one_hierarchy_from Difference g h [] H K (from_in_turn Difference g h H p) (from_in_turn Difference g h K q)
+one_hierarchy Difference g h H K p q =
+    one_hierarchy_from Difference g h [] H K (from_in_turn Difference g h H p) (from_in_turn Difference g h K q)
 one_hierarchy Depth g h H K p q = one_hierarchy_from Depth g h [] H K (from_in_turn Depth g h H p) (from_in_turn Depth g h K q)
 one_hierarchy Rounds g h H K p q = one_hierarchy_by_rounds g h H K p q

@@ -25,11 +25,13 @@ use Rattle.ch_contract.proofs.theory.OneInTurn.{one_map, taken_at, same_rows}
 use Rattle.ch_contract.proofs.theory.RoundNodes.{begun_of, before_next, before_all, in_round, left, nodes_once}
 
 -- a node has one list of shortcuts in a round
-one_round_list : (n h : ℕ) (L W : Legs) (v : ℕ) (xs ys : List Shortcut) → AreShortcutsAmong n h L W v xs → AreShortcutsAmong n h L W v ys → xs ≡ ys
+one_round_list : (n h : ℕ) (L W : Legs) (v : ℕ) (xs ys : List Shortcut) → AreShortcutsAmong n h L W v xs → AreShortcutsAmong n h L W v ys →
+    xs ≡ ys
 one_round_list n h L W v xs ys p q = ordered_same IsPairBefore (λ a b r s. let lt = r.1 s.0 in omega arith) xs ys p.ordered q.ordered (λ s c. q.whole s (p.sound s c)) (λ s c. p.whole s (q.sound s c))
 
 -- putting in the same lists has the same result
-put_same : (todo : List ℕ) (f g : ℕ → List Shortcut) (L : Legs) → ((v : ℕ) → Contains todo v → f v ≡ g v) → legs_with_shortcuts todo f L ≡ legs_with_shortcuts todo g L
+put_same : (todo : List ℕ) (f g : ℕ → List Shortcut) (L : Legs) → ((v : ℕ) → Contains todo v → f v ≡ g v) →
+    legs_with_shortcuts todo f L ≡ legs_with_shortcuts todo g L
 put_same [] f g L same = refl
 put_same (v ∷ todo) f g L same =
     ap (λ list. legs_with_shortcuts todo f (λ u w. leg_after_shortcuts v list u w (L u w))) (same v (contains_head v todo))
@@ -55,7 +57,8 @@ pub record Agree (r : ℕ) (rounds : List (List ℕ)) (L : ℕ → Legs) (other 
   pub legs : (k : ℕ) → k ≤ r → L k ≡ M k
 
 -- agreeing goes both ways
-pub agree_back : (r : ℕ) (rounds : List (List ℕ)) (L : ℕ → Legs) (other : List (List ℕ)) (M : ℕ → Legs) → Agree r rounds L other M → Agree r other M rounds L
+pub agree_back : (r : ℕ) (rounds : List (List ℕ)) (L : ℕ → Legs) (other : List (List ℕ)) (M : ℕ → Legs) → Agree r rounds L other M →
+    Agree r other M rounds L
 agree_back r rounds L other M a = record { nodes = λ k lt. sym (a.nodes k lt); legs = λ k le. sym (a.legs k le) }
 
 module _ (n h r : ℕ) (rounds : List (List ℕ)) (L : ℕ → Legs) (other : List (List ℕ)) (M : ℕ → Legs) (a : Agree r rounds L other M) where
@@ -128,7 +131,8 @@ module _ {g : Network} {h : ℕ} {rounds : List (List ℕ)} {L : ℕ → Legs} {
       (p.round r lt) theirs
 
   -- the legs after the next round are the same
-  next_legs : (r : ℕ) → r < length rounds → r < length other → Agree r rounds L other M → round_at rounds r ≡ round_at other r → L (suc r) ≡ M (suc r)
+  next_legs : (r : ℕ) → r < length rounds → r < length other → Agree r rounds L other M → round_at rounds r ≡ round_at other r →
+      L (suc r) ≡ M (suc r)
   next_legs r lt its a same =
       let one = subst (λ (N : Legs). ContractsRound g.nodes h N (round_at other r) (M (r + 1))) (sym (a.legs r (omega arith))) (q.legs r its) in
       let two = subst (λ l. ContractsRound g.nodes h (L r) l (M (r + 1))) (sym same) one in
@@ -180,7 +184,9 @@ module _ {g : Network} {h : ℕ} {H K : LevelsAndLegs} {rounds : List (List ℕ)
 
   -- the nodes have the same order
   one_list_of_nodes : concat rounds ≡ concat other
-  one_list_of_nodes = sym (before_all rounds) ∙ before_along g.nodes h (length rounds) rounds L other M all (length rounds) (omega arith) ∙ ap (nodes_before other) as_many ∙ before_all other
+  one_list_of_nodes =
+      sym (before_all rounds) ∙ before_along g.nodes h (length rounds) rounds L other M all (length rounds) (omega arith)
+      ∙ ap (nodes_before other) as_many ∙ before_all other
 
   -- the levels are the same
   levels : H.level ≡ K.level

@@ -30,7 +30,8 @@ least_weight_arc : (u w x : ℕ) (arcs : List InArc) → least_weight u w arcs �
 least_weight_arc u w x [] e = absurd (none-some _ e)
 least_weight_arc u w x (a ∷ arcs) e = at (a.from == u && a.to == w) (least_weight u w arcs) refl e (least_weight_arc u w x arcs)
   where
-    at : (b : Bool) (rest : Option ℕ) → (a.from == u && a.to == w) ≡ b → cond b (Some (lesser_weight a.weight rest)) rest ≡ Some x → (rest ≡ Some x → Contains arcs (arc u w x)) → Contains (a ∷ arcs) (arc u w x)
+    at : (b : Bool) (rest : Option ℕ) → (a.from == u && a.to == w) ≡ b → cond b (Some (lesser_weight a.weight rest)) rest ≡ Some x →
+        (rest ≡ Some x → Contains arcs (arc u w x)) → Contains (a ∷ arcs) (arc u w x)
     at false rest test e' more = contains_tail (arc u w x) a arcs (more e')
     at true None test e' more = first_arc u w x a arcs (grind (arith, nat_tests), grind (arith, nat_tests)) (same_Some _ _ e')
     at true (Some y) test e' more = elim (lesser_cases a.weight y) [
@@ -43,7 +44,8 @@ abbrev WeighsAtMost : Option ℕ → ℕ → Type 0
 WeighsAtMost o y = (x : ℕ) × (o ≡ Some x) × (x ≤ y)
 
 -- one more arc in front does not raise the least weight
-least_weight_more : (u w y : ℕ) (b : InArc) (arcs : List InArc) → WeighsAtMost (least_weight u w arcs) y → WeighsAtMost (least_weight u w (b ∷ arcs)) y
+least_weight_more : (u w y : ℕ) (b : InArc) (arcs : List InArc) → WeighsAtMost (least_weight u w arcs) y →
+    WeighsAtMost (least_weight u w (b ∷ arcs)) y
 least_weight_more u w y b arcs h = at (b.from == u && b.to == w)
   where
     at : (t : Bool) → WeighsAtMost (cond t (Some (lesser_weight b.weight (least_weight u w arcs))) (least_weight u w arcs)) y
@@ -56,7 +58,8 @@ lesser_own x None = (x, refl, omega arith)
 lesser_own x (Some y) = (min x y, refl, omega arith)
 
 -- each arc weighs at least the least weight of its pair
-least_weight_least : (a : InArc) (arcs : List InArc) (k : ℕ) → k < length arcs → get_or arcs k a ≡ a → WeighsAtMost (least_weight a.from a.to arcs) a.weight
+least_weight_least : (a : InArc) (arcs : List InArc) (k : ℕ) → k < length arcs → get_or arcs k a ≡ a →
+    WeighsAtMost (least_weight a.from a.to arcs) a.weight
 least_weight_least a [] k lt e = absurd (omega arith)
 least_weight_least a (b ∷ arcs) zero lt e = subst (λ (q : InArc). WeighsAtMost (least_weight q.from q.to (b ∷ arcs)) q.weight) e own
   where
@@ -81,7 +84,8 @@ opening_leg g u w l e = at (u == w) (least_weight u w g.arcs) refl refl e
     at false (Some x) test has e' = record { weight = x; label = sym (same_Some _ _ e'); arc_is = least_weight_arc u w x g.arcs has; apart = eqb-false u w test }
 
 -- each arc between different nodes has a leg that costs no more
-pub opening_covers : (g : Network) (a : InArc) → Contains g.arcs a → a.from ≢ a.to → HasLeg (opening g) a.from a.to (arc_label a.weight).cost
+pub opening_covers : (g : Network) (a : InArc) → Contains g.arcs a → a.from ≢ a.to →
+    HasLeg (opening g) a.from a.to (arc_label a.weight).cost
 opening_covers g a has ne =
     let x = least_weight_least a g.arcs has.0 has.1 has.2 in
     (arc_label x.0, rw (not_eqb a.from a.to ne) (ap arc_label_of x.1), (x.2, λ tie. omega arith))

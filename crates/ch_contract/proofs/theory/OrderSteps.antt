@@ -17,7 +17,8 @@ use Rattle.ch_contract.proofs.theory.OneInTurn.{Agree, from_along}
 
 -- after the first i steps, of which k are given, v comes before x
 abbrev pub ComesBefore : ℕ → OrderBy → ℕ → ℕ → List ℕ → (ℕ → Legs) → ℕ → ℕ → ℕ → Type 0
-ComesBefore k by n h order L i v x = (p q : ℤ) × IsPriorityFrom k by n h order L i v p × IsPriorityFrom k by n h order L i x q × IsContractedBefore p v q x
+ComesBefore k by n h order L i v x =
+    (p q : ℤ) × IsPriorityFrom k by n h order L i v p × IsPriorityFrom k by n h order L i x q × IsContractedBefore p v q x
 
 -- each node of this list after the first k came before all that remained
 abbrev pub AreLeast : ℕ → OrderBy → Network → ℕ → List ℕ → (ℕ → Legs) → Type 0
@@ -36,11 +37,13 @@ pub then_next : (i : ℕ) (L : ℕ → Legs) (M : Legs) (k : ℕ) → i < k → 
 then_next i L M k lt = let t : nat_le k i ≡ false = grind (arith, nat_tests) in rw t refl
 
 -- orders that agree up to a step agree up to each earlier one
-agree_less : (i k : ℕ) (order : List ℕ) (L : ℕ → Legs) (other : List ℕ) (M : ℕ → Legs) → k ≤ i → Agree i order L other M → Agree k order L other M
+agree_less : (i k : ℕ) (order : List ℕ) (L : ℕ → Legs) (other : List ℕ) (M : ℕ → Legs) → k ≤ i → Agree i order L other M →
+    Agree k order L other M
 agree_less i k order L other M le a = record { nodes = λ j lt. a.nodes j (omega arith); legs = λ j below. a.legs j (omega arith) }
 
 -- the last touch of x after one more step that did not touch it
-pub untouched_more : (order : List ℕ) (L : ℕ → Legs) (i x j : ℕ) → are_neighbours (L i) (slice_index order i) x ≡ false → IsLastTouch order L i x j → IsLastTouch order L (i + 1) x j
+pub untouched_more : (order : List ℕ) (L : ℕ → Legs) (i x j : ℕ) → are_neighbours (L i) (slice_index order i) x ≡ false →
+    IsLastTouch order L i x j → IsLastTouch order L (i + 1) x j
 untouched_more order L i x j none t = record {
   within = let le = t.within in omega arith;
   touched = t.touched;
@@ -51,7 +54,8 @@ untouched_more order L i x j none t = record {
 }
 
 -- the last touch of x after one more step that touched it
-pub touched_more : (order : List ℕ) (L : ℕ → Legs) (i x : ℕ) → are_neighbours (L i) (slice_index order i) x ≡ true → IsLastTouch order L (i + 1) x (i + 1)
+pub touched_more : (order : List ℕ) (L : ℕ → Legs) (i x : ℕ) → are_neighbours (L i) (slice_index order i) x ≡ true →
+    IsLastTouch order L (i + 1) x (i + 1)
 touched_more order L i x touch = record {
   within = omega arith;
   touched = λ first. let e : i + 1 - 1 ≡ i = omega arith in subst (λ z. are_neighbours (L z) (slice_index order z) x ≡ true) (sym e) touch;
@@ -60,10 +64,12 @@ touched_more order L i x touch = record {
 
 -- some step touched x last, or none did
 pub last_touch : (order : List ℕ) (L : ℕ → Legs) (i x : ℕ) → (j : ℕ) × IsLastTouch order L i x j
-last_touch order L zero x = (0, record { within = omega arith; touched = λ first. absurd (omega arith); later = λ k le lt. absurd (omega arith) })
+last_touch order L zero x =
+    (0, record { within = omega arith; touched = λ first. absurd (omega arith); later = λ k le lt. absurd (omega arith) })
 last_touch order L (suc i) x = subst (λ z. (j : ℕ) × IsLastTouch order L z x j) (add-one i) (at (are_neighbours (L i) (slice_index order i) x) refl (last_touch order L i x))
   where
-    at : (b : Bool) → are_neighbours (L i) (slice_index order i) x ≡ b → (j : ℕ) × IsLastTouch order L i x j → (j : ℕ) × IsLastTouch order L (i + 1) x j
+    at : (b : Bool) → are_neighbours (L i) (slice_index order i) x ≡ b → (j : ℕ) × IsLastTouch order L i x j →
+        (j : ℕ) × IsLastTouch order L (i + 1) x j
     at true e rest = (i + 1, touched_more order L i x e)
     at false e rest = (rest.0, untouched_more order L i x rest.0 e rest.1)
 
@@ -117,14 +123,16 @@ module _ (g : Network) (h : ℕ) (order : List ℕ) (L : ℕ → Legs) (v : ℕ)
       subst (λ (N : Legs). Contracts g.nodes h (legs_more order L v M (length order)) (slice_index (more order L v M) (length order)) N) (sym (next order L v M)) three
 
   -- earlier steps are contractions
-  step_before : (k : ℕ) → k < length order → Contracts g.nodes h (legs_more order L v M k) (slice_index (more order L v M) k) (legs_more order L v M (k + 1))
+  step_before : (k : ℕ) → k < length order →
+      Contracts g.nodes h (legs_more order L v M k) (slice_index (more order L v M) k) (legs_more order L v M (k + 1))
   step_before k lt =
       let one = subst (λ (N : Legs). Contracts g.nodes h N (slice_index order k) (L (k + 1))) ((agree order L v M).legs k (omega arith)) (b.step k lt) in
       let two = subst (λ x. Contracts g.nodes h (legs_more order L v M k) x (L (k + 1))) (before order L v M k lt) one in
       subst (λ (N : Legs). Contracts g.nodes h (legs_more order L v M k) (slice_index (more order L v M) k) N) ((agree order L v M).legs (k + 1) (omega arith)) two
 
   -- all steps are contractions
-  step_more : (k : ℕ) → k < length (more order L v M) → Contracts g.nodes h (legs_more order L v M k) (slice_index (more order L v M) k) (legs_more order L v M (k + 1))
+  step_more : (k : ℕ) → k < length (more order L v M) →
+      Contracts g.nodes h (legs_more order L v M k) (slice_index (more order L v M) k) (legs_more order L v M (k + 1))
   step_more k lt = elim (cases_eq k (length order)) [
     | inl e ↦ subst (λ z. Contracts g.nodes h (legs_more order L v M z) (slice_index (more order L v M) z) (legs_more order L v M (z + 1))) (sym e) step_here
     | inr ne ↦ let size = length_push order v in step_before k (omega arith)
@@ -140,7 +148,8 @@ module _ (g : Network) (h : ℕ) (order : List ℕ) (L : ℕ → Legs) (v : ℕ)
 
 module _ (k : ℕ) (by : OrderBy) (g : Network) (h : ℕ) (order : List ℕ) (L : ℕ → Legs) (v : ℕ) (M : Legs) (least : AreLeast k by g h order L) (from : k ≤ length order) (first : (x : ℕ) → x < g.nodes → (Contains order x → ⊥) → ComesBefore k by g.nodes h order L (length order) v x) where
   -- at each earlier step the node came before all remaining nodes
-  least_before : (i x : ℕ) → k ≤ i → i < length order → x < g.nodes → (Contains (take i order) x → ⊥) → ComesBefore k by g.nodes h (more order L v M) (legs_more order L v M) i (slice_index (more order L v M) i) x
+  least_before : (i x : ℕ) → k ≤ i → i < length order → x < g.nodes → (Contains (take i order) x → ⊥) →
+      ComesBefore k by g.nodes h (more order L v M) (legs_more order L v M) i (slice_index (more order L v M) i) x
   least_before i x ge lt inside away =
       let r = least i x ge lt inside away in
       let a = agree_less (length order) i order L (more order L v M) (legs_more order L v M) (omega arith) (agree order L v M) in
@@ -148,7 +157,8 @@ module _ (k : ℕ) (by : OrderBy) (g : Network) (h : ℕ) (order : List ℕ) (L 
       (r.0, r.1, subst (λ z. IsPriorityFrom k by g.nodes h (more order L v M) (legs_more order L v M) i z r.0) (before order L v M i lt) one, from_along k by g.nodes h i order L (more order L v M) (legs_more order L v M) x r.1 ge a r.3, subst (λ z. IsContractedBefore r.0 z r.1 x) (before order L v M i lt) r.4)
 
   -- at this step the node comes before all remaining nodes
-  least_here : (x : ℕ) → x < g.nodes → (Contains order x → ⊥) → ComesBefore k by g.nodes h (more order L v M) (legs_more order L v M) (length order) (slice_index (more order L v M) (length order)) x
+  least_here : (x : ℕ) → x < g.nodes → (Contains order x → ⊥) →
+      ComesBefore k by g.nodes h (more order L v M) (legs_more order L v M) (length order) (slice_index (more order L v M) (length order)) x
   least_here x inside away =
       let r = first x inside away in
       let n : ℕ = length order in
@@ -177,7 +187,8 @@ begun_none g h = record {
 }
 
 -- a list of contracted nodes that has all nodes is an order of contraction
-pub begun_all : (g : Network) (h : ℕ) (order : List ℕ) (L : ℕ → Legs) → IsBegun g h order L → ((x : ℕ) → x < g.nodes → Contains order x) → AreContracted g h order L
+pub begun_all : (g : Network) (h : ℕ) (order : List ℕ) (L : ℕ → Legs) → IsBegun g h order L → ((x : ℕ) → x < g.nodes → Contains order x) →
+    AreContracted g h order L
 begun_all g h order L b each =
     let size : length order ≡ g.nodes = omega (arith, whole_least order g.nodes each, begun_most g order b.nodes.0 b.nodes.1) in
     record {

@@ -89,7 +89,8 @@ module _ (IsLeft : ℕ → Type 0) (left_or_not : (x : ℕ) → IsLeft x ⊎ (Is
   least_below zero = inr (λ x lt left. omega arith)
   least_below (suc m) = at (left_or_not m) (least_below m)
     where
-      at : IsLeft m ⊎ (IsLeft m → ⊥) → ((v : ℕ) × IsLeastBelow m v) ⊎ ((x : ℕ) → x < m → IsLeft x → ⊥) → ((v : ℕ) × IsLeastBelow (suc m) v) ⊎ ((x : ℕ) → x < suc m → IsLeft x → ⊥)
+      at : IsLeft m ⊎ (IsLeft m → ⊥) → ((v : ℕ) × IsLeastBelow m v) ⊎ ((x : ℕ) → x < m → IsLeft x → ⊥) →
+          ((v : ℕ) × IsLeastBelow (suc m) v) ⊎ ((x : ℕ) → x < suc m → IsLeft x → ⊥)
       at (inl is) (inl r) = elim (before_total (key r.0) (key m) r.0 m r.1.0) [
         | inl first ↦ inl (r.0, stays m r.0 r.1 (λ left. first))
         | inr better ↦ inl (m, yields m r.0 r.1 is better)
@@ -117,7 +118,8 @@ module _ (g : Network) (h : ℕ) (limits : IsWithinLimits g) where
   within order L b = within_steps g.nodes (length order) order L (subst (AreLegsWithin g.nodes) (sym (one_map (L 0) (opening g) b.start)) (opening_within g limits)) (λ i lt. pairs_by_needed g.nodes h _ _ _ (b.step i lt))
 
   -- one more node can be contracted
-  begun_next : (order : List ℕ) (L : ℕ → Legs) → IsBegun g h order L → (v : ℕ) → v < g.nodes → (Contains order v → ⊥) → (M : Legs) × IsBegun g h (order ++ v ∷ []) (then_legs (length order) L M)
+  begun_next : (order : List ℕ) (L : ℕ → Legs) → IsBegun g h order L → (v : ℕ) → v < g.nodes → (Contains order v → ⊥) →
+      (M : Legs) × IsBegun g h (order ++ v ∷ []) (then_legs (length order) L M)
   begun_next order L b v lt left =
       let made = contraction_exists g.nodes h (L (length order)) v (within order L b (length order) (omega arith)) in
       (made.0, begun_more g h order L v made.0 b lt left made.1)
@@ -160,7 +162,8 @@ module _ (g : Network) (h : ℕ) (limits : IsWithinLimits g) where
       ]
 
       -- one more node is contracted
-      next : (v : ℕ) → IsLeastBelow (λ x. Contains order x → ⊥) left_or_not (λ x. (priority x).0) g.nodes v → (M : ℕ → Legs) × IsUnderWay (order ++ v ∷ []) M
+      next : (v : ℕ) → IsLeastBelow (λ x. Contains order x → ⊥) left_or_not (λ x. (priority x).0) g.nodes v →
+          (M : ℕ → Legs) × IsUnderWay (order ++ v ∷ []) M
       next v least =
           let more = begun_next order L u.begun v least.0 least.1 in
           let size = length_push order v in (
@@ -174,7 +177,8 @@ module _ (g : Network) (h : ℕ) (limits : IsWithinLimits g) where
           )
 
     -- it goes on until all nodes are contracted
-    orders_from : (fuel : ℕ) (order : List ℕ) (L : ℕ → Legs) → IsUnderWay order L → g.nodes < length order + fuel → (all : List ℕ) × (M : ℕ → Legs) × AreContracted g h all M × (take (length given) all ≡ given) × TakesFirstFrom (length given) by g h all M
+    orders_from : (fuel : ℕ) (order : List ℕ) (L : ℕ → Legs) → IsUnderWay order L → g.nodes < length order + fuel →
+        (all : List ℕ) × (M : ℕ → Legs) × AreContracted g h all M × (take (length given) all ≡ given) × TakesFirstFrom (length given) by g h all M
     orders_from zero order L u enough = absurd (omega (arith, begun_most g order u.begun.nodes.0 u.begun.nodes.1))
     orders_from (suc fuel) order L u enough = elim (least_below (λ x. Contains order x → ⊥) (left_or_not order L u) (λ x. (priority order L u x).0) g.nodes) [
       | inl some ↦
@@ -193,7 +197,8 @@ module _ (g : Network) (h : ℕ) (limits : IsWithinLimits g) where
         ]
 
     -- there is an order with these given nodes
-    pub order_exists : AreDifferentNodes g given → (order : List ℕ) × (L : ℕ → Legs) × AreContracted g h order L × (take (length given) order ≡ given) × TakesFirstFrom (length given) by g h order L
+    pub order_exists : AreDifferentNodes g given →
+        (order : List ℕ) × (L : ℕ → Legs) × AreContracted g h order L × (take (length given) order ≡ given) × TakesFirstFrom (length given) by g h order L
     order_exists nodes =
         let start = given_begun given nodes (length given) (omega arith) in
         let begun = subst (λ o. IsBegun g h o start.0) (take_all (length given) given (omega arith)) start.1 in
@@ -255,7 +260,8 @@ module _ (g : Network) (h : ℕ) (limits : IsWithinLimits g) where
         )
 
 -- there is a hierarchy with these given nodes
-pub from_exists : (by : OrderBy) (g : Network) (h : ℕ) (given : List ℕ) → IsWithinLimits g → AreDifferentNodes g given → (H : LevelsAndLegs) × IsHierarchyFrom by g h given H
+pub from_exists : (by : OrderBy) (g : Network) (h : ℕ) (given : List ℕ) → IsWithinLimits g → AreDifferentNodes g given →
+    (H : LevelsAndLegs) × IsHierarchyFrom by g h given H
 from_exists by g h given limits nodes =
     let o = order_exists g h limits by given nodes in
     let H = hierarchy_exists g h limits o.0 o.1 o.2 in
@@ -275,7 +281,8 @@ first_nodes g order k is =
 
 -- each graph has a hierarchy in an order like each given one
 pub like_exists : GraphsHaveHierarchiesLike
-like_exists g h given fresh limits hops order = from_exists Depth g h (take (given_count g.nodes fresh) given) limits (first_nodes g given (given_count g.nodes fresh) order)
+like_exists g h given fresh limits hops order =
+    from_exists Depth g h (take (given_count g.nodes fresh) given) limits (first_nodes g given (given_count g.nodes fresh) order)
 
 -- each graph has a hierarchy of nodes in turn
 in_turn_exists : (by : OrderBy) (g : Network) (h : ℕ) → IsWithinLimits g → (H : LevelsAndLegs) × IsHierarchyInTurn by g h H

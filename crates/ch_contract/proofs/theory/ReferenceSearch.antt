@@ -76,7 +76,8 @@ plus_cost_one c (Some d) e h = (d, refl, same_Some _ _ h)
 
 plus_cost_covers : (c : Cost) (o : Option Cost) (d : Cost) → Covers o d → Covers (plus_cost c o) (cost_sum c d)
 plus_cost_covers c None d h = absurd (none-some _ h.1)
-plus_cost_covers c (Some a) d h = (cost_sum c a, refl, IsAtMost-cost_sum c c a d (IsAtMost_refl c) (subst (λ q. IsAtMost q d) (sym (same_Some _ _ h.1)) h.2))
+plus_cost_covers c (Some a) d h =
+    (cost_sum c a, refl, IsAtMost-cost_sum c c a d (IsAtMost_refl c) (subst (λ q. IsAtMost q d) (sym (same_Some _ _ h.1)) h.2))
 
 -- the value of an option that has one
 pub some_of : {A : Type 0} (o : Option A) → IsSome o → (x : A) × (o ≡ Some x)
@@ -165,7 +166,8 @@ costs_at_most_one (Some d) c e = (d, refl, is_at_most_true d c e)
 
 costs_at_most_covered : (o : Option Cost) (c d : Cost) → Covers o d → IsAtMost d c → costs_at_most o c ≡ true
 costs_at_most_covered None c d h le = absurd (none-some _ h.1)
-costs_at_most_covered (Some a) c d h le = at_most_is_true a c (IsAtMost_trans a d c (subst (λ q. IsAtMost q d) (sym (same_Some _ _ h.1)) h.2) le)
+costs_at_most_covered (Some a) c d h le =
+    at_most_is_true a c (IsAtMost_trans a d c (subst (λ q. IsAtMost q d) (sym (same_Some _ _ h.1)) h.2) le)
 
 -- a chain between different nodes has a leg
 pub nonempty : (L : Legs) (u w : ℕ) (xs : List ℕ) → u ≢ w → IsChain L u w xs → 0 < length xs

@@ -110,13 +110,15 @@ module _ (IsKey : ℕ → ℤ → Type 0) (IsLeft : ℕ → Type 0) (one : (x : 
         | inr ne ↦ omega arith
       ]
 
-      at : IsLeft m ⊎ (IsLeft m → ⊥) → ((x : ℕ) → x < m → IsLeft x → ⊥) ⊎ IsLeastBelow m → ((x : ℕ) → x < suc m → IsLeft x → ⊥) ⊎ IsLeastBelow (suc m)
+      at : IsLeft m ⊎ (IsLeft m → ⊥) → ((x : ℕ) → x < m → IsLeft x → ⊥) ⊎ IsLeastBelow m →
+          ((x : ℕ) → x < suc m → IsLeft x → ⊥) ⊎ IsLeastBelow (suc m)
       at (inl is) rest = inr (least_with m is rest)
       at (inr away) (inl none) = inl (λ x lt left. none x (same away x lt left) left)
       at (inr away) (inr b) = inr (record { node = b.node; value = b.value; is_left = b.is_left; has = b.has; least = λ x q lt left k. b.least x q (same away x lt left) left k })
 
   -- a round has a node if all nodes within two legs of a remaining node remain
-  pub round_some : (n : ℕ) (L : Legs) (nodes : List ℕ) → ((x : ℕ) → IsLeft x → x < n) → ((v x : ℕ) → IsWithinTwoLegs L v x → IsLeft x) → IsRound IsKey IsLeft L nodes → (x : ℕ) → IsLeft x → 0 < length nodes
+  pub round_some : (n : ℕ) (L : Legs) (nodes : List ℕ) → ((x : ℕ) → IsLeft x → x < n) → ((v x : ℕ) → IsWithinTwoLegs L v x → IsLeft x) →
+      IsRound IsKey IsLeft L nodes → (x : ℕ) → IsLeft x → 0 < length nodes
   round_some n L nodes within near round x left = elim (least_below n) [
     | inl none ↦ absurd (none x (within x left) left)
     | inr b ↦

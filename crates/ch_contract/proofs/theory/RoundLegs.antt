@@ -46,7 +46,8 @@ pub away_leg : (nodes : List ℕ) (L : Legs) (u w : ℕ) → (Contains nodes u �
 away_leg nodes L u w p q = rw (none_of nodes u p, none_of nodes w q) refl
 
 -- a leg outside of the round touches none of its nodes, and was there before
-pub away_ends : (nodes : List ℕ) (L : Legs) (u w : ℕ) (l : Label) → legs_away nodes L u w ≡ Some l → (Contains nodes u → ⊥) × (Contains nodes w → ⊥) × (L u w ≡ Some l)
+pub away_ends : (nodes : List ℕ) (L : Legs) (u w : ℕ) (l : Label) → legs_away nodes L u w ≡ Some l →
+    (Contains nodes u → ⊥) × (Contains nodes w → ⊥) × (L u w ≡ Some l)
 away_ends nodes L u w l e = (
   λ c. none-some l (sym (first (one_of nodes u c)) ∙ e),
   λ c. none-some l (sym (second (is_one_of nodes u) (one_of nodes w c)) ∙ e),
@@ -69,7 +70,8 @@ abbrev pub StandIn : List ℕ → Legs → Legs → Type 0
 StandIn nodes L M = (x y : ℕ) (l : Label) → (Contains nodes x → ⊥) → (Contains nodes y → ⊥) → L x y ≡ Some l → HasLeg M x y l.cost
 
 -- for a chain outside of the round, there is one in M that costs at most as much
-away_chain : (nodes : List ℕ) (L M : Legs) → StandIn nodes L M → (u w : ℕ) (xs : List ℕ) → IsChain (legs_away nodes L) u w xs → IsChain M u w xs × IsAtMost (chain_cost M u xs) (chain_cost (legs_away nodes L) u xs)
+away_chain : (nodes : List ℕ) (L M : Legs) → StandIn nodes L M → (u w : ℕ) (xs : List ℕ) → IsChain (legs_away nodes L) u w xs →
+    IsChain M u w xs × IsAtMost (chain_cost M u xs) (chain_cost (legs_away nodes L) u xs)
 away_chain nodes L M stand u w [] chain = (chain, IsAtMost_refl _)
 away_chain nodes L M stand u w (x ∷ xs) chain =
     let l = some_of (legs_away nodes L u x) chain.0 in
@@ -82,7 +84,8 @@ away_chain nodes L M stand u w (x ∷ xs) chain =
     ((rw leg.1 refl, rest.0), subst (IsAtMost (chain_cost M u (x ∷ xs))) (sym (chain_cost-cons (legs_away nodes L) u x xs l.0 l.1)) (subst (λ c. IsAtMost c (cost_sum l.0.cost most)) (sym (chain_cost-cons M u x xs leg.0 leg.1)) sum))
 
 -- for a witness outside of the round, there is one in M
-pub away_witness : (nodes : List ℕ) (L M : Legs) → StandIn nodes L M → (v u w : ℕ) (c : Cost) (h : ℕ) → HasWitness (legs_away nodes L) v u w c h → HasWitness M v u w c h
+pub away_witness : (nodes : List ℕ) (L M : Legs) → StandIn nodes L M → (v u w : ℕ) (c : Cost) (h : ℕ) →
+    HasWitness (legs_away nodes L) v u w c h → HasWitness M v u w c h
 away_witness nodes L M stand v u w c h w' =
     let chain = away_chain nodes L M stand u w w'.0 w'.1.chain in
     (w'.0, record { chain = chain.0; hops = w'.1.hops; away = w'.1.away; cheap = IsAtMost_trans (chain_cost M u w'.0) (chain_cost (legs_away nodes L) u w'.0) c chain.1 w'.1.cheap })

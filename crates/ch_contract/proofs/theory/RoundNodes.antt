@@ -17,14 +17,16 @@ pub before_next : (rounds : List (List ℕ)) (r : ℕ) → nodes_before rounds (
 before_next [] zero = refl
 before_next [] (suc r) = refl
 before_next (x ∷ rounds) zero = append-nil x
-before_next (x ∷ rounds) (suc r) = ap (λ l. x ++ l) (before_next rounds r) ∙ sym (append_assoc x (nodes_before rounds r) (round_at rounds r))
+before_next (x ∷ rounds) (suc r) =
+    ap (λ l. x ++ l) (before_next rounds r) ∙ sym (append_assoc x (nodes_before rounds r) (round_at rounds r))
 
 -- the nodes of all rounds are the nodes before the end
 pub before_all : (rounds : List (List ℕ)) → nodes_before rounds (length rounds) ≡ concat rounds
 before_all rounds = ap concat (take_all (length rounds) rounds (omega arith))
 
 -- a node of the rounds is in one of them
-pub in_round : (rounds : List (List ℕ)) (x : ℕ) → Contains (concat rounds) x → (r : ℕ) × (r < length rounds) × Contains (round_at rounds r) x
+pub in_round : (rounds : List (List ℕ)) (x : ℕ) → Contains (concat rounds) x →
+    (r : ℕ) × (r < length rounds) × Contains (round_at rounds r) x
 in_round [] x c = absurd (contains_none x c)
 in_round (nodes ∷ rounds) x c = elim (Contains-append_cases nodes (concat rounds) x c) [
   | inl here ↦ (zero, omega arith, here)
@@ -52,7 +54,8 @@ pub record AreBegun (g : Network) (h : ℕ) (rounds : List (List ℕ)) (L : ℕ 
   pub legs : (r : ℕ) → r < length rounds → ContractsRound g.nodes h (L r) (round_at rounds r) (L (r + 1))
 
 -- when no node remains, these are all rounds
-pub begun_all : (g : Network) (h : ℕ) (rounds : List (List ℕ)) (L : ℕ → Legs) → AreBegun g h rounds L → ((x : ℕ) → x < g.nodes → Contains (concat rounds) x) → AreRounds g h rounds L
+pub begun_all : (g : Network) (h : ℕ) (rounds : List (List ℕ)) (L : ℕ → Legs) → AreBegun g h rounds L →
+    ((x : ℕ) → x < g.nodes → Contains (concat rounds) x) → AreRounds g h rounds L
 begun_all g h rounds L b all = record { start = b.start; some = b.some; round = b.round; legs = b.legs; all = all }
 
 -- rounds that contract all nodes were made
@@ -82,14 +85,16 @@ module _ {g : Network} {h : ℕ} {rounds : List (List ℕ)} {L : ℕ → Legs} (
       (λ x y early now same. (left r y (omega arith) now).1 (subst (Contains (nodes_before rounds r)) same early)))
 
 -- the nodes of all rounds are below n and differ
-pub nodes_apart : {g : Network} {h : ℕ} {rounds : List (List ℕ)} {L : ℕ → Legs} → AreBegun g h rounds L → ((x : ℕ) → Contains (concat rounds) x → x < g.nodes) × AllPairs ◌≢◌ (concat rounds)
+pub nodes_apart : {g : Network} {h : ℕ} {rounds : List (List ℕ)} {L : ℕ → Legs} → AreBegun g h rounds L →
+    ((x : ℕ) → Contains (concat rounds) x → x < g.nodes) × AllPairs ◌≢◌ (concat rounds)
 nodes_apart {rounds = rounds} are = (
   λ x c. below are (length rounds) (omega arith) x (subst (λ l. Contains l x) (sym (before_all rounds)) c),
   subst (AllPairs ◌≢◌) (before_all rounds) (different are (length rounds) (omega arith)),
 )
 
 -- if all nodes are contracted, each is there once
-pub nodes_once : {g : Network} {h : ℕ} {rounds : List (List ℕ)} {L : ℕ → Legs} → AreRounds g h rounds L → (length (concat rounds) ≡ g.nodes) × All (λ v. v < g.nodes) (concat rounds) × AllPairs ◌≢◌ (concat rounds)
+pub nodes_once : {g : Network} {h : ℕ} {rounds : List (List ℕ)} {L : ℕ → Legs} → AreRounds g h rounds L →
+    (length (concat rounds) ≡ g.nodes) × All (λ v. v < g.nodes) (concat rounds) × AllPairs ◌≢◌ (concat rounds)
 nodes_once {g = g} {rounds = rounds} are =
     let apart = nodes_apart (begun_of are) in
     let most = distinct_most (concat rounds) g.nodes apart.1 apart.0 in

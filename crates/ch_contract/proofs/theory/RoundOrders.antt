@@ -28,14 +28,16 @@ use Rattle.ch_contract.proofs.theory.Turns.{turns_map, turns_append, turns_withi
 use Rattle.ch_contract.proofs.theory.EnoughKept.{hierarchies_with_enough_kept}
 
 -- a last count of a node is not later than another last count
-not_counted_later : (n : ℕ) (rounds : List (List ℕ)) (L : ℕ → Legs) (r x j k : ℕ) → IsLastCount n rounds L r x j → IsLastCount n rounds L r x k → k ≤ j
+not_counted_later : (n : ℕ) (rounds : List (List ℕ)) (L : ℕ → Legs) (r x j k : ℕ) → IsLastCount n rounds L r x j →
+    IsLastCount n rounds L r x k → k ≤ j
 not_counted_later n rounds L r x j k p q = elim (cases_lt j k) [
   | inl lt ↦ absurd (false≢true (sym (p.later k lt q.within) ∙ q.counted))
   | inr le ↦ le
 ]
 
 -- after some rounds a node has one last count
-one_count : (n h : ℕ) (rounds : List (List ℕ)) (L : ℕ → Legs) (r x c d : ℕ) → IsCountAfter n h rounds L r x c → IsCountAfter n h rounds L r x d → c ≡ d
+one_count : (n h : ℕ) (rounds : List (List ℕ)) (L : ℕ → Legs) (r x c d : ℕ) → IsCountAfter n h rounds L r x c →
+    IsCountAfter n h rounds L r x d → c ≡ d
 one_count n h rounds L r x c d a b =
     let le = not_counted_later n rounds L r x a.0 b.0 a.2 b.2 in
     let ge = not_counted_later n rounds L r x b.0 a.0 b.2 a.2 in
@@ -44,11 +46,15 @@ one_count n h rounds L r x c d a b =
     a.4 ∙ ap length list ∙ sym b.4
 
 -- after some rounds a node has one key
-pub one_key : (n h : ℕ) (rounds : List (List ℕ)) (L : ℕ → Legs) (r x : ℕ) (p q : ℤ) → IsKeyAfter n h rounds L r x p → IsKeyAfter n h rounds L r x q → p ≡ q
-one_key n h rounds L r x p q a b = a.2 ∙ ap (λ c. key_by Rounds c (count_touching n (L r) x) (depth_before rounds L r x)) (one_count n h rounds L r x a.0 b.0 a.1 b.1) ∙ sym b.2
+pub one_key : (n h : ℕ) (rounds : List (List ℕ)) (L : ℕ → Legs) (r x : ℕ) (p q : ℤ) → IsKeyAfter n h rounds L r x p →
+    IsKeyAfter n h rounds L r x q → p ≡ q
+one_key n h rounds L r x p q a b =
+    a.2 ∙ ap (λ c. key_by Rounds c (count_touching n (L r) x) (depth_before rounds L r x)) (one_count n h rounds L r x a.0 b.0 a.1 b.1)
+    ∙ sym b.2
 
 -- two nodes that come before each other are equal
-pub both_before : (p q : ℤ) (a b v x : ℕ) → (p ≤ℤ q) × (q ≤ℤ p → (a ≤ b) × (b ≤ a → v ≤ x)) → (q ≤ℤ p) × (p ≤ℤ q → (b ≤ a) × (a ≤ b → x ≤ v)) → v ≡ x
+pub both_before : (p q : ℤ) (a b v x : ℕ) → (p ≤ℤ q) × (q ≤ℤ p → (a ≤ b) × (b ≤ a → v ≤ x)) →
+    (q ≤ℤ p) × (p ≤ℤ q → (b ≤ a) × (a ≤ b → x ≤ v)) → v ≡ x
 both_before p q a b v x h k =
     let f = h.1 k.0 in
     let g = k.1 h.0 in
@@ -74,7 +80,8 @@ within_flip L v x near = elim near [
 ]
 
 -- the nodes of a round are apart, if each has one key
-round_apart : (IsKey : ℕ → ℤ → Type 0) (IsLeft : ℕ → Type 0) (L : Legs) (nodes : List ℕ) → ((x : ℕ) (p q : ℤ) → IsKey x p → IsKey x q → p ≡ q) → IsRound IsKey IsLeft L nodes → AreApart L nodes
+round_apart : (IsKey : ℕ → ℤ → Type 0) (IsLeft : ℕ → Type 0) (L : Legs) (nodes : List ℕ) →
+    ((x : ℕ) (p q : ℤ) → IsKey x p → IsKey x q → p ≡ q) → IsRound IsKey IsLeft L nodes → AreApart L nodes
 round_apart IsKey IsLeft L nodes one round = record {
   distinct = λ i j d lt inside e. let before = round.ordered i j d lt inside in omega arith;
   apart = λ v x p q ne near.
@@ -88,7 +95,8 @@ round_apart IsKey IsLeft L nodes one round = record {
 
 module _ {g : Network} {h : ℕ} {rounds : List (List ℕ)} {L : ℕ → Legs} (limits : IsWithinLimits g) (hops : IsHopBound h) (are : AreBegun g h rounds L) where
   -- a round within the limits is the contraction of its nodes one after the other
-  turn : (r : ℕ) → r < length rounds → AreLegsWithin g.nodes (L r) → TakesInTurn (IsStepOfRound g.nodes h (L r)) (L r) (round_at rounds r) (L (suc r))
+  turn : (r : ℕ) → r < length rounds → AreLegsWithin g.nodes (L r) →
+      TakesInTurn (IsStepOfRound g.nodes h (L r)) (L r) (round_at rounds r) (L (suc r))
   turn r lt within =
       let apart = round_apart _ _ (L r) (round_at rounds r) (one_key g.nodes h rounds L r) (are.round r lt) in
       subst (λ k. TakesInTurn (IsStepOfRound g.nodes h (L r)) (L r) (round_at rounds r) (L k)) (add-one r) (rounds_are_contractions g.nodes h (L r) (round_at rounds r) (L (r + 1)) hops within apart (are.legs r lt))

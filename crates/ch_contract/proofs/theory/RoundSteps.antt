@@ -22,9 +22,11 @@ next_most L v depth m most x = at (are_neighbours L v x) (most x) (most v)
     at false p q = omega arith
 
 -- a round raises the greatest depth by at most the number of its nodes
-pub round_most : (L : Legs) (nodes : List ℕ) (depth : ℕ → ℕ) (m : ℕ) → ((x : ℕ) → depth x ≤ m) → (x : ℕ) → depth_after_round L nodes depth x ≤ m + length nodes
+pub round_most : (L : Legs) (nodes : List ℕ) (depth : ℕ → ℕ) (m : ℕ) → ((x : ℕ) → depth x ≤ m) → (x : ℕ) →
+    depth_after_round L nodes depth x ≤ m + length nodes
 round_most L [] depth m most x = let low = most x in omega arith
-round_most L (v ∷ nodes) depth m most x = let low = round_most L nodes (next_depth L v depth) (m + 1) (next_most L v depth m most) x in omega arith
+round_most L (v ∷ nodes) depth m most x =
+    let low = round_most L nodes (next_depth L v depth) (m + 1) (next_most L v depth m most) x in omega arith
 
 -- a depth is at most the number of contracted nodes
 pub depth_most : (rounds : List (List ℕ)) (L : ℕ → Legs) (r x : ℕ) → depth_before rounds L r x ≤ length (nodes_before rounds r)
@@ -52,7 +54,8 @@ round_moved IsKey IsOther IsLeft IsRest L nodes key back left rest p = record {
 }
 
 -- rounds that agree up to a round agree up to each earlier one
-agree_less : (r k : ℕ) (rounds : List (List ℕ)) (L : ℕ → Legs) (other : List (List ℕ)) (M : ℕ → Legs) → k ≤ r → Agree r rounds L other M → Agree k rounds L other M
+agree_less : (r k : ℕ) (rounds : List (List ℕ)) (L : ℕ → Legs) (other : List (List ℕ)) (M : ℕ → Legs) → k ≤ r → Agree r rounds L other M →
+    Agree k rounds L other M
 agree_less r k rounds L other M le a = record { nodes = λ j lt. a.nodes j (omega arith); legs = λ j below. a.legs j (omega arith) }
 
 module _ (rounds : List (List ℕ)) (L : ℕ → Legs) (nodes : List ℕ) (M : Legs) where
@@ -109,11 +112,13 @@ module _ (rounds : List (List ℕ)) (L : ℕ → Legs) (nodes : List ℕ) (M : L
       λ t. not (nat_lt (10 * all t) (7 * n)) && (nat_lt (10 * past t) (7 * n) || list_any (λ v. are_neighbours (legs t) v x) (round t))
 
   -- if they are counted, this is the last count
-  pub count_anew : (n x : ℕ) → is_counted n more legs_more (suc (length rounds)) x ≡ true → IsLastCount n more legs_more (suc (length rounds)) x (suc (length rounds))
+  pub count_anew : (n x : ℕ) → is_counted n more legs_more (suc (length rounds)) x ≡ true →
+      IsLastCount n more legs_more (suc (length rounds)) x (suc (length rounds))
   count_anew n x anew = record { within = omega arith; counted = anew; later = λ k lt le. absurd (omega arith) }
 
   -- if they are not counted, the last count stays
-  pub count_kept : (n x j : ℕ) → is_counted n more legs_more (suc (length rounds)) x ≡ false → IsLastCount n rounds L (length rounds) x j → IsLastCount n more legs_more (suc (length rounds)) x j
+  pub count_kept : (n x j : ℕ) → is_counted n more legs_more (suc (length rounds)) x ≡ false → IsLastCount n rounds L (length rounds) x j →
+      IsLastCount n more legs_more (suc (length rounds)) x j
   count_kept n x j kept last = record {
     within = let le = last.within in omega arith;
     counted = sym (counted_along n 0 (length rounds) rounds L more legs_more agree x j last.within) ∙ last.counted;
@@ -125,7 +130,9 @@ module _ (rounds : List (List ℕ)) (L : ℕ → Legs) (nodes : List ℕ) (M : L
 
   module _ (g : Network) (h : ℕ) (b : AreBegun g h rounds L) (some : 0 < length nodes) (round : IsRound (IsKeyAfter g.nodes h rounds L (length rounds)) (IsLeftAfter g.nodes rounds (length rounds)) (L (length rounds)) nodes) (legs : ContractsRound g.nodes h (L (length rounds)) nodes M) where
     -- a round of the shorter list is one of the longer list
-    round_at_more : (k : ℕ) → k ≤ length rounds → (list : List ℕ) → IsRound (IsKeyAfter g.nodes h rounds L k) (IsLeftAfter g.nodes rounds k) (L k) list → IsRound (IsKeyAfter g.nodes h more legs_more k) (IsLeftAfter g.nodes more k) (legs_more k) list
+    round_at_more : (k : ℕ) → k ≤ length rounds → (list : List ℕ) →
+        IsRound (IsKeyAfter g.nodes h rounds L k) (IsLeftAfter g.nodes rounds k) (L k) list →
+        IsRound (IsKeyAfter g.nodes h more legs_more k) (IsLeftAfter g.nodes more k) (legs_more k) list
     round_at_more k le list p =
         let a = agree_less (length rounds) k rounds L more legs_more le agree in
         let back = agree_back k rounds L more legs_more a in
@@ -134,7 +141,8 @@ module _ (rounds : List (List ℕ)) (L : ℕ → Legs) (nodes : List ℕ) (M : L
         (key_along g.nodes h k rounds L more legs_more a) (key_along g.nodes h k more legs_more rounds L back) (left_along g.nodes h k rounds L more legs_more a) (left_along g.nodes h k more legs_more rounds L back) p)
 
     -- each round is one of the longer list
-    rounds_more : (k : ℕ) → k < length more → IsRound (IsKeyAfter g.nodes h more legs_more k) (IsLeftAfter g.nodes more k) (legs_more k) (round_at more k)
+    rounds_more : (k : ℕ) → k < length more →
+        IsRound (IsKeyAfter g.nodes h more legs_more k) (IsLeftAfter g.nodes more k) (legs_more k) (round_at more k)
     rounds_more k lt = elim (cases_eq k (length rounds)) [
       | inl e ↦ subst (λ z. IsRound (IsKeyAfter g.nodes h more legs_more z) (IsLeftAfter g.nodes more z) (legs_more z) (round_at more z)) (sym e)
           (subst (λ list. IsRound (IsKeyAfter g.nodes h more legs_more (length rounds)) (IsLeftAfter g.nodes more (length rounds)) (legs_more (length rounds)) list) (sym here) (round_at_more (length rounds) (omega arith) nodes round))

@@ -20,7 +20,8 @@ use Rattle.ch_contract.proofs.theory.Enough.{own_witness}
 use Rattle.ch_contract.proofs.theory.RoundLegs.{found, away_leg, StandIn, away_witness, no_leg, no_fork}
 
 -- a sum of two legs through v depends only on the legs of v
-pair_moved : (n : ℕ) (L M : Legs) (v : ℕ) (s : Shortcut) → ((x : ℕ) → (L v x ≡ M v x) × (L x v ≡ M x v)) → IsPairThrough n L v s → IsPairThrough n M v s
+pair_moved : (n : ℕ) (L M : Legs) (v : ℕ) (s : Shortcut) → ((x : ℕ) → (L v x ≡ M v x) × (L x v ≡ M x v)) → IsPairThrough n L v s →
+    IsPairThrough n M v s
 pair_moved n L M v s same is = let legs = is.legs in record {
   apart = is.apart;
   legs = (legs.0, legs.1, sym (same s.from).1 ∙ legs.2, sym (same s.to).0 ∙ legs.3, legs.4);
@@ -91,7 +92,8 @@ module _ (n h : ℕ) (L : Legs) (nodes : List ℕ) (most : 1 ≤ h) (limits : Ar
   contraction v todo M u = (lists v, are_enough v todo M u, λ x y. refl)
 
   -- the contraction of v leaves each leg between other nodes without a shortcut
-  leg_same : (v : ℕ) (M : Legs) (x y : ℕ) → x ≢ v → y ≢ v → ((s : Shortcut) → Contains (lists v) s → s.from ≡ x → s.to ≡ y → ⊥) → next_legs v M x y ≡ M x y
+  leg_same : (v : ℕ) (M : Legs) (x y : ℕ) → x ≢ v → y ≢ v → ((s : Shortcut) → Contains (lists v) s → s.from ≡ x → s.to ≡ y → ⊥) →
+      next_legs v M x y ≡ M x y
   leg_same v M x y p q none = elim (override_cases v (lists v) x y (M x y)) [
     | inl stays ↦ rw (not_eqb x v p, not_eqb y v q) stays
     | inr s ↦ absurd (none s.0 s.1 s.2 s.3)
@@ -157,11 +159,13 @@ module _ (n h : ℕ) (L : Legs) (nodes : List ℕ) (most : 1 ≤ h) (limits : Ar
   -- the nodes are contracted in turn
   in_turn : (todo : List ℕ) (M : Legs) → IsUnderway todo M → TakesInTurn (IsStepOfRound n h L) M todo (legs_in_turn todo M)
   in_turn [] M u = λ x y. refl
-  in_turn (v ∷ todo) M u = (next_legs v M, (contraction v todo M u, λ x. u.waits v x (contains_head v todo)), in_turn todo (next_legs v M) (goes_on v todo M u))
+  in_turn (v ∷ todo) M u =
+      (next_legs v M, (contraction v todo M u, λ x. u.waits v x (contains_head v todo)), in_turn todo (next_legs v M) (goes_on v todo M u))
 
   -- taking all legs out first gives the same legs as taking the legs of each node out just before its shortcuts are put
   -- in
-  away_first : (v : ℕ) (todo : List ℕ) (M : Legs) → IsUnderway (v ∷ todo) M → (x y : ℕ) → legs_away todo (next_legs v M) x y ≡ leg_after_shortcuts v (lists v) x y (legs_away (v ∷ todo) M x y)
+  away_first : (v : ℕ) (todo : List ℕ) (M : Legs) → IsUnderway (v ∷ todo) M → (x y : ℕ) →
+      legs_away todo (next_legs v M) x y ≡ leg_after_shortcuts v (lists v) x y (legs_away (v ∷ todo) M x y)
   away_first v todo M u x y = at (x == v) (is_one_of todo x) (y == v) (is_one_of todo y) refl refl refl refl
     where
       here : Contains nodes v
@@ -183,7 +187,8 @@ module _ (n h : ℕ) (L : Legs) (nodes : List ℕ) (most : 1 ≤ h) (limits : Ar
           cond (b || d) None (cond (a || c) None (leg_after_shortcuts v (lists v) x y (M x y))) ≡ leg_after_shortcuts v (lists v) x y (cond ((a || b) || (c || d)) None (M x y))
       at a true c d ea eb ec ed = off a c d (from_off (member x eb))
         where
-          off : (a c d : Bool) → None ≡ leg_after_shortcuts v (lists v) x y None → None ≡ leg_after_shortcuts v (lists v) x y (cond ((a || true) || (c || d)) None (M x y))
+          off : (a c d : Bool) → None ≡ leg_after_shortcuts v (lists v) x y None →
+              None ≡ leg_after_shortcuts v (lists v) x y (cond ((a || true) || (c || d)) None (M x y))
           off true c d e = e
           off false c d e = e
       at true false c true ea eb ec ed = to_off (member y ed)

@@ -72,7 +72,8 @@ near_or_not n L v x limits = elim (neighbours_or_not L v x) [
   ]
 ]
   where
-    between : (y : ℕ) → (are_neighbours L v y ≡ true → are_neighbours L y x ≡ true → ⊥) ⊎ ((are_neighbours L v y ≡ true → are_neighbours L y x ≡ true → ⊥) → ⊥)
+    between : (y : ℕ) →
+        (are_neighbours L v y ≡ true → are_neighbours L y x ≡ true → ⊥) ⊎ ((are_neighbours L v y ≡ true → are_neighbours L y x ≡ true → ⊥) → ⊥)
     between y = elim (neighbours_or_not L v y) [
       | inl first ↦ elim (neighbours_or_not L y x) [
         | inl second ↦ inr (λ f. f first second)
@@ -109,7 +110,8 @@ module _ (n : ℕ) (L : Legs) (limits : AreLegsWithin n L) (IsKey : ℕ → ℤ 
   ]
 
   -- there is a list of the nodes of a round
-  pub round_exists : (IsLeft : ℕ → Type 0) → ((x : ℕ) → IsLeft x ⊎ (IsLeft x → ⊥)) → ((x : ℕ) → IsLeft x → x < n) → (nodes : List ℕ) × IsRound IsKey IsLeft L nodes
+  pub round_exists : (IsLeft : ℕ → Type 0) → ((x : ℕ) → IsLeft x ⊎ (IsLeft x → ⊥)) → ((x : ℕ) → IsLeft x → x < n) →
+      (nodes : List ℕ) × IsRound IsKey IsLeft L nodes
   round_exists IsLeft left_or_not within =
       let r = chosen (λ v. IsLeft v × IsFirstAround IsKey L v) both n in
       (r.0, record { ordered = r.1; sound = λ v c. (r.2 v c).1; whole = λ v left first. r.3 v (within v left) (left, first) })
@@ -128,7 +130,8 @@ last_count : (n : ℕ) (rounds : List (List ℕ)) (L : ℕ → Legs) (r x : ℕ)
 last_count n rounds L zero x = (0, record { within = omega arith; counted = refl; later = λ k lt le. absurd (omega arith) })
 last_count n rounds L (suc r) x = at (is_counted n rounds L (suc r) x) refl (last_count n rounds L r x)
   where
-    at : (b : Bool) → is_counted n rounds L (suc r) x ≡ b → (j : ℕ) × IsLastCount n rounds L r x j → (j : ℕ) × IsLastCount n rounds L (suc r) x j
+    at : (b : Bool) → is_counted n rounds L (suc r) x ≡ b → (j : ℕ) × IsLastCount n rounds L r x j →
+        (j : ℕ) × IsLastCount n rounds L (suc r) x j
     at true e rest = (suc r, record { within = omega arith; counted = e; later = λ k lt le. absurd (omega arith) })
     at false e rest = (
       rest.0,
@@ -151,7 +154,8 @@ away_within : (n : ℕ) (nodes : List ℕ) (L : Legs) → AreLegsWithin n L → 
 away_within n nodes L limits u w l e = limits u w l (away_ends nodes L u w l e).2
 
 -- each node has a key after some rounds
-key_exists : (n h : ℕ) (rounds : List (List ℕ)) (L : ℕ → Legs) (r : ℕ) → ((k : ℕ) → k ≤ r → AreLegsWithin n (L k)) → (x : ℕ) → (p : ℤ) × IsKeyAfter n h rounds L r x p
+key_exists : (n h : ℕ) (rounds : List (List ℕ)) (L : ℕ → Legs) (r : ℕ) → ((k : ℕ) → k ≤ r → AreLegsWithin n (L k)) → (x : ℕ) →
+    (p : ℤ) × IsKeyAfter n h rounds L r x p
 key_exists n h rounds L r limits x =
     let last = last_count n rounds L r x in
     let its = limits last.0 last.1.within in
@@ -213,7 +217,8 @@ module _ (g : Network) (h : ℕ) (limits : IsWithinLimits g) (hops : IsHopBound 
         g.nodes (L (length rounds)) next_round.0 (λ y is. is.0) near_left next_round.1 x left
 
   -- rounds go on until all nodes are contracted
-  rounds_from : (k : ℕ) (rounds : List (List ℕ)) (L : ℕ → Legs) → AreBegun g h rounds L → g.nodes ≤ length (concat rounds) + k → (all : List (List ℕ)) × (M : ℕ → Legs) × AreRounds g h all M
+  rounds_from : (k : ℕ) (rounds : List (List ℕ)) (L : ℕ → Legs) → AreBegun g h rounds L → g.nodes ≤ length (concat rounds) + k →
+      (all : List (List ℕ)) × (M : ℕ → Legs) × AreRounds g h all M
   rounds_from zero rounds L b enough =
       let apart = nodes_apart b in
       let most = distinct_most (concat rounds) g.nodes apart.1 apart.0 in
@@ -235,7 +240,8 @@ module _ (g : Network) (h : ℕ) (limits : IsWithinLimits g) (hops : IsHopBound 
   rounds_exist = rounds_from g.nodes [] (λ r. opening g) (begun_none g h) (omega arith)
 
   -- a node is in one round
-  one_round_of : {rounds : List (List ℕ)} {L : ℕ → Legs} → AreRounds g h rounds L → (r k x : ℕ) → r < length rounds → k < length rounds → Contains (round_at rounds r) x → Contains (round_at rounds k) x → r ≡ k
+  one_round_of : {rounds : List (List ℕ)} {L : ℕ → Legs} → AreRounds g h rounds L → (r k x : ℕ) → r < length rounds → k < length rounds →
+      Contains (round_at rounds r) x → Contains (round_at rounds k) x → r ≡ k
   one_round_of {rounds = rounds} are r k x lr lk a b = elim (cases_lt r k) [
     | inl sooner ↦ absurd ((left (begun_of are) k x lk b).1 (round_before rounds r k x sooner a))
     | inr no_sooner ↦ elim (cases_lt k r) [
@@ -261,7 +267,8 @@ module _ (g : Network) (h : ℕ) (limits : IsWithinLimits g) (hops : IsHopBound 
         let at = taken_at g.nodes (concat rounds) x once lt in
         (at.0 + 1, λ i li e. let same : at.0 ≡ i = one_place once at.0 i at.1 li (at.2 ∙ sym e) in omega arith))
       where
-        one_place : (length (concat rounds) ≡ g.nodes) × All (λ v. v < g.nodes) (concat rounds) × AllPairs ◌≢◌ (concat rounds) → (i j : ℕ) → i < g.nodes → j < g.nodes → slice_index (concat rounds) i ≡ slice_index (concat rounds) j → i ≡ j
+        one_place : (length (concat rounds) ≡ g.nodes) × All (λ v. v < g.nodes) (concat rounds) × AllPairs ◌≢◌ (concat rounds) → (i j : ℕ) →
+            i < g.nodes → j < g.nodes → slice_index (concat rounds) i ≡ slice_index (concat rounds) j → i ≡ j
         one_place once i j li lj e =
             let size = once.0 in
             elim (cases_lt i j) [

@@ -15,7 +15,8 @@ module _ (order : List ℕ) (v : ℕ) (left : Contains order v → ⊥) where
   apart i lt e = left (subst (Contains order) e (Contains-get_or order i 0 lt))
 
   -- the levels after one more node gets its level
-  pub levels_more : (L : ℕ → Legs) (M : Legs) (levels after : List ℕ) → v < length levels → after ≡ slice_set levels v (length order + 1) → AreLevels order levels → AreLevels (order ++ v ∷ []) after
+  pub levels_more : (L : ℕ → Legs) (M : Legs) (levels after : List ℕ) → v < length levels → after ≡ slice_set levels v (length order + 1) →
+      AreLevels order levels → AreLevels (order ++ v ∷ []) after
   levels_more L M levels after within e are i lt = elim (cases_eq i (length order)) [
     | inl last ↦ subst (λ z. slice_index after (slice_index (more order L v M) z) ≡ z + 1) (sym last)
         (ap (slice_index after) (here order L v M) ∙ ap (λ l. slice_index l v) e ∙ get_or-set_same levels v (length order + 1) 0 within)
@@ -26,7 +27,9 @@ module _ (order : List ℕ) (v : ℕ) (left : Contains order v → ⊥) where
   ]
 
   -- the rows after one more node gets its row
-  pub rows_more : (R : Legs → ℕ → List Leg → Type 0) (L : ℕ → Legs) (M : Legs) (rows after : ℕ → List Leg) → R (L (length order)) v (after v) → ((x : ℕ) → x ≢ v → after x ≡ rows x) → AreRowsBy R order L rows → AreRowsBy R (order ++ v ∷ []) (then_legs (length order) L M) after
+  pub rows_more : (R : Legs → ℕ → List Leg → Type 0) (L : ℕ → Legs) (M : Legs) (rows after : ℕ → List Leg) →
+      R (L (length order)) v (after v) → ((x : ℕ) → x ≢ v → after x ≡ rows x) → AreRowsBy R order L rows →
+      AreRowsBy R (order ++ v ∷ []) (then_legs (length order) L M) after
   rows_more R L M rows after is same are i lt = elim (cases_eq i (length order)) [
     | inl last ↦
         let two = subst (λ (N : Legs). R N v (after v)) (sym (now order L v M)) is in

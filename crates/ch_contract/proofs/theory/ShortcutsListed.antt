@@ -105,14 +105,16 @@ module _ (n h : ℕ) (L W : Legs) (v : ℕ) (limits : AreLegsWithin n L) (leads 
   decided : (u w : ℕ) → IsDecided (IsShortcutAmong n h L W v) u w
   decided u w = first (L u v) refl
     where
-      both : (a b : Label) → L u v ≡ Some a → L v w ≡ Some b → (s : Shortcut) → s.from ≡ u → s.to ≡ w → IsShortcutAmong n h L W v s → s.cost ≡ cost_sum a.cost b.cost
+      both : (a b : Label) → L u v ≡ Some a → L v w ≡ Some b → (s : Shortcut) → s.from ≡ u → s.to ≡ w → IsShortcutAmong n h L W v s →
+          s.cost ≡ cost_sum a.cost b.cost
       both a b ea eb s from to is =
           let legs = is.pair.legs in
           let one = same_Some legs.0 a (sym legs.2 ∙ ap (λ z. L z v) from ∙ ea) in
           let two = same_Some legs.1 b (sym legs.3 ∙ ap (L v) to ∙ eb) in
           legs.4 ∙ (λ i. cost_sum (one i).cost (two i).cost)
 
-      last : (a b : Label) → L u v ≡ Some a → L v w ≡ Some b → u ≢ w → (cost_sum a.cost b.cost).weight ≤ MOST_WEIGHT → (cost_sum a.cost b.cost).arcs < n → IsDecided (IsShortcutAmong n h L W v) u w
+      last : (a b : Label) → L u v ≡ Some a → L v w ≡ Some b → u ≢ w → (cost_sum a.cost b.cost).weight ≤ MOST_WEIGHT →
+          (cost_sum a.cost b.cost).arcs < n → IsDecided (IsShortcutAmong n h L W v) u w
       last a b ea eb ne weight arcs = elim (witness_or_none n W v u w (cost_sum a.cost b.cost) h ne (limits u v a ea).ends.2 leads) [
         | inl witness ↦ inr (λ s from to is.
             let cost = both a b ea eb s from to is in
@@ -147,7 +149,8 @@ module _ (n h : ℕ) (L W : Legs) (v : ℕ) (limits : AreLegsWithin n L) (leads 
       (r.0, record { ordered = r.1; sound = r.2; whole = r.3 })
 
 -- there is a list of the shortcuts of a node, with witnesses among the same legs
-pub shortcuts_listed : (n h : ℕ) (L : Legs) (v : ℕ) → AreLegsWithin n L → LeadsWithin n L → (list : List Shortcut) × AreShortcuts n h L v list
+pub shortcuts_listed : (n h : ℕ) (L : Legs) (v : ℕ) → AreLegsWithin n L → LeadsWithin n L →
+    (list : List Shortcut) × AreShortcuts n h L v list
 shortcuts_listed n h L v limits leads =
     let r = shortcuts_among n h L L v limits leads in (
       r.0,

@@ -17,7 +17,8 @@ use Rattle.ch_contract.proofs.theory.OneContraction.{IsOneContraction, old_or_sh
 -- steps
 abbrev pub IsMade : Network → List ℕ → (ℕ → Legs) → ℕ → ℕ → ℕ → Cost → Option ℕ → Type 0
 IsMade g order L i u w c None = (c.arcs ≡ 1) × Contains g.arcs (arc u w c.weight)
-IsMade g order L i u w c (Some v) = (j : ℕ) × (j < i) × (slice_index order j ≡ v) × (a b : Label) × (L j u v ≡ Some a) × (L j v w ≡ Some b) × (c ≡ cost_sum a.cost b.cost)
+IsMade g order L i u w c (Some v) =
+    (j : ℕ) × (j < i) × (slice_index order j ≡ v) × (a b : Label) × (L j u v ≡ Some a) × (L j v w ≡ Some b) × (c ≡ cost_sum a.cost b.cost)
 
 -- a leg after i steps: within the limits, away from the nodes contracted so far, and made of arcs
 pub record IsStepLeg (g : Network) (order : List ℕ) (L : ℕ → Legs) (i u w : ℕ) (l : Label) : Type 0 where
@@ -27,7 +28,8 @@ pub record IsStepLeg (g : Network) (order : List ℕ) (L : ℕ → Legs) (i u w 
   pub made : IsMade g order L i u w l.cost l.middle
 
 -- a leg that was made within the first i steps was made within the first i + 1
-made_later : (g : Network) (order : List ℕ) (L : ℕ → Legs) (i u w : ℕ) (c : Cost) (m : Option ℕ) → IsMade g order L i u w c m → IsMade g order L (suc i) u w c m
+made_later : (g : Network) (order : List ℕ) (L : ℕ → Legs) (i u w : ℕ) (c : Cost) (m : Option ℕ) → IsMade g order L i u w c m →
+    IsMade g order L (suc i) u w c m
 made_later g order L i u w c None h = h
 made_later g order L i u w c (Some v) h = (h.0, omega (arith, h.1), h.2, h.3, h.4, h.5, h.6, h.7)
 
@@ -63,7 +65,8 @@ module _ {g : Network} {h : ℕ} {order : List ℕ} {L : ℕ → Legs} {m : ℕ}
       })
 
   -- a node that is not the node of step i and none of those before is none of the first i + 1
-  left_next : (i x : ℕ) → x ≢ slice_index order i → ((j : ℕ) → j < i → slice_index order j ≢ x) → (j : ℕ) → j < suc i → slice_index order j ≢ x
+  left_next : (i x : ℕ) → x ≢ slice_index order i → ((j : ℕ) → j < i → slice_index order j ≢ x) → (j : ℕ) → j < suc i →
+      slice_index order j ≢ x
   left_next i x ne before j below = elim (cases_eq j i) [
     | inl last ↦ subst (λ k. slice_index order k ≢ x) (sym last) (λ same. ne (sym same))
     | inr sooner ↦ before j (omega arith)

@@ -66,14 +66,18 @@ module _ {g : Network} {h : ℕ} {H : LevelsAndLegs} {order : List ℕ} {L : ℕ
 
   -- the ends of a leg after i steps remain after i steps
   ends_after : (i u w : ℕ) (l : Label) → i ≤ g.nodes → L i u w ≡ Some l → IsAfter order i u × IsAfter order i w
-  ends_after i u w l le e = let leg = step_leg (contraction built) i le u w l e in ((λ j lt. (leg.left j lt).0), (λ j lt. (leg.left j lt).1))
+  ends_after i u w l le e =
+      let leg = step_leg (contraction built) i le u w l e in ((λ j lt. (leg.left j lt).0), (λ j lt. (leg.left j lt).1))
 
   -- for each least walk between nodes that remain after i steps, there are paths that meet
   abbrev IsClimbed : ℕ → Type 0
-  IsClimbed i = (s t : ℕ) (c : Cost) → s < g.nodes → t < g.nodes → IsAfter order i s → IsAfter order i t → IsLeast g s t c → HasMeetingPaths H s t c
+  IsClimbed i =
+      (s t : ℕ) (c : Cost) → s < g.nodes → t < g.nodes → IsAfter order i s → IsAfter order i t → IsLeast g s t c → HasMeetingPaths H s t c
 
   -- the case of a walk from the node of step i: its first leg leads up, and the rest is a least walk
-  from_lowest : (i t : ℕ) (c : Cost) → i < g.nodes → t < g.nodes → slice_index order i < g.nodes → IsClimbed (suc i) → slice_index order i ≢ t → IsAfter order i (slice_index order i) → IsAfter order i t → IsLeast g (slice_index order i) t c → HasMeetingPaths H (slice_index order i) t c
+  from_lowest : (i t : ℕ) (c : Cost) → i < g.nodes → t < g.nodes → slice_index order i < g.nodes → IsClimbed (suc i) →
+      slice_index order i ≢ t → IsAfter order i (slice_index order i) → IsAfter order i t → IsLeast g (slice_index order i) t c →
+      HasMeetingPaths H (slice_index order i) t c
   from_lowest i t c lt below_t below_v climbed ne p q least =
       let chain = least_chain (contraction built) i (omega arith) (slice_index order i) t c below_t p q least in
       at chain.0 chain.1 chain.2
@@ -93,7 +97,9 @@ module _ {g : Network} {h : ℕ} {H : LevelsAndLegs} {order : List ℕ} {L : ℕ
           subst (HasMeetingPaths H v t) (sym sum) (up_first H v t (leg_at x m.0) _ (up_leg built i x m.0 lt m.1) goes)
 
   -- the case of a walk to the node of step i: its last leg leads down, and the part before it is a least walk
-  to_lowest : (i s : ℕ) (c : Cost) → i < g.nodes → s < g.nodes → slice_index order i < g.nodes → IsClimbed (suc i) → slice_index order i ≢ s → IsAfter order i s → IsAfter order i (slice_index order i) → IsLeast g s (slice_index order i) c → HasMeetingPaths H s (slice_index order i) c
+  to_lowest : (i s : ℕ) (c : Cost) → i < g.nodes → s < g.nodes → slice_index order i < g.nodes → IsClimbed (suc i) →
+      slice_index order i ≢ s → IsAfter order i s → IsAfter order i (slice_index order i) → IsLeast g s (slice_index order i) c →
+      HasMeetingPaths H s (slice_index order i) c
   to_lowest i s c lt below_s below_v climbed ne p q least =
       let chain = least_chain (contraction built) i (omega arith) s (slice_index order i) c below_v p q least in
       at chain.0 chain.1 chain.2

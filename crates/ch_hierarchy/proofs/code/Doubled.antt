@@ -17,7 +17,8 @@ lessened_none D known none = record {
 }
 
 -- two steps towards the least, one after the other
-pub lessened_twice : (D E F : ℕ → Type 0) (a b c : Option ℕ) → IsLessened D a b → IsLessened E b c → ((q : ℕ) → F q → D q ⊎ E q) → ((q : ℕ) → D q → F q) → ((q : ℕ) → E q → F q) → IsLessened F a c
+pub lessened_twice : (D E F : ℕ → Type 0) (a b c : Option ℕ) → IsLessened D a b → IsLessened E b c → ((q : ℕ) → F q → D q ⊎ E q) →
+    ((q : ℕ) → D q → F q) → ((q : ℕ) → E q → F q) → IsLessened F a c
 lessened_twice D E F a b c x y split left right = record {
   is = λ p e. elim (y.is p e) [ inl was ↦ elim (x.is p was) [ inl known ↦ inl known | inr d ↦ inr (left p d) ] | inr d ↦ inr (right p d) ];
   covers_known = λ q e. (let r = x.covers_known q e in let s = y.covers_known r.0 r.1 in let l = r.2 in let m = s.2 in (s.0, s.1, omega arith));
@@ -50,7 +51,8 @@ module _ (row : List Placed) (sorted : AreRising row) where
       ]
 
   -- for each double there is an earlier entry with the same higher node
-  pub double_before : (p : ℕ) → IsDouble row p → (a b : Placed) × Contains row a × Contains row b × (a.higher ≡ b.higher) × (a.place < b.place) × (b.place ≡ p)
+  pub double_before : (p : ℕ) → IsDouble row p →
+      (a b : Placed) × Contains row a × Contains row b × (a.higher ≡ b.higher) × (a.place < b.place) × (b.place ≡ p)
   double_before p h = (
     get_or row h.0 h.1,
     get_or row (h.0 + 1) h.1,
@@ -78,7 +80,8 @@ IsTwinBelow entries i p =
 
 -- one of the first i entries has these two nodes
 abbrev pub IsMet : List Placed → ℕ → ℕ → ℕ → Type 0
-IsMet entries i lower higher = (j : ℕ) × (d : Placed) × (j < i) × (j < length entries) × ((get_or entries j d).lower ≡ lower) × ((get_or entries j d).higher ≡ higher)
+IsMet entries i lower higher =
+    (j : ℕ) × (d : Placed) × (j < i) × (j < length entries) × ((get_or entries j d).lower ≡ lower) × ((get_or entries j d).higher ≡ higher)
 
 -- for each lower node, the higher node of its last entry among the first i, or n if there is none
 pub record AreLast (n : ℕ) (entries : List Placed) (i : ℕ) (last : List ℕ) : Type 0 where
@@ -89,7 +92,8 @@ pub record AreLast (n : ℕ) (entries : List Placed) (i : ℕ) (last : List ℕ)
 -- the entries of each lower node are by higher node, and at equal higher nodes by place
 module _ (n : ℕ) (entries : List Placed) (order : AreInOrder entries) (below : (e : Placed) → Contains entries e → IsPlacedBelow n e) where
   -- along the entries of one lower node, higher nodes never fall
-  never_falls : (i j : ℕ) (d : Placed) → i ≤ j → j < length entries → (get_or entries i d).lower ≡ (get_or entries j d).lower → (get_or entries i d).higher ≤ (get_or entries j d).higher
+  never_falls : (i j : ℕ) (d : Placed) → i ≤ j → j < length entries → (get_or entries i d).lower ≡ (get_or entries j d).lower →
+      (get_or entries i d).higher ≤ (get_or entries j d).higher
   never_falls i j d le lt same = elim (cases_lt i j) [
     | inl less ↦ elim (order i j d less lt same) [ inl rise ↦ omega arith | inr even ↦ (let e = even.0 in omega arith) ]
     | inr ge ↦ (let one : i ≡ j = omega arith in let e = ap (λ k. (get_or entries k d).higher) one in omega arith)
@@ -108,11 +112,13 @@ module _ (n : ℕ) (entries : List Placed) (order : AreInOrder entries) (below :
     nodes = below (get_or entries i e) (Contains-get_or entries i e within)
 
     -- if the last higher node is that of this entry, an earlier entry has the same two nodes
-    pub met_before : slice_index last (get_or entries i e).lower ≡ (get_or entries i e).higher → IsMet entries i (get_or entries i e).lower (get_or entries i e).higher
+    pub met_before : slice_index last (get_or entries i e).lower ≡ (get_or entries i e).higher →
+        IsMet entries i (get_or entries i e).lower (get_or entries i e).higher
     met_before same = (let b = nodes in subst (IsMet entries i (get_or entries i e).lower) same (are.met (get_or entries i e).lower b.0 (let h = b.1 in omega arith)))
 
     -- if the last higher node is another, no earlier entry has both nodes
-    pub none_before : (slice_index last (get_or entries i e).lower ≡ (get_or entries i e).higher → ⊥) → IsMet entries i (get_or entries i e).lower (get_or entries i e).higher → ⊥
+    pub none_before : (slice_index last (get_or entries i e).lower ≡ (get_or entries i e).higher → ⊥) →
+        IsMet entries i (get_or entries i e).lower (get_or entries i e).higher → ⊥
     none_before other m =
         let b = nodes in
         let top = are.most (get_or entries i e).lower (get_or entries i e).higher b.0 m in
@@ -131,10 +137,12 @@ module _ (n : ℕ) (entries : List Placed) (order : AreInOrder entries) (below :
       most = λ v h lt m. most v h lt m (cases_eq v (get_or entries i e).lower);
     }
       where
-        same_at : (v : ℕ) → v ≡ (get_or entries i e).lower → slice_index (set last (get_or entries i e).lower (get_or entries i e).higher) v ≡ (get_or entries i e).higher
+        same_at : (v : ℕ) → v ≡ (get_or entries i e).lower →
+            slice_index (set last (get_or entries i e).lower (get_or entries i e).higher) v ≡ (get_or entries i e).higher
         same_at v is = ap (slice_index (set last (get_or entries i e).lower (get_or entries i e).higher)) is ∙ get_or-set_same last (get_or entries i e).lower (get_or entries i e).higher 0 (let b = nodes in let low = b.0 in omega (arith, are.size, low))
 
-        other_at : (v : ℕ) → (v ≡ (get_or entries i e).lower → ⊥) → slice_index (set last (get_or entries i e).lower (get_or entries i e).higher) v ≡ slice_index last v
+        other_at : (v : ℕ) → (v ≡ (get_or entries i e).lower → ⊥) →
+            slice_index (set last (get_or entries i e).lower (get_or entries i e).higher) v ≡ slice_index last v
         other_at v ne = get_or-set_other last (get_or entries i e).lower v (get_or entries i e).higher 0 ne
 
         met : (v : ℕ) → v < n → slice_index (set last (get_or entries i e).lower (get_or entries i e).higher) v < n → (v ≡ (get_or entries i e).lower) ⊎ (v ≡ (get_or entries i e).lower → ⊥) →
@@ -161,7 +169,9 @@ module _ (n : ℕ) (entries : List Placed) (order : AreInOrder entries) (below :
             ]
 
     -- the least place after an entry that has a twin
-    pub twin_met : (a b c : Option ℕ) → IsMet entries i (get_or entries i e).lower (get_or entries i e).higher → IsLessened (IsTwinBelow entries i) a b → IsLessened (λ q. q ≡ (get_or entries i e).place) b c → IsLessened (IsTwinBelow entries (i + 1)) a c
+    pub twin_met : (a b c : Option ℕ) → IsMet entries i (get_or entries i e).lower (get_or entries i e).higher →
+        IsLessened (IsTwinBelow entries i) a b → IsLessened (λ q. q ≡ (get_or entries i e).place) b c →
+        IsLessened (IsTwinBelow entries (i + 1)) a c
     twin_met a b c m p q = lessened_twice (IsTwinBelow entries i) (λ r. r ≡ (get_or entries i e).place) (IsTwinBelow entries (i + 1)) a b c p q
         (λ r t. elim (cases_lt t.1 i) [
           | inl less ↦ inl (t.0, t.1, t.2, t.3, less, t.5, t.6, t.7, t.8)
@@ -171,7 +181,8 @@ module _ (n : ℕ) (entries : List Placed) (order : AreInOrder entries) (below :
         (λ r is. (m.0, i, e, m.2, omega arith, within, ap (λ (z : Placed). z.lower) (get_or_default entries m.0 e m.1 m.3) ∙ m.4, ap (λ (z : Placed). z.higher) (get_or_default entries m.0 e m.1 m.3) ∙ m.5, sym is))
 
     -- the least place after an entry that has no twin
-    pub none_more : (a b : Option ℕ) → (IsMet entries i (get_or entries i e).lower (get_or entries i e).higher → ⊥) → IsLessened (IsTwinBelow entries i) a b → IsLessened (IsTwinBelow entries (i + 1)) a b
+    pub none_more : (a b : Option ℕ) → (IsMet entries i (get_or entries i e).lower (get_or entries i e).higher → ⊥) →
+        IsLessened (IsTwinBelow entries i) a b → IsLessened (IsTwinBelow entries (i + 1)) a b
     none_more a b none p = record {
       is = λ r k. elim (p.is r k) [ inl was ↦ inl was | inr t ↦ inr (t.0, t.1, t.2, t.3, (let low = t.4 in omega arith), t.5, t.6, t.7, t.8) ];
       covers_known = p.covers_known;

@@ -35,7 +35,8 @@ one_level n order levels i h lt free =
     }
 
 -- if the next node already has a level, it came before in the order, so the order has it twice
-pub came_before : (n : ℕ) (order levels : List ℕ) (i : ℕ) → HasLevels n order levels i → i < length order → (get_or levels (get_or order i 0) 0 ≡ 0 → ⊥) → IsOrderOf n order → ⊥
+pub came_before : (n : ℕ) (order levels : List ℕ) (i : ℕ) → HasLevels n order levels i → i < length order →
+    (get_or levels (get_or order i 0) 0 ≡ 0 → ⊥) → IsOrderOf n order → ⊥
 came_before n order levels i h lt taken is =
     let m = h.marked (get_or order i 0) (omega (arith, pos (get_or levels (get_or order i 0) 0) taken)) in
     is.distinct m.0 i m.1 lt m.2
@@ -44,7 +45,8 @@ came_before n order levels i h lt taken is =
     pos k ne = elim (cases_eq k 0) [ inl z ↦ absurd (ne z) | inr _ ↦ elim (cases_lt 0 k) [ inl p ↦ p | inr q ↦ absurd (ne (omega arith)) ] ]
 
 -- at the end all nodes have levels
-pub all_levels : (n : ℕ) (order levels : List ℕ) (i : ℕ) → HasLevels n order levels i → length order ≡ n → length order ≤ i → IsOrderOf n order × AreLevelsOf order levels
+pub all_levels : (n : ℕ) (order levels : List ℕ) (i : ℕ) → HasLevels n order levels i → length order ≡ n → length order ≤ i →
+    IsOrderOf n order × AreLevelsOf order levels
 all_levels n order levels i h count end = (
   record {
     count = count;

@@ -31,7 +31,8 @@ module _ (low high : SavedLeg → ℕ) (levels : List ℕ) (legs : List SavedLeg
   }
 
   -- an entry is determined by its place
-  same_entry : (e : Placed) (i : ℕ) → IsPlacedBy low high levels legs e → e.place ≡ i → record { lower = low (get_or legs i no_saved_leg); higher = high (get_or legs i no_saved_leg); place = i } ≡ e
+  same_entry : (e : Placed) (i : ℕ) → IsPlacedBy low high levels legs e → e.place ≡ i →
+      record { lower = low (get_or legs i no_saved_leg); higher = high (get_or legs i no_saved_leg); place = i } ≡ e
   same_entry e i is same = λ k. record {
     lower = (ap (λ j. low (get_or legs j no_saved_leg)) (sym same) ∙ sym is.1) k;
     higher = (ap (λ j. high (get_or legs j no_saved_leg)) (sym same) ∙ sym is.2) k;
@@ -70,15 +71,18 @@ module _ (low high : SavedLeg → ℕ) (levels : List ℕ) (legs : List SavedLeg
   }
 
   -- the entries of all legs
-  pub placed_all : (i : ℕ) (entries : List Placed) → length legs ≤ i → ArePlacedBefore low high levels legs i entries → ArePlaced low high levels legs entries × AllPairs IsEarlier entries
+  pub placed_all : (i : ℕ) (entries : List Placed) → length legs ≤ i → ArePlacedBefore low high levels legs i entries →
+      ArePlaced low high levels legs entries × AllPairs IsEarlier entries
   placed_all i entries le p = (λ e. (λ h. (p.sound e h).0, λ is. p.whole e is (let lt = is.0 in omega arith)), p.order)
 
   -- the sorted entries are entries of the same legs
-  pub placed_sorted : (entries sorted : List Placed) → ArePlaced low high levels legs entries → IsSortOf entries sorted → ArePlaced low high levels legs sorted
+  pub placed_sorted : (entries sorted : List Placed) → ArePlaced low high levels legs entries → IsSortOf entries sorted →
+      ArePlaced low high levels legs sorted
   placed_sorted entries sorted placed s e = (λ h. (placed e).0 ((s.each e).0 h), λ is. (s.each e).1 ((placed e).1 is))
 
   -- if the legs are between nodes below n, so are the entries
-  pub placed_below : (n : ℕ) (entries : List Placed) → ArePlaced low high levels legs entries → ((l : SavedLeg) → Contains legs l → (low l < n) × (high l < n)) → (e : Placed) → Contains entries e → IsPlacedBelow n e
+  pub placed_below : (n : ℕ) (entries : List Placed) → ArePlaced low high levels legs entries →
+      ((l : SavedLeg) → Contains legs l → (low l < n) × (high l < n)) → (e : Placed) → Contains entries e → IsPlacedBelow n e
   placed_below n entries placed below e h =
       let is = (placed e).0 h in
       let b = below (get_or legs e.place no_saved_leg) (Contains-get_or legs e.place no_saved_leg is.0) in
@@ -111,7 +115,8 @@ module _ (low high : SavedLeg → ℕ) (levels : List ℕ) (legs : List SavedLeg
 module _ (n : ℕ) (order levels : List ℕ) (is : IsOrderOf n order) (are : AreLevelsOf order levels) (legs : List SavedLeg) (ups downs : List Placed)
     (joins : (l : SavedLeg) → Contains legs l → JoinsNodes n l) (up : ArePlaced from_of to_of levels legs ups) (down : ArePlaced to_of from_of levels legs downs) where
   -- a leg whose pair occurred before is a twin
-  pub stood_twin : (i j : ℕ) → i < j → j < length legs → IsSamePair (get_or legs i no_saved_leg) (get_or legs j no_saved_leg) → IsTwin ups j ⊎ IsTwin downs j
+  pub stood_twin : (i j : ℕ) → i < j → j < length legs → IsSamePair (get_or legs i no_saved_leg) (get_or legs j no_saved_leg) →
+      IsTwin ups j ⊎ IsTwin downs j
   stood_twin i j lt within same =
       let l = get_or legs j no_saved_leg in
       let nodes = joins l (Contains-get_or legs j no_saved_leg within) in
@@ -141,7 +146,9 @@ module _ (legs : List SavedLeg) (end : ℕ) (within : end ≤ length legs) where
   at_fair i l lt at = get_or-take end legs i no_saved_leg lt ∙ get_or_from_slice_get legs i l no_saved_leg at
 
   -- a twin among them has a faulty pair
-  twin_fault : (n : ℕ) (p : ℕ) → (i : ℕ) × (i < p) × (p < length (take end legs)) × IsSamePair (get_or (take end legs) i no_saved_leg) (get_or (take end legs) p no_saved_leg) → HasPairFault n legs p
+  twin_fault : (n : ℕ) (p : ℕ) →
+      (i : ℕ) × (i < p) × (p < length (take end legs)) × IsSamePair (get_or (take end legs) i no_saved_leg) (get_or (take end legs) p no_saved_leg) →
+      HasPairFault n legs p
   twin_fault n p t =
       let size = fair_length in
       let less = t.1 in
@@ -157,14 +164,16 @@ module _ (n : ℕ) (legs : List SavedLeg) where
   end_within None all = omega arith
   end_within (Some k) first = let lt = first.within in omega arith
 
-  pub fair_join : (faulty : Option ℕ) → EndsAt n legs faulty → (l : SavedLeg) → Contains (take (unwrap_or faulty (length legs)) legs) l → JoinsNodes n l
+  pub fair_join : (faulty : Option ℕ) → EndsAt n legs faulty → (l : SavedLeg) → Contains (take (unwrap_or faulty (length legs)) legs) l →
+      JoinsNodes n l
   fair_join None all l h = all l (subst (λ q. Contains q l) (take_all (length legs) legs (omega arith)) h)
   fair_join (Some k) first l h =
       let size = fair_length legs k (let lt = first.within in omega arith) in
       let less = h.1 in
       subst (JoinsNodes n) (sym (get_or-take k legs h.0 l (omega arith)) ∙ h.2) (first.before h.0 l (omega arith))
 
-  pub fair_joins : (faulty : Option ℕ) (end : ℕ) → EndsAt n legs faulty → end ≡ unwrap_or faulty (length legs) → (l : SavedLeg) → Contains (take end legs) l → JoinsNodes n l
+  pub fair_joins : (faulty : Option ℕ) (end : ℕ) → EndsAt n legs faulty → end ≡ unwrap_or faulty (length legs) → (l : SavedLeg) →
+      Contains (take end legs) l → JoinsNodes n l
   fair_joins faulty end ends is l h = fair_join faulty ends l (subst (λ e. Contains (take e legs) l) is h)
 
   -- the leg at the end does not join nodes
@@ -172,7 +181,8 @@ module _ (n : ℕ) (legs : List SavedLeg) where
   end_fault k first = (get_or legs k no_saved_leg, slice_get-get_or legs k no_saved_leg first.within, inl (first.fails no_saved_leg))
 
   -- a leg that does not join nodes is not before the end
-  end_covers : (faulty : Option ℕ) → EndsAt n legs faulty → (j : ℕ) (l : SavedLeg) → slice_get legs j ≡ Some l → (JoinsNodes n l → ⊥) → (k : ℕ) × (faulty ≡ Some k) × (k ≤ j)
+  end_covers : (faulty : Option ℕ) → EndsAt n legs faulty → (j : ℕ) (l : SavedLeg) → slice_get legs j ≡ Some l → (JoinsNodes n l → ⊥) →
+      (k : ℕ) × (faulty ≡ Some k) × (k ≤ j)
   end_covers None all j l at bad = absurd (bad (all l (j, slice_get_within legs j l at, get_or_from_slice_get legs j l l at)))
   end_covers (Some k) first j l at bad = elim (cases_lt j k) [
     | inl lt ↦ absurd (bad (subst (JoinsNodes n) (get_or_from_slice_get legs j l l at) (first.before j l lt)))
@@ -185,7 +195,8 @@ module _ (n : ℕ) (legs : List SavedLeg) where
   past_end (Some k) j lt le = (k, refl, le)
 
   -- if each leg joins nodes, the first legs are all legs
-  all_fair : (faulty : Option ℕ) → EndsAt n legs faulty → faulty ≡ None → ((l : SavedLeg) → Contains legs l → JoinsNodes n l) × (take (unwrap_or faulty (length legs)) legs ≡ legs)
+  all_fair : (faulty : Option ℕ) → EndsAt n legs faulty → faulty ≡ None →
+      ((l : SavedLeg) → Contains legs l → JoinsNodes n l) × (take (unwrap_or faulty (length legs)) legs ≡ legs)
   all_fair None all e = (all, take_all (length legs) legs (omega arith))
   all_fair (Some k) first e = absurd (none-some k (sym e))
 
@@ -287,8 +298,10 @@ module _ (n : ℕ) (order levels : List ℕ) (is : IsOrderOf n order) (are : Are
       at (Some k) e = absurd (never k (covers_end k e))
 
 -- if the legs make pairs, none has a faulty pair
-pub no_pair_fault : (n : ℕ) (order levels : List ℕ) → IsOrderOf n order → AreLevelsOf order levels → (legs : List SavedLeg) (ups downs : List Placed) → ArePairs n levels legs ups downs → (i : ℕ) → HasPairFault n legs i → ⊥
-no_pair_fault n order levels is are legs ups downs pairs i (l, at, inl bad) = bad (pairs.joins l (i, slice_get_within legs i l at, get_or_from_slice_get legs i l l at))
+pub no_pair_fault : (n : ℕ) (order levels : List ℕ) → IsOrderOf n order → AreLevelsOf order levels →
+    (legs : List SavedLeg) (ups downs : List Placed) → ArePairs n levels legs ups downs → (i : ℕ) → HasPairFault n legs i → ⊥
+no_pair_fault n order levels is are legs ups downs pairs i (l, at, inl bad) =
+    bad (pairs.joins l (i, slice_get_within legs i l at, get_or_from_slice_get legs i l l at))
 no_pair_fault n order levels is are legs ups downs pairs i (l, at, inr (j, k, less, there, same)) =
     pairs_once n order levels is are legs ups downs pairs.joins pairs.up.placed pairs.down.placed (λ p t. elim t [ inl up ↦ pairs.up.single p up | inr down ↦ pairs.down.single p down ]) j i l less (slice_get_within legs i l at)
     (subst (λ (q : SavedLeg). IsSamePair q (get_or legs i l)) (sym (get_or_from_slice_get legs j k l there)) (subst (IsSamePair k) (sym (get_or_from_slice_get legs i l l at)) same))
@@ -296,4 +309,5 @@ no_pair_fault n order levels is are legs ups downs pairs i (l, at, inr (j, k, le
 -- the entries of pairs are within the nodes and the list
 pub side_below : (n : ℕ) (low high : SavedLeg → ℕ) (levels : List ℕ) (legs : List SavedLeg) (entries : List Placed) → IsSide low high levels legs entries → ((l : SavedLeg) → Contains legs l → (low l < n) × (high l < n)) →
     (e : Placed) → Contains entries e → (e.lower < n) × (e.place < length legs)
-side_below n low high levels legs entries side ends e h = ((placed_below low high levels legs n entries side.placed ends e h).0, ((side.placed e).0 h).0)
+side_below n low high levels legs entries side ends e h =
+    ((placed_below low high levels legs n entries side.placed ends e h).0, ((side.placed e).0 h).0)

@@ -114,11 +114,13 @@ module _ (n : ℕ) (low high : SavedLeg → ℕ) (levels : List ℕ) (legs : Lis
       subst (λ q. Contains q (leg_of legs e)) (sym here) (contains_map (leg_of legs) (get_or rows (low l) []) e has)
 
 -- a leg is determined by its parts
-same_saved : (l : SavedLeg) (u w : ℕ) (c : Cost) (m : Option ℕ) → l.from ≡ u → l.to ≡ w → l.cost ≡ c → l.middle ≡ m → l ≡ record { from = u; to = w; cost = c; middle = m }
+same_saved : (l : SavedLeg) (u w : ℕ) (c : Cost) (m : Option ℕ) → l.from ≡ u → l.to ≡ w → l.cost ≡ c → l.middle ≡ m →
+    l ≡ record { from = u; to = w; cost = c; middle = m }
 same_saved l u w c m a b d e = λ i. record { from = a i; to = b i; cost = d i; middle = e i }
 
 -- the legs with a key are those of the entries with that key
-leg_values : (legs : List SavedLeg) (v : ℕ) (entries : List Placed) → values_of v (map (keyed_leg legs) entries) ≡ map (leg_of legs) (values_of v (map (with_key lower_of) entries))
+leg_values : (legs : List SavedLeg) (v : ℕ) (entries : List Placed) →
+    values_of v (map (keyed_leg legs) entries) ≡ map (leg_of legs) (values_of v (map (with_key lower_of) entries))
 leg_values legs v [] = refl
 leg_values legs v (e ∷ entries) = at (e.lower == v) (filter (λ (p : ℕ × Leg). p.0 == v) (map (keyed_leg legs) entries)) (filter (λ (p : ℕ × Placed). p.0 == v) (map (with_key lower_of) entries)) (leg_values legs v entries)
   where
@@ -246,5 +248,6 @@ rows_name g s n order levels levels' legs ups ups' downs downs' up down small no
     (subst (λ q. AreRowsOf n (map (keyed_leg legs) q) up) same_ups x) (subst (λ q. AreRowsOf n (map (keyed_leg legs) q) down) same_downs y) in
     (subst (λ q. NamesHierarchy q H) (same_saved_lists order legs s a b) named.0, named.1 ∙ nodes)
   where
-    same_saved_lists : (order : List ℕ) (legs : List SavedLeg) (s : OrderAndLegs) → order ≡ s.order → legs ≡ s.legs → record { order = order; legs = legs } ≡ s
+    same_saved_lists : (order : List ℕ) (legs : List SavedLeg) (s : OrderAndLegs) → order ≡ s.order → legs ≡ s.legs →
+        record { order = order; legs = legs } ≡ s
     same_saved_lists order legs s a b = λ i. record { order = a i; legs = b i }

@@ -43,7 +43,8 @@ module _ (levels : List ℕ) (are : AreLevels levels) where
   node_of_rank_in r lt = let v = node_of_level levels are (length levels - (r + 1)) (omega arith) in (v.0, v.1, omega (arith, v.2))
 
   -- one more node is at its rank
-  pub one_by_rank : (nodes : List ℕ) (k : ℕ) → HasByRank levels nodes k → k < length levels → HasByRank levels (set nodes (rank_in levels k) k) (k + 1)
+  pub one_by_rank : (nodes : List ℕ) (k : ℕ) → HasByRank levels nodes k → k < length levels →
+      HasByRank levels (set nodes (rank_in levels k) k) (k + 1)
   one_by_rank nodes k has lt = record {
     count = length-set nodes (rank_in levels k) k ∙ has.count;
     each = λ v less. elim (cases_lt v k) [
@@ -99,10 +100,13 @@ module _ (levels nodes : List ℕ) (ups downs : List (List Leg)) (rows : List (L
   both = (rows ++ a ∷ []) ++ b ∷ []
 
   old : (i : ℕ) → i < length rows → get_or both i [] ≡ get_or rows i []
-  old i lt = get_or_append_left (rows ++ a ∷ []) (b ∷ []) [] i (let long = length_push rows a in omega arith) ∙ get_or_append_left rows (a ∷ []) [] i lt
+  old i lt =
+      get_or_append_left (rows ++ a ∷ []) (b ∷ []) [] i (let long = length_push rows a in omega arith)
+      ∙ get_or_append_left rows (a ∷ []) [] i lt
 
   -- one more node adds two rows
-  pub more_ranked_rows : a ≡ map (ranked_in levels) (row ups v) → b ≡ map (ranked_in levels) (row downs v) → AreRankedRows levels (nodes ++ v ∷ []) ups downs both
+  pub more_ranked_rows : a ≡ map (ranked_in levels) (row ups v) → b ≡ map (ranked_in levels) (row downs v) →
+      AreRankedRows levels (nodes ++ v ∷ []) ups downs both
   more_ranked_rows up down =
       let some = are.count in
       let one = length_push rows a in

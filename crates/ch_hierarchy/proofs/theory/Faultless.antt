@@ -44,7 +44,8 @@ module _ (g : Network) (H : LevelsAndLegs) where
 
   -- whether a leg is what its middle says is decided
   founded_decided : (u w : ℕ) (c : Cost) (m : Option ℕ) → Decided (IsFounded g H u w c m)
-  founded_decided u w c None = decided_both _ _ (cases_eq c.arcs 1) (contains_arc_decided g.arcs (record { from = u; to = w; weight = c.weight }))
+  founded_decided u w c None =
+      decided_both _ _ (cases_eq c.arcs 1) (contains_arc_decided g.arcs (record { from = u; to = w; weight = c.weight }))
   founded_decided u w c (Some v) =
       decided_same (HasOne (BeginsSum v u w c) (row H.down v)) (IsFounded g H u w c (Some v))
       (λ (a, ha, (from, (b, hb, (to, sum)))). (a, b, ha, from, hb, to, sum))

@@ -36,7 +36,8 @@ module _ (rows : List (List Leg)) where
   BeginsWithOne b legs c = (l : Leg) × Contains legs l × Begins b l c
 
   -- the least of these costs, from the least costs of the paths after each leg
-  least_of_legs : (b : ℕ) (legs : List Leg) → ((l : Leg) → Contains legs l → LeastOrNone (IsPathCost l.node b)) → LeastOrNone (BeginsWithOne b legs)
+  least_of_legs : (b : ℕ) (legs : List Leg) → ((l : Leg) → Contains legs l → LeastOrNone (IsPathCost l.node b)) →
+      LeastOrNone (BeginsWithOne b legs)
   least_of_legs b [] on = inr (λ c h. contains_none h.0 h.1)
   least_of_legs b (l ∷ legs) on =
       least_among (λ c. Begins b l c ⊎ BeginsWithOne b legs c) (BeginsWithOne b (l ∷ legs)) to from
@@ -70,7 +71,8 @@ module _ (rows : List (List Leg)) where
   begun a b c (inr (l, has, (x, y, first, (legs, path, cost), sum))) =
       (l ∷ legs, (has, path), path_cost-cons l legs ∙ (λ i. cost_sum (sym first i) (cost i)) ∙ sum)
 
-  begins : (a b : ℕ) (legs : List Leg) → IsUpwardPath rows a b legs → StaysFor a b (path_cost legs) ⊎ BeginsWithOne b (row rows a) (path_cost legs)
+  begins : (a b : ℕ) (legs : List Leg) → IsUpwardPath rows a b legs →
+      StaysFor a b (path_cost legs) ⊎ BeginsWithOne b (row rows a) (path_cost legs)
   begins a b [] p = inl (p, refl)
   begins a b (l ∷ legs) p = inr (l, p.0, (l.cost, path_cost legs, refl, (legs, p.1, refl), sym (path_cost-cons l legs)))
 
@@ -95,14 +97,17 @@ module _ (rows : List (List Leg)) where
     ]
 
   -- a path that begins at a node ends at a node
-  ends_below : (n : ℕ) → ((v : ℕ) (l : Leg) → Contains (row rows v) l → l.node < n) → (a b : ℕ) (legs : List Leg) → IsUpwardPath rows a b legs → a < n → b < n
+  ends_below : (n : ℕ) → ((v : ℕ) (l : Leg) → Contains (row rows v) l → l.node < n) → (a b : ℕ) (legs : List Leg) →
+      IsUpwardPath rows a b legs → a < n → b < n
   ends_below n within a b [] p lt = subst (λ q. q < n) p lt
   ends_below n within a b (l ∷ legs) p lt = ends_below n within l.node b legs p.1 (within a l p.0)
 
 module _ (H : LevelsAndLegs) (is : IsLevelled H) where
   -- there is a least path in such rows, or there is none
-  least_in : (rows : List (List Leg)) → AreLegsUp H rows → (a b : ℕ) → ((c : Cost) × IsLeastUpwardPath rows a b c) ⊎ ((c : Cost) → IsLeastUpwardPath rows a b c → ⊥)
-  least_in rows are = least_path rows (slice_index H.level) (nodes_of H) (level_most H is) (λ v l has. (leg_of_rows H rows are v l has).higher)
+  least_in : (rows : List (List Leg)) → AreLegsUp H rows → (a b : ℕ) →
+      ((c : Cost) × IsLeastUpwardPath rows a b c) ⊎ ((c : Cost) → IsLeastUpwardPath rows a b c → ⊥)
+  least_in rows are =
+      least_path rows (slice_index H.level) (nodes_of H) (level_most H is) (λ v l has. (leg_of_rows H rows are v l has).higher)
 
   module _ (s t : ℕ) (most : Cost) where
     -- going up to m and down from there costs at most `most`

@@ -39,7 +39,8 @@ rises_along g rows walk a b (l ∷ legs) p =
 -- if each leg of a row is a walk to the row's node, each path along the rows is a walk back
 pub falls_along : (g : Network) (rows : List (List Leg)) → ((v : ℕ) (l : Leg) → Contains (row rows v) l → IsWalkCost g l.node v l.cost) →
     (a b : ℕ) (legs : List Leg) → IsUpwardPath rows a b legs → IsWalkCost g b a (path_cost legs)
-falls_along g rows walk a b legs p = walk_turned g b a _ (rises_along (turned_graph g) rows (λ v l has. turned_walk g l.node v l.cost (walk v l has)) a b legs p)
+falls_along g rows walk a b legs p =
+    walk_turned g b a _ (rises_along (turned_graph g) rows (λ v l has. turned_walk g l.node v l.cost (walk v l has)) a b legs p)
 
 module _ (H : LevelsAndLegs) where
   -- the legs lead from s to t, over nodes of level at least k
@@ -137,10 +138,12 @@ module _ (g : Network) (H : LevelsAndLegs) (kept : IsKept g H) where
   -- the nodes of an upward path have at least the level of its start
   pub up_high : (k a b : ℕ) (legs : List Leg) → IsUpwardPath H.up a b legs → k ≤ slice_index H.level a → IsHighPath H k a b legs
   up_high k a b [] p low = (p, subst (λ q. k ≤ slice_index H.level q) p low)
-  up_high k a b (l ∷ legs) p low = let higher = (up_leg a l p.0).higher in ((l, refl, refl, inl (p.0, refl)), low, up_high k l.node b legs p.1 (omega arith))
+  up_high k a b (l ∷ legs) p low =
+      let higher = (up_leg a l p.0).higher in ((l, refl, refl, inl (p.0, refl)), low, up_high k l.node b legs p.1 (omega arith))
 
   -- an upward path along the down rows is a path back, whose nodes have at least the level of its end
-  pub down_high : (k t m : ℕ) (legs : List Leg) → IsUpwardPath H.down t m legs → k ≤ slice_index H.level t → HasPathOfCost H k m t (path_cost legs)
+  pub down_high : (k t m : ℕ) (legs : List Leg) → IsUpwardPath H.down t m legs → k ≤ slice_index H.level t →
+      HasPathOfCost H k m t (path_cost legs)
   down_high k t m [] p low = record { legs = []; is_path = (sym p, low); cost = refl }
   down_high k t m (l ∷ legs) p low =
       let higher = (down_leg t l p.0).higher in
@@ -155,7 +158,8 @@ module _ (g : Network) (H : LevelsAndLegs) (kept : IsKept g H) where
       }
 
   -- going up and then down gives a path whose nodes have at least the level of the lower end
-  pub meeting_high : (k s t m : ℕ) (c : Cost) → IsMeeting H s t m c → k ≤ slice_index H.level s → k ≤ slice_index H.level t → HasHighPath H k s t c
+  pub meeting_high : (k s t m : ℕ) (c : Cost) → IsMeeting H s t m c → k ≤ slice_index H.level s → k ≤ slice_index H.level t →
+      HasHighPath H k s t c
   meeting_high k s t m c h ls lt =
       let up = h.2.path in
       let down = h.3.path in

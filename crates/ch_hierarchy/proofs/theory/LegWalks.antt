@@ -60,8 +60,10 @@ module _ (g : Network) (H : LevelsAndLegs) (kept : IsKept g H) where
 
   -- each leg is a walk of its cost
   pub leg_walk : (u w : ℕ) (c : Cost) (middle : Option ℕ) → IsLeg H u w c middle → IsWalkCost g u w c
-  leg_walk u w c middle (l, cost, same, inl (has, node)) = subst (IsWalkCost g u w) cost (subst (λ q. IsWalkCost g u q l.cost) node (up_walk u l has))
-  leg_walk u w c middle (l, cost, same, inr (has, node)) = subst (IsWalkCost g u w) cost (subst (λ q. IsWalkCost g q w l.cost) node (down_walk w l has))
+  leg_walk u w c middle (l, cost, same, inl (has, node)) =
+      subst (IsWalkCost g u w) cost (subst (λ q. IsWalkCost g u q l.cost) node (up_walk u l has))
+  leg_walk u w c middle (l, cost, same, inr (has, node)) =
+      subst (IsWalkCost g u w) cost (subst (λ q. IsWalkCost g q w l.cost) node (down_walk w l has))
 
   -- an upward path is a walk
   pub rises : (a b : ℕ) (legs : List Leg) → IsUpwardPath H.up a b legs → IsWalkCost g a b (path_cost legs)

@@ -12,7 +12,8 @@ use Rattle.ch_hierarchy.proofs.theory.Ordered.{every_number}
 use Rattle.ch_hierarchy.proofs.theory.SavedLevels.{level_of, order_of}
 
 -- each level is that of a node, for a list of levels
-pub node_of_level : (levels : List ℕ) → AreLevels levels → (i : ℕ) → i < length levels → (v : ℕ) × (v < length levels) × (slice_index levels v ≡ i + 1)
+pub node_of_level : (levels : List ℕ) → AreLevels levels → (i : ℕ) → i < length levels →
+    (v : ℕ) × (v < length levels) × (slice_index levels v ≡ i + 1)
 node_of_level levels are i lt =
     let n : ℕ = length levels in
     let apart : (y : ℕ) → Contains levels y → 0 ≢ y = λ y c e. (let l = (All-contains (λ l. (1 ≤ l) × (l ≤ n)) levels y are.0 c).0 in omega arith) in

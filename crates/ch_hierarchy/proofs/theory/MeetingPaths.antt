@@ -53,7 +53,8 @@ turned_paths H s t c p = record {
 }
 
 -- an up leg in front of paths that meet
-pub up_first : (H : LevelsAndLegs) (s t : ℕ) (l : Leg) (c : Cost) → Contains (row H.up s) l → HasMeetingPaths H l.node t c → HasMeetingPaths H s t (cost_sum l.cost c)
+pub up_first : (H : LevelsAndLegs) (s t : ℕ) (l : Leg) (c : Cost) → Contains (row H.up s) l → HasMeetingPaths H l.node t c →
+    HasMeetingPaths H s t (cost_sum l.cost c)
 up_first H s t l c has r = record {
   node = r.node;
   ups = l ∷ r.ups;
@@ -65,7 +66,8 @@ up_first H s t l c has r = record {
 }
 
 -- a down leg after paths that meet
-pub down_last : (H : LevelsAndLegs) (s t : ℕ) (l : Leg) (c : Cost) → Contains (row H.down t) l → HasMeetingPaths H s l.node c → HasMeetingPaths H s t (cost_sum c l.cost)
+pub down_last : (H : LevelsAndLegs) (s t : ℕ) (l : Leg) (c : Cost) → Contains (row H.down t) l → HasMeetingPaths H s l.node c →
+    HasMeetingPaths H s t (cost_sum c l.cost)
 down_last H s t l c has r =
     subst (HasMeetingPaths H s t) (cost_sum_comm l.cost c)
     (turned_paths (turned_hierarchy H) t s _ (up_first (turned_hierarchy H) t s l c has (turned_paths H s l.node c r)))
@@ -76,7 +78,8 @@ IsAbove H k v = k < slice_index H.level v
 
 module _ (g : Network) (H : LevelsAndLegs) (kept : IsKept g H) where
   -- a leg down and a leg up lead back to the same node, or a path over higher nodes costs no more
-  over_lower : (k s m t : ℕ) (c d : Cost) → Falls H s m c → Rises H m t d → IsAbove H k s → IsAbove H k t → (s ≡ t) ⊎ HasHighPath H (k + 1) s t (cost_sum c d)
+  over_lower : (k s m t : ℕ) (c d : Cost) → Falls H s m c → Rises H m t d → IsAbove H k s → IsAbove H k t →
+      (s ≡ t) ⊎ HasHighPath H (k + 1) s t (cost_sum c d)
   over_lower k s m t c d fall rise above_s above_t =
       let a = fall.0 in
       let b = rise.0 in
@@ -116,7 +119,8 @@ module _ (g : Network) (H : LevelsAndLegs) (kept : IsKept g H) where
       ]
 
   -- for a path over nodes of level at least k, with ends above k, there is one above k that costs no more
-  above_level : (k s t : ℕ) (legs : List Leg) → IsHighPath H k s t legs → IsAbove H k s → IsAbove H k t → HasHighPath H (k + 1) s t (path_cost legs)
+  above_level : (k s t : ℕ) (legs : List Leg) → IsHighPath H k s t legs → IsAbove H k s → IsAbove H k t →
+      HasHighPath H (k + 1) s t (path_cost legs)
   above_level k s t [] h above_s above_t = record { legs = []; is_path = (h.0, omega arith); cheap = IsAtMost_refl no_cost }
   above_level k s t (x ∷ []) h above_s above_t = record {
     legs = x ∷ [];
@@ -149,13 +153,15 @@ module _ (g : Network) (H : LevelsAndLegs) (kept : IsKept g H) where
   AreMatched k = (s t : ℕ) (legs : List Leg) → IsHighPath H k s t legs → HasMeetingPaths H s t (path_cost legs)
 
   -- the case where both ends are above level k
-  between_higher : (k s t : ℕ) → AreMatched (k + 1) → (legs : List Leg) → IsHighPath H k s t legs → IsAbove H k s → IsAbove H k t → HasMeetingPaths H s t (path_cost legs)
+  between_higher : (k s t : ℕ) → AreMatched (k + 1) → (legs : List Leg) → IsHighPath H k s t legs → IsAbove H k s → IsAbove H k t →
+      HasMeetingPaths H s t (path_cost legs)
   between_higher k s t higher legs h above_s above_t =
       let path = above_level k s t legs h above_s above_t in
       meeting_paths_within H s t _ _ path.cheap (higher s t path.legs path.is_path)
 
   -- the case where the start is above level k, and the last leg may lead down to level k
-  from_higher : (k s t : ℕ) → AreMatched (k + 1) → (legs : List Leg) → IsHighPath H k s t legs → IsAbove H k s → HasMeetingPaths H s t (path_cost legs)
+  from_higher : (k s t : ℕ) → AreMatched (k + 1) → (legs : List Leg) → IsHighPath H k s t legs → IsAbove H k s →
+      HasMeetingPaths H s t (path_cost legs)
   from_higher k s t higher [] h above_s = between_higher k s t higher [] h above_s (subst (IsAbove H k) h.0 above_s)
   from_higher k s t higher (x ∷ xs) h above_s = elim (cases_lt k (slice_index H.level t)) [
     | inl above_t ↦ between_higher k s t higher (x ∷ xs) h above_s above_t

@@ -66,7 +66,8 @@ module _ (n : ℕ) (order : List ℕ) (is : IsOrderOf n order) where
 
   -- in the end all nodes have their levels
   levels_there : (levels : List ℕ) × AreLevelsOf order levels
-  levels_there = let all = levels_before n (omega arith) in (all.0, (all_levels n order all.0 n all.1 is.count (let c = is.count in omega arith)).1)
+  levels_there =
+      let all = levels_before n (omega arith) in (all.0, (all_levels n order all.0 n all.1 is.count (let c = is.count in omega arith)).1)
 
 module _ (n : ℕ) (low high : SavedLeg → ℕ) (levels : List ℕ) (legs : List SavedLeg) where
   -- the entries of the first legs
@@ -77,7 +78,8 @@ module _ (n : ℕ) (low high : SavedLeg → ℕ) (levels : List ℕ) (legs : Lis
       let next : i + 1 ≡ suc i = omega arith in
       subst (λ k. (entries : List Placed) × ArePlacedBefore low high levels legs k entries) next (one_more i rest.0 rest.1 (omega arith))
     where
-      one_more : (i : ℕ) (old : List Placed) → ArePlacedBefore low high levels legs i old → i < length legs → (new : List Placed) × ArePlacedBefore low high levels legs (i + 1) new
+      one_more : (i : ℕ) (old : List Placed) → ArePlacedBefore low high levels legs i old → i < length legs →
+          (new : List Placed) × ArePlacedBefore low high levels legs (i + 1) new
       one_more i old before lt =
           let e : Placed = record { lower = low (get_or legs i no_saved_leg); higher = high (get_or legs i no_saved_leg); place = i } in
           elim (cases_lt (slice_index levels e.lower) (slice_index levels e.higher)) [

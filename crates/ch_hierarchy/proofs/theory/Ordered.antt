@@ -11,7 +11,8 @@ use Rattle.ch_graph.proofs.Lists.{contains_head, contains_tail, contains_cons, c
 
 module _ {X : Type 0} (R : X → X → Type 0) where
   -- two lists in strict order with the same members are equal
-  pub ordered_same : ((x y : X) → R x y → R y x → ⊥) → (xs ys : List X) → AllPairs R xs → AllPairs R ys → ((z : X) → Contains xs z → Contains ys z) → ((z : X) → Contains ys z → Contains xs z) → xs ≡ ys
+  pub ordered_same : ((x y : X) → R x y → R y x → ⊥) → (xs ys : List X) → AllPairs R xs → AllPairs R ys →
+      ((z : X) → Contains xs z → Contains ys z) → ((z : X) → Contains ys z → Contains xs z) → xs ≡ ys
   ordered_same strict [] [] p q f g = refl
   ordered_same strict [] (y ∷ ys) p q f g = absurd (contains_none y (g y (contains_head y ys)))
   ordered_same strict (x ∷ xs) [] p q f g = absurd (contains_none x (f x (contains_head x xs)))

@@ -58,7 +58,8 @@ module _ (g : Network) (s : OrderAndLegs) where
   ]
 
   -- the least place of the first kind that occurs is the first fault
-  pub first_at : (f : CheckFault) → HasNoneBelow (kind f) → HasFault g s f → ((p : ℕ) → p < place f → HasFault g s (fault_of (kind f) p) → ⊥) → IsFirstFault g s f
+  pub first_at : (f : CheckFault) → HasNoneBelow (kind f) → HasFault g s f →
+      ((p : ℕ) → p < place f → HasFault g s (fault_of (kind f) p) → ⊥) → IsFirstFault g s f
   first_at f below has least = record {
     has = has;
     first = λ e before h. elim before [
@@ -84,7 +85,8 @@ module _ (g : Network) (s : OrderAndLegs) where
   ]
 
 -- the ends of a leg are two nodes
-leg_joins : (s : OrderAndLegs) (H : LevelsAndLegs) → NamesHierarchy s H → (u w : ℕ) (c : Cost) (m : Option ℕ) → IsLeg H u w c m → (u < nodes_of H) × (w < nodes_of H) × (u ≢ w)
+leg_joins : (s : OrderAndLegs) (H : LevelsAndLegs) → NamesHierarchy s H → (u w : ℕ) (c : Cost) (m : Option ℕ) → IsLeg H u w c m →
+    (u < nodes_of H) × (w < nodes_of H) × (u ≢ w)
 leg_joins s H names u w c m (l, cost, middle, inl (has, is)) =
     let up = All-contains (IsLegUp H u) (row H.up u) l (names.levelled.up.1 u).1 has in (
       in_row_below H.up (nodes_of H) u l names.levelled.up.0 has,
@@ -99,7 +101,8 @@ leg_joins s H names u w c m (l, cost, middle, inr (has, is)) =
     )
 
 -- the cost of a leg is within the limits
-leg_bounded : (s : OrderAndLegs) (H : LevelsAndLegs) → NamesHierarchy s H → (u w : ℕ) (c : Cost) (m : Option ℕ) → IsLeg H u w c m → (c.weight ≤ MOST_WEIGHT) × (c.arcs < nodes_of H)
+leg_bounded : (s : OrderAndLegs) (H : LevelsAndLegs) → NamesHierarchy s H → (u w : ℕ) (c : Cost) (m : Option ℕ) → IsLeg H u w c m →
+    (c.weight ≤ MOST_WEIGHT) × (c.arcs < nodes_of H)
 leg_bounded s H names u w c m (l, cost, middle, inl (has, is)) =
     let up = All-contains (IsLegUp H u) (row H.up u) l (names.levelled.up.1 u).1 has in
     subst (λ (q : Cost). (q.weight ≤ MOST_WEIGHT) × (q.arcs < nodes_of H)) cost (up.weight, up.arcs)
@@ -108,8 +111,10 @@ leg_bounded s H names u w c m (l, cost, middle, inr (has, is)) =
     subst (λ (q : Cost). (q.weight ≤ MOST_WEIGHT) × (q.arcs < nodes_of H)) cost (up.weight, up.arcs)
 
 -- a leg at a place is a leg of the hierarchy
-pub leg_stands : (s : OrderAndLegs) (H : LevelsAndLegs) → NamesHierarchy s H → (i : ℕ) (l : SavedLeg) → slice_get s.legs i ≡ Some l → IsLeg H l.from l.to l.cost l.middle
-leg_stands s H names i l at = (names.legs l.from l.to l.cost l.middle).1 (i, slice_get_within s.legs i l at, get_or_from_slice_get s.legs i l l at)
+pub leg_stands : (s : OrderAndLegs) (H : LevelsAndLegs) → NamesHierarchy s H → (i : ℕ) (l : SavedLeg) → slice_get s.legs i ≡ Some l →
+    IsLeg H l.from l.to l.cost l.middle
+leg_stands s H names i l at =
+    (names.legs l.from l.to l.cost l.middle).1 (i, slice_get_within s.legs i l at, get_or_from_slice_get s.legs i l l at)
 
 -- what names a hierarchy among the graph's nodes has no early fault
 module _ (g : Network) (s : OrderAndLegs) (H : LevelsAndLegs) (named : NamesFor g s H) where
@@ -117,13 +122,15 @@ module _ (g : Network) (s : OrderAndLegs) (H : LevelsAndLegs) (named : NamesFor 
   no_order h = h (subst (λ n. IsOrderOf n s.order) named.1 (order_of s.order H.level named.0.levels))
 
   no_pair : (p : ℕ) → HasPairFault g.nodes s.legs p → ⊥
-  no_pair p (l, at, inl bad) = bad (subst (λ n. JoinsNodes n l) named.1 (leg_joins s H named.0 l.from l.to l.cost l.middle (leg_stands s H named.0 p l at)))
+  no_pair p (l, at, inl bad) =
+      bad (subst (λ n. JoinsNodes n l) named.1 (leg_joins s H named.0 l.from l.to l.cost l.middle (leg_stands s H named.0 p l at)))
   no_pair p (l, at, inr (j, k, less, there, same)) =
       named.0.once j p l less (slice_get_within s.legs p l at)
       (subst (λ (q : SavedLeg). IsSamePair q (get_or s.legs p l)) (sym (get_or_from_slice_get s.legs j k l there)) (subst (IsSamePair k) (sym (get_or_from_slice_get s.legs p l l at)) same))
 
   no_bound : (p : ℕ) → HasFault g s (Bound p) → ⊥
-  no_bound p (l, at, bad) = bad (subst (λ n. IsWithinBounds n l) named.1 (leg_bounded s H named.0 l.from l.to l.cost l.middle (leg_stands s H named.0 p l at)))
+  no_bound p (l, at, bad) =
+      bad (subst (λ n. IsWithinBounds n l) named.1 (leg_bounded s H named.0 l.from l.to l.cost l.middle (leg_stands s H named.0 p l at)))
 
   pub none_early : HasNoneBelow g s 3
   none_early = none_more g s 2 (none_more g s 1 (none_more g s 0 (none_below g s) (λ p h. no_order h)) no_pair) no_bound
@@ -214,7 +221,8 @@ module _ (g : Network) (s : OrderAndLegs) where
   assembles_no_memory = answers_no_memory (NamesFor g s) IsEarlyFirst one_named one_early not_early
 
   -- an error that `assemble` passes on
-  pub assembles_refused : (r : Result LevelsAndLegs CheckError) (e : CheckError) → IsErrAnd r (λ x. x ≡ e) → ((f : CheckFault) → e ≡ Fault f → IsEarlyFirst f) → Assembles r
+  pub assembles_refused : (r : Result LevelsAndLegs CheckError) (e : CheckError) → IsErrAnd r (λ x. x ≡ e) →
+      ((f : CheckFault) → e ≡ Fault f → IsEarlyFirst f) → Assembles r
   assembles_refused (Ok x) e is h = absurd is
   assembles_refused (Err x) (Fault f) is h = subst (λ (q : CheckError). Assembles (Err q)) (sym is) (assembles_fault f (h f refl))
   assembles_refused (Err x) NoMemory is h = subst (λ (q : CheckError). Assembles (Err q)) (sym is) assembles_no_memory
@@ -239,7 +247,8 @@ module _ (g : Network) (s : OrderAndLegs) where
   checks_no_memory = answers_no_memory (NamesKept g s) (IsFirstFault g s) one_kept (one_first g s) not_first
 
   -- an error that `check` passes on
-  pub checks_refused : (r : Result LevelsAndLegs CheckError) (e : CheckError) → IsErrAnd r (λ x. x ≡ e) → ((f : CheckFault) → e ≡ Fault f → IsFirstFault g s f) → Checks r
+  pub checks_refused : (r : Result LevelsAndLegs CheckError) (e : CheckError) → IsErrAnd r (λ x. x ≡ e) →
+      ((f : CheckFault) → e ≡ Fault f → IsFirstFault g s f) → Checks r
   checks_refused (Ok x) e is h = absurd is
   checks_refused (Err x) (Fault f) is h = subst (λ (q : CheckError). Checks (Err q)) (sym is) (checks_fault f (h f refl))
   checks_refused (Err x) NoMemory is h = subst (λ (q : CheckError). Checks (Err q)) (sym is) checks_no_memory
@@ -259,9 +268,11 @@ module _ (g : Network) (s : OrderAndLegs) (n : ℕ) (order : List ℕ) (legs : L
   pair_there i h = subst (λ m. HasPairFault m legs i) (sym a) (subst (λ l. HasPairFault g.nodes l i) (sym c) h)
 
   pub pair_fault : IsOrderOf n order → (i : ℕ) → IsFirstPairFault n legs i → IsEarlyFirst g s (Pair i)
-  pair_fault is i first = (omega arith, first_at g s (Pair i) (below_pairs is) (pair_here i first.has) (λ p lt h. first.first p lt (pair_there p h)))
+  pair_fault is i first =
+      (omega arith, first_at g s (Pair i) (below_pairs is) (pair_here i first.has) (λ p lt h. first.first p lt (pair_there p h)))
 
-  pub bound_fault : IsOrderOf n order → ((i : ℕ) → HasPairFault n legs i → ⊥) → (i : ℕ) → IsFirstFailing (IsWithinBounds n) legs i → IsEarlyFirst g s (Bound i)
+  pub bound_fault : IsOrderOf n order → ((i : ℕ) → HasPairFault n legs i → ⊥) → (i : ℕ) → IsFirstFailing (IsWithinBounds n) legs i →
+      IsEarlyFirst g s (Bound i)
   bound_fault is none i first = (
     omega arith,
     first_at g s (Bound i) (none_more g s 1 (below_pairs is) (λ p h. none p (pair_there p h)))

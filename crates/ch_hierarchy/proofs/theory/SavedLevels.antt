@@ -43,7 +43,8 @@ module _ (n : ℕ) (order levels : List ℕ) (is : IsOrderOf n order) (are : Are
   )
 
   -- of two different nodes one is higher
-  pub one_is_higher : (u w : ℕ) → u < n → w < n → (u ≡ w → ⊥) → (slice_index levels u < slice_index levels w) ⊎ (slice_index levels w < slice_index levels u)
+  pub one_is_higher : (u w : ℕ) → u < n → w < n → (u ≡ w → ⊥) →
+      (slice_index levels u < slice_index levels w) ⊎ (slice_index levels w < slice_index levels u)
   one_is_higher u w low high ne =
       let a = level_of u low in
       let b = level_of w high in

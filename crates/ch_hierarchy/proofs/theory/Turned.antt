@@ -43,7 +43,8 @@ walk_turned g s t c w = subst (λ k. IsWalkCost k s t c) (turned_twice g) (turne
 
 -- a least cost is the least cost in the other direction too
 pub turned_least : (g : Network) (s t : ℕ) (c : Cost) → IsLeast g s t c → IsLeast (turned_graph g) t s c
-turned_least g s t c l = IsLeast-from (turned_graph g) t s c (turned_walk g s t c l.walk) (λ d w. IsLeast-IsAtMost g s t c d l (walk_turned g s t d w))
+turned_least g s t c l =
+    IsLeast-from (turned_graph g) t s c (turned_walk g s t c l.walk) (λ d w. IsLeast-IsAtMost g s t c d l (walk_turned g s t d w))
 
 pub least_turned : (g : Network) (s t : ℕ) (c : Cost) → IsLeast (turned_graph g) t s c → IsLeast g s t c
 least_turned g s t c l = subst (λ k. IsLeast k s t c) (turned_twice g) (turned_least (turned_graph g) t s c l)
@@ -71,7 +72,8 @@ turned_leg H u w c m (l, cost, same, inl up) = (l, cost, same, inr up)
 turned_leg H u w c m (l, cost, same, inr down) = (l, cost, same, inl down)
 
 -- a leg that is founded is founded in the other direction
-turned_founded : (g : Network) (H : LevelsAndLegs) (u w : ℕ) (c : Cost) (m : Option ℕ) → IsFounded g H u w c m → IsFounded (turned_graph g) (turned_hierarchy H) w u c m
+turned_founded : (g : Network) (H : LevelsAndLegs) (u w : ℕ) (c : Cost) (m : Option ℕ) → IsFounded g H u w c m →
+    IsFounded (turned_graph g) (turned_hierarchy H) w u c m
 turned_founded g H u w c None f = (f.0, contains_map turned_arc g.arcs (record { from = u; to = w; weight = c.weight }) f.1)
 turned_founded g H u w c (Some v) f = (f.1, f.0, f.4, f.5, f.2, f.3, f.6 ∙ cost_sum_comm f.0.cost f.1.cost)
 

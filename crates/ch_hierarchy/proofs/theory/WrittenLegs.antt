@@ -115,7 +115,8 @@ module _ (H : LevelsAndLegs) (is : IsLevelled H) where
         (at_lower (get_or order i d) k hk) (at_lower (get_or order j d) l hl))
 
     -- each leg is written
-    leg_written : (u w : ℕ) (c : Cost) (m : Option ℕ) → IsLeg H u w c m → Contains (flat_map (legs_at H) order) (record { from = u; to = w; cost = c; middle = m })
+    leg_written : (u w : ℕ) (c : Cost) (m : Option ℕ) → IsLeg H u w c m →
+        Contains (flat_map (legs_at H) order) (record { from = u; to = w; cost = c; middle = m })
     leg_written u w c m (l, cost, middle, inl (has, node)) =
         let v = stands u (in_row_below H.up (nodes_of H) u l is.up.0 has) in
         let piece = Contains-append_left (map (leg_up u) (row H.up u)) (map (leg_down u) (row H.down u)) (leg_up u l) (contains_map (leg_up u) (row H.up u) l has) in

@@ -48,7 +48,8 @@ clean_at_first n states x twice known queue items len capacity = record {
 }
 
 -- a copy of the list of touched states lists the same states
-pub listed_alike : (best : List (Option Cost)) (xs ys : Vec ℕ Global) → IsTouched best xs → ys.items ≡ xs.items → vec_len ys ≡ vec_len xs → vec_capacity ys ≡ vec_capacity xs → IsTouched best ys
+pub listed_alike : (best : List (Option Cost)) (xs ys : Vec ℕ Global) → IsTouched best xs → ys.items ≡ xs.items → vec_len ys ≡ vec_len xs →
+    vec_capacity ys ≡ vec_capacity xs → IsTouched best ys
 listed_alike best xs ys t items len capacity = record {
   room = (let room = t.room in omega arith);
   count = len ∙ t.count;
@@ -68,7 +69,8 @@ one_less n x y state sizes known queue items len capacity = record {
 }
 
 -- in a clean search no node has a cost
-pub clean_costs : (H : LevelsAndLegs) (side : Side) (x : WeightSearch) → IsCleanFor (nodes_of H) x → IsLevelled H → (v : ℕ) → cost_at (side_costs H side x) v ≡ None
+pub clean_costs : (H : LevelsAndLegs) (side : Side) (x : WeightSearch) → IsCleanFor (nodes_of H) x → IsLevelled H → (v : ℕ) →
+    cost_at (side_costs H side x) v ≡ None
 clean_costs H side x clean k v = never_some _ (λ c is.
     let there = by_state-some known_cost H side x.known.items UNREACHED v c is in
     let low = state_below side (rank_of H v) (nodes_of H) (rank_below H k v there.0) in
@@ -80,7 +82,8 @@ clean_costs H side x clean k v = never_some _ (λ c is.
     omega arith)
 
 -- in a clean search no node has a key
-pub clean_keys : (H : LevelsAndLegs) (side : Side) (x : WeightSearch) → IsCleanFor (nodes_of H) x → (v : ℕ) → cost_at (side_keys H side x) v ≡ None
+pub clean_keys : (H : LevelsAndLegs) (side : Side) (x : WeightSearch) → IsCleanFor (nodes_of H) x → (v : ℕ) →
+    cost_at (side_keys H side x) v ≡ None
 clean_keys H side x clean v = never_some _ (λ c is.
     let there = by_state-some (option_map weight_cost) H side x.queue None v c is in
     let key = key_weight _ c there.1 in

@@ -35,11 +35,13 @@ pub known_weight : (w : ℕ) (c : Cost) → known_cost w ≡ Some c → w ≡ c.
 known_weight w c e = ap (λ (q : Cost). q.weight) (known_whole w c e)
 
 -- the cost at a state is that of its weight
-pub known_at : (known : List ℕ) (state d : ℕ) → state < length known → cost_at (map known_cost known) state ≡ known_cost (get_or known state d)
+pub known_at : (known : List ℕ) (state d : ℕ) → state < length known →
+    cost_at (map known_cost known) state ≡ known_cost (get_or known state d)
 known_at known state d lt = get_or-map known_cost known state d None lt
 
 -- writing a weight writes its cost
-pub known_set : (known : List ℕ) (state w : ℕ) → w ≤ MOST_WEIGHT → map known_cost (set known state w) ≡ set (map known_cost known) state (Some (weight_cost w))
+pub known_set : (known : List ℕ) (state w : ℕ) → w ≤ MOST_WEIGHT →
+    map known_cost (set known state w) ≡ set (map known_cost known) state (Some (weight_cost w))
 known_set known state w light = map-set known_cost known state w ∙ ap (λ q. set (map known_cost known) state q) (light_cost w light)
 
 -- removing a weight removes its cost

@@ -95,7 +95,8 @@ module _ (H : LevelsAndLegs) (levelled : IsLevelled H) (side : Side) (limit : Op
       (h.0, omega arith, λ i. (node i, weight i))
 
   -- sorted by node, it is a search space
-  pub named_space : (sorted : List (ℕ × ℕ)) → IsPermutation named sorted → IsSorted (λ a b. ordering_then (nat_cmp a.0 b.0) (nat_cmp a.1 b.1)) sorted → IsSearchSpace H side limit s sorted
+  pub named_space : (sorted : List (ℕ × ℕ)) → IsPermutation named sorted →
+      IsSorted (λ a b. ordering_then (nat_cmp a.0 b.0) (nat_cmp a.1 b.1)) sorted → IsSearchSpace H side limit s sorted
   named_space sorted p order = record {
     order = pairs_rise named sorted nodes_differ p order;
     sound = λ v x h. said_sound H levelled side limit s ranked space v x (said_of_rank v x (Contains-permutation sorted named (v, x) (IsPermutation-sym named sorted p) h));

@@ -67,7 +67,8 @@ node_popped H side x m weight state l =
     node_of_rank H m.levelled (state / 2) (omega arith)
 
 -- if no state has a key, no node has a key
-pub none_left : (H : LevelsAndLegs) (side : Side) (queue : List (Option ℕ)) → HasNone queue → IsEmpty (by_state (option_map weight_cost) H side queue None)
+pub none_left : (H : LevelsAndLegs) (side : Side) (queue : List (Option ℕ)) → HasNone queue →
+    IsEmpty (by_state (option_map weight_cost) H side queue None)
 none_left H side queue none v c e =
     let key = key_weight _ c (by_state-some (option_map weight_cost) H side queue None v c e).1 in
     none-some key.0 (sym (none (state_of side (rank_of H v))) ∙ key.1)
@@ -111,7 +112,8 @@ module _ (H : LevelsAndLegs) (side : Side) (x z : WeightSearch) (m : IsWeighingO
 
   module _ (list : List (ℕ × ℕ)) (a : AreUnstalledOn H side x list) where
     -- a node that was settled is settled now
-    remains : (u : ℕ) (d : Cost) → IsSettled (side_costs H side x) (side_keys H side x) u d → IsSettled (side_costs H side z) (side_keys H side z) u d
+    remains : (u : ℕ) (d : Cost) → IsSettled (side_costs H side x) (side_keys H side x) u d →
+        IsSettled (side_costs H side z) (side_keys H side z) u d
     remains u d h =
         let key = least_on_side H side x m v weight state s.within s.is s.least in
         s.gone.stays u d (subst (λ r. IsSettled (side_costs H side x) r u d) (sym (keys_here H side x m v weight state s.within s.is s.least))
@@ -125,7 +127,8 @@ module _ (H : LevelsAndLegs) (side : Side) (x z : WeightSearch) (m : IsWeighingO
         (popped_here _ _ _ _ _ m.search v (weight_cost weight) key.has key.least (key_within (side_keys H side x) v (weight_cost weight) key.has)))
 
     -- no other node is settled now
-    was : (u : ℕ) (d : Cost) → IsSettled (side_costs H side z) (side_keys H side z) u d → IsSettled (side_costs H side x) (side_keys H side x) u d ⊎ ((u ≡ v) × (d ≡ weight_cost weight))
+    was : (u : ℕ) (d : Cost) → IsSettled (side_costs H side z) (side_keys H side z) u d →
+        IsSettled (side_costs H side x) (side_keys H side x) u d ⊎ ((u ≡ v) × (d ≡ weight_cost weight))
     was u d h = pop_settled H side x m v weight state s.within s.is s.least u d (s.gone.settled u d h)
 
     -- a node that was idle is idle now
@@ -144,7 +147,8 @@ module _ (H : LevelsAndLegs) (side : Side) (x z : WeightSearch) (m : IsWeighingO
     }
 
     -- otherwise v is in the list too
-    pub unstalled_grows : (rank : ℕ) → rank_of H v ≡ rank → (list' : List (ℕ × ℕ)) → list' ≡ list ++ (rank, weight) ∷ [] → AreUnstalledOn H side z list'
+    pub unstalled_grows : (rank : ℕ) → rank_of H v ≡ rank → (list' : List (ℕ × ℕ)) → list' ≡ list ++ (rank, weight) ∷ [] →
+        AreUnstalledOn H side z list'
     unstalled_grows rank at list' grown = subst (AreUnstalledOn H side z) (sym grown) (record {
       distinct = all_pairs_push (λ (p q : ℕ × ℕ). p.0 ≢ q.0) list (rank, weight) a.distinct (λ k d lt same.
           let e = a.settled (get_or list k d).0 (get_or list k d).1 (Contains-get_or list k d lt) in
@@ -173,7 +177,8 @@ module _ (H : LevelsAndLegs) (side : Side) (x z : WeightSearch) (m : IsWeighingO
 module _ (H : LevelsAndLegs) (k : IsKeptForSome H) (side : Side) (x : WeightSearch) (m : IsWeighingOn H side x) (done : IsEmpty (side_keys H side x)) (limit : Option ℕ)
     (most : IsMost limit x.most) where
   -- a settled node has the weight of a path within the limit
-  settled_path : (v y : ℕ) → IsSettled (side_costs H side x) (side_keys H side x) v (weight_cost y) → IsPathWeight (rows_of H side) (source_of x side) v y × IsWithin limit y
+  settled_path : (v y : ℕ) → IsSettled (side_costs H side x) (side_keys H side x) v (weight_cost y) →
+      IsPathWeight (rows_of H side) (source_of x side) v y × IsWithin limit y
   settled_path v y h =
       let there = reached_weight H side (source_of x side) v (weight_cost y) (m.search.sound v (weight_cost y) h.0) in
       (there, most.sound y (m.search.light v (weight_cost y) h.0))

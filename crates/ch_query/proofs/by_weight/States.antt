@@ -40,7 +40,8 @@ module _ {A B : Type 0} (f : A → B) (H : LevelsAndLegs) (side : Side) where
   by_state-size list default = length-map H.level (λ level. f (get_or list (state_of side (nodes_of H - level)) default))
 
   -- the element of a node is the one at its state
-  pub by_state-at : (list : List A) (default : A) (d : B) (v : ℕ) → v < nodes_of H → get_or (by_state f H side list default) v d ≡ f (get_or list (state_of side (rank_of H v)) default)
+  pub by_state-at : (list : List A) (default : A) (d : B) (v : ℕ) → v < nodes_of H →
+      get_or (by_state f H side list default) v d ≡ f (get_or list (state_of side (rank_of H v)) default)
   by_state-at list default d v lt = get_or-map (λ level. f (get_or list (state_of side (nodes_of H - level)) default)) H.level v 0 d lt
 
   -- a write at the state of a node is a write at the node
@@ -66,7 +67,8 @@ module _ {A B : Type 0} (f : A → B) (H : LevelsAndLegs) (side : Side) where
       ])
 
   -- a write at a state of one side changes nothing on the other
-  pub by_state-other : (list : List A) (default x : A) (rank : ℕ) → by_state f H (other side) (set list (state_of side rank) x) default ≡ by_state f H (other side) list default
+  pub by_state-other : (list : List A) (default x : A) (rank : ℕ) →
+      by_state f H (other side) (set list (state_of side rank) x) default ≡ by_state f H (other side) list default
   by_state-other list default x rank =
       λ i. map (λ level. f (get_or-set_other list (state_of side rank) (state_of (other side) (nodes_of H - level)) x default (state_apart side (nodes_of H - level) rank) i)) H.level
 

@@ -20,7 +20,8 @@ pub clean_none : (n : ℕ) (x : WeightSearch) → IsCleanFor n x → (state : �
 clean_none n x clean state = none_unless (get_or x.queue state None) (clean.queue state)
 
 -- in a search that is taking the legs of a node, an unreached state of that side has no key
-pub unreached_here : (H : LevelsAndLegs) (side : Side) (x : WeightSearch) (v weight : ℕ) → IsWeighingAt H side x v weight → (u state : ℕ) → u < nodes_of H → state ≡ state_of side (rank_of H u) → UnreachedStateIsUnkeyed x state
+pub unreached_here : (H : LevelsAndLegs) (side : Side) (x : WeightSearch) (v weight : ℕ) → IsWeighingAt H side x v weight → (u state : ℕ) →
+    u < nodes_of H → state ≡ state_of side (rank_of H u) → UnreachedStateIsUnkeyed x state
 unreached_here H side x v weight m u state within is unreached = none_unless (get_or x.queue state None) (λ w key.
     let low = state_below side (rank_of H u) (nodes_of H) (rank_below H m.levelled u within) in
     let size = m.sizes.known in

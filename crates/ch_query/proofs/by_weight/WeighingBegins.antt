@@ -68,7 +68,9 @@ module _ (H : LevelsAndLegs) (k : IsLevelled H) (x z : WeightSearch) (clean : Is
     (source : source_of z side ≡ s) (most : z.most ≤ MOST_WEIGHT) (known : z.known.items ≡ set x.known.items state 0) (queue : z.queue ≡ set x.queue state (Some 0))
     (touched : IsTouched (map known_cost z.known.items) z.touched) where
   costs_on : side_costs H side z ≡ set (side_costs H side x) s (Some no_cost)
-  costs_on = ap (λ q. by_state known_cost H side q UNREACHED) (known ∙ ap (λ q. set x.known.items q 0) is) ∙ by_state-set known_cost H side k x.known.items UNREACHED 0 s clean.sizes.known within
+  costs_on =
+      ap (λ q. by_state known_cost H side q UNREACHED) (known ∙ ap (λ q. set x.known.items q 0) is)
+      ∙ by_state-set known_cost H side k x.known.items UNREACHED 0 s clean.sizes.known within
 
   keys_on : side_keys H side z ≡ set (side_keys H side x) s (Some no_cost)
   keys_on =
@@ -155,7 +157,8 @@ module _ (H : LevelsAndLegs) (k : IsLevelled H) (x z : WeightSearch) (s t : ℕ)
 
   -- each side has begun
   both_begun : (side : Side) → IsWeighingOn H side z
-  both_begun side = side_begun H k x z clean side (end_of side) (end_within side) (source_is side) small sizes (costs_then side) (keys_then side)
+  both_begun side =
+      side_begun H k x z clean side (end_of side) (end_within side) (source_is side) small sizes (costs_then side) (keys_then side)
 
   -- no sum is known yet
   pub weighing_begun : IsLeastSoFar H z UNREACHED

@@ -21,7 +21,8 @@ use Rattle.ch_query.proofs.by_weight.States.{by_state-size, by_state-at, by_stat
 
 -- a state with a key is a state
 pub key_state : (queue : List (Option ℕ)) (state weight : ℕ) → slice_index_or queue state None ≡ Some weight → state < length queue
-key_state queue state weight e = elim (cases_lt state (length queue)) [ inl lt ↦ lt | inr ge ↦ absurd (none-some weight (sym (get_or_past queue state None ge) ∙ e)) ]
+key_state queue state weight e =
+    elim (cases_lt state (length queue)) [ inl lt ↦ lt | inr ge ↦ absurd (none-some weight (sym (get_or_past queue state None ge) ∙ e)) ]
 
 -- each side keeps its source
 pub source_stays : (x : WeightSearch) (state : ℕ) (side : Side) → source_of (without_state x state) side ≡ source_of x side
@@ -43,11 +44,15 @@ module _ (H : LevelsAndLegs) (side : Side) (x : WeightSearch) (m : IsWeighingOn 
 
   -- the key of v leaves the keys of its side
   pub keys_here : side_keys H side (without_state x state) ≡ set (side_keys H side x) v None
-  keys_here = ap (λ q. by_state (option_map weight_cost) H side (set x.queue q None) None) is ∙ by_state-set (option_map weight_cost) H side m.levelled x.queue None None v m.sizes.queue within
+  keys_here =
+      ap (λ q. by_state (option_map weight_cost) H side (set x.queue q None) None) is
+      ∙ by_state-set (option_map weight_cost) H side m.levelled x.queue None None v m.sizes.queue within
 
   -- no key leaves the keys of the other side
   keys_there : side_keys H (other side) (without_state x state) ≡ side_keys H (other side) x
-  keys_there = ap (λ q. by_state (option_map weight_cost) H (other side) (set x.queue q None) None) is ∙ by_state-other (option_map weight_cost) H side x.queue None None (rank_of H v)
+  keys_there =
+      ap (λ q. by_state (option_map weight_cost) H (other side) (set x.queue q None) None) is
+      ∙ by_state-other (option_map weight_cost) H side x.queue None None (rank_of H v)
 
   -- v is a node of its side
   in_keys : v < length (side_keys H side x)

@@ -35,7 +35,8 @@ pub same_then : (x y z : WeightSearch) → IsSameWeighing x y → IsSameWeighing
 same_then x y z first second = record { start = second.start ∙ first.start; end = second.end ∙ first.end; most = second.most ∙ first.most }
 
 -- a side without changes is still a search
-pub side_stays : (H : LevelsAndLegs) (side : Side) (x y : WeightSearch) → IsWeighingOn H side x → IsSameWeighing x y → IsSameSide H side x y → IsSizedFor (nodes_of H) y → IsWeighingOn H side y
+pub side_stays : (H : LevelsAndLegs) (side : Side) (x y : WeightSearch) → IsWeighingOn H side x → IsSameWeighing x y →
+    IsSameSide H side x y → IsSizedFor (nodes_of H) y → IsWeighingOn H side y
 side_stays H side x y m same stays sizes = record {
   levelled = m.levelled;
   sizes = sizes;
@@ -47,7 +48,8 @@ side_stays H side x y m same stays sizes = record {
 
 -- the conditions on the costs and keys of a side that is taking the legs of v
 abbrev ExpandingOn : ℕ → LevelsAndLegs → Side → ℕ → List (Option Cost) → List (Option Cost) → ℕ → ℕ → Type 0
-ExpandingOn most H side s best queue v weight = IsExpanding most (rows_of (weighed H) side) s (OrNode (is_idle_on H side s) v) best queue v (weight_cost weight)
+ExpandingOn most H side s best queue v weight =
+    IsExpanding most (rows_of (weighed H) side) s (OrNode (is_idle_on H side s) v) best queue v (weight_cost weight)
 
 -- a leg is offered to this side
 module _ (H : LevelsAndLegs) (side : Side) (x y z : WeightSearch) (v weight : ℕ) (legs : List Leg) (p : IsPartlyWeighed H side x y v weight legs) (l : Leg)

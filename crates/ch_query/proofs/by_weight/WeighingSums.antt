@@ -31,7 +31,8 @@ read_there H x y m state is side v at within e there read =
     ∙ get_or_default x.known.items (state_of side (rank_of H v)) there UNREACHED (omega arith)
 
 -- this weight is at most UNREACHED
-pub there_small : (H : LevelsAndLegs) (x : WeightSearch) (m : IsWeighing H x) (side : Side) (v there : ℕ) → v < nodes_of H → there ≡ get_or x.known.items (state_of side (rank_of H v)) UNREACHED → there ≤ UNREACHED
+pub there_small : (H : LevelsAndLegs) (x : WeightSearch) (m : IsWeighing H x) (side : Side) (v there : ℕ) → v < nodes_of H →
+    there ≡ get_or x.known.items (state_of side (rank_of H v)) UNREACHED → there ≤ UNREACHED
 there_small H x m side v there within read = elim (cases_eq there UNREACHED) [
   | inl same ↦ omega arith
   | inr away ↦
@@ -86,7 +87,8 @@ module _ (H : LevelsAndLegs) (x z : WeightSearch) (least : ℕ) (s : IsLeastSoFa
 
   -- the other side stays the same
   other_side : IsSameSide H (other side) x z
-  other_side = record { costs = g.there.costs; keys = g.there.keys ∙ (pop_there H side x (s.weighing.sides side) v weight state within is l).keys }
+  other_side =
+      record { costs = g.there.costs; keys = g.there.keys ∙ (pop_there H side x (s.weighing.sides side) v weight state within is l).keys }
 
   -- the search goes on
   now_weighing : IsWeighing H z
@@ -114,7 +116,8 @@ module _ (H : LevelsAndLegs) (x z : WeightSearch) (least : ℕ) (s : IsLeastSoFa
     known_there = by_state-at known_cost H (other side) x.known.items UNREACHED None v within ∙ ap known_cost (sym at_there)
 
     -- the new sum is at most that of each node that both sides have settled
-    seen : (u : ℕ) (a b : Cost) → IsSettled (side_costs H side z) (side_keys H side z) u a → IsSettled (side_costs H (other side) z) (side_keys H (other side) z) u b → now ≤ a.weight + b.weight
+    seen : (u : ℕ) (a b : Cost) → IsSettled (side_costs H side z) (side_keys H side z) u a →
+        IsSettled (side_costs H (other side) z) (side_keys H (other side) z) u b → now ≤ a.weight + b.weight
     seen u a b here over =
         let old : IsSettled (side_costs H (other side) x) (side_keys H (other side) x) u b =
         (sym (ap (λ q. cost_at q u) other_side.costs) ∙ over.0, sym (ap (λ q. cost_at q u) other_side.keys) ∙ over.1) in

@@ -39,7 +39,8 @@ module _ (H : LevelsAndLegs) (side : Side) (x : WeightSearch) (v weight : ℕ) (
     ]
 
     -- if a sum is less than the weight, v may stay idle
-    pub stall_idle : (known : ℕ) → known ≡ get_or x.known.items state known → known + r.weight < weight → is_idle_on H side (source_of x side) v (weight_cost weight)
+    pub stall_idle : (known : ℕ) → known ≡ get_or x.known.items state known → known + r.weight < weight →
+        is_idle_on H side (source_of x side) v (weight_cost weight)
     stall_idle known e less =
         let light = w.here.search.light v (weight_cost weight) w.here.here.0 in
         let most = w.here.search.limits in

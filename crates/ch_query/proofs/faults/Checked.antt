@@ -121,7 +121,8 @@ module _ (g : Network) (s : OrderAndLegs) (H : LevelsAndLegs) (named : NamesFor 
         }
 
 -- the ends of an arc are nodes
-pub arc_ends_within : (g : Network) (H : LevelsAndLegs) → IsWithinLimits g → nodes_of H ≡ g.nodes → (a : InArc) → Contains g.arcs a → (a.from < nodes_of H) × (a.to < nodes_of H)
+pub arc_ends_within : (g : Network) (H : LevelsAndLegs) → IsWithinLimits g → nodes_of H ≡ g.nodes → (a : InArc) → Contains g.arcs a →
+    (a.from < nodes_of H) × (a.to < nodes_of H)
 arc_ends_within g H limits same a has =
     let ends = (All-contains (IsArcWithin g.nodes) g.arcs a limits.each has).ends in
     (subst (λ n. a.from < n) (sym same) ends.0, subst (λ n. a.to < n) (sym same) ends.1)

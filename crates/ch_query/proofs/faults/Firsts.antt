@@ -19,14 +19,16 @@ holds_more P from v before here u ge lt = elim (cases_lt u v) [
 ]
 
 -- a number that is known for the range from 0 is the first of it; memory may have run out
-pub first_of_known : (P : ℕ → Type 0) (n : ℕ) {E : Type 0} (r : Result (Option ℕ) E) → IfOk r (IsWithoutBelow P 0 n) → IfOk r (IsFirstWithout P 0 n)
+pub first_of_known : (P : ℕ → Type 0) (n : ℕ) {E : Type 0} (r : Result (Option ℕ) E) → IfOk r (IsWithoutBelow P 0 n) →
+    IfOk r (IsFirstWithout P 0 n)
 first_of_known P n (Ok None) h = h
 first_of_known P n (Ok (Some v)) h = (omega arith, h.0, h.1, h.2)
 first_of_known P n (Err e) h = tt
 
 module _ (P : ℕ → Type 0) (n p : ℕ) where
   -- if P holds before piece k, the values of the pieces from k on give the first number of all
-  first_from : (k : ℕ) (known : List (Option ℕ)) → n ≤ (k + length known) * p → HoldsIn P 0 (min (k * p) n) → MeanEach (IsWithoutBelow P) n p k known → IsFirstWithout P 0 n (first_some known)
+  first_from : (k : ℕ) (known : List (Option ℕ)) → n ≤ (k + length known) * p → HoldsIn P 0 (min (k * p) n) →
+      MeanEach (IsWithoutBelow P) n p k known → IsFirstWithout P 0 n (first_some known)
   first_from k [] le before h = λ v from to. before v from (omega (arith, le))
   first_from k (None ∷ known) le before h =
       let next : (k + 1) * p ≡ k * p + p = omega arith in
@@ -46,7 +48,8 @@ module _ (P : ℕ → Type 0) (n p : ℕ) where
   )
 
 -- the values of pieces that cover all items give the first of all items
-pub first_of_all : (P : ℕ → Type 0) (n p : ℕ) (known : List (Option ℕ)) → 0 < p → AreValues (IsWithoutBelow P) n p 0 (pieces_of n p) known → IsFirstWithout P 0 n (first_some known)
+pub first_of_all : (P : ℕ → Type 0) (n p : ℕ) (known : List (Option ℕ)) → 0 < p → AreValues (IsWithoutBelow P) n p 0 (pieces_of n p) known →
+    IsFirstWithout P 0 n (first_some known)
 first_of_all P n p known positive h =
     let all : n ≤ (0 + length known) * p = rw h.0 (covers n p positive) in
     first_from P n p 0 known all (λ v from to. absurd (omega (arith, to))) h.1
@@ -55,7 +58,8 @@ first_of_all P n p known positive h =
 first_of_nodes : (H : LevelsAndLegs) (n : ℕ) (first : Option ℕ) → n ≡ nodes_of H → IsFirstWithout (IsCovered H) 0 n first →
     MatchOption first ((v : ℕ) → v < nodes_of H → IsCovered H v) (IsFirstUncovered H)
 first_of_nodes H n None count h = λ v lt. h v (omega arith) (omega (arith, count))
-first_of_nodes H n (Some u) count h = let to = h.1 in record { within = omega (arith, count); fails = h.2; first = λ v lt. h.3 v (omega arith) lt }
+first_of_nodes H n (Some u) count h =
+    let to = h.1 in record { within = omega (arith, count); fails = h.2; first = λ v lt. h.3 v (omega arith) lt }
 
 -- the same for a search that may run out of memory
 pub nodes_named : (H : LevelsAndLegs) (n : ℕ) {E : Type 0} (r : Result (Option ℕ) E) → n ≡ nodes_of H → IfOk r (IsFirstWithout (IsCovered H) 0 n) →

@@ -34,7 +34,8 @@ equal_costs a b r is = (
 )
 
 -- the only leg decides whether there is one within the bound
-pub within_some : (H : LevelsAndLegs) (u w : ℕ) (most c : Cost) (r : Bool) → IsLegCost H u w (Some c) → (IsTrue r ↔ IsBelow most c) → IsTrue (not r) ↔ HasLeg H u w most
+pub within_some : (H : LevelsAndLegs) (u w : ℕ) (most c : Cost) (r : Bool) → IsLegCost H u w (Some c) → (IsTrue r ↔ IsBelow most c) →
+    IsTrue (not r) ↔ HasLeg H u w most
 within_some H u w most c true ((m, leg), one) tells =
     (λ no. absurd (false≢true no), λ h. absurd (IsBelow_not most c (tells.0 refl) (subst (λ q. IsAtMost q most) (one h.0 h.1 h.2) h.3)))
 within_some H u w most c false ((m, leg), one) tells = (λ _. (c, m, leg, within), λ _. refl)
@@ -51,7 +52,8 @@ within_none H u w most none (c, m, leg, le) = none c m leg
 
 module _ (H : LevelsAndLegs) (k : IsLevelled H) where
   -- the leg to a node that is no lower is in the up row
-  pub cost_up : (u w : ℕ) → slice_index H.level u ≤ slice_index H.level w → (legs : List Leg) → legs ≡ row H.up u → (answer : Option Cost) → IsRowCost legs w answer → IsLegCost H u w answer
+  pub cost_up : (u w : ℕ) → slice_index H.level u ≤ slice_index H.level w → (legs : List Leg) → legs ≡ row H.up u → (answer : Option Cost) →
+      IsRowCost legs w answer → IsLegCost H u w answer
   cost_up u w le legs is None none = λ c m leg. at leg
     where
       at : {c : Cost} {m : Option ℕ} → IsLeg H u w c m → ⊥
@@ -70,12 +72,14 @@ module _ (H : LevelsAndLegs) (k : IsLevelled H) where
 -- the cost of a leg is its cost in the other direction
 leg_cost_turned : (H : LevelsAndLegs) (u w : ℕ) (answer : Option Cost) → IsLegCost (turned_hierarchy H) w u answer → IsLegCost H u w answer
 leg_cost_turned H u w None none = λ c m leg. none c m (turned_leg H u w c m leg)
-leg_cost_turned H u w (Some c) (one, same) = ((one.0, turned_leg (turned_hierarchy H) w u c one.0 one.1), λ d m leg. same d m (turned_leg H u w d m leg))
+leg_cost_turned H u w (Some c) (one, same) =
+    ((one.0, turned_leg (turned_hierarchy H) w u c one.0 one.1), λ d m leg. same d m (turned_leg H u w d m leg))
 
 -- the leg from a node that is no lower is in the down row
 pub cost_down : (H : LevelsAndLegs) (k : IsLevelled H) (u w : ℕ) → slice_index H.level w ≤ slice_index H.level u → (legs : List Leg) → legs ≡ row H.down w →
     (answer : Option Cost) → IsRowCost legs u answer → IsLegCost H u w answer
-cost_down H k u w le legs is answer cost = leg_cost_turned H u w answer (cost_up (turned_hierarchy H) (turned_levelled H k) w u le legs is answer cost)
+cost_down H k u w le legs is answer cost =
+    leg_cost_turned H u w answer (cost_up (turned_hierarchy H) (turned_levelled H k) w u le legs is answer cost)
 
 module _ (H : LevelsAndLegs) (k : IsLevelled H) where
   -- if the middle has both legs, the leg is their sum exactly if the costs add up
@@ -99,7 +103,8 @@ module _ (H : LevelsAndLegs) (k : IsLevelled H) where
           sym (e ∙ (λ i. cost_sum (p i) (q i)))
 
   -- the cost of a leg of a row is within the limits
-  pub cost_bounds : (side : Side) (v x : ℕ) (legs : List Leg) → legs ≡ row (rows_of H side) v → (c : Cost) → IsRowCost legs x (Some c) → (c.weight ≤ MOST_WEIGHT) × (c.arcs < nodes_of H)
+  pub cost_bounds : (side : Side) (v x : ℕ) (legs : List Leg) → legs ≡ row (rows_of H side) v → (c : Cost) → IsRowCost legs x (Some c) →
+      (c.weight ≤ MOST_WEIGHT) × (c.arcs < nodes_of H)
   cost_bounds side v x legs is c (l, has, node, cost) =
       let up = leg_up H k side v l (subst (λ xs. Contains xs l) is has) in
       subst (λ (q : Cost). (q.weight ≤ MOST_WEIGHT) × (q.arcs < nodes_of H)) cost (up.weight, up.arcs)

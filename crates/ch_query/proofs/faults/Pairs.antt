@@ -26,13 +26,15 @@ reached_itself : (rows : List (List Leg)) (v : ℕ) → IsUpwardCost rows v v no
 reached_itself rows v = record { path = ([], refl, refl); weight = omega arith }
 
 -- a leg up within the bound gives a way within the bound
-pub leg_up_covers : (H : LevelsAndLegs) → IsLevelled H → (s t : ℕ) (most : Cost) → (l : Leg) → Contains (row H.up s) l → l.node ≡ t → IsAtMost l.cost most → MeetsWithin H s t most
+pub leg_up_covers : (H : LevelsAndLegs) → IsLevelled H → (s t : ℕ) (most : Cost) → (l : Leg) → Contains (row H.up s) l → l.node ≡ t →
+    IsAtMost l.cost most → MeetsWithin H s t most
 leg_up_covers H k s t most l h e le =
     meeting_within H k s t t l.cost no_cost most (subst (λ q. IsUpwardCost H.up s q l.cost) e (reached_by_leg H k Up s l h)) (reached_itself H.down t)
     (subst (λ q. IsAtMost q most) (sym (cost_sum-no_cost l.cost)) le)
 
 -- a leg down within the bound gives a way within the bound
-pub leg_down_covers : (H : LevelsAndLegs) → IsLevelled H → (s t : ℕ) (most : Cost) → (l : Leg) → Contains (row H.down t) l → l.node ≡ s → IsAtMost l.cost most → MeetsWithin H s t most
+pub leg_down_covers : (H : LevelsAndLegs) → IsLevelled H → (s t : ℕ) (most : Cost) → (l : Leg) → Contains (row H.down t) l → l.node ≡ s →
+    IsAtMost l.cost most → MeetsWithin H s t most
 leg_down_covers H k s t most l h e le =
     let back = leg_up_covers (turned_hierarchy H) (turned_levelled H k) t s most l h e le in
     (back.0, back.1, turned_meeting (turned_hierarchy H) t s back.0 back.1 back.2, back.3)
@@ -42,12 +44,14 @@ abbrev pub IsPairCovered : LevelsAndLegs → Leg → Leg → Type 0
 IsPairCovered H a b = a.node ≢ b.node → MeetsWithin H a.node b.node (cost_sum a.cost b.cost)
 
 -- once each leg up from v was read, all pairs of a are covered
-pub all_pairs : (H : LevelsAndLegs) (v : ℕ) (a : Leg) (items : List Leg) (i : ℕ) (d : Leg) → items ≡ row H.up v → length items ≤ i → ((j : ℕ) (d : Leg) → j < i → IsPairCovered H a (get_or items j d)) → IsCoveredFrom H v a
+pub all_pairs : (H : LevelsAndLegs) (v : ℕ) (a : Leg) (items : List Leg) (i : ℕ) (d : Leg) → items ≡ row H.up v → length items ≤ i →
+    ((j : ℕ) (d : Leg) → j < i → IsPairCovered H a (get_or items j d)) → IsCoveredFrom H v a
 all_pairs H v a items i d e past each b h =
     all_read (IsPairCovered H a) items d (λ j lt. each j d (omega arith)) b (subst (λ xs. Contains xs b) (sym e) h)
 
 -- once each leg down to v was read, v is covered
-pub all_covered : (H : LevelsAndLegs) (v : ℕ) (items : List Leg) (i : ℕ) (d : Leg) → items ≡ row H.down v → length items ≤ i → ((j : ℕ) (d : Leg) → j < i → IsCoveredFrom H v (get_or items j d)) → IsCovered H v
+pub all_covered : (H : LevelsAndLegs) (v : ℕ) (items : List Leg) (i : ℕ) (d : Leg) → items ≡ row H.down v → length items ≤ i →
+    ((j : ℕ) (d : Leg) → j < i → IsCoveredFrom H v (get_or items j d)) → IsCovered H v
 all_covered H v items i d e past each a b ha hb ne =
     all_read (IsCoveredFrom H v) items d (λ j lt. each j d (omega arith)) a (subst (λ xs. Contains xs a) (sym e) ha) b hb ne
 
@@ -57,8 +61,10 @@ not_covered H v a has bad covered = bad (λ b hb ne. covered a b has hb ne)
 
 -- a leg within the bound gives a way within the bound
 pub leg_covers : (H : LevelsAndLegs) → IsLevelled H → (s t : ℕ) (most : Cost) → HasLeg H s t most → MeetsWithin H s t most
-leg_covers H k s t most (c, m, (l, cost, middle, inl (has, node)), le) = leg_up_covers H k s t most l has node (subst (λ q. IsAtMost q most) (sym cost) le)
-leg_covers H k s t most (c, m, (l, cost, middle, inr (has, node)), le) = leg_down_covers H k s t most l has node (subst (λ q. IsAtMost q most) (sym cost) le)
+leg_covers H k s t most (c, m, (l, cost, middle, inl (has, node)), le) =
+    leg_up_covers H k s t most l has node (subst (λ q. IsAtMost q most) (sym cost) le)
+leg_covers H k s t most (c, m, (l, cost, middle, inr (has, node)), le) =
+    leg_down_covers H k s t most l has node (subst (λ q. IsAtMost q most) (sym cost) le)
 
 -- a leg read from a row is a leg of that row
 pub row_leg_up : (H : LevelsAndLegs) → IsLevelled H → (side : Side) (v : ℕ) (legs : List Leg) (i : ℕ) (d : Leg) → legs ≡ row (rows_of H side) v → i < length legs →

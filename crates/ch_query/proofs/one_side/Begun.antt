@@ -14,7 +14,8 @@ never_some None never = refl
 never_some (Some c) never = absurd (never c refl)
 
 -- in a list without values, only the place of a write has a value
-only_written : (list : List (Option Cost)) (s v : ℕ) (d c : Cost) → ((w : ℕ) → cost_at list w ≡ None) → s < length list → cost_at (set list s (Some d)) v ≡ Some c → (v ≡ s) × (d ≡ c)
+only_written : (list : List (Option Cost)) (s v : ℕ) (d c : Cost) → ((w : ℕ) → cost_at list w ≡ None) → s < length list →
+    cost_at (set list s (Some d)) v ≡ Some c → (v ≡ s) × (d ≡ c)
 only_written list s v d c empty lt e = elim (cases_eq v s) [
   | inl is ↦ (is, same_Some _ _ (sym (ap (cost_at (set list s (Some d))) is ∙ get_or-set_same list s (Some d) None lt) ∙ e))
   | inr away ↦ absurd (none-some c (sym (get_or-set_other list s v (Some d) None away ∙ empty v) ∙ e))

@@ -15,7 +15,8 @@ pub by_node-size : {A : Type 0} → (H : LevelsAndLegs) (list : List A) (default
 by_node-size H list default = length-map H.level (λ level. get_or list (nodes_of H - level) default)
 
 -- the element of a node is the one at its rank
-pub by_node-at : {A : Type 0} → (H : LevelsAndLegs) (list : List A) (default d : A) (v : ℕ) → v < nodes_of H → get_or (by_node H list default) v d ≡ get_or list (rank_of H v) default
+pub by_node-at : {A : Type 0} → (H : LevelsAndLegs) (list : List A) (default d : A) (v : ℕ) → v < nodes_of H →
+    get_or (by_node H list default) v d ≡ get_or list (rank_of H v) default
 by_node-at H list default d v lt = get_or-map (λ level. get_or list (nodes_of H - level) default) H.level v 0 d lt
 
 -- a write at the rank of a node is a write at the node
@@ -38,7 +39,8 @@ by_node-set H k list default x v size lt =
     ])
 
 -- a cost of a node is the one at its rank
-pub by_node-some : (H : LevelsAndLegs) (list : List (Option Cost)) (v : ℕ) (c : Cost) → cost_at (by_node H list None) v ≡ Some c → (v < nodes_of H) × (cost_at list (rank_of H v) ≡ Some c)
+pub by_node-some : (H : LevelsAndLegs) (list : List (Option Cost)) (v : ℕ) (c : Cost) → cost_at (by_node H list None) v ≡ Some c →
+    (v < nodes_of H) × (cost_at list (rank_of H v) ≡ Some c)
 by_node-some H list v c e = elim (cases_lt v (nodes_of H)) [
   | inl lt ↦ (lt, sym (by_node-at H list None None v lt) ∙ e)
   | inr ge ↦ absurd (none-some c (sym (get_or_past (by_node H list None) v None (let size = by_node-size H list None in omega arith)) ∙ e))

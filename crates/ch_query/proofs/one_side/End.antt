@@ -17,11 +17,14 @@ pub least_reached : (rows : List (List Leg)) (s m : ℕ) (a : Cost) → IsLeastU
 least_reached rows s m a l = record { path = l.path; weight = l.weight }
 
 -- no path to the end costs less than a least path
-pub reached_no_less : (rows : List (List Leg)) (s m : ℕ) (a b : Cost) → IsLeastUpwardPath rows s m a → IsUpwardCost rows s m b → IsAtMost a b
-reached_no_less rows s m a b l r = subst (IsAtMost a) r.path.2 (l.least r.path.0 r.path.1 (subst (λ (q : Cost). q.weight ≤ MOST_WEIGHT) (sym r.path.2) r.weight))
+pub reached_no_less : (rows : List (List Leg)) (s m : ℕ) (a b : Cost) → IsLeastUpwardPath rows s m a → IsUpwardCost rows s m b →
+    IsAtMost a b
+reached_no_less rows s m a b l r =
+    subst (IsAtMost a) r.path.2 (l.least r.path.0 r.path.1 (subst (λ (q : Cost). q.weight ≤ MOST_WEIGHT) (sym r.path.2) r.weight))
 
 -- a reached cost that is at most the least cost is the least cost
-reached_least : (rows : List (List Leg)) (s m : ℕ) (a b : Cost) → IsLeastUpwardPath rows s m a → IsUpwardCost rows s m b → IsAtMost b a → b ≡ a
+reached_least : (rows : List (List Leg)) (s m : ℕ) (a b : Cost) → IsLeastUpwardPath rows s m a → IsUpwardCost rows s m b → IsAtMost b a →
+    b ≡ a
 reached_least rows s m a b l r le = IsAtMost_antisymm b a le (reached_no_less rows s m a b l r)
 
 module _ {most : ℕ} (rows : List (List Leg)) (s : ℕ) (Idle : ℕ → Cost → Type 0) (best queue : List (Option Cost)) (p : IsSearch most rows s Idle best queue)
@@ -54,7 +57,8 @@ module _ {most : ℕ} (rows : List (List Leg)) (s : ℕ) (Idle : ℕ → Cost �
       ]
 
   -- at the end, m is settled at a cost of at most that of each upward path to m of cost at most c
-  pub matched : (legs : List Leg) → IsUpwardPath rows s m legs → IsAtMost (path_cost legs) c → (a : Cost) × IsSettled best queue m a × IsAtMost a (path_cost legs)
+  pub matched : (legs : List Leg) → IsUpwardPath rows s m legs → IsAtMost (path_cost legs) c →
+      (a : Cost) × IsSettled best queue m a × IsAtMost a (path_cost legs)
   matched legs path le = subst (λ q. (a : Cost) × IsSettled best queue m a × IsAtMost a q) (no_cost-cost_sum (path_cost legs))
       (along s no_cost legs p.start path (subst (λ q. IsAtMost q c) (sym (no_cost-cost_sum (path_cost legs))) le))
 
@@ -68,7 +72,8 @@ module _ {most : ℕ} (rows : List (List Leg)) (s : ℕ) (Idle : ℕ → Cost �
 module _ {most : ℕ} (rows : List (List Leg)) (s : ℕ) (Idle : ℕ → Cost → Type 0) (best queue : List (Option Cost)) (p : IsSearch most rows s Idle best queue)
     (never : (v : ℕ) (c : Cost) → Idle v c → ⊥) (done : IsEmpty queue) where
   -- for each upward path of weight at most `most`, its end is settled at no greater cost
-  pub covered : (m : ℕ) (legs : List Leg) → IsUpwardPath rows s m legs → (path_cost legs).weight ≤ most → (a : Cost) × IsSettled best queue m a × IsAtMost a (path_cost legs)
+  pub covered : (m : ℕ) (legs : List Leg) → IsUpwardPath rows s m legs → (path_cost legs).weight ≤ most →
+      (a : Cost) × IsSettled best queue m a × IsAtMost a (path_cost legs)
   covered m legs path light = matched rows s Idle best queue p m (path_cost legs) light (λ x d e. absurd (done x d e)) (λ x e k idle q le. never x e idle)
       legs path (IsAtMost_refl (path_cost legs))
 
@@ -85,4 +90,5 @@ module _ {most : ℕ} (rows : List (List Leg)) (s : ℕ) (Idle : ℕ → Cost �
 
   -- each least cost of weight at most `most` is known
   pub least_known : (m : ℕ) (c : Cost) → IsLeastUpwardPath rows s m c → c.weight ≤ most → cost_at best m ≡ Some c
-  least_known m c h low = (settled_least rows s Idle best queue p m c low (λ x d e. absurd (done x d e)) (λ x e k idle q le. never x e idle) h).0
+  least_known m c h low =
+      (settled_least rows s Idle best queue p m c low (λ x d e. absurd (done x d e)) (λ x e k idle q le. never x e idle) h).0

@@ -32,8 +32,10 @@ leg_up H k Up v l has = All-contains (IsLegUp H v) (row H.up v) l (k.up.1 v).1 h
 leg_up H k Down v l has = All-contains (IsLegUp H v) (row H.down v) l (k.down.1 v).1 has
 
 -- a leg of a row is a path of one leg
-pub reached_by_leg : (H : LevelsAndLegs) → IsLevelled H → (side : Side) (v : ℕ) (l : Leg) → Contains (row (rows_of H side) v) l → IsUpwardCost (rows_of H side) v l.node l.cost
-reached_by_leg H k side v l h = record { path = (l ∷ [], (h, refl), path_cost-cons l [] ∙ cost_sum-no_cost l.cost); weight = (leg_up H k side v l h).weight }
+pub reached_by_leg : (H : LevelsAndLegs) → IsLevelled H → (side : Side) (v : ℕ) (l : Leg) → Contains (row (rows_of H side) v) l →
+    IsUpwardCost (rows_of H side) v l.node l.cost
+reached_by_leg H k side v l h =
+    record { path = (l ∷ [], (h, refl), path_cost-cons l [] ∙ cost_sum-no_cost l.cost); weight = (leg_up H k side v l h).weight }
 
 -- there is a row for each node
 pub rows_size : (H : LevelsAndLegs) → IsLevelled H → (side : Side) → length (rows_of H side) ≡ nodes_of H
@@ -49,7 +51,8 @@ level_small H k v = elim (cases_lt v (length H.level)) [
 
 -- a path has few arcs, because it has at most one leg for each level, and each leg has fewer arcs than there are
 -- nodes
-pub reached_arcs : (H : LevelsAndLegs) → IsLevelled H → (side : Side) (s v : ℕ) (c : Cost) → IsUpwardCost (rows_of H side) s v c → c.arcs ≤ MOST_PATH_ARCS
+pub reached_arcs : (H : LevelsAndLegs) → IsLevelled H → (side : Side) (s v : ℕ) (c : Cost) → IsUpwardCost (rows_of H side) s v c →
+    c.arcs ≤ MOST_PATH_ARCS
 reached_arcs H k side s v c r =
     let n = nodes_of H in
     let rising : AreRising n (slice_index H.level) (rows_of H side) = λ x l has. let u = leg_up H k side x l has in (u.higher, u.arcs) in
@@ -63,7 +66,8 @@ reached_arcs H k side s v c r =
 
 -- the conditions of an expanding search, by its parts
 ExpandingOf : LevelsAndLegs → ℕ → Side → ℕ → Bool → List (Option Cost) → List (Option Cost) → ℕ → Cost → Type 0
-ExpandingOf H most side s stalls best queue v c = IsExpanding most (rows_of H side) s (OrNode (IsStalled (rows_of H side) (back_of H side stalls) s) v) best queue v c
+ExpandingOf H most side s stalls best queue v c =
+    IsExpanding most (rows_of H side) s (OrNode (IsStalled (rows_of H side) (back_of H side stalls) s) v) best queue v c
 
 -- the conditions hold of equal parts too
 moved : (H : LevelsAndLegs) (y z : Search) (best queue : List (Option Cost)) (v : ℕ) (c : Cost) → IsSameSearch y z →
@@ -76,7 +80,8 @@ moved H y z best queue v c same x =
 
 -- the conditions on the parents, by their parts
 ParentsOf : LevelsAndLegs → ℕ → Side → ℕ → Bool → List (Option Cost) → List (Option Cost) → List ℕ → ℕ → Type 0
-ParentsOf H most side s stalls best queue parents v = AreParents most (rows_of H side) s (OrNode (IsStalled (rows_of H side) (back_of H side stalls) s) v) best queue parents
+ParentsOf H most side s stalls best queue parents v =
+    AreParents most (rows_of H side) s (OrNode (IsStalled (rows_of H side) (back_of H side stalls) s) v) best queue parents
 
 -- the conditions hold of equal parts too
 moved_parents : (H : LevelsAndLegs) (y z : Search) (best queue : List (Option Cost)) (parents : List ℕ) (v : ℕ) → IsSameSearch y z → (costs_of H z) ≡ best →

@@ -26,13 +26,15 @@ pub many_split : (a : ℕ) → MANY ≤ a → arcs_of (MANY + a % MANY) (a / MAN
 many_split a le = many_arcs (MANY + a % MANY) (a / MANY - 1) (omega arith) ∙ omega arith
 
 -- a label whose weight is not NO_WEIGHT stands for a cost
-pub reached_label : (l : Label) (m a : ℕ) → (l.weight ≡ NO_WEIGHT → ⊥) → arcs_of l.arcs m ≡ a → cost_of (l, m) ≡ Some (record { weight = l.weight; arcs = a })
+pub reached_label : (l : Label) (m a : ℕ) → (l.weight ≡ NO_WEIGHT → ⊥) → arcs_of l.arcs m ≡ a →
+    cost_of (l, m) ≡ Some (record { weight = l.weight; arcs = a })
 reached_label l m a ne e =
     ap (λ q. if q then None else Some (record { weight = l.weight; arcs = arcs_of l.arcs m })) (not_eqb l.weight NO_WEIGHT ne)
     ∙ ap (λ (k : ℕ). Some (record { weight = l.weight; arcs = k })) e
 
 -- a label whose weight is within the limits stands for a cost
-pub light_label : (l : Label) (m a : ℕ) → l.weight ≤ MOST_WEIGHT → arcs_of l.arcs m ≡ a → cost_of (l, m) ≡ Some (record { weight = l.weight; arcs = a })
+pub light_label : (l : Label) (m a : ℕ) → l.weight ≤ MOST_WEIGHT → arcs_of l.arcs m ≡ a →
+    cost_of (l, m) ≡ Some (record { weight = l.weight; arcs = a })
 light_label l m a light e = reached_label l m a (λ same. omega arith) e
 
 -- a label whose weight is NO_WEIGHT stands for no cost
@@ -68,12 +70,15 @@ as_many_parents labels parents is = sym (length-map labels (λ (k : Label). k.pa
 -- writing a label writes its parent
 pub parents_set : (labels labels' : List Label) (parents : List ℕ) (v : ℕ) (l : Label) → labels' ≡ labels → parents_of labels ≡ parents →
     parents_of (set labels' v l) ≡ set parents v l.parent
-parents_set labels labels' parents v l same is = map-set (λ (k : Label). k.parent) labels' v l ∙ ap (λ q. set q v l.parent) (ap parents_of same ∙ is)
+parents_set labels labels' parents v l same is =
+    map-set (λ (k : Label). k.parent) labels' v l ∙ ap (λ q. set q v l.parent) (ap parents_of same ∙ is)
 
 module _ (labels : List Label) (multiples : List ℕ) (costs : List (Option Cost)) (size : length multiples ≡ length labels) (is : map cost_of (zip labels multiples) ≡ costs) where
   -- there are as many labels as costs
   pub as_many : length labels ≡ length costs
-  as_many = sym (ap length (firsts-zip labels multiples size)) ∙ length-map (zip labels multiples) (λ (p : Label × ℕ). p.0) ∙ sym (length-map (zip labels multiples) cost_of) ∙ ap length is
+  as_many =
+      sym (ap length (firsts-zip labels multiples size)) ∙ length-map (zip labels multiples) (λ (p : Label × ℕ). p.0)
+      ∙ sym (length-map (zip labels multiples) cost_of) ∙ ap length is
 
   -- a label that the program reads stands for the node's cost
   pub label_read : (v : ℕ) (l : Label) → v < length costs → l ≡ get_or labels v l → cost_of (l, get_or multiples v 0) ≡ cost_at costs v
@@ -94,13 +99,16 @@ module _ (labels : List Label) (multiples : List ℕ) (costs : List (Option Cost
       ∙ (λ i. set (is i) v (e i))
 
   -- writing a label alone writes the node's cost, if it fits the multiple that stays
-  pub label_set_alone : (v : ℕ) (l : Label) (o : Option Cost) → cost_of (l, get_or multiples v 0) ≡ o → map cost_of (zip (set labels v l) multiples) ≡ set costs v o
+  pub label_set_alone : (v : ℕ) (l : Label) (o : Option Cost) → cost_of (l, get_or multiples v 0) ≡ o →
+      map cost_of (zip (set labels v l) multiples) ≡ set costs v o
   label_set_alone v l o e = label_set v l (get_or multiples v 0) o multiples (sym (set-get_or multiples v 0)) e
 
   -- writing a label that differs only in its parent keeps the costs
   pub costs_stay : (v : ℕ) (l : Label) (p : ℕ) → v < length costs → l ≡ get_or labels v l →
       map cost_of (zip (set labels v (record { weight = l.weight; arcs = l.arcs; parent = p })) multiples) ≡ costs
-  costs_stay v l p within e = label_set_alone v (record { weight = l.weight; arcs = l.arcs; parent = p }) (cost_at costs v) (label_read v l within e) ∙ set-get_or costs v None
+  costs_stay v l p within e =
+      label_set_alone v (record { weight = l.weight; arcs = l.arcs; parent = p }) (cost_at costs v) (label_read v l within e)
+      ∙ set-get_or costs v None
 
   -- the label and the multiple that the program writes stand for the cost
   pub written : (v weight arcs parent : ℕ) → weight ≤ MOST_WEIGHT → (labels' : List Label) (multiples' : List ℕ) (m a b : ℕ) → labels' ≡ labels →

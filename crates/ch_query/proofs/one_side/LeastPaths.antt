@@ -42,7 +42,8 @@ module _ (rows : List (List Leg)) (m : ℕ) where
   IsDecidedOf some = HasLeastOf some ⊎ ((k : Leg) (ks : List Leg) → Begins some k ks → ⊥)
 
   -- a least path after l, with l in front, costs no more than any path that begins with l
-  with_first : (l k : Leg) (here : HasLeast l.node) (ks : List Leg) → l ≡ k → IsUpwardPath rows k.node m ks → IsAtMost (path_cost (l ∷ here.0)) (path_cost (k ∷ ks))
+  with_first : (l k : Leg) (here : HasLeast l.node) (ks : List Leg) → l ≡ k → IsUpwardPath rows k.node m ks →
+      IsAtMost (path_cost (l ∷ here.0)) (path_cost (k ∷ ks))
   with_first l k here ks same path = subst (λ q. IsAtMost (path_cost (l ∷ here.0)) (path_cost (q ∷ ks))) same
       (leg_before l here.0 ks (here.2 ks (subst (λ (q : Leg). IsUpwardPath rows q.node m ks) (sym same) path)))
 

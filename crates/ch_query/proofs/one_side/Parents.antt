@@ -87,7 +87,8 @@ module _ {most : ℕ} (rows : List (List Leg)) (s : ℕ) (Idle : ℕ → Cost �
       IsBelow_not (cost_sum c l.cost) old.0 lt (subst (IsAtMost old.0) (sym same) old.2)
 
   -- no earlier node gives the same cost
-  first : (u : ℕ) (d : Cost) → IsSettled best queue u d → Idle u d ⊎ ((k : Leg) → Contains (row rows u) k → IsNoEarlier most best' (set parents l.node v) u d k)
+  first : (u : ℕ) (d : Cost) → IsSettled best queue u d →
+      Idle u d ⊎ ((k : Leg) → Contains (row rows u) k → IsNoEarlier most best' (set parents l.node v) u d k)
   first u d was = elim (x.search.frontier u d was) [
     | inl idle ↦ inl idle
     | inr relaxed ↦ elim (a.first u d was) [
@@ -109,7 +110,8 @@ module _ {most : ℕ} (rows : List (List Leg)) (s : ℕ) (Idle : ℕ → Cost �
   }
 
   -- the earlier legs of v still have no later parent at their ends
-  pub lowered_no_earlier : (k : Leg) → IsNoEarlier most best parents v c k → IsNoEarlier most (set best l.node (Some (cost_sum c l.cost))) (set parents l.node v) v c k
+  pub lowered_no_earlier : (k : Leg) → IsNoEarlier most best parents v c k →
+      IsNoEarlier most (set best l.node (Some (cost_sum c l.cost))) (set parents l.node v) v c k
   unfolding best'
   lowered_no_earlier k n low e = elim (cases_eq k.node l.node) [
     | inl is ↦ let at = ap (slice_index (set parents l.node v)) is ∙ here in omega arith
@@ -156,7 +158,8 @@ module _ {most : ℕ} (rows : List (List Leg)) (s : ℕ) (Idle : ℕ → Cost �
 module _ {most : ℕ} (rows : List (List Leg)) (s : ℕ) (Idle : ℕ → Cost → Type 0) (best queue : List (Option Cost)) (parents : List ℕ) (v : ℕ) (c : Cost)
     (here : IsSettled best queue v c) (a : AreParents most rows s (OrNode Idle v) best queue parents) where
   -- the parents are right for the search without the exception of v
-  pub finish_parents : Idle v c ⊎ ((l : Leg) → Contains (row rows v) l → IsNoEarlier most best parents v c l) → AreParents most rows s Idle best queue parents
+  pub finish_parents : Idle v c ⊎ ((l : Leg) → Contains (row rows v) l → IsNoEarlier most best parents v c l) →
+      AreParents most rows s Idle best queue parents
   finish_parents done = record {
     size = a.size;
     led = a.led;
@@ -171,7 +174,8 @@ module _ {most : ℕ} (rows : List (List Leg)) (s : ℕ) (Idle : ℕ → Cost �
   }
 
 -- a path and a path from its end together are a path
-path_append : (rows : List (List Leg)) (a b d : ℕ) (xs ys : List Leg) → IsUpwardPath rows a b xs → IsUpwardPath rows b d ys → IsUpwardPath rows a d (xs ++ ys)
+path_append : (rows : List (List Leg)) (a b d : ℕ) (xs ys : List Leg) → IsUpwardPath rows a b xs → IsUpwardPath rows b d ys →
+    IsUpwardPath rows a d (xs ++ ys)
 path_append rows a b d [] ys p q = subst (λ r. IsUpwardPath rows r d ys) (sym p) q
 path_append rows a b d (x ∷ xs) ys p q = (p.0, path_append rows x.node b d xs ys p.1 q)
 

@@ -35,16 +35,19 @@ least_key queue e l = record { has = l.has; least = λ x d k. at_most_by e.0 d (
 
 -- a node with a key is a node
 pub key_within : (queue : List (Option Cost)) (v : ℕ) (c : Cost) → cost_at queue v ≡ Some c → v < length queue
-key_within queue v c e = elim (cases_lt v (length queue)) [ inl lt ↦ lt | inr ge ↦ absurd (none-some _ (sym (get_or_past queue v None ge) ∙ e)) ]
+key_within queue v c e =
+    elim (cases_lt v (length queue)) [ inl lt ↦ lt | inr ge ↦ absurd (none-some _ (sym (get_or_past queue v None ge) ∙ e)) ]
 
 -- a queue whose least key is at most that of another leads it
-leads_by : (first second : List (Option Cost)) (a b : Cost × ℕ) → IsLeastEntry cost_cmp first a → IsLeastEntry cost_cmp second b → IsAtMost a.0 b.0 → LeadsKeys first second
+leads_by : (first second : List (Option Cost)) (a b : Cost × ℕ) → IsLeastEntry cost_cmp first a → IsLeastEntry cost_cmp second b →
+    IsAtMost a.0 b.0 → LeadsKeys first second
 leads_by first second a b l k le v d h = (a.1, a.0, l.has, IsAtMost_trans a.0 b.0 d le ((least_key second b k).least v d h))
 
 -- the test of the least keys of two queues says which of them leads
 pub leads_as_told : (first second : List (Option Cost)) (a b : Cost × ℕ) → IsLeastEntry cost_cmp first a → IsLeastEntry cost_cmp second b → (told : Bool) → IsTrue told ↔ IsBelow b.0 a.0 →
     (not told ≡ true → LeadsKeys first second) × (not told ≡ false → LeadsKeys second first)
-leads_as_told first second a b l k true i = (λ e. absurd (false≢true e), λ _. leads_by second first b a k l (IsBelow-IsAtMost b.0 a.0 (i.0 refl)))
+leads_as_told first second a b l k true i =
+    (λ e. absurd (false≢true e), λ _. leads_by second first b a k l (IsBelow-IsAtMost b.0 a.0 (i.0 refl)))
 leads_as_told first second a b l k false i = (
   λ _. elim (IsAtMost_or_IsBelow a.0 b.0) [ inl le ↦ leads_by first second a b l k le | inr less ↦ absurd (false≢true (i.1 less)) ],
   λ e. absurd (false≢true (sym e)),
@@ -55,7 +58,8 @@ abbrev pub with_queue : Search → List (Option Cost) → Search
 with_queue x q = record x { queue = q }
 
 -- a rank with a key is a rank
-pub key_rank : (H : LevelsAndLegs) (x : Search) (rank : ℕ) (c : Cost) → IsUnderway H x → IsLeastEntry cost_cmp x.queue (c, rank) → rank < nodes_of H
+pub key_rank : (H : LevelsAndLegs) (x : Search) (rank : ℕ) (c : Cost) → IsUnderway H x → IsLeastEntry cost_cmp x.queue (c, rank) →
+    rank < nodes_of H
 key_rank H x rank c u l = let lt = key_within x.queue rank c l.has in let size = u.sizes.1 in omega arith
 
 -- v is a node of least key, and q is the queue without v

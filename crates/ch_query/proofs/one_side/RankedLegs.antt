@@ -61,7 +61,8 @@ module _ (H : LevelsAndLegs) (k : IsLevelled H) (y z : Search) (v : ℕ) (c : Co
 -- taking a leg keeps the lengths of the lists
 pub relaxes_sizes : (n : ℕ) (y z : Search) (v : ℕ) (c : Cost) (r : RankedLeg) → IsSized n y → RelaxesByRank y v c r z → IsSized n z
 relaxes_sizes n y z v c r s (inl (e, f, is, inl (early, g))) = (ap length e ∙ s.0, ap length f ∙ s.1, ap length g ∙ s.2)
-relaxes_sizes n y z v c r s (inl (e, f, is, inr (equal, lt, g))) = (ap length e ∙ s.0, ap length f ∙ s.1, ap length g ∙ length-set y.labels.parents r.rank v ∙ s.2)
+relaxes_sizes n y z v c r s (inl (e, f, is, inr (equal, lt, g))) =
+    (ap length e ∙ s.0, ap length f ∙ s.1, ap length g ∙ length-set y.labels.parents r.rank v ∙ s.2)
 relaxes_sizes n y z v c r s (inr (light, lower, e, f, g)) = (
   ap length e ∙ length-set y.labels.costs r.rank _ ∙ s.0,
   ap length f ∙ length-set y.queue r.rank _ ∙ s.1,
@@ -123,5 +124,6 @@ module _ (H : LevelsAndLegs) (x y : Search) (v : ℕ) (c : Cost) (items : List R
       (relaxes_by_node H p.expanding.levelled y z v c here p.expanding.sizes within by_rank) (relaxes_sizes (nodes_of H) y z v c _ p.expanding.sizes by_rank) t same)
 
 -- past the last leg, all legs are taken
-pub read_all : (H : LevelsAndLegs) (legs : List Leg) (items : List RankedLeg) (i : ℕ) → items ≡ map (ranked_leg H) legs → length items ≤ i → take i legs ≡ legs
+pub read_all : (H : LevelsAndLegs) (legs : List Leg) (items : List RankedLeg) (i : ℕ) → items ≡ map (ranked_leg H) legs → length items ≤ i →
+    take i legs ≡ legs
 read_all H legs items i e past = take_all i legs (let size = ap length e ∙ length-map legs (ranked_leg H) in omega arith)

@@ -40,7 +40,8 @@ sorted_rises xs ys distinct p sorted =
 
 -- a search under way has room for all nodes
 pub underway_room : (H : LevelsAndLegs) (x : Search) → IsUnderway H x → IsRoom x
-underway_room H x u = record { queue = u.sizes.1 ∙ sym u.sizes.0; parents = u.sizes.2 ∙ sym u.sizes.0; touched = u.touched; most = u.search.limits }
+underway_room H x u =
+    record { queue = u.sizes.1 ∙ sym u.sizes.0; parents = u.sizes.2 ∙ sym u.sizes.0; touched = u.touched; most = u.search.limits }
 
 -- a cost that is known is the one in the list
 some_known : (o : Option Cost) → is_some o ≡ true → o ≡ Some (unwrap_or o no_cost)
@@ -160,16 +161,20 @@ within_more H nodes new v was lt is w h = elim (Contains-push_cases nodes v w (s
 ]
 
 -- a node that is read from the reached nodes is reached
-pub node_known : (best : List (Option Cost)) (nodes items : List ℕ) (i : ℕ) → AreReached best nodes → items ≡ nodes → i < length items → is_some (cost_at best (get_or items i 0)) ≡ true
-node_known best nodes items i a e lt = a.sound (get_or items i 0) (subst (λ q. Contains q (get_or items i 0)) e (Contains-get_or items i 0 lt))
+pub node_known : (best : List (Option Cost)) (nodes items : List ℕ) (i : ℕ) → AreReached best nodes → items ≡ nodes → i < length items →
+    is_some (cost_at best (get_or items i 0)) ≡ true
+node_known best nodes items i a e lt =
+    a.sound (get_or items i 0) (subst (λ q. Contains q (get_or items i 0)) e (Contains-get_or items i 0 lt))
 
 -- a reached node is a node
 pub reached_within : (H : LevelsAndLegs) (x : Search) (v : ℕ) → is_some (cost_at (costs_of H x) v) ≡ true → v < nodes_of H
 reached_within H x v e = (by_node-some H x.labels.costs v _ (some_known _ e)).0
 
 -- the cost at a node's rank is the node's cost
-pub read_cost : (H : LevelsAndLegs) (x : Search) (v rank : ℕ) (r : Option Cost) → is_some (cost_at (costs_of H x) v) ≡ true → rank ≡ rank_of H v → r ≡ cost_at x.labels.costs rank → r ≡ cost_at (costs_of H x) v
-read_cost H x v rank r known at read = read ∙ ap (cost_at x.labels.costs) at ∙ sym (by_node-at H x.labels.costs None None v (reached_within H x v known))
+pub read_cost : (H : LevelsAndLegs) (x : Search) (v rank : ℕ) (r : Option Cost) → is_some (cost_at (costs_of H x) v) ≡ true →
+    rank ≡ rank_of H v → r ≡ cost_at x.labels.costs rank → r ≡ cost_at (costs_of H x) v
+read_cost H x v rank r known at read =
+    read ∙ ap (cost_at x.labels.costs) at ∙ sym (by_node-at H x.labels.costs None None v (reached_within H x v known))
 
 -- the cost of a reached node is known
 pub unknown : (o r : Option Cost) → r ≡ o → is_some o ≡ true → ((c : Cost) → r ≡ Some c → ⊥) → ⊥

@@ -29,7 +29,8 @@ pub record IsBackLeg (H : LevelsAndLegs) (x : Search) (v : ℕ) (l : Leg) : Type
 
 module _ (H : LevelsAndLegs) (x : Search) (v : ℕ) (c : Cost) (u : IsExpandingAt H x v c) where
   -- the test reads such legs
-  pub back_leg : (side : Side) (legs : List Leg) (i : ℕ) (d : Leg) → side ≡ other x.side → legs ≡ row (rows_of H side) v → i < length legs → IsBackLeg H x v (get_or legs i d)
+  pub back_leg : (side : Side) (legs : List Leg) (i : ℕ) (d : Leg) → side ≡ other x.side → legs ≡ row (rows_of H side) v → i < length legs →
+      IsBackLeg H x v (get_or legs i d)
   back_leg side legs i d turned e lt =
       let has = subst (λ xs. Contains xs (get_or legs i d)) (e ∙ ap (λ q. row (rows_of H q) v) turned) (Contains-get_or legs i d lt) in
       let node = (leg_up H u.levelled (other x.side) v (get_or legs i d) has).node in
@@ -38,7 +39,8 @@ module _ (H : LevelsAndLegs) (x : Search) (v : ℕ) (c : Cost) (u : IsExpandingA
       record { has = has; within = omega arith }
 
   -- the sums of the test do not overflow
-  pub back_sum : (l : Leg) (e : Cost) → IsBackLeg H x v l → cost_at (costs_of H x) l.node ≡ Some e → (e.weight + l.cost.weight ≤ MOST_SUM) × (e.arcs + l.cost.arcs < 2 ^ 64)
+  pub back_sum : (l : Leg) (e : Cost) → IsBackLeg H x v l → cost_at (costs_of H x) l.node ≡ Some e →
+      (e.weight + l.cost.weight ≤ MOST_SUM) × (e.arcs + l.cost.arcs < 2 ^ 64)
   back_sum l e b known =
       let up = leg_up H u.levelled (other x.side) v l b.has in
       let r = u.search.search.sound l.node e known in
@@ -50,7 +52,8 @@ module _ (H : LevelsAndLegs) (x : Search) (v : ℕ) (c : Cost) (u : IsExpandingA
       (omega arith, omega arith)
 
   -- if a sum is less than c, v may stay idle
-  pub stalls_idle : (l : Leg) (e : Cost) → x.stalls ≡ true → IsBackLeg H x v l → cost_at (costs_of H x) l.node ≡ Some e → IsBelow (cost_sum e l.cost) c → idle_of H x v c
+  pub stalls_idle : (l : Leg) (e : Cost) → x.stalls ≡ true → IsBackLeg H x v l → cost_at (costs_of H x) l.node ≡ Some e →
+      IsBelow (cost_sum e l.cost) c → idle_of H x v c
   stalls_idle l e on b known below = record {
     leg = l;
     has = subst (λ s. Contains (row (back_of H x.side s) v) l) (sym on) b.has;

@@ -49,7 +49,8 @@ walk_down : (H : LevelsAndLegs) (k : IsKeptForSome H) (t m : ℕ) (b : Cost) →
 walk_down H k t m b r = walk_turned k.0 m t b (walk_up (turned_hierarchy H) (kept_turned H k) t m b r)
 
 -- the two walks together are a walk
-pub sum_walk : (H : LevelsAndLegs) (k : IsKeptForSome H) (s t m : ℕ) (a b : Cost) → IsUpwardCost H.up s m a → IsUpwardCost H.down t m b → IsWalkCost k.0 s t (cost_sum a b)
+pub sum_walk : (H : LevelsAndLegs) (k : IsKeptForSome H) (s t m : ℕ) (a b : Cost) → IsUpwardCost H.up s m a → IsUpwardCost H.down t m b →
+    IsWalkCost k.0 s t (cost_sum a b)
 sum_walk H k s t m a b up down = IsWalkCost-cost_sum k.0 s m t a b (walk_up H k s m a up) (walk_down H k t m b down)
 
 -- if the two walks together cost as little as the least meeting, the node is tight from s
@@ -71,7 +72,8 @@ tight_down H k s t m a b c h up down sum =
 
 -- if a search from s stalls at a node, a walk from s to it costs less. So it stalls at no node on a least path to a
 -- tight node
-up_avoids : (H : LevelsAndLegs) (k : IsKeptForSome H) (s m : ℕ) (c : Cost) → IsTight H Up s m c → AvoidsIdle H.up (IsStalled H.up H.down s) m c
+up_avoids : (H : LevelsAndLegs) (k : IsKeptForSome H) (s m : ℕ) (c : Cost) → IsTight H Up s m c →
+    AvoidsIdle H.up (IsStalled H.up H.down s) m c
 up_avoids H k s m c tight x e legs i path le =
     let cheaper = cost_sum i.cost i.leg.cost in
     let there = sum_walk H k s x i.leg.node i.cost i.leg.cost i.reached (reached_by_leg H k.2.levelled Down x i.leg i.has) in

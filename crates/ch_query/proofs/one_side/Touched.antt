@@ -78,7 +78,8 @@ module _ (best : List (Option Cost)) (touched : Vec ℕ Global) (t : IsTouched b
 
 -- a node with a cost is a node
 pub some_within : (best : List (Option Cost)) (w : ℕ) → is_some (cost_at best w) ≡ true → w < length best
-some_within best w e = elim (cases_lt w (length best)) [ inl lt ↦ lt | inr ge ↦ absurd (false≢true (sym (ap is_some (get_or_past best w None ge)) ∙ e)) ]
+some_within best w e =
+    elim (cases_lt w (length best)) [ inl lt ↦ lt | inr ge ↦ absurd (false≢true (sym (ap is_some (get_or_past best w None ge)) ∙ e)) ]
 
 -- a list without costs has no cost at any node
 pub none_known : (n v : ℕ) → cost_at (replicate n None) v ≡ None

@@ -51,7 +51,8 @@ legs_up_weighed H rows are = (
 
 -- the hierarchy by weights alone is levelled
 pub weighed_levelled : (H : LevelsAndLegs) → IsLevelled H → IsLevelled (weighed H)
-weighed_levelled H is = record { count = is.count; levels = is.levels; up = legs_up_weighed H H.up is.up; down = legs_up_weighed H H.down is.down }
+weighed_levelled H is =
+    record { count = is.count; levels = is.levels; up = legs_up_weighed H H.up is.up; down = legs_up_weighed H H.down is.down }
 
 -- each leg by weight alone is made of a leg
 leg_of_weighed : (rows : List (List Leg)) (v : ℕ) (l : Leg) → Contains (row (map (map weighed_leg) rows) v) l →
@@ -83,7 +84,8 @@ path_of_weighed rows a b (l ∷ legs) path =
     (first.0 ∷ rest.0, (first.1, rest.1), ap (λ k. k ∷ map weighed_leg rest.0) first.2 ∙ ap (λ ks. l ∷ ks) rest.2)
 
 -- a reached node is reached by weights alone
-pub weighed_reached : (rows : List (List Leg)) (s v : ℕ) (c : Cost) → IsUpwardCost rows s v c → IsUpwardCost (map (map weighed_leg) rows) s v (weighed_cost c)
+pub weighed_reached : (rows : List (List Leg)) (s v : ℕ) (c : Cost) → IsUpwardCost rows s v c →
+    IsUpwardCost (map (map weighed_leg) rows) s v (weighed_cost c)
 weighed_reached rows s v c r = record {
   path = (map weighed_leg r.path.0, path_weighed rows s v r.path.0 r.path.1, path_cost-weighed r.path.0 ∙ ap weighed_cost r.path.2);
   weight = r.weight;

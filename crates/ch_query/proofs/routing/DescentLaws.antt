@@ -17,12 +17,15 @@ abbrev pub steps_cost : List DescentStep → Cost
 steps_cost steps = path_cost (map (λ step. step.leg) steps)
 
 -- one more step adds the cost of its leg
-pub steps_cost-cons : (step : DescentStep) (steps : List DescentStep) → steps_cost (step ∷ steps) ≡ cost_sum (steps_cost steps) step.leg.cost
-steps_cost-cons step steps = path_cost-cons step.leg (map (λ (s : DescentStep). s.leg) steps) ∙ cost_sum_comm step.leg.cost (steps_cost steps)
+pub steps_cost-cons : (step : DescentStep) (steps : List DescentStep) →
+    steps_cost (step ∷ steps) ≡ cost_sum (steps_cost steps) step.leg.cost
+steps_cost-cons step steps =
+    path_cost-cons step.leg (map (λ (s : DescentStep). s.leg) steps) ∙ cost_sum_comm step.leg.cost (steps_cost steps)
 
 module _ (rows : List (List Leg)) (a : ℕ) where
   -- the cost of the steps back from x is the least cost of x
-  pub descent_cost : (x : ℕ) (steps : List DescentStep) (c : Cost) → IsDescent rows a x steps → IsLeastUpwardPath rows a x c → steps_cost steps ≡ c
+  pub descent_cost : (x : ℕ) (steps : List DescentStep) (c : Cost) → IsDescent rows a x steps → IsLeastUpwardPath rows a x c →
+      steps_cost steps ≡ c
   descent_cost x [] c d l =
       let low : IsAtMost c no_cost = l.least [] (sym d) (omega arith) in
       let w = low.0 in
@@ -33,7 +36,8 @@ module _ (rows : List (List Leg)) (a : ℕ) where
       steps_cost-cons step steps ∙ ap (λ q. cost_sum q step.leg.cost) (descent_cost step.low steps last.2 d.2 last.3) ∙ least_same rows a x _ c last.4 l
 
   -- two ways back from x are equal
-  pub descent_one : ((v : ℕ) → IsRow (row rows v)) → (x : ℕ) (ks ls : List DescentStep) → IsDescent rows a x ks → IsDescent rows a x ls → ks ≡ ls
+  pub descent_one : ((v : ℕ) → IsRow (row rows v)) → (x : ℕ) (ks ls : List DescentStep) → IsDescent rows a x ks → IsDescent rows a x ls →
+      ks ≡ ls
   descent_one order x [] [] d e = refl
   descent_one order x [] (l ∷ ls) d e = absurd (e.0 d)
   descent_one order x (k ∷ ks) [] d e = absurd (d.0 e)

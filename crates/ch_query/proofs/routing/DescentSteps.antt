@@ -39,12 +39,14 @@ pub record IsPartlyTraced (H : LevelsAndLegs) (y : Search) (m x : ℕ) (c : Cost
   pub path : IsUpwardPath (rows_of H y.side) x m tail
   pub cheap : IsAtMost (cost_sum cost (path_cost tail)) c
   pub done : List DescentStep
-  pub descent : (rest : List DescentStep) → IsDescent (rows_of H y.side) y.source x rest → IsDescent (rows_of H y.side) y.source m (done ++ rest)
+  pub descent : (rest : List DescentStep) → IsDescent (rows_of H y.side) y.source x rest →
+      IsDescent (rows_of H y.side) y.source m (done ++ rest)
   pub pushed : new.items ≡ old ++ map (pending_of y.side) done
   pub room : vec_len new + cost.arcs ≤ vec_capacity new
 
 -- a leg of a row is a leg of the hierarchy
-pub step_pending : (H : LevelsAndLegs) (side : Side) (step : DescentStep) → Contains (row (rows_of H side) step.low) step.leg → IsPending H (pending_of side step)
+pub step_pending : (H : LevelsAndLegs) (side : Side) (step : DescentStep) → Contains (row (rows_of H side) step.low) step.leg →
+    IsPending H (pending_of side step)
 step_pending H Up step has = (step.leg, refl, refl, inl (has, refl))
 step_pending H Down step has = (step.leg, refl, refl, inr (has, refl))
 

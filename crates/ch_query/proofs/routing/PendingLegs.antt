@@ -24,7 +24,8 @@ abbrev pub unpackings : List PendingLeg → ℕ
 unpackings pending = sum_by (λ p. p.cost.arcs + p.cost.arcs - 1) pending
 
 -- three lists in a row
-parts_connected : (arcs here after second rest : List InArc) → arcs ≡ here ++ after → after ≡ second ++ rest → (here ++ second) ++ rest ≡ arcs
+parts_connected : (arcs here after second rest : List InArc) → arcs ≡ here ++ after → after ≡ second ++ rest →
+    (here ++ second) ++ rest ≡ arcs
 parts_connected arcs here after second rest is parts = append_assoc here second rest ∙ sym (is ∙ ap (λ q. here ++ q) parts)
 
 module _ (H : LevelsAndLegs) where
@@ -52,7 +53,8 @@ module _ (H : LevelsAndLegs) where
 
   -- one more leg is pending
   pub pending_push : (pending : List PendingLeg) (p : PendingLeg) → ArePending H pending → IsPending H p → ArePending H (pending ++ p ∷ [])
-  pending_push pending p are is q has = elim (Contains-push_cases pending p q has) [ inl old ↦ are q old | inr new ↦ subst (IsPending H) new is ]
+  pending_push pending p are is q has =
+      elim (Contains-push_cases pending p q has) [ inl old ↦ are q old | inr new ↦ subst (IsPending H) new is ]
 
   -- one leg fewer is pending
   pub pending_pop : (pending : List PendingLeg) (p : PendingLeg) → ArePending H (pending ++ p ∷ []) → ArePending H pending × IsPending H p

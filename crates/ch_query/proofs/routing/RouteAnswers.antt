@@ -84,7 +84,8 @@ module _ (H : LevelsAndLegs) (k : IsKeptForSome H) (x y : Search) (m : ℕ) (c :
   -- both searches have reached the meet
   reached_both : HasReached H x m up × HasReached H y m down
   unfolding up down
-  reached_both = reached H k x y (Some (c, m)) meeting sides.0 sides.1 past.0 past.1 c (meet_is_least H x.source y.source m c meet) m meet.meets
+  reached_both =
+      reached H k x y (Some (c, m)) meeting sides.0 sides.1 past.0 past.1 c (meet_is_least H x.source y.source m c meet) m meet.meets
 
   -- there is room for the way back to the end
   pub room_down : HasReachedWithRoom H y m start

@@ -23,7 +23,8 @@ use Rattle.ch_query.proofs.routing.DescentSteps.{step_pending, step_arcs}
 use Rattle.ch_query.proofs.routing.PendingLegs.{pending_arcs_append, pending_arcs_pop}
 
 -- the legs of chosen steps are legs of the hierarchy
-steps_pending : (H : LevelsAndLegs) (side : Side) (a x : ℕ) (steps : List DescentStep) → IsDescent (rows_of H side) a x steps → ArePending H (map (pending_of side) steps)
+steps_pending : (H : LevelsAndLegs) (side : Side) (a x : ℕ) (steps : List DescentStep) → IsDescent (rows_of H side) a x steps →
+    ArePending H (map (pending_of side) steps)
 steps_pending H side a x [] d p (i, lt, e) = absurd (omega arith)
 steps_pending H side a x (step ∷ steps) d p (zero, lt, e) = subst (IsPending H) e (step_pending H side step d.1.last.0)
 steps_pending H side a x (step ∷ steps) d p (suc i, lt, e) = steps_pending H side a step.low steps d.2 p (i, omega arith, e)
@@ -69,7 +70,8 @@ module _ (H : LevelsAndLegs) where
   are_up_arcs (step ∷ steps) arcs a = (a.0, a.1, are_up_arcs steps a.0 a.2, a.3, a.4)
 
   -- the arcs of the legs of steps down to t, reversed
-  are_down_arcs : (steps : List DescentStep) (arcs : List InArc) → ArePendingArcs H (reverse (map (pending_of Down) steps)) arcs → AreDownArcs H steps arcs
+  are_down_arcs : (steps : List DescentStep) (arcs : List InArc) → ArePendingArcs H (reverse (map (pending_of Down) steps)) arcs →
+      AreDownArcs H steps arcs
   are_down_arcs [] arcs a = a
   are_down_arcs (step ∷ steps) arcs a =
       let turn = reverse-append (pending_of Down step ∷ []) (map (pending_of Down) steps) in
@@ -80,7 +82,8 @@ module _ (H : LevelsAndLegs) where
 TracedBy : LevelsAndLegs → Side → ℕ → ℕ → List PendingLeg → List PendingLeg → Type 0
 TracedBy H side s m old new = (steps : List DescentStep) × IsDescent (rows_of H side) s m steps × (new ≡ old ++ map (pending_of side) steps)
 
-traced_by : (H : LevelsAndLegs) (x : Search) (m : ℕ) (old new : List PendingLeg) (side : Side) → x.side ≡ side → IsTraced H x m old new → TracedBy H side x.source m old new
+traced_by : (H : LevelsAndLegs) (x : Search) (m : ℕ) (old new : List PendingLeg) (side : Side) → x.side ≡ side → IsTraced H x m old new →
+    TracedBy H side x.source m old new
 unfolding TracedBy
 traced_by H x m old new side is t = subst (λ q. TracedBy H q x.source m old new) is (t.steps, t.descent, t.pushed)
 

@@ -21,7 +21,8 @@ use Rattle.ch_query.proofs.routing.Unpacked.{unpacked_one, unpacked_walk}
 
 module _ (g : Network) (H : LevelsAndLegs) (kept : IsKept g H) where
   -- the arcs of the steps up to m are a walk of their cost
-  pub up_walk : (s m : ℕ) (steps : List DescentStep) (arcs : List InArc) → IsDescent H.up s m steps → AreUpArcs H steps arcs → IsWalk g s m arcs × (cost_of arcs ≡ steps_cost steps)
+  pub up_walk : (s m : ℕ) (steps : List DescentStep) (arcs : List InArc) → IsDescent H.up s m steps → AreUpArcs H steps arcs →
+      IsWalk g s m arcs × (cost_of arcs ≡ steps_cost steps)
   up_walk s m [] arcs d e = (subst (IsWalk g s m) (sym e) (sym d), ap cost_of e)
   up_walk s m (step ∷ steps) arcs d are =
       let last = d.1.last in
@@ -32,7 +33,8 @@ module _ (g : Network) (H : LevelsAndLegs) (kept : IsKept g H) where
       )
 
   -- the arcs of the steps down from m are a walk of their cost
-  pub down_walk : (t m : ℕ) (steps : List DescentStep) (arcs : List InArc) → IsDescent H.down t m steps → AreDownArcs H steps arcs → IsWalk g m t arcs × (cost_of arcs ≡ steps_cost steps)
+  pub down_walk : (t m : ℕ) (steps : List DescentStep) (arcs : List InArc) → IsDescent H.down t m steps → AreDownArcs H steps arcs →
+      IsWalk g m t arcs × (cost_of arcs ≡ steps_cost steps)
   down_walk t m [] arcs d e = (subst (IsWalk g m t) (sym e) d, ap cost_of e)
   down_walk t m (step ∷ steps) arcs d are =
       let last = d.1.last in
@@ -44,7 +46,8 @@ module _ (g : Network) (H : LevelsAndLegs) (kept : IsKept g H) where
       )
 
   -- a route is a least walk, and has its weight
-  pub route_least_walk : IsWithinLimits g → (s t : ℕ) (route : Route) → IsRoute H s t route → IsLeastWalk g s t route.arcs × (route.weight ≡ weight_of route.arcs)
+  pub route_least_walk : IsWithinLimits g → (s t : ℕ) (route : Route) → IsRoute H s t route →
+      IsLeastWalk g s t route.arcs × (route.weight ≡ weight_of route.arcs)
   route_least_walk limits s t route r =
       let m = r.meets.meets in
       let up = up_walk s r.meet r.ups r.first r.rise r.up_arcs in

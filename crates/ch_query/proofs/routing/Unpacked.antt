@@ -29,7 +29,8 @@ halves_one H k u v w a b a' b' ha na hb nb ha' na' hb' nb' =
 
 module _ (H : LevelsAndLegs) (k : IsLevelled H) where
   -- the arcs of a leg are determined
-  pub unpacked_one : {u w weight : ℕ} {middle : Option ℕ} {xs ys : List InArc} → IsUnpacked H u w weight middle xs → IsUnpacked H u w weight middle ys → xs ≡ ys
+  pub unpacked_one : {u w weight : ℕ} {middle : Option ℕ} {xs ys : List InArc} → IsUnpacked H u w weight middle xs →
+      IsUnpacked H u w weight middle ys → xs ≡ ys
   unpacked_one arc arc = refl
   unpacked_one (shortcut {u = u} {w = w} {v = v} {a = a} {b = b} ha na hb nb p q) (shortcut {a = a'} {b = b'} {xs = xs'} {ys = ys'} ha' na' hb' nb' p' q') =
       let one = halves_one H k u v w a b a' b' ha na hb nb ha' na' hb' nb' in

@@ -99,5 +99,6 @@ module _ (H : LevelsAndLegs) (k : IsKeptForSome H) (start : List PendingLeg) (pe
       }
 
   -- one pop fewer is left after a shortcut
-  pub split_less : (v : ℕ) (new : Vec PendingLeg Global) → p.middle ≡ Some v → IsSplit H p.from v p.to popped.items new.items → unpackings new.items < unpackings pending.items
+  pub split_less : (v : ℕ) (new : Vec PendingLeg Global) → p.middle ≡ Some v → IsSplit H p.from v p.to popped.items new.items →
+      unpackings new.items < unpackings pending.items
   split_less v new e s = let near = split_nearer H k p v top_is e popped.items new.items s in let sum = pops in omega arith

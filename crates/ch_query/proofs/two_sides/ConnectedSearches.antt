@@ -69,8 +69,10 @@ past_both_cost : (first second : List (Option Cost)) (most : Cost) → LeadsKeys
 past_both_cost first second most leads past v d k = let l = leads v d k in below_then most l.1 d (past l.0 l.1 l.2) l.3
 
 -- if the side that leads stops, both sides are past the bound
-pub both_past_cost : (x x' y : Search) (most : Cost) → LeadsKeys x.queue y.queue → (x' ≡ x) × IsPastCost x.queue most → IsPastCost x'.queue most × IsPastCost y.queue most
-both_past_cost x x' y most leads s = (subst (λ (z : Search). IsPastCost z.queue most) (sym s.0) s.1, past_both_cost x.queue y.queue most leads s.1)
+pub both_past_cost : (x x' y : Search) (most : Cost) → LeadsKeys x.queue y.queue → (x' ≡ x) × IsPastCost x.queue most →
+    IsPastCost x'.queue most × IsPastCost y.queue most
+both_past_cost x x' y most leads s =
+    (subst (λ (z : Search). IsPastCost z.queue most) (sym s.0) s.1, past_both_cost x.queue y.queue most leads s.1)
 
 -- a queue that is past the bound by rank is past it by node
 past_cost_by_node : (H : LevelsAndLegs) (x : Search) (most : Cost) → IsPastCost x.queue most → IsPastCost (keys_of H x) most
@@ -121,7 +123,8 @@ path_rises H k side a b (l ∷ legs) p =
     omega arith
 
 -- a path has at most as many legs as there are nodes
-path_short : (H : LevelsAndLegs) → IsLevelled H → (side : Side) (a b : ℕ) (legs : List Leg) → IsUpwardPath (rows_of H side) a b legs → length legs ≤ nodes_of H
+path_short : (H : LevelsAndLegs) → IsLevelled H → (side : Side) (a b : ℕ) (legs : List Leg) → IsUpwardPath (rows_of H side) a b legs →
+    length legs ≤ nodes_of H
 path_short H k side a b legs p = let rise = path_rises H k side a b legs p in let small = level_small H k b in omega arith
 
 -- if a node is reached, a least path to it costs no more
@@ -136,14 +139,16 @@ least_within H k side s v a r = elim (decided (rows_of H side) v (nodes_of H) s 
 ]
 
 -- if a node is reached from both ends within the bound, there is a meeting within the bound
-pub meeting_within : (H : LevelsAndLegs) → IsLevelled H → (s t m : ℕ) (a b most : Cost) → IsUpwardCost H.up s m a → IsUpwardCost H.down t m b → IsAtMost (cost_sum a b) most → MeetsWithin H s t most
+pub meeting_within : (H : LevelsAndLegs) → IsLevelled H → (s t m : ℕ) (a b most : Cost) → IsUpwardCost H.up s m a →
+    IsUpwardCost H.down t m b → IsAtMost (cost_sum a b) most → MeetsWithin H s t most
 meeting_within H k s t m a b most up down le =
     let rise = least_within H k Up s m a up in
     let fall = least_within H k Down t m b down in
     (m, cost_sum rise.0 fall.0, (rise.0, fall.0, rise.1, fall.1, refl), IsAtMost_trans _ (cost_sum a b) _ (IsAtMost-cost_sum rise.0 a fall.0 b rise.2 fall.2) le)
 
 -- searches that are connected give a way within the bound
-pub connected_covers : (H : LevelsAndLegs) → IsLevelled H → (x y : Search) (s t : ℕ) (most : Cost) → x.side ≡ Up → y.side ≡ Down → x.source ≡ s → y.source ≡ t → AreConnected H x y most → MeetsWithin H s t most
+pub connected_covers : (H : LevelsAndLegs) → IsLevelled H → (x y : Search) (s t : ℕ) (most : Cost) → x.side ≡ Up → y.side ≡ Down →
+    x.source ≡ s → y.source ≡ t → AreConnected H x y most → MeetsWithin H s t most
 connected_covers H k x y s t most up down xs yt j =
     let a = subst (λ q. IsUpwardCost H.up q j.0 j.1) xs (subst (λ q. IsUpwardCost (rows_of H q) x.source j.0 j.1) up j.3) in
     let b = subst (λ q. IsUpwardCost H.down q j.0 j.2) yt (subst (λ q. IsUpwardCost (rows_of H q) y.source j.0 j.2) down j.4) in

@@ -15,7 +15,8 @@ meet_is_least H s t m c meet = record { meets = (m, meet.meets); least = λ n d 
 
 module _ (H : LevelsAndLegs) (s t : ℕ) where
   -- the weight at the meet is the least weight
-  pub least_weight : (o : Option (Cost × ℕ)) → MatchOption o (NeverMeets H s t) (λ e. IsMeet H s t e.1 e.0) → IsLeastWeight H s t (option_map (λ e. e.0.weight) o)
+  pub least_weight : (o : Option (Cost × ℕ)) → MatchOption o (NeverMeets H s t) (λ e. IsMeet H s t e.1 e.0) →
+      IsLeastWeight H s t (option_map (λ e. e.0.weight) o)
   least_weight None never = never
   least_weight (Some e) meet = (e.0, meet_is_least H s t e.1 e.0 meet, refl)
 

@@ -32,7 +32,8 @@ use Rattle.ch_query.proofs.one_side.TightNodes.{sum_walk, tight_up, tight_down, 
 
 -- a node that was reached is settled
 reached_settled : (H : LevelsAndLegs) (x : Search) (m : ℕ) (a : Cost) → HasReached H x m a → IsSettled (costs_of H x) (keys_of H x) m a
-reached_settled H x m a r = settled _ _ _ _ _ r.underway.search m a (r.underway.search.light m a r.known) r.past r.avoids m a r.known (IsAtMost_refl a)
+reached_settled H x m a r =
+    settled _ _ _ _ _ r.underway.search m a (r.underway.search.light m a r.known) r.past r.avoids m a r.known (IsAtMost_refl a)
 
 module _ (H : LevelsAndLegs) (k : IsKeptForSome H) (x y : Search) (least : Option (Cost × ℕ)) (meeting : AreMeeting H x y least) (up : x.side ≡ Up) (down : y.side ≡ Down)
     (past_here : IsPast x.queue least) (past_there : IsPast y.queue least) where

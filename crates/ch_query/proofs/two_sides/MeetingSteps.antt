@@ -46,11 +46,14 @@ swapped H x y least m = record {
 }
 
 -- if the queue that leads is past the least sum, so is the other
-past_both : (first second : List (Option Cost)) (least : Option (Cost × ℕ)) → LeadsKeys first second → IsPast first least → IsPast second least
-past_both first second least leads past v d k = let l = leads v d k in let p = past l.0 l.1 l.2 in (p.0, p.1, below_then p.0.0 l.1 d p.2 l.3)
+past_both : (first second : List (Option Cost)) (least : Option (Cost × ℕ)) → LeadsKeys first second → IsPast first least →
+    IsPast second least
+past_both first second least leads past v d k =
+    let l = leads v d k in let p = past l.0 l.1 l.2 in (p.0, p.1, below_then p.0.0 l.1 d p.2 l.3)
 
 -- if the side that leads stops, both sides are past the least sum
-pub both_stopped : (x x' y : Search) (least least' : Option (Cost × ℕ)) → LeadsKeys x.queue y.queue → (x' ≡ x) × (least' ≡ least) × IsPast x.queue least → IsPast x'.queue least' × IsPast y.queue least'
+pub both_stopped : (x x' y : Search) (least least' : Option (Cost × ℕ)) → LeadsKeys x.queue y.queue →
+    (x' ≡ x) × (least' ≡ least) × IsPast x.queue least → IsPast x'.queue least' × IsPast y.queue least'
 both_stopped x x' y least least' leads s =
     let past : IsPast x.queue least' = subst (IsPast x.queue) (sym s.1) s.2 in
     (subst (λ (z : Search). IsPast z.queue least') (sym s.0) past, past_both x.queue y.queue least' leads past)
@@ -68,12 +71,14 @@ module _ (H : LevelsAndLegs) (x y : Search) (least : Option (Cost × ℕ)) (m : 
   known = m.here.search.queued v c l.has
 
   -- the new sum is at most the old one
-  keeps : (o : Option Cost) → IsLeastAfter o v c least least' → (d : Cost × ℕ) → least ≡ Some d → (f : Cost × ℕ) × (least' ≡ Some f) × MeetsFirst f d
+  keeps : (o : Option Cost) → IsLeastAfter o v c least least' → (d : Cost × ℕ) → least ≡ Some d →
+      (f : Cost × ℕ) × (least' ≡ Some f) × MeetsFirst f d
   keeps None is d e' = (d, is ∙ e', (IsAtMost_refl d.0, λ _. omega arith))
   keeps (Some b) is d e' = is.covers_old d e'
 
   -- the new sum is at most the sum at v
-  gains : (o : Option Cost) (b : Cost) → o ≡ Some b → IsLeastAfter o v c least least' → (f : Cost × ℕ) × (least' ≡ Some f) × MeetsFirst f (cost_sum c b, v)
+  gains : (o : Option Cost) (b : Cost) → o ≡ Some b → IsLeastAfter o v c least least' →
+      (f : Cost × ℕ) × (least' ≡ Some f) × MeetsFirst f (cost_sum c b, v)
   gains None b e' is = absurd (none-some _ e')
   gains (Some d) b e' is = subst (λ r. (f : Cost × ℕ) × (least' ≡ Some f) × MeetsFirst f (cost_sum c r, v)) (same_Some _ _ e') is.covers_new
 
@@ -114,11 +119,13 @@ module _ (H : LevelsAndLegs) (x y : Search) (least : Option (Cost × ℕ)) (m : 
   }
 
 -- a known cost is within the limits
-pub known_arcs : (H : LevelsAndLegs) (x : Search) (v : ℕ) (c : Cost) → IsUnderway H x → cost_at (costs_of H x) v ≡ Some c → (c.weight ≤ MOST_WEIGHT) × (c.arcs ≤ MOST_PATH_ARCS)
+pub known_arcs : (H : LevelsAndLegs) (x : Search) (v : ℕ) (c : Cost) → IsUnderway H x → cost_at (costs_of H x) v ≡ Some c →
+    (c.weight ≤ MOST_WEIGHT) × (c.arcs ≤ MOST_PATH_ARCS)
 known_arcs H x v c u known = let r = u.search.sound v c known in (r.weight, reached_arcs H u.levelled x.side x.source v c r)
 
 -- the sum of the arcs that both sides know of a node does not overflow
-pub both_arcs : (H : LevelsAndLegs) (y : Search) (v : ℕ) (c d : Cost) → IsUnderway H y → c.arcs ≤ MOST_PATH_ARCS → cost_at (costs_of H y) v ≡ Some d → c.arcs + d.arcs < 2 ^ 64
+pub both_arcs : (H : LevelsAndLegs) (y : Search) (v : ℕ) (c d : Cost) → IsUnderway H y → c.arcs ≤ MOST_PATH_ARCS →
+    cost_at (costs_of H y) v ≡ Some d → c.arcs + d.arcs < 2 ^ 64
 both_arcs H y v c d u few known = let there = (known_arcs H y v d u known).1 in omega arith
 
 -- a rank is below the length of a search's lists
@@ -126,9 +133,11 @@ pub rank_in_labels : (H : LevelsAndLegs) (x : Search) (rank : ℕ) → IsUnderwa
 rank_in_labels H x rank u r = let within = rank_below H u.levelled r.0 r.1 in let is = r.2 in let size = u.sizes.0 in omega arith
 
 -- a cost at a rank is the known cost of its node
-pub known_at : (H : LevelsAndLegs) (x : Search) (rank : ℕ) (c : Cost) (r : IsSomeRank H rank) → cost_at x.labels.costs rank ≡ Some c → cost_at (costs_of H x) r.0 ≡ Some c
+pub known_at : (H : LevelsAndLegs) (x : Search) (rank : ℕ) (c : Cost) (r : IsSomeRank H rank) → cost_at x.labels.costs rank ≡ Some c →
+    cost_at (costs_of H x) r.0 ≡ Some c
 known_at H x rank c r known = by_node-at H x.labels.costs None None r.0 r.1 ∙ ap (cost_at x.labels.costs) (sym r.2) ∙ known
 
 -- the known cost of a node is the cost at its rank
-pub at_rank : (H : LevelsAndLegs) (x : Search) (v rank : ℕ) (c : Cost) → v < nodes_of H → rank_of H v ≡ rank → cost_at (costs_of H x) v ≡ Some c → cost_at x.labels.costs rank ≡ Some c
+pub at_rank : (H : LevelsAndLegs) (x : Search) (v rank : ℕ) (c : Cost) → v < nodes_of H → rank_of H v ≡ rank →
+    cost_at (costs_of H x) v ≡ Some c → cost_at x.labels.costs rank ≡ Some c
 at_rank H x v rank c within is known = ap (cost_at x.labels.costs) (sym is) ∙ sym (by_node-at H x.labels.costs None None v within) ∙ known

@@ -6,7 +6,8 @@ use Rattle.ch_engine.specs.NearRows.{StaysFrom}
 use Rattle.ch_c.proofs.answers.write_saved.Goals as goal
 
 -- behind what is copied to its first places a list is as before
-behind_copied : (text copied out : List ℕ) (n : ℕ) → n ≡ length text → length copied ≡ length text → StaysFrom (length text) out (copied ++ drop n out)
+behind_copied : (text copied out : List ℕ) (n : ℕ) → n ≡ length text → length copied ≡ length text →
+    StaysFrom (length text) out (copied ++ drop n out)
 behind_copied text copied out n same whole k from =
     let j = k - length copied in
     let at : length copied + j ≡ k = omega arith in

@@ -4,4 +4,5 @@ use Rattle.ch_hierarchy.proofs.theory.NoLeg.{no_leg}
 use Rattle.ch_contract.proofs.leg_lists.place_of.Goals as goal
 
 pub returns-then-leg-node-clause-after : goal.returns-then-leg-node-clause-after
-returns-then-leg-node-clause-after c k d le lt = row_from c.args.list.now c.loop-place.place k no_leg d c.args.node c.requires c.if-leg-node.true le lt
+returns-then-leg-node-clause-after c k d le lt =
+    row_from c.args.list.now c.loop-place.place k no_leg d c.args.node c.requires c.if-leg-node.true le lt

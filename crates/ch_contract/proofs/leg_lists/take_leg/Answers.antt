@@ -12,7 +12,9 @@ use Rattle.ch_contract.proofs.leg_lists.take_leg.Goals as goal
 
 -- the row after the leg is taken out
 now : (c : After-remove) → row c.remove.new.self c.args.list ≡ remove (row c.args.lists.now c.args.list) c.place_of-place.result
-now c = ap (λ l. row l c.args.list) c.remove.ensures ∙ get_or-set_same c.args.lists.now c.args.list (remove (row c.args.lists.now c.args.list) c.place_of-place.result) [] c.requires.list
+now c =
+    ap (λ l. row l c.args.list) c.remove.ensures
+    ∙ get_or-set_same c.args.lists.now c.args.list (remove (row c.args.lists.now c.args.list) c.place_of-place.result) [] c.requires.list
 
 pub returns-then-legs-place : goal.returns-then-legs-place
 returns-then-legs-place c =

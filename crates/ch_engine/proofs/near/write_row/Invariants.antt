@@ -9,7 +9,8 @@ invariant-loop-j l = record {
   wide : length l.places ≡ length l.fn.places;
   weighs : (j : ℕ) → j < l.j → slice_index l.weights (l.begin + j) ≡ (slice_index_or l.row j (0, 0)).0;
   places : (j : ℕ) → j < l.j → slice_index l.places (l.begin + j) ≡ (slice_index_or l.row j (0, 0)).1;
-  before : (k : ℕ) → k < l.begin → (slice_index l.weights k ≡ slice_index l.fn.weights k) × (slice_index l.places k ≡ slice_index l.fn.places k);
+  before : (k : ℕ) → k < l.begin →
+      (slice_index l.weights k ≡ slice_index l.fn.weights k) × (slice_index l.places k ≡ slice_index l.fn.places k);
   weights_behind : StaysFrom (l.begin + length l.row) l.fn.weights l.weights;
   places_behind : StaysFrom (l.begin + length l.row) l.fn.places l.places;
 }

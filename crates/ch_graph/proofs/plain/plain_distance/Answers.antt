@@ -10,7 +10,8 @@ use Rattle.ch_graph.proofs.WalkLemmas.{relaxed_walk}
 use Rattle.ch_graph.proofs.plain.plain_distance.Goals as goal
 
 -- once every arc is relaxed, the label of t is the distance
-settled : (g : Network) (s t : ℕ) (best : List (Option ℕ)) (o : Option ℕ) → o ≡ weight_at best t → IsPartial g s best → All (IsRelaxed best) g.arcs → IsAnswer g s t o
+settled : (g : Network) (s t : ℕ) (best : List (Option ℕ)) (o : Option ℕ) → o ≡ weight_at best t → IsPartial g s best →
+    All (IsRelaxed best) g.arcs → IsAnswer g s t o
 settled g s t best None e p relaxed = λ arcs w. let r = relaxed_walk g best s t 0 arcs relaxed p.start w in none-some _ (e ∙ r.1)
 settled g s t best (Some x) e p relaxed = record {
   walk = p.walks t x (sym e);
@@ -18,11 +19,14 @@ settled g s t best (Some x) e p relaxed = record {
 }
 
 -- a read from the vector after its slice was lent
-read : (new rest : List (Option ℕ)) (len e : ℕ) (r : Option ℕ) → e < len → e < length new → r ≡ get_or (take len (new ++ rest)) e r → r ≡ weight_at new e
-read new rest len e r low within is = is ∙ get_or-take len (new ++ rest) e r low ∙ get_or_append_left new rest r e within ∙ get_or_default new e r None within
+read : (new rest : List (Option ℕ)) (len e : ℕ) (r : Option ℕ) → e < len → e < length new → r ≡ get_or (take len (new ++ rest)) e r →
+    r ≡ weight_at new e
+read new rest len e r low within is =
+    is ∙ get_or-take len (new ++ rest) e r low ∙ get_or_append_left new rest r e within ∙ get_or_default new e r None within
 
 -- the first labels, as the vector lends them
-first : (g : Network) (s nodes : ℕ) (best lent : List (Option ℕ)) → s < g.nodes → nodes ≡ g.nodes → best ≡ set (replicate nodes None) s (Some 0) → lent ≡ best → IsPartial g s lent
+first : (g : Network) (s nodes : ℕ) (best lent : List (Option ℕ)) → s < g.nodes → nodes ≡ g.nodes →
+    best ≡ set (replicate nodes None) s (Some 0) → lent ≡ best → IsPartial g s lent
 first g s nodes best lent start size is same = rw (same ∙ is, size) (partial_first g s start)
 
 pub relax_to_rest-requires : goal.relax_to_rest-requires

@@ -17,18 +17,22 @@ module _ (g : Network) (lent : List InArc) (i : ℕ) (d : InArc) (whole : lent �
 
   module _ (limits : IsWithinLimits g) (old mid new : List (Option ℕ)) where
     -- relaxing the arc keeps all that is known
-    known : (one : Bool) (s : ℕ) → IsPartial g s mid → (one ≡ true → IsLowered mid new (get_or lent i d)) → (one ≡ false → (new ≡ mid) × IsRelaxed mid (get_or lent i d)) → IsPartial g s new
+    known : (one : Bool) (s : ℕ) → IsPartial g s mid → (one ≡ true → IsLowered mid new (get_or lent i d)) →
+        (one ≡ false → (new ≡ mid) × IsRelaxed mid (get_or lent i d)) → IsPartial g s new
     known true s p lowered same = partial_lowered g s mid new _ p stands (fits limits) (lowered refl)
     known false s p lowered same = subst (IsPartial g s) (sym (same refl).0) p
 
-    kept : IsRound false old mid (take i g.arcs) → (new ≡ mid) × IsRelaxed mid (get_or lent i d) → (new ≡ old) × All (IsRelaxed old) (take (i + 1) g.arcs)
+    kept : IsRound false old mid (take i g.arcs) → (new ≡ mid) × IsRelaxed mid (get_or lent i d) →
+        (new ≡ old) × All (IsRelaxed old) (take (i + 1) g.arcs)
     kept before next =
         let same = before.same refl in
         let relaxed : IsRelaxed old (get_or g.arcs i d) = rw (sym same.0, sym whole) next.1 in
         (next.0 ∙ same.0, All-more (IsRelaxed old) g.arcs i d (rw whole at within) same.1 relaxed)
 
     -- after this arc, the round covers one arc more
-    round : (changed one : Bool) (s : ℕ) → IsPartial g s mid → IsRound changed old mid (take i g.arcs) → (one ≡ true → IsLowered mid new (get_or lent i d)) → (one ≡ false → (new ≡ mid) × IsRelaxed mid (get_or lent i d)) → IsRound (changed || one) old new (take (i + 1) g.arcs)
+    round : (changed one : Bool) (s : ℕ) → IsPartial g s mid → IsRound changed old mid (take i g.arcs) →
+        (one ≡ true → IsLowered mid new (get_or lent i d)) → (one ≡ false → (new ≡ mid) × IsRelaxed mid (get_or lent i d)) →
+        IsRound (changed || one) old new (take (i + 1) g.arcs)
     round true true s p before lowered same = record { less = λ _. omega (arith, before.less refl, total_falls g s mid new _ p stands (fits limits) (lowered refl)); same = λ e. cc }
     round true false s p before lowered same = record { less = λ _. omega (arith, before.less refl, ap total (same refl).0); same = λ e. cc }
     round false true s p before lowered same = record { less = λ _. omega (arith, ap total (before.same refl).0, total_falls g s mid new _ p stands (fits limits) (lowered refl)); same = λ e. cc }
@@ -47,7 +51,8 @@ loop-arc-preserved c = record {
 }
 
 -- past the last arc, the round covers all arcs
-past : (changed : Bool) (old new : List (Option ℕ)) (lent arcs : List InArc) (i : ℕ) → lent ≡ arcs → length lent ≤ i → IsRound changed old new (take i arcs) → IsRound changed old new arcs
+past : (changed : Bool) (old new : List (Option ℕ)) (lent arcs : List InArc) (i : ℕ) → lent ≡ arcs → length lent ≤ i →
+    IsRound changed old new (take i arcs) → IsRound changed old new arcs
 past changed old new lent arcs i whole end round = subst (IsRound changed old new) (take_all i arcs (rw whole at end)) round
 
 pub returns-clause-round : goal.returns-clause-round

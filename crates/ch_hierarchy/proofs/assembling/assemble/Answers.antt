@@ -51,7 +51,8 @@ leg_lists-requires-2 c =
     }
 
 -- the levels and the rows that were made are those that the saved hierarchy names
-named : (c : In_ok-downs) → NamesFor c.args.graph.now c.args.saved.now (record { level = c.in-Some.levels.items; up = c.in_ok-ups.ups; down = c.in_ok-downs.downs })
+named : (c : In_ok-downs) →
+    NamesFor c.args.graph.now c.args.saved.now (record { level = c.in-Some.levels.items; up = c.in_ok-ups.ups; down = c.in_ok-downs.downs })
 named c =
     let found = rw c.in-Some.is at c.in_ok-levels.ensures in
     rows_name c.args.graph.now c.args.saved.now c.nodes-nodes.result c.as_slice.result.now c.in-Some.levels.items c.as_slice-2.result.now c.as_slice-legs.result.now

@@ -20,11 +20,13 @@ push_where_up-requires-clause-higher c = (c.requires _ (Contains-get_or c.args.l
 
 pub push_where_up-requires-in-loop-place-clause-lower : goal.push_where_up-requires-in-loop-place-clause-lower
 unfolding blank
-push_where_up-requires-in-loop-place-clause-lower c = (c.requires _ (Contains-get_or c.args.legs.now c.loop-place.place blank c.loop-place-test.true)).1
+push_where_up-requires-in-loop-place-clause-lower c =
+    (c.requires _ (Contains-get_or c.args.legs.now c.loop-place.place blank c.loop-place-test.true)).1
 
 pub push_where_up-requires-in-loop-place-clause-higher : goal.push_where_up-requires-in-loop-place-clause-higher
 unfolding blank
-push_where_up-requires-in-loop-place-clause-higher c = (c.requires _ (Contains-get_or c.args.legs.now c.loop-place.place blank c.loop-place-test.true)).0
+push_where_up-requires-in-loop-place-clause-higher c =
+    (c.requires _ (Contains-get_or c.args.legs.now c.loop-place.place blank c.loop-place-test.true)).0
 
 pub loop-place-preserved : goal.loop-place-preserved
 loop-place-preserved c = record {
@@ -33,7 +35,9 @@ loop-place-preserved c = record {
 }
 
 pub returns-clause-up : goal.returns-clause-up
-returns-clause-up c = placed_all from_of to_of c.args.levels.now c.args.legs.now c.loop-place.place _ c.loop-place-test.false c.loop-place.invariant.up
+returns-clause-up c =
+    placed_all from_of to_of c.args.levels.now c.args.legs.now c.loop-place.place _ c.loop-place-test.false c.loop-place.invariant.up
 
 pub returns-clause-down : goal.returns-clause-down
-returns-clause-down c = placed_all to_of from_of c.args.levels.now c.args.legs.now c.loop-place.place _ c.loop-place-test.false c.loop-place.invariant.down
+returns-clause-down c =
+    placed_all to_of from_of c.args.levels.now c.args.legs.now c.loop-place.place _ c.loop-place-test.false c.loop-place.invariant.down

@@ -7,7 +7,9 @@ pub index_mut-requires : goal.index_mut-requires
 index_mut-requires c = let below = rank_in_below c.args.levels.now c.requires.levels c.loop-node.node c.loop-node-test.true in omega (arith, below, c.loop-node.invariant.count)
 
 pub loop-node-preserved : goal.loop-node-preserved
-loop-node-preserved c = one_by_rank c.args.levels.now c.requires.levels c.loop-node.nodes.items c.loop-node.node c.loop-node.invariant c.loop-node-test.true
+loop-node-preserved c =
+    one_by_rank c.args.levels.now c.requires.levels c.loop-node.nodes.items c.loop-node.node c.loop-node.invariant c.loop-node-test.true
 
 pub returns : goal.returns
-returns c = all_by_rank c.args.levels.now c.requires.levels c.loop-node.nodes.items c.loop-node.node c.loop-node.invariant c.loop-node-test.false
+returns c =
+    all_by_rank c.args.levels.now c.requires.levels c.loop-node.nodes.items c.loop-node.node c.loop-node.invariant c.loop-node-test.false

@@ -6,7 +6,8 @@ use Rattle.ch_hierarchy.proofs.code.Ranked.{legs_rankable, more_ranked_rows}
 use Rattle.ch_hierarchy.proofs.ranked.ranked_rows.Goals as goal
 
 pub rank_legs-requires-clause-legs : goal.rank_legs-requires-clause-legs
-rank_legs-requires-clause-legs c = λ l has. legs_rankable _ c.requires.levelled c.args.ups.now c.requires.levelled.up _ l (subst (λ q. Contains q l) c.at.ensures has)
+rank_legs-requires-clause-legs c =
+    λ l has. legs_rankable _ c.requires.levelled c.args.ups.now c.requires.levelled.up _ l (subst (λ q. Contains q l) c.at.ensures has)
 
 pub rank_legs-requires-in-loop-node-clause-legs : goal.rank_legs-requires-in-loop-node-clause-legs
 rank_legs-requires-in-loop-node-clause-legs c = λ l has. legs_rankable _ c.requires.levelled c.args.downs.now c.requires.levelled.down _ l (subst (λ q. Contains q l) c.at-in-loop-node.ensures has)

@@ -8,7 +8,8 @@ use Rattle.ch_line.proofs.run.open_inputs.Goals as goal
 
 -- the files that are opened before one that can't be opened
 pub returns-in_err-graph-clause-stopped : goal.returns-in_err-graph-clause-stopped
-returns-in_err-graph-clause-stopped g c = own_as _ _ _ c.from_residual.ensures.1 (inl (rw c.graph_of.ensures at c.in_err-graph.ensures.stopped))
+returns-in_err-graph-clause-stopped g c =
+    own_as _ _ _ c.from_residual.ensures.1 (inl (rw c.graph_of.ensures at c.in_err-graph.ensures.stopped))
 
 pub returns-in_err-source-clause-stopped : goal.returns-in_err-source-clause-stopped
 returns-in_err-source-clause-stopped g c =

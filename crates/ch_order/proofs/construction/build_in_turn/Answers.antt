@@ -6,10 +6,12 @@ use Rattle.ch_contract.proofs.theory.GivenOrders.{in_turn_from}
 use Rattle.ch_order.proofs.construction.build_in_turn.Goals as goal
 
 pub contract_in_turn-requires-clause-nodes : goal.contract_in_turn-requires-clause-nodes
-contract_in_turn-requires-clause-nodes g c lifetimes bounds = numbers_given _ _ _ _ c.as_slice.ensures.value c.in_ok-nodes.ensures c.nodes.ensures
+contract_in_turn-requires-clause-nodes g c lifetimes bounds =
+    numbers_given _ _ _ _ c.as_slice.ensures.value c.in_ok-nodes.ensures c.nodes.ensures
 
 pub returns-clause-hierarchy : goal.returns-clause-hierarchy
-returns-clause-hierarchy g c = IfOk-weaker c.contract_in_turn.result _ _ (λ H is. in_turn_from c.args.by c.args.graph.now c.args.hops H is) c.contract_in_turn.ensures
+returns-clause-hierarchy g c =
+    IfOk-weaker c.contract_in_turn.result _ _ (λ H is. in_turn_from c.args.by c.args.graph.now c.args.hops H is) c.contract_in_turn.ensures
 
 pub returns-clause-kept : goal.returns-clause-kept
 returns-clause-kept g c = IfOk-weaker c.contract_in_turn.result _ _ (λ H is. in_turn_kept c.args.by c.args.graph.now c.args.hops H c.ask_ahead.ensures c.requires.hops is) (returns-clause-hierarchy g c)

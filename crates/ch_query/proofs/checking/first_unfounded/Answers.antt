@@ -7,7 +7,8 @@ use Rattle.ch_query.proofs.faults.Checked.{base_first, middle_first, arc_first}
 use Rattle.ch_query.proofs.checking.first_unfounded.Goals as goal
 
 pub returns-in-Some : goal.returns-in-Some
-returns-in-Some c = base_first c.args.graph.now c.args.saved.now c.args.hierarchy.now c.requires.named c.in-Some.place (rw c.in-Some.is at c.requires.bases)
+returns-in-Some c =
+    base_first c.args.graph.now c.args.saved.now c.args.hierarchy.now c.requires.named c.in-Some.place (rw c.in-Some.is at c.requires.bases)
 
 pub returns-in-Some-first_false_shortcut : goal.returns-in-Some-first_false_shortcut
 returns-in-Some-first_false_shortcut c =

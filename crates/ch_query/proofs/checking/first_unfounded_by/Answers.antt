@@ -7,7 +7,8 @@ use Rattle.ch_query.proofs.faults.Checked.{base_first, middle_first, arc_first}
 use Rattle.ch_query.proofs.checking.first_unfounded_by.Goals as goal
 
 pub returns-in-Some : goal.returns-in-Some
-returns-in-Some g c = base_first c.args.graph.now c.args.saved.now c.args.hierarchy.now c.requires.named c.in-Some.place (rw c.in-Some.is at c.requires.bases)
+returns-in-Some g c =
+    base_first c.args.graph.now c.args.saved.now c.args.hierarchy.now c.requires.named c.in-Some.place (rw c.in-Some.is at c.requires.bases)
 
 pub returns-in-Some-2 : goal.returns-in-Some-2
 returns-in-Some-2 g c =

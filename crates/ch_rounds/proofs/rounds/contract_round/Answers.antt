@@ -27,7 +27,8 @@ run_list_in-requires-clause-takes g c lifetimes bounds k d lt =
     )
 
 -- the lists have the shortcuts of the nodes; the number of nodes is that of before
-among : (g : _) (c : In_ok-lists g) → AllZip (λ (v : ℕ) (list : Vec Shortcut). AreShortcutsAmong c.args.remaining.nodes c.args.hops (legs_touching v (row c.take_all_out-away.result.ups v) (row c.take_all_out-away.result.downs v)) (legs_of c.take_all_out-away.result) v list.items) c.args.nodes.now c.in_ok-lists.lists.items
+among : (g : _) (c : In_ok-lists g) →
+    AllZip (λ (v : ℕ) (list : Vec Shortcut). AreShortcutsAmong c.args.remaining.nodes c.args.hops (legs_touching v (row c.take_all_out-away.result.ups v) (row c.take_all_out-away.result.downs v)) (legs_of c.take_all_out-away.result) v list.items) c.args.nodes.now c.in_ok-lists.lists.items
 among g c =
     let away = c.take_all_out-away in
     subst (λ m. AllZip (λ (v : ℕ) (list : Vec Shortcut). AreShortcutsAmong m c.args.hops (legs_touching v (row away.result.ups v) (row away.result.downs v)) (legs_of away.result) v list.items) c.args.nodes.now c.in_ok-lists.lists.items) away.ensures.count c.in_ok-lists.ensures.values

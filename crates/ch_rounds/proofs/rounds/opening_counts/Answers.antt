@@ -9,10 +9,12 @@ use Rattle.ch_contract.proofs.code.NodeLists.{numbers_below}
 use Rattle.ch_rounds.proofs.rounds.opening_counts.Goals as goal
 
 pub count-requires-clause-nodes : goal.count-requires-clause-nodes
-count-requires-clause-nodes g c lifetimes bounds = subst (All (λ x. x < c.args.remaining.now.nodes)) (sym c.requires.nodes) (numbers_below c.args.remaining.now.nodes)
+count-requires-clause-nodes g c lifetimes bounds =
+    subst (All (λ x. x < c.args.remaining.now.nodes)) (sym c.requires.nodes) (numbers_below c.args.remaining.now.nodes)
 
 pub count-requires-clause-count : goal.count-requires-clause-count
-count-requires-clause-count g c lifetimes bounds = omega (arith, ap length c.requires.nodes, length-range_with_len 0 c.args.remaining.now.nodes, c.nodes-all.ensures.count)
+count-requires-clause-count g c lifetimes bounds =
+    omega (arith, ap length c.requires.nodes, length-range_with_len 0 c.args.remaining.now.nodes, c.nodes-all.ensures.count)
 
 pub returns-clause-counts : goal.returns-clause-counts
 returns-clause-counts g c =

@@ -13,4 +13,5 @@ pub returns-clause-hierarchies : goal.returns-clause-hierarchies
 returns-clause-hierarchies g c = λ graph graph'. one_save_text (reading g.I.Input.read_gives graph graph')
 
 pub returns-clause-orders : goal.returns-clause-orders
-returns-clause-orders g c = λ graph graph' order order'. one_like_text (reading g.I.Input.read_gives graph graph') (reading g.S.Input.read_gives order order')
+returns-clause-orders g c =
+    λ graph graph' order order'. one_like_text (reading g.I.Input.read_gives graph graph') (reading g.S.Input.read_gives order order')

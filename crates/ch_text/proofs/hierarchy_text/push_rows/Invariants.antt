@@ -5,4 +5,5 @@ use Rattle.ch_text.specs.SaveText.{leg_text}
 use Rattle.ch_text.proofs.hierarchy_text.push_rows.Given as goal
 
 abbrev pub invariant-loop-node : goal.invariant-loop-node
-invariant-loop-node l = l.text.items ≡ l.fn.text.items ++ flat_map (λ node. flat_map leg_text (legs_at l.hierarchy node)) (take l.node-index l.nodes)
+invariant-loop-node l =
+    l.text.items ≡ l.fn.text.items ++ flat_map (λ node. flat_map leg_text (legs_at l.hierarchy node)) (take l.node-index l.nodes)

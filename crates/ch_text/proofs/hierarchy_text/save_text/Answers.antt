@@ -12,7 +12,8 @@ count_legs-legs-requires-clause-count c =
     rw c.deref.ensures.value (omega arith)
 
 pub count_legs-legs-requires-clause-within : goal.count_legs-legs-requires-clause-within
-count_legs-legs-requires-clause-within c = rw c.deref.ensures.value (all_nodes c.args.hierarchy.now c.in_ok-order.order.items c.in_ok-order.ensures.order)
+count_legs-legs-requires-clause-within c =
+    rw c.deref.ensures.value (all_nodes c.args.hierarchy.now c.in_ok-order.order.items c.in_ok-order.ensures.order)
 
 pub push_rows-requires : goal.push_rows-requires
 push_rows-requires c = rw c.deref-3.ensures.value (all_nodes c.args.hierarchy.now c.in_ok-order.order.items c.in_ok-order.ensures.order)

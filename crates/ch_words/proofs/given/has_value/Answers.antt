@@ -10,4 +10,6 @@ some_text None = refl
 some_text (Some text) = refl
 
 pub returns : goal.returns
-returns c = c.is_some.ensures ∙ some_text c.get_str.result ∙ ap is_some (c.get_str.ensures ∙ first_value-rows (found_of c.args.matches.now) c.args.name.now)
+returns c =
+    c.is_some.ensures ∙ some_text c.get_str.result
+    ∙ ap is_some (c.get_str.ensures ∙ first_value-rows (found_of c.args.matches.now) c.args.name.now)

@@ -12,4 +12,6 @@ at-requires c =
     omega (arith, ap length rows, length-take c.self.inside.nodes c.self.inside.lists, c.requires)
 
 pub returns : goal.returns
-returns c = c.at.ensures ∙ sym (get_or-drop c.self.inside.nodes c.self.inside.lists c.args.node []) ∙ ap (λ (m : NodeLegs). row m.aside c.args.node) c.self.view_is
+returns c =
+    c.at.ensures ∙ sym (get_or-drop c.self.inside.nodes c.self.inside.lists c.args.node [])
+    ∙ ap (λ (m : NodeLegs). row m.aside c.args.node) c.self.view_is

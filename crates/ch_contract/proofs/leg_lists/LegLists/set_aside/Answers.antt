@@ -19,7 +19,9 @@ hand_over-requires c =
 -- one of the first n lists is handed over to the list n places further on
 module _ (n node : ℕ) (all new : List (List Leg)) (below : node < n) (is : new ≡ set (set all (n + node) (row all node)) node []) where
   handed_rows : take n new ≡ set (take n all) node []
-  handed_rows = ap (take n) is ∙ take-set-lt n (set all (n + node) (row all node)) node [] below ∙ ap (λ l. set l node []) (take-set-le n all (n + node) (row all node) (omega arith))
+  handed_rows =
+      ap (take n) is ∙ take-set-lt n (set all (n + node) (row all node)) node [] below
+      ∙ ap (λ l. set l node []) (take-set-le n all (n + node) (row all node) (omega arith))
 
   aside_is : drop n new ≡ set (drop n all) node (row all node)
   aside_is = ap (drop n) is ∙ drop-set-lt n (set all (n + node) (row all node)) node [] below ∙ drop-set-add n all node (row all node)

@@ -17,7 +17,8 @@ invariant_of-judging g c = record {
 }
 
 -- the list has the shortcuts of the node
-listed : (g : _) (c : In_ok-fill g) → AreShortcuts c.args.self.now.nodes c.args.hops (legs_of c.args.self.now) c.args.v c.fill.new.list.items
+listed : (g : _) (c : In_ok-fill g) →
+    AreShortcuts c.args.self.now.nodes c.args.hops (legs_of c.args.self.now) c.args.v c.fill.new.list.items
 listed g c =
     let t = c.touching-touching in
     subst (λ v. AreShortcuts c.args.self.now.nodes c.args.hops (legs_of c.args.self.now) v c.fill.new.list.items) t.ensures.node

@@ -45,7 +45,8 @@ take_from-requires-2 c =
     }
 
 -- both sides keep the limits, and have the legs that do not touch the node
-left : (c : After-take_from-2) → IsWithinLimits c.self.inside.nodes c.take_from.new.self.rows c.take_from-2.new.self.rows × SameLegs (legs_from c.take_from.new.self.rows) (legs_after_contraction (legs_from c.self.inside.outs.rows) c.args.v [])
+left : (c : After-take_from-2) →
+    IsWithinLimits c.self.inside.nodes c.take_from.new.self.rows c.take_from-2.new.self.rows × SameLegs (legs_from c.take_from.new.self.rows) (legs_after_contraction (legs_from c.self.inside.outs.rows) c.args.v [])
 left c =
     let within = subst (λ (m : RemainingLegs). c.args.v < m.nodes) (sym c.self.view_is) c.requires.node in
     clearing_leaves c.self.inside.nodes c.self.inside.outs.rows c.self.inside.ins.rows c.self.invariant.0 c.args.v within _ _ _ _
@@ -53,7 +54,8 @@ left c =
     (record { size = c.take_from.ensures.size; rows = c.take_from.ensures.rows; legs = c.take_from.ensures.legs }) (record { size = c.take_from-2.ensures.size; rows = c.take_from-2.ensures.rows; legs = c.take_from-2.ensures.legs })
 
 -- the legs that are set aside, as the later calls leave them
-set_aside : (L : Legs) (v : ℕ) (legs : List Leg) (old mid new told : List (List Leg)) → AreLegsFrom L v legs → IsReplaced v legs old mid → new ≡ mid → old ≡ told → IsSetAside L v told new
+set_aside : (L : Legs) (v : ℕ) (legs : List Leg) (old mid new told : List (List Leg)) → AreLegsFrom L v legs → IsReplaced v legs old mid →
+    new ≡ mid → old ≡ told → IsSetAside L v told new
 set_aside L v legs old mid new told are put same was =
     subst (λ z. IsSetAside L v told z) (sym same) (subst (λ z. IsSetAside L v z mid) was (record { size = put.size; legs = subst (AreLegsFrom L v) (sym put.here) are; kept = put.kept }))
 

@@ -10,11 +10,13 @@ use Rattle.ch_contract.specs.Contraction.{AreShortcuts, Contracts, legs_after_co
 use Rattle.ch_contract.proofs.room.Room.contract.Goals as goal
 
 -- the shortcuts that are lent make the contraction
-contracts : (n h v : ℕ) (L M : Legs) (list lent : List Shortcut) → lent ≡ list → AreShortcuts n h L v list → SameLegs M (legs_after_contraction L v lent) → Contracts n h L v M
+contracts : (n h v : ℕ) (L M : Legs) (list lent : List Shortcut) → lent ≡ list → AreShortcuts n h L v list →
+    SameLegs M (legs_after_contraction L v lent) → Contracts n h L v M
 contracts n h v L M list lent e are same = (lent, subst (AreShortcuts n h L v) (sym e) are, same)
 
 -- the kept shortcuts at the place of v are those of v
-kept : (n h v place : ℕ) (L : Legs) (room : Room) → IsReady n h L room → (place < length room.judged.items) × (slice_index room.judged.items place ≡ v) → AreShortcuts n h L v (list_at room place)
+kept : (n h v place : ℕ) (L : Legs) (room : Room) → IsReady n h L room →
+    (place < length room.judged.items) × (slice_index room.judged.items place ≡ v) → AreShortcuts n h L v (list_at room place)
 kept n h v place L room ready at = subst (λ x. AreShortcuts n h L x (list_at room place)) at.1 (ready.kept place at.0)
 
 pub shortcuts-requires : goal.shortcuts-requires

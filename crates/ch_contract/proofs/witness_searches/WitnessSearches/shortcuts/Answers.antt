@@ -8,7 +8,8 @@ use Rattle.ch_contract.proofs.code.Touching.{lighter_touching}
 use Rattle.ch_contract.proofs.witness_searches.WitnessSearches.shortcuts.Goals as goal
 
 -- the rows touch the node, as calls lend them
-lent : (n limit v w : ℕ) (up down above below : List Leg) → w ≡ v → above ≡ up → below ≡ down → AreTouching n limit v up down → AreTouching n limit w above below
+lent : (n limit v w : ℕ) (up down above below : List Leg) → w ≡ v → above ≡ up → below ≡ down → AreTouching n limit v up down →
+    AreTouching n limit w above below
 lent n limit v w up down above below a b d are =
     subst (λ z. AreTouching n limit z above below) (sym a) (subst (λ z. AreTouching n limit v z below) (sym b) (subst (AreTouching n limit v up) (sym d) are))
 

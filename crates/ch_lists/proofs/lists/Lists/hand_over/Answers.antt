@@ -4,7 +4,9 @@ use Rattle.ch_lists.proofs.Handed.{handed_places, handed_lists}
 use Rattle.ch_lists.proofs.lists.Lists.hand_over.Goals as goal
 
 pub invariant_of-self : goal.invariant_of-self
-invariant_of-self g c = handed_places _ _ _ _ _ c.self.invariant (place_read _ _ _ _ _ c.self.view_is c.requires.from c.index-place.ensures) c.requires.two
+invariant_of-self g c =
+    handed_places _ _ _ _ _ c.self.invariant (place_read _ _ _ _ _ c.self.view_is c.requires.from c.index-place.ensures) c.requires.two
 
 pub returns : goal.returns
-returns g c = handed_lists _ _ _ _ _ _ c.self.view_is (list_read _ _ _ _ _ c.self.view_is c.requires.from c.index-place.ensures) c.requires.two
+returns g c =
+    handed_lists _ _ _ _ _ _ c.self.view_is (list_read _ _ _ _ _ c.self.view_is c.requires.from c.index-place.ensures) c.requires.two

@@ -24,7 +24,8 @@ buckets_of-requires-clause-ranks c =
     (found_within (facing a.direction a.hierarchy.now) a.within a.targets.now a.spaces.items c.requires.spaces (kept_facing a.direction a.hierarchy.now c.requires.kept).2.levelled)
 
 pub buckets_of-requires-clause-apart : goal.buckets_of-requires-clause-apart
-buckets_of-requires-clause-apart c = found_apart (facing c.args.direction c.args.hierarchy.now) c.args.within c.args.targets.now c.args.spaces.items c.requires.spaces
+buckets_of-requires-clause-apart c =
+    found_apart (facing c.args.direction c.args.hierarchy.now) c.args.within c.args.targets.now c.args.spaces.items c.requires.spaces
 
 pub returns-clause-searched : goal.returns-clause-searched
 returns-clause-searched c =

@@ -10,7 +10,8 @@ use Rattle.ch_order.proofs.ConstructionCalls.{sized_taken}
 use Rattle.ch_order.proofs.construction.Construction.take.Goals as goal
 
 -- the neighbours are those in the node's rows
-listed : (ups downs up down : List Leg) (items : List ℕ) → ups ≡ up → downs ≡ down → items ≡ neighbours_in ups downs → items ≡ neighbours_in up down
+listed : (ups downs up down : List Leg) (items : List ℕ) → ups ≡ up → downs ≡ down → items ≡ neighbours_in ups downs →
+    items ≡ neighbours_in up down
 listed ups downs up down items a b c = c ∙ ap (λ l. neighbours_in l downs) a ∙ ap (neighbours_in up) b
 
 pub deepen-requires-clause-nodes : goal.deepen-requires-clause-nodes
@@ -20,7 +21,8 @@ deepen-requires-clause-nodes c =
     subst (λ n. All (λ x. x < n) c.as_slice.result.now) size (neighbours_within _ _ _ _ _ _ c.in_ok-self.ensures.up.legs c.in_ok-self.ensures.down.legs c.requires.next.limits list)
 
 -- the neighbours lie deeper
-deepened : (v : ℕ) (nodes lent old before after written : List ℕ) → lent ≡ nodes → before ≡ old → written ≡ after → AreDeepened lent (slice_index before v + 1) before after → AreDeepened nodes (slice_index old v + 1) old written
+deepened : (v : ℕ) (nodes lent old before after written : List ℕ) → lent ≡ nodes → before ≡ old → written ≡ after →
+    AreDeepened lent (slice_index before v + 1) before after → AreDeepened nodes (slice_index old v + 1) old written
 deepened v nodes lent old before after written a b e d = subst (AreDeepened nodes (slice_index old v + 1) old) (sym e) (subst (λ l. AreDeepened l (slice_index old v + 1) old after) a (subst (λ o. AreDeepened lent (slice_index o v + 1) o after) b d))
 
 pub returns-clause-taken : goal.returns-clause-taken

@@ -10,7 +10,8 @@ pub contract_in_turn-requires-clause-nodes : goal.contract_in_turn-requires-clau
 contract_in_turn-requires-clause-nodes c = numbers_given _ _ _ _ c.as_slice.ensures.value c.in_ok-nodes.ensures c.nodes.ensures
 
 pub returns-clause-hierarchy : goal.returns-clause-hierarchy
-returns-clause-hierarchy c = IfOk-weaker c.contract_in_turn.result _ _ (λ H is. in_turn_from Depth c.args.graph.now c.args.hops H is) c.contract_in_turn.ensures
+returns-clause-hierarchy c =
+    IfOk-weaker c.contract_in_turn.result _ _ (λ H is. in_turn_from Depth c.args.graph.now c.args.hops H is) c.contract_in_turn.ensures
 
 pub returns-clause-kept : goal.returns-clause-kept
 returns-clause-kept c = IfOk-weaker c.contract_in_turn.result _ _ (λ H is. hierarchies_kept Depth c.args.graph.now c.args.hops H c.ask_ahead.ensures c.requires.hops is) (returns-clause-hierarchy c)

@@ -4,4 +4,5 @@ use Rattle.ch_query.proofs.one_side.Popping.{least_key}
 use Rattle.ch_query.proofs.checking.covering.is_past.Goals as goal
 
 pub returns-in-Some : goal.returns-in-Some
-returns-in-Some c = λ past v d k. below_then c.args.most c.in-Some.key d (c.is_below.ensures.0 past) ((least_key _ _ c.in-Some.ensures).least v d k)
+returns-in-Some c =
+    λ past v d k. below_then c.args.most c.in-Some.key d (c.is_below.ensures.0 past) ((least_key _ _ c.in-Some.ensures).least v d k)

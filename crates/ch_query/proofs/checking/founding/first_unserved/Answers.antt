@@ -12,7 +12,9 @@ pub is_served-requires-clause-to : goal.is_served-requires-clause-to
 is_served-requires-clause-to c = (c.requires _ (Contains-get_or c.args.arcs.now c.loop-place.place _ c.loop-place-test.true)).1
 
 pub returns-then-not-is_served : goal.returns-then-not-is_served
-returns-then-not-is_served c = first_failing (IsServed c.args.hierarchy.now) _ _ _ c.loop-place.invariant c.loop-place-test.true c.if-not-is_served.ensures
+returns-then-not-is_served c =
+    first_failing (IsServed c.args.hierarchy.now) _ _ _ c.loop-place.invariant c.loop-place-test.true c.if-not-is_served.ensures
 
 pub loop-place-preserved : goal.loop-place-preserved
-loop-place-preserved c = read_more (IsServed c.args.hierarchy.now) _ _ _ c.loop-place.invariant c.loop-place-test.true (c.if-not-is_served.ensures.0 refl)
+loop-place-preserved c =
+    read_more (IsServed c.args.hierarchy.now) _ _ _ c.loop-place.invariant c.loop-place-test.true (c.if-not-is_served.ensures.0 refl)

@@ -8,13 +8,15 @@ use Rattle.ch_query.proofs.routing.Rows.{rows_ordered}
 use Rattle.ch_query.proofs.checking.founding.is_sum_over.Goals as goal
 
 pub cost_in_row-requires : goal.cost_in_row-requires
-cost_in_row-requires c = subst IsRow (sym c.down.ensures.row) (rows_ordered c.args.hierarchy.now c.nodes.ensures.levelled Down c.args.middle)
+cost_in_row-requires c =
+    subst IsRow (sym c.down.ensures.row) (rows_ordered c.args.hierarchy.now c.nodes.ensures.levelled Down c.args.middle)
 
 pub cost_in_row-requires-2 : goal.cost_in_row-requires-2
 cost_in_row-requires-2 c = subst IsRow (sym c.up.ensures.row) (rows_ordered c.args.hierarchy.now c.nodes.ensures.levelled Up c.args.middle)
 
 pub returns-in_default : goal.returns-in_default
-returns-in_default c = (λ no. absurd (false≢true no), λ s. absurd (c.in_default.ensures s.0 (subst (λ q. Contains q s.0) (sym c.down.ensures.row) s.2) s.3))
+returns-in_default c =
+    (λ no. absurd (false≢true no), λ s. absurd (c.in_default.ensures s.0 (subst (λ q. Contains q s.0) (sym c.down.ensures.row) s.2) s.3))
 
 pub returns-in_default-cost_in_row : goal.returns-in_default-cost_in_row
 returns-in_default-cost_in_row c =

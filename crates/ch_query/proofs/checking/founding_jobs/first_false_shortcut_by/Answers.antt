@@ -4,4 +4,5 @@ use Rattle.ch_query.proofs.faults.Firsts.{listed}
 use Rattle.ch_query.proofs.checking.founding_jobs.first_false_shortcut_by.Goals as goal
 
 pub returns : goal.returns
-returns g c = rw c.place_of.ensures (listed (IsSumIfShortcut c.args.hierarchy.now) c.args.legs.now c.in_ok-first.first c.in_ok-first.ensures)
+returns g c =
+    rw c.place_of.ensures (listed (IsSumIfShortcut c.args.hierarchy.now) c.args.legs.now c.in_ok-first.first c.in_ok-first.ensures)

@@ -11,7 +11,8 @@ pub cost_in_row-requires : goal.cost_in_row-requires
 cost_in_row-requires c = subst IsRow (sym c.up.ensures.row) (rows_ordered c.args.hierarchy.now c.level.ensures.levelled Up c.args.start)
 
 pub cost_in_row-requires-else-level : goal.cost_in_row-requires-else-level
-cost_in_row-requires-else-level c = subst IsRow (sym c.down.ensures.row) (rows_ordered c.args.hierarchy.now c.level.ensures.levelled Down c.args.end)
+cost_in_row-requires-else-level c =
+    subst IsRow (sym c.down.ensures.row) (rows_ordered c.args.hierarchy.now c.level.ensures.levelled Down c.args.end)
 
 pub returns-then-level : goal.returns-then-level
 returns-then-level c =

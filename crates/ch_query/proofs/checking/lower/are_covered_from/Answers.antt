@@ -24,7 +24,8 @@ plus-most-requires-clause-arcs c =
     omega arith
 
 pub is_pair_covered-requires-clause-start : goal.is_pair_covered-requires-clause-start
-is_pair_covered-requires-clause-start c = (leg_up c.args.hierarchy.now c.up-out-items.ensures.levelled Down c.args.node c.args.into c.requires.has).node
+is_pair_covered-requires-clause-start c =
+    (leg_up c.args.hierarchy.now c.up-out-items.ensures.levelled Down c.args.node c.args.into c.requires.has).node
 
 pub is_pair_covered-requires-clause-end : goal.is_pair_covered-requires-clause-end
 is_pair_covered-requires-clause-end c =

@@ -6,7 +6,8 @@ pub advance-requires-else-leads : goal.advance-requires-else-leads
 advance-requires-else-leads c = record { meeting = swapped _ _ _ _ c.requires.meeting }
 
 pub returns-then-leads-clause-stopped : goal.returns-then-leads-clause-stopped
-returns-then-leads-clause-stopped c = λ stop. both_stopped c.args.up.now _ c.args.down.now _ _ (c.leads.ensures.here c.if-leads.true) (c.advance.ensures.stopped stop)
+returns-then-leads-clause-stopped c =
+    λ stop. both_stopped c.args.up.now _ c.args.down.now _ _ (c.leads.ensures.here c.if-leads.true) (c.advance.ensures.stopped stop)
 
 pub returns-else-leads-clause-meeting : goal.returns-else-leads-clause-meeting
 returns-else-leads-clause-meeting c = swapped _ _ _ _ c.advance-else-leads.ensures.meeting

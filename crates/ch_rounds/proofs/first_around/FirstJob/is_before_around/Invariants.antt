@@ -6,4 +6,5 @@ use Rattle.ch_rounds.specs.FirstAround.{IsBeforeNeighbours}
 use Rattle.ch_rounds.proofs.first_around.FirstJob.is_before_around.Given as goal
 
 abbrev pub invariant-loop-leg : goal.invariant-loop-leg
-invariant-loop-leg l = All (λ (k : Leg). IsBeforeNeighbours l.self.keys.now (legs_of l.self.remaining.now) l.node k.node) (take l.leg-index l.legs)
+invariant-loop-leg l =
+    All (λ (k : Leg). IsBeforeNeighbours l.self.keys.now (legs_of l.self.remaining.now) l.node k.node) (take l.leg-index l.legs)

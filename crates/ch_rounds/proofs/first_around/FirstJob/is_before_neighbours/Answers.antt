@@ -5,10 +5,12 @@ use Rattle.ch_rounds.proofs.FirstAround.{from_nodes, to_nodes, around_all, aroun
 use Rattle.ch_rounds.proofs.first_around.FirstJob.is_before_neighbours.Goals as goal
 
 pub is_before_all-requires-clause-legs : goal.is_before_all-requires-clause-legs
-is_before_all-requires-clause-legs c = from_nodes _ (legs_of c.args.self.now.remaining.now) c.args.other _ c.nodes.ensures.limits c.out_legs.ensures
+is_before_all-requires-clause-legs c =
+    from_nodes _ (legs_of c.args.self.now.remaining.now) c.args.other _ c.nodes.ensures.limits c.out_legs.ensures
 
 pub is_before_all-requires-then-is_before_all-clause-legs : goal.is_before_all-requires-then-is_before_all-clause-legs
-is_before_all-requires-then-is_before_all-clause-legs c = to_nodes _ (legs_of c.args.self.now.remaining.now) c.args.other _ c.nodes.ensures.limits c.in_legs.ensures
+is_before_all-requires-then-is_before_all-clause-legs c =
+    to_nodes _ (legs_of c.args.self.now.remaining.now) c.args.other _ c.nodes.ensures.limits c.in_legs.ensures
 
 pub returns-then-is_before_all : goal.returns-then-is_before_all
 returns-then-is_before_all c =

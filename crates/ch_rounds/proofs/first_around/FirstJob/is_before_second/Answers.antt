@@ -5,10 +5,12 @@ use Rattle.ch_rounds.proofs.FirstAround.{from_nodes, to_nodes, around_all, aroun
 use Rattle.ch_rounds.proofs.first_around.FirstJob.is_before_second.Goals as goal
 
 pub is_before_around-requires-clause-legs : goal.is_before_around-requires-clause-legs
-is_before_around-requires-clause-legs c = from_nodes _ (legs_of c.args.self.now.remaining.now) c.args.node _ c.nodes.ensures.limits c.out_legs.ensures
+is_before_around-requires-clause-legs c =
+    from_nodes _ (legs_of c.args.self.now.remaining.now) c.args.node _ c.nodes.ensures.limits c.out_legs.ensures
 
 pub is_before_around-requires-then-is_before_around-clause-legs : goal.is_before_around-requires-then-is_before_around-clause-legs
-is_before_around-requires-then-is_before_around-clause-legs c = to_nodes _ (legs_of c.args.self.now.remaining.now) c.args.node _ c.nodes.ensures.limits c.in_legs.ensures
+is_before_around-requires-then-is_before_around-clause-legs c =
+    to_nodes _ (legs_of c.args.self.now.remaining.now) c.args.node _ c.nodes.ensures.limits c.in_legs.ensures
 
 pub returns-then-is_before_around : goal.returns-then-is_before_around
 returns-then-is_before_around c =

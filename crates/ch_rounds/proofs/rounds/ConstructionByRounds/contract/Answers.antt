@@ -21,7 +21,8 @@ use Rattle.ch_rounds.proofs.rounds.ConstructionByRounds.contract.Goals.{In_ok-ro
 use Rattle.ch_rounds.proofs.rounds.ConstructionByRounds.contract.Goals as goal
 
 -- the keys split the remaining nodes into the round and the rest
-split : (g : _) (c : In_ok-round g) → IsSplit (IsFirstBy c.args.self.keys.items (legs_of c.args.self.remaining)) c.args.self.left.items c.in_ok-round.field-0.round.items c.in_ok-round.field-0.rest.items
+split : (g : _) (c : In_ok-round g) →
+    IsSplit (IsFirstBy c.args.self.keys.items (legs_of c.args.self.remaining)) c.args.self.left.items c.in_ok-round.field-0.round.items c.in_ok-round.field-0.rest.items
 split g c = c.in_ok-round.ensures
 
 -- the nodes of the round are below the number of nodes
@@ -115,7 +116,8 @@ after g c = record {
 }
 
 -- the parts of the step
-stepped : (g : _) (c : In_ok-renew g) → IsSteppedByRound c.args.hops c.args.self (after g c) c.as_slice-nodes.result.now c.in_ok-around.around.near.items c.args.self.keys.items
+stepped : (g : _) (c : In_ok-renew g) →
+    IsSteppedByRound c.args.hops c.args.self (after g c) c.as_slice-nodes.result.now c.in_ok-around.around.near.items c.args.self.keys.items
 stepped g c =
     let r = c.in_ok-renew.ensures.renewed in
     let was = c.args.self in

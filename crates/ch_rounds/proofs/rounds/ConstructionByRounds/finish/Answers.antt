@@ -7,7 +7,8 @@ use Rattle.ch_rounds.proofs.RoundCalls.{rounds_end}
 use Rattle.ch_rounds.proofs.rounds.ConstructionByRounds.finish.Goals as goal
 
 pub from_rows-requires : goal.from_rows-requires
-from_rows-requires g c = c.requires.levelled _ (rounds_end c.args.self _ c.requires.sizes c.requires.none refl c.in_ok-ups.ensures.up c.in_ok-ups.ensures.down)
+from_rows-requires g c =
+    c.requires.levelled _ (rounds_end c.args.self _ c.requires.sizes c.requires.none refl c.in_ok-ups.ensures.up c.in_ok-ups.ensures.down)
 
 pub returns : goal.returns
 returns g c =

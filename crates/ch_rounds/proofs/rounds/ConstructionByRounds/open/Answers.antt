@@ -12,7 +12,8 @@ use Rattle.ch_rounds.proofs.RoundCalls.{rounds_open, sized_open}
 use Rattle.ch_rounds.proofs.rounds.ConstructionByRounds.open.Goals as goal
 
 pub of-requires-clause-nodes : goal.of-requires-clause-nodes
-of-requires-clause-nodes g c lifetimes bounds = c.as_slice.ensures.value ∙ c.in_ok-left.ensures ∙ ap (range_with_len 0) c.nodes-nodes.ensures.nodes
+of-requires-clause-nodes g c lifetimes bounds =
+    c.as_slice.ensures.value ∙ c.in_ok-left.ensures ∙ ap (range_with_len 0) c.nodes-nodes.ensures.nodes
 
 -- the construction
 abbrev made : (g : _) → goal.In_ok-rooms g → ConstructionByRounds
@@ -33,7 +34,9 @@ all g c = c.in_ok-left.ensures ∙ ap (range_with_len 0) c.nodes-nodes.ensures.n
 
 -- each node has a level
 levelled : (g : _) (c : goal.In_ok-rooms g) → length c.in_ok-levels.levels.items ≡ c.in_ok-remaining.remaining.nodes
-levelled g c = ap length (c.in_ok-levels.ensures.items_if_clones_equal (λ y p. p)) ∙ length-replicate {A = ℕ} c.nodes-nodes.result 0 ∙ c.nodes-nodes.ensures.nodes
+levelled g c =
+    ap length (c.in_ok-levels.ensures.items_if_clones_equal (λ y p. p)) ∙ length-replicate {A = ℕ} c.nodes-nodes.result 0
+    ∙ c.nodes-nodes.ensures.nodes
 
 pub returns-clause-sizes : goal.returns-clause-sizes
 returns-clause-sizes g c =
@@ -54,4 +57,5 @@ returns-clause-begun g c =
     (λ x. ap (λ (l : List ℕ). slice_index l x) c.in_ok-rooms.ensures.depths ∙ zeros n x) (levelled g c) refl
 
 pub returns-clause-keys : goal.returns-clause-keys
-returns-clause-keys g c x left = c.in_ok-rooms.ensures.keys.anew x (subst (λ (l : List ℕ). Contains l x) (sym c.as_slice.ensures.value) left)
+returns-clause-keys g c x left =
+    c.in_ok-rooms.ensures.keys.anew x (subst (λ (l : List ℕ). Contains l x) (sym c.as_slice.ensures.value) left)

@@ -20,7 +20,8 @@ count-requires-clause-nodes g c lifetimes bounds =
     (due_below c.nodes-all.result n c.args.before c.args.self.now.contracted c.args.near.now c.args.waiting.now (λ k d lt. (c.requires.near k d lt).0) (λ k d lt. (c.requires.waiting k d lt).0))
 
 -- the due nodes are counted
-counted : (g : _) (c : In_ok-count g) → AreCounted c.args.self.now.remaining.nodes c.args.hops (legs_of c.args.self.now.remaining) c.due-due.result.now c.args.self.now.counts.items c.count.new.counts
+counted : (g : _) (c : In_ok-count g) →
+    AreCounted c.args.self.now.remaining.nodes c.args.hops (legs_of c.args.self.now.remaining) c.due-due.result.now c.args.self.now.counts.items c.count.new.counts
 counted g c = subst (λ (l : List ℕ). AreCounted c.args.self.now.remaining.nodes c.args.hops (legs_of c.args.self.now.remaining) c.due-due.result.now l c.count.new.counts) c.deref_mut.ensures.value c.in_ok-count.ensures.counts
 
 pub refresh-requires-clause-nodes : goal.refresh-requires-clause-nodes

@@ -14,7 +14,8 @@ returns-clause-within g c =
 
 -- the story, as far as it went
 pub returns-in_err-targets-clause-ends : goal.returns-in_err-targets-clause-ends
-returns-in_err-targets-clause-ends g c = at_err c.from_residual.result _ (inl (err_as _ _ _ c.from_residual.ensures.1 c.in_err-targets.ensures.ends, tt))
+returns-in_err-targets-clause-ends g c =
+    at_err c.from_residual.result _ (inl (err_as _ _ _ c.from_residual.ensures.1 c.in_err-targets.ensures.ends, tt))
 
 pub returns-in_err-sources-clause-ends : goal.returns-in_err-sources-clause-ends
 returns-in_err-sources-clause-ends g c =

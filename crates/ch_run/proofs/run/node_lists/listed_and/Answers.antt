@@ -6,7 +6,8 @@ use Rattle.ch_run.proofs.run.node_lists.listed_and.Goals as goal
 
 -- the story, as far as it went
 pub returns-in_err-sources-clause-ends : goal.returns-in_err-sources-clause-ends
-returns-in_err-sources-clause-ends g c = at_err c.from_residual.result _ (inl (err_as _ _ _ c.from_residual.ensures.1 c.in_err-sources.ensures.ends, refl))
+returns-in_err-sources-clause-ends g c =
+    at_err c.from_residual.result _ (inl (err_as _ _ _ c.from_residual.ensures.1 c.in_err-sources.ensures.ends, refl))
 
 pub returns-in_err-targets-clause-ends : goal.returns-in_err-targets-clause-ends
 returns-in_err-targets-clause-ends g c =

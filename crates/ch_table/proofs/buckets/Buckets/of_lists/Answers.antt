@@ -27,7 +27,8 @@ listed d positive vecs entries all below = (
 )
 
 pub entries_of-requires-clause-count : goal.entries_of-requires-clause-count
-entries_of-requires-clause-count c = subst (λ (l : List (Vec (ℕ × ℕ) Global)). length l ≤ MOST_LISTED) (sym c.deref.ensures.value) c.requires.count
+entries_of-requires-clause-count c =
+    subst (λ (l : List (Vec (ℕ × ℕ) Global)). length l ≤ MOST_LISTED) (sym c.deref.ensures.value) c.requires.count
 
 pub entries_of-requires-clause-ranks : goal.entries_of-requires-clause-ranks
 entries_of-requires-clause-ranks c =

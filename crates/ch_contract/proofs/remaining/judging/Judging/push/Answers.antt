@@ -18,7 +18,8 @@ reach-requires-clause-end g c =
     (ends.0, ends.2)
 
 pub shortcut-requires-clause-first : goal.shortcut-requires-clause-first
-shortcut-requires-clause-first g c = (c.args.self.now.touches.within _ _ _ c.requires.first, c.args.self.now.touches.light _ _ _ c.requires.first)
+shortcut-requires-clause-first g c =
+    (c.args.self.now.touches.within _ _ _ c.requires.first, c.args.self.now.touches.light _ _ _ c.requires.first)
 
 pub shortcut-requires-clause-second : goal.shortcut-requires-clause-second
 shortcut-requires-clause-second g c =

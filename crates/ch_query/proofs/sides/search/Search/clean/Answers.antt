@@ -5,7 +5,8 @@ use Rattle.ch_query.proofs.one_side.Touched.{last_within, touched_less}
 use Rattle.ch_query.proofs.sides.search.Search.clean.Goals as goal
 
 pub clear-requires-in-Some : goal.clear-requires-in-Some
-clear-requires-in-Some c = let e = c.in-Some.ensures in last_within _ _ c.pop.new.self c.loop-rank.invariant.room.touched c.in-Some.rank e.items e.cases e.capacity
+clear-requires-in-Some c =
+    let e = c.in-Some.ensures in last_within _ _ c.pop.new.self c.loop-rank.invariant.room.touched c.in-Some.rank e.items e.cases e.capacity
 
 pub loop-rank-preserved : goal.loop-rank-preserved
 loop-rank-preserved c =

@@ -6,4 +6,5 @@ use Rattle.ch_query.specs.Underway.{IsPartlyExpanded}
 use Rattle.ch_query.proofs.sides.search.Search.expand.Given as goal
 
 abbrev pub invariant-loop-leg : goal.invariant-loop-leg
-invariant-loop-leg l = IsPartlyExpanded l.hierarchy l.fn.self l.self l.node l.cost (take l.leg-index (row (rows_of l.hierarchy l.fn.self.side) l.node))
+invariant-loop-leg l =
+    IsPartlyExpanded l.hierarchy l.fn.self l.self l.node l.cost (take l.leg-index (row (rows_of l.hierarchy l.fn.self.side) l.node))

@@ -8,7 +8,8 @@ use Rattle.ch_query.proofs.sides.search.Search.reach.Goals as goal
 use Rattle.ch_query.proofs.sides.search.Search.reach.Goals.{then-is_none, else-is_none}
 
 pub push_reserved-requires : goal.push_reserved-requires
-push_reserved-requires c = room_left _ _ c.requires.room.touched _ c.requires.rank c.args.cost (sym (ap is_some c.get.ensures) ∙ c.if-is_none.ensures)
+push_reserved-requires c =
+    room_left _ _ c.requires.room.touched _ c.requires.rank c.args.cost (sym (ap is_some c.get.ensures) ∙ c.if-is_none.ensures)
 
 pub returns-clause-touched : goal.returns-clause-touched
 returns-clause-touched c =

@@ -22,7 +22,8 @@ returns-clause-least c =
     (least_known c.args.hierarchy.now c.requires.kept c.advance.new.self c.advance.new.least e.least (e.past c.loop-test.false) (omega arith))
 
 pub returns-then-least-eq-UNREACHED-clause-clean : goal.returns-then-least-eq-UNREACHED-clause-clean
-returns-then-least-eq-UNREACHED-clause-clean c = c.clean.ensures (nodes_of c.args.hierarchy.now) (c.advance.ensures.least.weighing.sides Up).sizes
+returns-then-least-eq-UNREACHED-clause-clean c =
+    c.clean.ensures (nodes_of c.args.hierarchy.now) (c.advance.ensures.least.weighing.sides Up).sizes
 
 pub returns-clause-clean : goal.returns-clause-clean
 returns-clause-clean c = c.clean.ensures (nodes_of c.args.hierarchy.now) (c.advance.ensures.least.weighing.sides Up).sizes
