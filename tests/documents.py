@@ -435,6 +435,13 @@ def check_parts(tally):
         tally.expect(re.match(r'(#!.*\n)?("""|//|/\*)', path.read_text()), f"{told(path)} does not say in its first line what it is")
 
 
+def check_first_lines(tally):
+    """Each file of a crate says in its first line what it holds, defines or proves."""
+    for path in sorted([*ROOT.glob("crates/*/src/**/*.rt"), *ROOT.glob("crates/*/specs/**/*.antt"), *ROOT.glob("crates/*/proofs/**/*.antt")]):
+        opening = r"//! .*\w" if path.suffix == ".rt" else r"-- .*\w"
+        tally.expect(re.match(opening, path.read_text()), f"{told(path)} does not say in its first line what it is about")
+
+
 def check_text(tally, path):
     """A file of text has none of the strange words."""
     try:
@@ -468,6 +475,7 @@ def main():
     check_versions(tally)
     check_docstrings(tally)
     check_parts(tally)
+    check_first_lines(tally)
     layers.check_layers(tally)
     layers.check_times(tally)
     for path in tracked():
