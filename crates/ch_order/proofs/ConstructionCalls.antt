@@ -1,6 +1,6 @@
 -- The opening of a construction, one step and the end, from the clauses of their calls.
-use Rattle.std.proofs.Common.{◌≡◌, ℕ, Bool, true, false, not, map, refl, ◌+◌, ◌*◌, ◌<◌, ◌≤◌, List, [], length, get_or, Option, Some, None, sym, ◌∙◌, ap, subst, arith, inl, inr, replicate, Contains, length-append, length-set, get_or-set_same, get_or-set_other}
-use Rattle.std.specs.Prelude.{slice_set, All, filter, is_some, ◌||◌, if◌then◌else◌, slice_index, max, ℤ, ◌<ℤ◌}
+use Rattle.std.proofs.Common.{◌≡◌, ℕ, Bool, false, not, map, refl, ◌+◌, ◌*◌, ◌<◌, ◌≤◌, List, length, Option, Some, None, sym, ◌∙◌, ap, subst, arith, inl, inr, replicate, length-append, length-set, get_or-set_same, get_or-set_other}
+use Rattle.std.specs.Prelude.{filter, is_some, ◌||◌, slice_index, ℤ, ◌<ℤ◌}
 use Rattle.std.specs.Ordering.{is_gt, int_cmp, MatchOrdering}
 use Rattle.std.specs.declared.cmp.Ordering.{Ordering}
 use Rattle.std.specs.declared.cmp.Ordering.TheVariants.{Less, Equal, Greater}
@@ -9,20 +9,18 @@ use Rattle.std.proofs.lemmas.Int.{ints}
 use Rattle.std.proofs.lemmas.Bool.{true≢false, cases_lt}
 use Rattle.std.proofs.lemmas.List.{length-map, get_or-replicate, get_or_past, length-replicate}
 use Rattle.std.proofs.lemmas.List.Filters.{length-filter_both}
-use Rattle.std.proofs.lemmas.List.Elements.{Contains-get_or}
 use Rattle.ch_queue.specs.Queue.{key_of, IsLeastEntry, ComesFirst}
-use Rattle.ch_graph.specs.declared.limits.TheConstants.{MOST_NODES}
 use Rattle.ch_graph.specs.Graph.{Network}
 use Rattle.ch_hierarchy.specs.Rows.{row}
 use Rattle.ch_hierarchy.specs.declared.leg.Leg.{Leg}
 use Rattle.ch_contract.specs.declared.measure.OrderBy.{OrderBy}
 use Rattle.ch_order.specs.declared.construction.Construction.{Construction}
-use Rattle.ch_contract.specs.Legs.{Label, Legs, SameLegs, AreLegsWithin, opening, turned_legs}
-use Rattle.ch_contract.specs.Contraction.{Contracts, IsPriorityBy}
-use Rattle.ch_contract.specs.Order.{are_neighbours, next_depth, IsContractedBefore}
+use Rattle.ch_contract.specs.Legs.{Label, Legs, SameLegs, AreLegsWithin, opening}
+use Rattle.ch_contract.specs.Contraction.{IsPriorityBy}
+use Rattle.ch_contract.specs.Order.{are_neighbours, IsContractedBefore}
 use Rattle.ch_contract.specs.LegRows.{AreLegsFrom, AreLegsTo}
 use Rattle.ch_hierarchy.specs.Hierarchy.{LevelsAndLegs}
-use Rattle.ch_contract.specs.Remaining.{RemainingLegs, legs_of, IsSetAside}
+use Rattle.ch_contract.specs.Remaining.{RemainingLegs, legs_of}
 use Rattle.ch_order.specs.Progress.{IsNext, IsOpen, IsContraction, IsStep, AreAll}
 use Rattle.ch_contract.specs.Neighbours.{has_node, neighbours_in}
 use Rattle.ch_order.specs.Priorities.{AreRefreshed}
@@ -31,7 +29,7 @@ use Rattle.ch_order.specs.Construction.{progress_of, IsSized, IsTaken}
 use Rattle.ch_contract.proofs.theory.OneInTurn.{one_map}
 use Rattle.ch_contract.proofs.theory.Counts.{rows_touching, count_most}
 use Rattle.ch_contract.proofs.code.NodeBounds.{zeros}
-use Rattle.ch_contract.proofs.code.Neighbours.{deeper_by, neighbour_listed, not_listed, neighbour_within}
+use Rattle.ch_contract.proofs.code.Neighbours.{deeper_by, neighbour_listed, not_listed}
 
 -- an entry that comes first in a queue of numbers is contracted before the other
 first_of : (p : ℤ) (v : ℕ) (q : ℤ) (x : ℕ) → ComesFirst int_cmp (p, v) (q, x) → IsContractedBefore p v q x

@@ -1,13 +1,12 @@
 -- The queue while priorities are computed one after the other.
-use Rattle.std.proofs.Common.{◌≡◌, ℕ, zero, suc, ◌+◌, ◌-◌, ◌<◌, ◌≤◌, List, [], ◌∷◌, ◌++◌, length, get_or, set, take, Option, Some, None, sym, ◌∙◌, ap, subst, arith, inl, inr, Contains, length-set, get_or-set_same, get_or-set_other}
-use Rattle.std.specs.Prelude.{◌≢◌, All, ℤ}
+use Rattle.std.proofs.Common.{◌≡◌, ℕ, ◌+◌, ◌-◌, ◌<◌, ◌≤◌, List, [], ◌∷◌, ◌++◌, length, get_or, set, take, Option, Some, None, sym, ◌∙◌, ap, subst, arith, inl, inr, Contains, length-set, get_or-set_same, get_or-set_other}
+use Rattle.std.specs.Prelude.{◌≢◌, ℤ}
 use Rattle.std.proofs.lemmas.Bool.{cases_eq}
 use Rattle.std.proofs.lemmas.List.{take_more}
-use Rattle.std.proofs.lemmas.List.Elements.{Contains-append_left, Contains-append_right, Contains-append_cases, Contains-push, Contains-push_cases, Contains-get_or}
-use Rattle.std.specs.List.{AllZip, range_with_len, slice_range}
+use Rattle.std.proofs.lemmas.List.Elements.{Contains-append_left, Contains-append_right, Contains-append_cases, Contains-push, Contains-push_cases}
+use Rattle.std.specs.List.{slice_range}
 use Rattle.std.proofs.Math.Seq.{take-add}
 use Rattle.ch_hierarchy.proofs.theory.Ordered.{contains_or_not}
-use Rattle.std.proofs.lemmas.List.FromFn.{length-range_with_len, get_or-range_with_len}
 use Rattle.ch_queue.specs.Queue.{key_of}
 use Rattle.ch_order.specs.Progress.{HasPriority}
 use Rattle.ch_order.specs.Priorities.{AreRefreshed}

@@ -4,3 +4,4 @@ pub mod PrioritySteps
 pub mod StepsMade
 pub mod ConstructionCalls
 pub mod KeptPriorities
+pub mod QuickSteps

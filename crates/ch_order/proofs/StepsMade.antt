@@ -7,7 +7,7 @@ use Rattle.ch_graph.specs.declared.limits.TheConstants.{MOST_NODES}
 use Rattle.ch_queue.specs.Queue.{key_of, HasNone}
 use Rattle.ch_graph.specs.Graph.{Network}
 use Rattle.ch_contract.specs.declared.measure.OrderBy.{OrderBy}
-use Rattle.ch_contract.specs.Legs.{Legs, SameLegs, AreLegsWithin, opening}
+use Rattle.ch_contract.specs.Legs.{Legs, AreLegsWithin, opening}
 use Rattle.ch_contract.specs.Contraction.{Contracts, IsPriorityBy}
 use Rattle.ch_contract.specs.Order.{are_neighbours, next_depth, depth_after, AreContracted}
 use Rattle.ch_contract.specs.Like.{IsHierarchyFrom}
@@ -119,6 +119,32 @@ module _ (g : Network) (h : ℕ) (order : List ℕ) (L : ℕ → Legs) (p : Prog
           down = rows_more order v left AreLegsTo L q.legs p.down q.down (subst (λ (M : Legs). AreLegsTo M v (q.down v)) before s.down) (λ x ne. (s.rows x ne).1) u.down;
         }
 
+-- the steps do not depend on the keys
+pub steps_rekeyed : (g : Network) (h : ℕ) (order : List ℕ) (L : ℕ → Legs) (p : Progress) (keys : List (Option ℤ)) → IsAfterSteps g h order L p → IsAfterSteps g h order L (record p { keys = keys })
+steps_rekeyed g h order L p keys a = record { begun = a.begun; limits = a.limits; contracted = a.contracted; legs = a.legs; size = a.size; levels = a.levels; depths = a.depths; up = a.up; down = a.down }
+
+module _ (g : Network) (h : ℕ) (order : List ℕ) (L : ℕ → Legs) (p : Progress) (u : IsAfterSteps g h order L p) (whole : (x : ℕ) → x < g.nodes → Contains order x) where
+  -- if the steps have all nodes, all are contracted
+  pub all_contracted : AreContracted g h order L
+  all_contracted = begun_all g h order L u.begun whole
+
+  -- the levels and the rows are then the hierarchy of the steps
+  pub all_steps : (H : LevelsAndLegs) → AreAll g.nodes p H → IsHierarchyOf g h H order L
+  all_steps H all =
+      let size = all_contracted.nodes.0 in
+      let node : (i : ℕ) → i < g.nodes → slice_index order i < g.nodes = λ i lt. all_contracted.nodes.1 i 0 (omega arith) in
+      record {
+        contracted = all_contracted;
+        sizes = (ap length all.level ∙ all.sizes.0, all.sizes.1, all.sizes.2);
+        level = λ i lt. ap (λ l. slice_index l (slice_index order i)) all.level ∙ u.levels i (omega arith);
+        up = λ i lt. subst (AreLegsFrom (L i) (slice_index order i)) (sym (all.rows (slice_index order i) (node i lt)).0) (u.up i (omega arith));
+        down = λ i lt. subst (AreLegsTo (L i) (slice_index order i)) (sym (all.rows (slice_index order i) (node i lt)).1) (u.down i (omega arith));
+      }
+
+  -- and that hierarchy is levelled
+  pub all_levelled : g.nodes ≤ MOST_NODES → (H : LevelsAndLegs) → AreAll g.nodes p H → IsLevelled H
+  all_levelled count H all = levelled g H order L (hierarchy_with_pairs g h H order L (all_steps H all)) count u.limits
+
 -- a queue in which no node has a key stays so if a key is removed
 none_removed : (keys : List (Option ℤ)) (v : ℕ) → HasNone keys → HasNone (slice_set keys v None)
 none_removed keys v none x = elim (cases_eq x v) [
@@ -143,7 +169,7 @@ steps_at_start by g h given others p q is u r = record {
   order = given;
   L = u.L;
   after = record {
-    steps = subst (IsAfterSteps g h given u.L) (sym r.rest) (rekeyed q.keys);
+    steps = subst (IsAfterSteps g h given u.L) (sym r.rest) (steps_rekeyed g h given u.L p q.keys u.after);
     from = omega arith;
     least = λ i x ge lt inside away. absurd (omega arith);
     priorities = kept_ranked by g.nodes h given u.L p.depth others p.keys q.keys u.keys.0 u.keys.1 u.after.depths (all_others given others g.nodes is) (no_other given others g.nodes is)
@@ -151,11 +177,6 @@ steps_at_start by g h given others p q is u r = record {
   };
   first = take_all (length given) given (omega arith);
 }
-  where
-    rekeyed : (keys : List (Option ℤ)) → IsAfterSteps g h given u.L (record p { keys = keys })
-    rekeyed keys =
-        let a = u.after in
-        record { begun = a.begun; limits = a.limits; contracted = a.contracted; legs = a.legs; size = a.size; levels = a.levels; depths = a.depths; up = a.up; down = a.down }
 
 module _ (by : OrderBy) (g : Network) (h : ℕ) (given : List ℕ) (p : Progress) (u : IsAfterSomeSteps by g h given p) where
   -- the remaining legs are within the limits
@@ -203,28 +224,16 @@ module _ (by : OrderBy) (g : Network) (h : ℕ) (given : List ℕ) (p : Progress
         }
 
   module _ (none : HasNone p.keys) where
-    -- when no node has a key, all nodes are contracted
-    contracted : AreContracted g h u.order u.L
-    contracted = begun_all g h u.order u.L u.after.steps.begun (all_taken (length given) by g.nodes h u.order u.L p.keys u.after.priorities none)
-
-    -- when no node remains, the levels and the rows are the hierarchy
-    after_all : (H : LevelsAndLegs) → AreAll g.nodes p H → IsHierarchyOf g h H u.order u.L
-    after_all H all =
-        let a = u.after.steps in
-        let size = contracted.nodes.0 in
-        let node : (i : ℕ) → i < g.nodes → slice_index u.order i < g.nodes = λ i lt. contracted.nodes.1 i 0 (omega arith) in
-        record {
-          contracted = contracted;
-          sizes = (ap length all.level ∙ all.sizes.0, all.sizes.1, all.sizes.2);
-          level = λ i lt. ap (λ l. slice_index l (slice_index u.order i)) all.level ∙ a.levels i (omega arith);
-          up = λ i lt. subst (AreLegsFrom (u.L i) (slice_index u.order i)) (sym (all.rows (slice_index u.order i) (node i lt)).0) (a.up i (omega arith));
-          down = λ i lt. subst (AreLegsTo (u.L i) (slice_index u.order i)) (sym (all.rows (slice_index u.order i) (node i lt)).1) (a.down i (omega arith));
-        }
+    whole : (x : ℕ) → x < g.nodes → Contains u.order x
+    whole = all_taken (length given) by g.nodes h u.order u.L p.keys u.after.priorities none
 
     -- it is the hierarchy with the given nodes
     pub steps_at_end : (H : LevelsAndLegs) → AreAll g.nodes p H → IsHierarchyFrom by g h given H
-    steps_at_end H all = let size = contracted.nodes.0 in (u.order, u.L, after_all H all, u.first, λ i x ge lt inside away. u.after.least i x ge (omega arith) inside away)
+    steps_at_end H all =
+        let a = u.after.steps in
+        let size = (all_contracted g h u.order u.L p a whole).nodes.0 in
+        (u.order, u.L, all_steps g h u.order u.L p a whole H all, u.first, λ i x ge lt inside away. u.after.least i x ge (omega arith) inside away)
 
     -- the hierarchy is levelled
     pub steps_levelled : g.nodes ≤ MOST_NODES → (H : LevelsAndLegs) → AreAll g.nodes p H → IsLevelled H
-    steps_levelled count H all = levelled g H u.order u.L (hierarchy_with_pairs g h H u.order u.L (after_all H all)) count u.after.steps.limits
+    steps_levelled count H all = all_levelled g h u.order u.L p u.after.steps whole count H all

@@ -1,15 +1,14 @@
 -- A hierarchy that is being built one node after the other.
-use Rattle.std.specs.Prelude.{◌≡◌, ◌+◌, ◌<◌, ◌≤◌, ℕ, All, List, Option, None, ℤ, length, slice_index, slice_set}
+use Rattle.std.specs.Prelude.{◌≡◌, ◌+◌, ◌<◌, ◌≤◌, ℕ, All, List, None, length, slice_index, slice_set}
 use Rattle.ch_graph.specs.declared.limits.TheConstants.{MOST_NODES}
 use Rattle.ch_hierarchy.specs.Rows.{row}
 use Rattle.ch_order.specs.declared.construction.Construction.{Construction}
-use Rattle.ch_contract.specs.declared.room.Room.{Room}
 use Rattle.ch_order.specs.Progress.{Progress}
-use Rattle.ch_contract.specs.Legs.{Legs, AreLegsWithin, IsHopBound, turned_legs}
+use Rattle.ch_contract.specs.Legs.{AreLegsWithin, IsHopBound, turned_legs}
 use Rattle.ch_contract.specs.Contraction.{Contracts}
 use Rattle.ch_contract.specs.Measures.{AreDeepened}
 use Rattle.ch_contract.specs.Neighbours.{neighbours_in}
-use Rattle.ch_contract.specs.Remaining.{RemainingLegs, legs_of, IsSetAside}
+use Rattle.ch_contract.specs.Remaining.{legs_of, IsSetAside}
 use Rattle.ch_contract.specs.Rooms.{IsIdleRoom, IsReady}
 
 -- the progress of the construction: the rows are the legs that were set aside

@@ -2,5 +2,6 @@
 pub mod Construction
 pub mod Priorities
 pub mod Progress
+pub mod Quick
 pub mod Steps
 pub mod OrderText

@@ -1,6 +1,7 @@
 //! Builds the hierarchy of a graph: its nodes are contracted one after the other.
 mod alone;
 mod like;
+mod quick;
 
 ghost use Rattle.std.specs.Prelude.{◌≡◌, ℕ, ◌<◌, ◌≤◌, ◌^◌, ◌++◌, All, IfOk, OnOk, length, map, take};
 ghost use Rattle.ch_graph.specs.Graph.{IsWithinLimits};
@@ -21,6 +22,7 @@ use ch_hierarchy::Hierarchy;
 use ch_queue::KeyQueue;
 use ch_work::{Crew, Gate, Stage};
 pub use like::{OrderError, build_like};
+pub use quick::build_like_quickly;
 use std::alloc::{AllocError, Global};
 use std::thread::Threads;
 

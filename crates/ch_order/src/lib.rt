@@ -7,11 +7,13 @@
 //! - [`build_alone`] makes the one by depth without any thread.
 //! - [`build_like`] and [`build_like_alone`] make the hierarchy in an order like a given one: its first nodes come
 //!   as given, and the last per cent are ordered afresh by depth.
+//! - [`build_like_quickly`] makes one that begins so too, and takes less time. It is for answers that do not depend
+//!   on the order.
 #![tactic(auto)]
 
 mod construction;
 mod priority;
 
 pub use construction::{
-    OrderError, build, build_alone, build_in_turn, build_like, build_like_alone,
+    OrderError, build, build_alone, build_in_turn, build_like, build_like_alone, build_like_quickly,
 };

@@ -49,7 +49,12 @@ impl ListJob for PriorityJob<'_> {
 
 impl PriorityJob<'_> {
     /// Returns the priority of a node. The node is judged in this room.
-    fn priority(&self, alloc: Global, room: &mut Room, node: u32) -> Result<i64, AllocError>
+    pub(crate) fn priority(
+        &self,
+        alloc: Global,
+        room: &mut Room,
+        node: u32,
+    ) -> Result<i64, AllocError>
         requires node { node < self.now.remaining.now.nodes }
         requires ready { IsReady self.now.remaining.now.nodes self.now.hops (legs_of self.now.remaining.now) room.old }
         ensures priority { IfOk result

@@ -1,13 +1,46 @@
 -- The graph that was loaded, and the hierarchy that was saved or built like an order, if there is one.
-use Rattle.std.proofs.Common.{◌≡◌, ℕ, Option, Some, None, subst, inl, inr}
+use Rattle.std.proofs.Common.{◌≡◌, ℕ, Bool, true, false, List, Option, Some, None, refl, sym, ap, subst, inl, inr}
+use Rattle.std.specs.Prelude.{IfSome, Result, Ok, Err, IfOk}
+use Rattle.ch_hierarchy.specs.Kept.{IsKept}
+use Rattle.ch_hierarchy.specs.Saved.{IsOrderOf}
+use Rattle.ch_contract.specs.declared.measure.OrderBy.TheVariants.{Depth}
+use Rattle.ch_contract.specs.Legs.{IsHopBound}
+use Rattle.ch_contract.specs.Like.{IsHierarchyLike}
+use Rattle.ch_contract.proofs.theory.GivenOrders.{from_kept}
+use Rattle.ch_contract.proofs.theory.OrdersExist.{like_exists}
+use Rattle.ch_order.specs.declared.construction.like.OrderError.{OrderError}
 use Rattle.ch_graph.specs.Graph.{Network, IsWithinLimits}
 use Rattle.ch_graph.specs.Saved.{OrderAndLegs}
 use Rattle.ch_hierarchy.specs.Hierarchy.{LevelsAndLegs}
 use Rattle.ch_run.specs.declared.fault.RunFault.{RunFault}
 use Rattle.ch_run.specs.declared.fault.Which.{Which}
 use Rattle.ch_run.specs.Run.{IsOf, IsWrite, Reading, ReadsGraph, StopsAt, SourceReading, NoFile, SavedFile, OrderFile}
-use Rattle.ch_run.specs.Source.{AreBuiltLike, AreChecked, AreLoaded, IsOfLoading, WithLoaded}
+use Rattle.ch_run.specs.Source.{AreBuiltLike, AreChecked, AreLoaded, IsInPlaceOf, IsOfLoading, WithLoaded}
 use Rattle.ch_run.proofs.Inputs.{of_one}
+
+-- no hierarchy serves in the place of none
+pub no_place : (named : Bool) (g : Network) → IsInPlaceOf named g None None
+no_place true g = refl
+no_place false g = (refl, tt)
+
+-- a hierarchy that is right for the graph serves in its own place
+pub own_place : (named : Bool) (g : Network) (H K : LevelsAndLegs) → K ≡ H → IsKept g H → IsInPlaceOf named g (Some H) (Some K)
+own_place true g H K same kept = ap (λ (x : LevelsAndLegs). Some x) same
+own_place false g H K same kept = (refl, subst (IsKept g) (sym same) kept)
+
+module _ (g : Network) (hops : ℕ) (given : List ℕ) (fresh : ℕ) where
+  -- the hierarchy that the rules name serves in its own place
+  pub built_in_place : (named : Bool) (r : Result LevelsAndLegs OrderError) → IfOk r (IsHierarchyLike g hops given fresh) → IfOk r (IsKept g) → IfOk r (λ K. (H : LevelsAndLegs) × IsHierarchyLike g hops given fresh H × IsKept g H × IsInPlaceOf named g (Some H) (Some K))
+  built_in_place named (Ok K) like kept = (K, like, kept, own_place named g K K refl kept)
+  built_in_place named (Err e) like kept = tt
+
+  -- each hierarchy that is right for the graph serves in its place, if it is not named
+  pub built_in_its_place : (named : Bool) (r : Result LevelsAndLegs OrderError) → named ≡ false → IsHopBound hops → IsWithinLimits g → IfOk r (λ _. IsOrderOf g.nodes given) → IfOk r (IsKept g) →
+      IfOk r (λ K. (H : LevelsAndLegs) × IsHierarchyLike g hops given fresh H × IsKept g H × IsInPlaceOf named g (Some H) (Some K))
+  built_in_its_place named (Ok K) unnamed bound limits each kept =
+      let H = like_exists g hops given fresh limits bound each in
+      (H.0, H.1, from_kept Depth g hops _ H.0 limits bound H.1, subst (λ b. IsInPlaceOf b g (Some H.0) (Some K)) (sym unnamed) (refl, kept))
+  built_in_its_place named (Err e) unnamed bound limits each kept = tt
 
 -- a fault of loading belongs to the graph, to the saved hierarchy or to the order
 pub loading_past : (source : SourceReading) (e : RunFault) → IsOfLoading source e → (which : Which) → (which ≡ Which.Graph → ⊥) → (which ≡ Which.Saved → ⊥) → (which ≡ Which.Order → ⊥) → StopsAt which e → ⊥

@@ -1,5 +1,5 @@
 -- Steps of the story of a run.
-use Rattle.std.proofs.Common.{◌≡◌, ℕ, List, Option, Some, None, Result, Ok, Err, inl, inr, refl, sym, ap, ◌∙◌, subst}
+use Rattle.std.proofs.Common.{◌≡◌, ℕ, Bool, List, Option, Some, None, Result, Ok, Err, inl, inr, refl, sym, ap, ◌∙◌, subst}
 use Rattle.std.specs.Prelude.{IsErrAnd, IsOkAnd, OnErr, ⊤}
 use Rattle.ch_graph.specs.Graph.{IsWithinLimits, Network}
 use Rattle.ch_graph.specs.Saved.{OrderAndLegs}
@@ -15,7 +15,8 @@ use Rattle.ch_run.specs.declared.fault.RunFault.{RunFault}
 use Rattle.ch_run.specs.declared.fault.Which.{Which}
 use Rattle.ch_run.specs.declared.run.loading.Checked.{Checked}
 use Rattle.ch_run.specs.declared.source.Source.{Source}
-use Rattle.ch_run.specs.Source.{source_reading}
+use Rattle.ch_run.specs.Source.{IsInPlaceOf, source_reading}
+use Rattle.ch_run.proofs.Loading.{own_place}
 use Rattle.ch_run.specs.Fault.{input_fault}
 use Rattle.ch_run.specs.Run.{IsUnread, NoFile, NoInput, OneInput, OrderFile, Reading, ReadingIf, SavedFile, SourceReading, reading}
 use Rattle.ch_run.specs.Story.{Cells, EndsAt, IsOrderFault, IsOrderRefusedOn, IsRefused, IsSavedRefusedOn, Loads, LoadsSource, NamesLike, Reads, ReadsIf, Writes}
@@ -35,11 +36,11 @@ at_err (Ok done) story is = tt
 at_err (Err e) story is = is
 
 -- what `built_from` promises of the story
-abbrev pub BuildsStory : (graph order : Reading) → (fresh hops : ℕ) → (unread : Type 0) → Result Checked RunFault → Type 0
-BuildsStory graph order fresh hops unread result =
+abbrev pub BuildsStory : (named : Bool) → (graph order : Reading) → (fresh hops : ℕ) → (unread : Type 0) → Result Checked RunFault → Type 0
+BuildsStory named graph order fresh hops unread result =
     Reads Which.Graph graph (λ bytes g. NamesGraph bytes g × IsWithinLimits g) (IsRefused Which.Graph Form.Graph) result unread (λ g.
     Reads Which.Order order (λ bytes H. NamesLike g fresh hops bytes H) (IsOrderRefusedOn g) result ⊤ (λ H.
-    IsOkAnd result (λ checked. (checked.graph ≡ g) × (checked.hierarchy ≡ H))))
+    IsOkAnd result (λ checked. (checked.graph ≡ g) × IsInPlaceOf named g (Some H) (Some checked.hierarchy))))
 
 -- an input that ends a run for one reason ends it for another, if the first reason is one of the second kind
 ends_weaker : (which : Which) (input : Reading) (P Q : List ℕ → RunFault → Type 0) (fault : RunFault) → ((bytes : List ℕ) (f : RunFault) → P bytes f → Q bytes f) → EndsAt which input P fault → EndsAt which input Q fault
@@ -178,6 +179,19 @@ module _ (S : Type 0) {T : Type 0} (graph : Reading) (source : SourceReading) (u
   loads_on done g h goes (inl (ends, same)) = absurd ends
   loads_on done g h goes (inr (bytes, k, all, named, reads)) = inr (bytes, k, all, named, source_goes done g k h goes source reads)
 
+  -- the same where other hierarchies may serve in the place of the one that is named
+  source_serves : (done : S) (g k : Network) (R : Network → Option LevelsAndLegs → Type 0) → ((h : Option LevelsAndLegs) → R g h → next g h) → (input : SourceReading) →
+      LoadsSource {T = S} k input (Ok done) ⊤ (λ l. (g ≡ k) × R k l) → LoadsSource k input r later (λ l. next k l)
+  source_serves done g k R goes NoFile (same, is) = subst (λ (m : Network). next m None) same (goes None (subst (λ (m : Network). R m None) (sym same) is))
+  source_serves done g k R goes (SavedFile saved) (inl (ends, rest)) = absurd ends
+  source_serves done g k R goes (SavedFile saved) (inr (others, H, whole, named, (same, is))) = inr (others, H, whole, named, subst (λ (m : Network). next m (Some H)) same (goes (Some H) (subst (λ (m : Network). R m (Some H)) (sym same) is)))
+  source_serves done g k R goes (OrderFile order fresh hops) (inl (ends, rest)) = absurd ends
+  source_serves done g k R goes (OrderFile order fresh hops) (inr (others, H, whole, named, (same, is))) = inr (others, H, whole, named, subst (λ (m : Network). next m (Some H)) same (goes (Some H) (subst (λ (m : Network). R m (Some H)) (sym same) is)))
+
+  pub loads_serving : (done : S) (g : Network) (R : Network → Option LevelsAndLegs → Type 0) → ((h : Option LevelsAndLegs) → R g h → next g h) → Loads {T = S} graph source unread (Ok done) ⊤ (λ k l. (g ≡ k) × R k l) → Loads graph source unread r later next
+  loads_serving done g R goes (inl (ends, same)) = absurd ends
+  loads_serving done g R goes (inr (bytes, k, all, named, reads)) = inr (bytes, k, all, named, source_serves done g k R goes source reads)
+
 -- a text that was written has P, if the text has it
 pub writes_weaker : {T S : Type 0} (takes : S → List ℕ → Result ℕ DeviceFault → S → Type 0) (old new : S) (text : List ℕ) (P : List ℕ → Type 0) (r : Result T RunFault) → P text → Writes takes old new (λ bytes. bytes ≡ text) r → Writes takes old new P r
 writes_weaker takes old new text P (Ok done) so wrote = (wrote.0, subst P (sym wrote.1) so, wrote.2)
@@ -197,10 +211,10 @@ writes_none {T} takes x P (Err e) is = subst (λ (f : RunFault). Writes {T = T} 
 
 module _ {S : Type 0} (gives : S → List ℕ → Result ℕ DeviceFault → S → Type 0) (graph : Reading) (old new : S) where
   -- a graph and a saved hierarchy were read by one call
-  pub loads_checked : (checked : Checked) (T : Type 0) (done : T) → ChecksStory graph (reading gives old new) (new ≡ old) (Ok checked) → Loads {T = T} graph (source_reading gives (Source.Saved old) (Source.Saved new)) (Source.Saved new ≡ Source.Saved old) (Ok done) ⊤ (λ g h. (checked.graph ≡ g) × (Some checked.hierarchy ≡ h))
-  loads_checked checked T done (inl (ends, at)) = absurd ends
-  loads_checked checked T done (inr (bytes, g, all, named, inl (ends, at))) = absurd ends
-  loads_checked checked T done (inr (bytes, g, all, named, inr (others, H, whole, names, (same, is)))) = inr (bytes, g, all, named, inr (others, H, whole, names, (same, ap (λ (K : LevelsAndLegs). Some K) is)))
+  pub loads_checked : (serves : Bool) (checked : Checked) (T : Type 0) (done : T) → ChecksStory graph (reading gives old new) (new ≡ old) (Ok checked) → Loads {T = T} graph (source_reading gives (Source.Saved old) (Source.Saved new)) (Source.Saved new ≡ Source.Saved old) (Ok done) ⊤ (λ g h. (checked.graph ≡ g) × IsInPlaceOf serves g h (Some checked.hierarchy))
+  loads_checked serves checked T done (inl (ends, at)) = absurd ends
+  loads_checked serves checked T done (inr (bytes, g, all, named, inl (ends, at))) = absurd ends
+  loads_checked serves checked T done (inr (bytes, g, all, named, inr (others, H, whole, names, (same, is)))) = inr (bytes, g, all, named, inr (others, H, whole, names, (same, own_place serves g H checked.hierarchy is names.2.1)))
 
   -- or one of them in vain
   pub loads_refused : (e : RunFault) (T : Type 0) (r : Result T RunFault) → IsErrAnd r (λ other. other ≡ e) → (P : Network → Option LevelsAndLegs → Type 0) → ChecksStory graph (reading gives old new) (new ≡ old) (Err e) → Loads {T = T} graph (source_reading gives (Source.Saved old) (Source.Saved new)) (Source.Saved new ≡ Source.Saved old) r ⊤ P
@@ -209,15 +223,15 @@ module _ {S : Type 0} (gives : S → List ℕ → Result ℕ DeviceFault → S �
   loads_refused e T r is P (inr (bytes, g, all, named, inr (others, H, whole, names, none))) = absurd none
 
   -- a graph and an order were read by one call
-  pub loads_built : (fresh hops : ℕ) (checked : Checked) (T : Type 0) (done : T) → BuildsStory graph (reading gives old new) fresh hops (new ≡ old) (Ok checked) →
-      Loads {T = T} graph (source_reading gives (Source.Like old fresh hops) (Source.Like new fresh hops)) (Source.Like new fresh hops ≡ Source.Like old fresh hops) (Ok done) ⊤ (λ g h. (checked.graph ≡ g) × (Some checked.hierarchy ≡ h))
-  loads_built fresh hops checked T done (inl (ends, at)) = absurd ends
-  loads_built fresh hops checked T done (inr (bytes, g, all, named, inl (ends, at))) = absurd ends
-  loads_built fresh hops checked T done (inr (bytes, g, all, named, inr (others, H, whole, names, (same, is)))) = inr (bytes, g, all, named, inr (others, H, whole, names, (same, ap (λ (K : LevelsAndLegs). Some K) is)))
+  pub loads_built : (serves : Bool) (fresh hops : ℕ) (checked : Checked) (T : Type 0) (done : T) → BuildsStory serves graph (reading gives old new) fresh hops (new ≡ old) (Ok checked) →
+      Loads {T = T} graph (source_reading gives (Source.Like old fresh hops) (Source.Like new fresh hops)) (Source.Like new fresh hops ≡ Source.Like old fresh hops) (Ok done) ⊤ (λ g h. (checked.graph ≡ g) × IsInPlaceOf serves g h (Some checked.hierarchy))
+  loads_built serves fresh hops checked T done (inl (ends, at)) = absurd ends
+  loads_built serves fresh hops checked T done (inr (bytes, g, all, named, inl (ends, at))) = absurd ends
+  loads_built serves fresh hops checked T done (inr (bytes, g, all, named, inr (others, H, whole, names, (same, is)))) = inr (bytes, g, all, named, inr (others, H, whole, names, (same, is)))
 
   -- or one of them in vain
-  pub loads_unbuilt : (fresh hops : ℕ) (e : RunFault) (T : Type 0) (r : Result T RunFault) → IsErrAnd r (λ other. other ≡ e) → (P : Network → Option LevelsAndLegs → Type 0) → BuildsStory graph (reading gives old new) fresh hops (new ≡ old) (Err e) →
+  pub loads_unbuilt : (serves : Bool) (fresh hops : ℕ) (e : RunFault) (T : Type 0) (r : Result T RunFault) → IsErrAnd r (λ other. other ≡ e) → (P : Network → Option LevelsAndLegs → Type 0) → BuildsStory serves graph (reading gives old new) fresh hops (new ≡ old) (Err e) →
       Loads {T = T} graph (source_reading gives (Source.Like old fresh hops) (Source.Like new fresh hops)) (Source.Like new fresh hops ≡ Source.Like old fresh hops) r ⊤ P
-  loads_unbuilt fresh hops e T r is P (inl (ends, same)) = inl (err_as r e _ is ends, (ap (λ (x : S). Source.Like x fresh hops) same, tt))
-  loads_unbuilt fresh hops e T r is P (inr (bytes, g, all, named, inl (ends, at))) = inr (bytes, g, all, named, inl (err_as r e _ is ends, tt))
-  loads_unbuilt fresh hops e T r is P (inr (bytes, g, all, named, inr (others, H, whole, names, none))) = absurd none
+  loads_unbuilt serves fresh hops e T r is P (inl (ends, same)) = inl (err_as r e _ is ends, (ap (λ (x : S). Source.Like x fresh hops) same, tt))
+  loads_unbuilt serves fresh hops e T r is P (inr (bytes, g, all, named, inl (ends, at))) = inr (bytes, g, all, named, inl (err_as r e _ is ends, tt))
+  loads_unbuilt serves fresh hops e T r is P (inr (bytes, g, all, named, inr (others, H, whole, names, none))) = absurd none

@@ -1,5 +1,5 @@
 -- Where the hierarchy of a run comes from, and the promises on a saved one and on an order.
-use Rattle.std.specs.Prelude.{◌≡◌, ◌⊎◌, ℕ, ◌≤◌, ◌||◌, nat_lt, if◌then◌else◌, [], ◌∷◌, List, Option, Some, None, Result, Err, ⊤}
+use Rattle.std.specs.Prelude.{◌≡◌, ◌⊎◌, ℕ, ◌≤◌, ◌||◌, nat_lt, if◌then◌else◌, [], ◌∷◌, Bool, true, false, List, Option, Some, None, is_some, IfSome, Result, Err, ⊤}
 use Rattle.ch_graph.specs.Graph.{Network, IsWithinLimits}
 use Rattle.ch_graph.specs.Saved.{OrderAndLegs}
 use Rattle.ch_read.specs.declared.fault.ReadFault.{ReadFault}
@@ -81,6 +81,12 @@ ComesFromFile graph _ g _ = ⊥
 abbrev pub AreLoaded : (graph : Reading) → (source : SourceReading) → Network → Option LevelsAndLegs → Type 0
 AreLoaded graph NoFile g h = IsWithinLimits g × ReadsGraph graph g × (h ≡ None)
 AreLoaded graph source g h = ComesFromFile graph source g h
+
+-- the hierarchy that serves in the place of this one, if there is one. It is the same if what the run writes names its hierarchy. Otherwise
+-- each serves that is right for the graph
+abbrev pub IsInPlaceOf : (named : Bool) → Network → (wanted serving : Option LevelsAndLegs) → Type 0
+IsInPlaceOf true g wanted serving = serving ≡ wanted
+IsInPlaceOf false g wanted serving = (is_some serving ≡ is_some wanted) × IfSome serving (IsKept g)
 
 -- the inputs were loaded, and P holds of the graph and of the hierarchy that was saved or built like an order, if there is one
 abbrev pub WithLoaded : Reading → SourceReading → (Network → Option LevelsAndLegs → Type 0) → Type 0

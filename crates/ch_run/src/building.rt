@@ -1,14 +1,19 @@
 //! Builds the hierarchy of a graph in the order that a run takes.
-ghost use Rattle.std.specs.Prelude.{IfOk};
+ghost use Rattle.std.specs.Prelude.{◌≡◌, ◌≤◌, Some, Err, IfOk};
 ghost use Rattle.ch_graph.specs.Graph.{IsWithinLimits};
+ghost use Rattle.ch_hierarchy.specs.Hierarchy.{LevelsAndLegs};
 ghost use Rattle.ch_hierarchy.specs.Kept.{IsKept};
+ghost use Rattle.ch_hierarchy.specs.Saved.{IsOrderOf};
 ghost use Rattle.ch_contract.specs.Built.{IsHierarchyBy};
 ghost use Rattle.ch_contract.specs.Legs.{IsHopBound};
+ghost use Rattle.ch_contract.specs.Like.{IsHierarchyLike};
+ghost use Rattle.ch_order.specs.declared.construction.like.OrderError.TheVariants as OrderErrorOf;
+ghost use Rattle.ch_run.specs.Source.{IsInPlaceOf};
 
 use crate::plan::{Crew, Gate};
 use ch_contract::{Hierarchy, OrderBy};
 use ch_graph::Graph;
-use ch_order::build_in_turn;
+use ch_order::{OrderError, build_in_turn, build_like, build_like_quickly};
 use ch_rounds::build_by_rounds;
 use std::alloc::AllocError;
 use std::thread::Threads;
@@ -34,4 +39,32 @@ pub(crate) fn build_by<R: Threads + Sync, G: Gate>(
         OrderBy::Depth => build_in_turn(crew, graph, hops, OrderBy::Depth),
         OrderBy::Rounds => build_by_rounds(crew, graph, hops),
     }
+}
+
+/// Builds a hierarchy of a graph in an order like a given one, where a witness has at most `hops` legs. If what the
+/// run writes names the hierarchy, it is that of [`build_like`]. Otherwise it is the one that takes less time.
+///
+/// # Errors
+/// `Order` if the given order does not have each node of the graph exactly once, and `NoMemory` if there is no memory.
+/// The graph and the order are as before.
+#[tactic(auto, using(crate::proofs::Loading::built_in_place, crate::proofs::Loading::built_in_its_place))]
+pub(crate) fn build_in_order<R: Threads + Sync, G: Gate>(
+    crew: &Crew<'_, R, G>,
+    graph: &Graph,
+    given: &[u32],
+    fresh: u32,
+    hops: u32,
+    named: bool,
+) -> Result<Hierarchy, OrderError>
+    requires hops { IsHopBound hops }
+    requires fresh { fresh ≤ 100 }
+    ensures hierarchy { IfOk result (λ K. (H : LevelsAndLegs) × IsHierarchyLike graph.now hops given.now fresh H × IsKept graph.now H × IsInPlaceOf named graph.now (Some H) (Some K)) }
+    ensures kept { IfOk result (IsKept graph.now) }
+    ensures order { IfOk result (λ _. IsOrderOf graph.now.nodes given.now) }
+    ensures refused { result ≡ Err OrderErrorOf.Order → IsOrderOf graph.now.nodes given.now → ⊥ }
+{
+    if named {
+        return build_like(crew, graph, given, fresh, hops);
+    }
+    build_like_quickly(crew, graph, given, fresh, hops)
 }

@@ -60,7 +60,7 @@ pub fn run_ask<R: Threads + Sync, I: Input, S: Input + Drop, J: Input, O: Output
     // The graph and the saved hierarchy are still the same inputs.
     ensures same { (I.origin graph.new ≡ I.origin graph.old) × (source_origin S.origin source.new ≡ source_origin S.origin source.old) }
 {
-    let loaded = loaded_from(crew, graph, source)?;
+    let loaded = loaded_from(crew, graph, source, true)?;
     let order = options.building_order();
     let checked = loaded.checked(crew, options.hops, order)?;
     let by = Answering {

@@ -62,7 +62,7 @@ pub fn run_dist<R: Threads + Sync, I: Input, S: Input + Drop, J: Input, O: Outpu
     // Each input is still the same one.
     ensures same { (I.origin graph.new ≡ I.origin graph.old) × (source_origin S.origin source.new ≡ source_origin S.origin source.old) × (J.origin queries.new ≡ J.origin queries.old) }
 {
-    let loaded = loaded_from(crew, graph, source)?;
+    let loaded = loaded_from(crew, graph, source, options.routes)?;
     let queries = queries_from(crew.alloc, queries, &loaded.graph)?;
     let text = text_of(crew, loaded, &queries, options)?;
     write_text(output, &text)

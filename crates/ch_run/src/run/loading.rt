@@ -1,6 +1,7 @@
 //! A graph, and a saved hierarchy or an order if there is one. Both are read to their end and checked.
-ghost use Rattle.std.specs.Prelude.{◌≡◌, ◌<◌, ◌≤◌, IfOk, IfErr, IfSome, IsNone, IsOkAnd, ⊤};
+ghost use Rattle.std.specs.Prelude.{◌≡◌, ◌<◌, ◌≤◌, Some, IfOk, IfErr, IfSome, IsNone, IsOkAnd, ⊤};
 ghost use Rattle.ch_graph.specs.Saved.{OrderAndLegs};
+ghost use Rattle.ch_hierarchy.specs.Hierarchy.{LevelsAndLegs};
 ghost use Rattle.ch_hierarchy.specs.Kept.{IsKept};
 ghost use Rattle.ch_contract.specs.Legs.{IsHopBound};
 ghost use Rattle.ch_contract.specs.Like.{IsHierarchyLike};
@@ -11,16 +12,16 @@ ghost use Rattle.ch_read.specs.Names.{NamesGraph, NamesSaved};
 ghost use Rattle.ch_graph.specs.Graph.{IsWithinLimits};
 ghost use Rattle.ch_hierarchy.specs.Saved.{IsOrderOf, NamesKept};
 ghost use Rattle.ch_run.specs.Story.{EndsAt, IsOrderFault, IsOrderRefusedOn, IsRefused, IsSavedRefusedOn, Loads, NamesLike, Reads};
-ghost use Rattle.ch_run.specs.Source.{IsServing, IsSourceAllowed, ReadsSaved, source_origin, source_reading};
+ghost use Rattle.ch_run.specs.Source.{IsInPlaceOf, IsServing, IsSourceAllowed, ReadsSaved, source_origin, source_reading};
 
 use super::inputs::{bytes_from, graph_from};
-use crate::building::build_by;
+use crate::building::{build_by, build_in_order};
 use crate::fault::{RunFault, Which};
 use crate::plan::{Crew, Gate, Stage};
 use crate::source::Source;
 use ch_contract::{CheckError, Hierarchy, OrderBy};
 use ch_graph::{Graph, Saved};
-use ch_order::{OrderError, build_like};
+use ch_order::OrderError;
 use ch_query::check_watched;
 use ch_read::read_saved_by;
 use ch_text::Input;
@@ -42,15 +43,17 @@ pub(crate) struct Checked {
 }
 
 /// Reads a graph to its end. Then it reads the saved hierarchy if there is one, and checks it for the graph. Or it
-/// reads an order, and builds the hierarchy in an order like it.
+/// reads an order, and builds the hierarchy in an order like it. `named` says whether what the run writes names the
+/// hierarchy. If not, each hierarchy serves that is right for the graph, and one is built that takes less time.
 pub(crate) fn loaded_from<R: Threads + Sync, I: Input, S: Input + Drop, G: Gate>(
     crew: &Crew<'_, R, G>,
     graph: &mut I,
     source: &mut Source<S>,
+    named: bool,
 ) -> Result<Loaded, RunFault>
     requires allowed { IsSourceAllowed source.old }
     ensures went { Loads (reading I.read_gives graph.old graph.new) (source_reading S.read_gives source.old source.new) (source.new ≡ source.old) result ⊤ (λ g h.
-        IsOkAnd result (λ loaded. (loaded.graph ≡ g) × (loaded.saved ≡ h))) }
+        IsOkAnd result (λ loaded. (loaded.graph ≡ g) × IsInPlaceOf named g h loaded.saved)) }
     ensures limits { IfOk result (λ loaded. IsWithinLimits loaded.graph) }
     ensures kept { IfOk result (λ loaded. IfSome loaded.saved (IsKept loaded.graph)) }
     ensures built { IfOk result (λ loaded. IsNone loaded.saved → source.old ≡ SourceOf.Built) }
@@ -73,7 +76,9 @@ pub(crate) fn loaded_from<R: Threads + Sync, I: Input, S: Input + Drop, G: Gate>
             })
         }
         Source::Like { order, fresh, hops } => {
-            let Checked { graph, hierarchy } = built_from(crew, graph, order, *fresh, *hops)?;
+            let Checked { graph, hierarchy } = built_from(
+                crew, graph, order, *fresh, *hops, named,
+            )?;
             Ok(Loaded {
                 graph,
                 saved: Some(hierarchy),
@@ -117,13 +122,14 @@ fn built_from<R: Threads + Sync, I: Input, S: Input, G: Gate>(
     order: &mut S,
     fresh: u32,
     hops: u32,
+    named: bool,
 ) -> Result<Checked, RunFault>
     requires fresh { fresh ≤ 100 }
     requires hops { IsHopBound hops }
 
     ensures went { Reads Which.Graph (reading I.read_gives graph.old graph.new) (λ bytes g. NamesGraph bytes g × IsWithinLimits g) (IsRefused Which.Graph FormOf.Graph) result (order.new ≡ order.old) (λ g.
         Reads Which.Order (reading S.read_gives order.old order.new) (λ bytes H. NamesLike g fresh hops bytes H) (IsOrderRefusedOn g) result ⊤ (λ H.
-        IsOkAnd result (λ checked. (checked.graph ≡ g) × (checked.hierarchy ≡ H)))) }
+        IsOkAnd result (λ checked. (checked.graph ≡ g) × IsInPlaceOf named g (Some H) (Some checked.hierarchy)))) }
 
     ensures limits { IfOk result (λ checked. IsWithinLimits checked.graph) }
     ensures kept { IfOk result (λ checked. IsKept checked.graph checked.hierarchy) }
@@ -137,7 +143,7 @@ fn built_from<R: Threads + Sync, I: Input, S: Input, G: Gate>(
     crew.gate.watch(Stage::Reading, 1, 2);
     let saved = saved_from(crew, order, &graph, Which::Order)?;
     let given = order_in(saved);
-    let hierarchy = built_like(crew, &graph, &given, fresh, hops)?;
+    let hierarchy = built_like(crew, &graph, &given, fresh, hops, named)?;
     Ok(Checked { graph, hierarchy })
 }
 
@@ -148,15 +154,16 @@ fn built_like<R: Threads + Sync, G: Gate>(
     given: &[u32],
     fresh: u32,
     hops: u32,
+    named: bool,
 ) -> Result<Hierarchy, RunFault>
     requires fresh { fresh ≤ 100 }
     requires hops { IsHopBound hops }
     ensures order { IfOk result (λ _. IsOrderOf graph.now.nodes given.now) }
-    ensures like { IfOk result (IsHierarchyLike graph.now hops given.now fresh) }
+    ensures like { IfOk result (λ K. (H : LevelsAndLegs) × IsHierarchyLike graph.now hops given.now fresh H × IsKept graph.now H × IsInPlaceOf named graph.now (Some H) (Some K)) }
     ensures kept { IfOk result (IsKept graph.now) }
     ensures refused { IfErr result (IsOrderFault graph.now given.now) }
 {
-    match build_like(crew, graph, given, fresh, hops) {
+    match build_in_order(crew, graph, given, fresh, hops, named) {
         Ok(hierarchy) => Ok(hierarchy),
         Err(OrderError::Order) => Err(RunFault::Order),
         Err(OrderError::NoMemory) => Err(RunFault::Memory),

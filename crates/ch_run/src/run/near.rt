@@ -79,7 +79,7 @@ pub fn run_near<
     ensures same { (I.origin graph.new ≡ I.origin graph.old) × (source_origin S.origin source.new ≡ source_origin S.origin source.old)
         × (sources_origin J.origin sources.new ≡ sources_origin J.origin sources.old) × (L.origin targets.new ≡ L.origin targets.old) }
 {
-    let loaded = loaded_from(crew, graph, source)?;
+    let loaded = loaded_from(crew, graph, source, false)?;
     let lists = node_lists_from(crew.alloc, sources, targets, &loaded.graph)?;
     let text = near_of(crew, loaded, &lists, options)?;
     write_text(output, &text)

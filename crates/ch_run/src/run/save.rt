@@ -56,7 +56,7 @@ pub fn run_save<R: Threads + Sync, I: Input, S: Input + Drop, O: Output, G: Gate
     // Each input is still the same one.
     ensures same { (I.origin graph.new ≡ I.origin graph.old) × (source_origin S.origin source.new ≡ source_origin S.origin source.old) }
 {
-    let loaded = loaded_from(crew, graph, source)?;
+    let loaded = loaded_from(crew, graph, source, true)?;
     let text = save_text_of(crew, loaded, options)?;
     write_text(output, &text)
 }

@@ -74,7 +74,7 @@ pub fn run_table<
     ensures same { (I.origin graph.new ≡ I.origin graph.old) × (source_origin S.origin source.new ≡ source_origin S.origin source.old)
         × (J.origin sources.new ≡ J.origin sources.old) × (L.origin targets.new ≡ L.origin targets.old) }
 {
-    let loaded = loaded_from(crew, graph, source)?;
+    let loaded = loaded_from(crew, graph, source, false)?;
     let lists = lists_from(crew.alloc, sources, targets, &loaded.graph)?;
     let parts = table_of(crew, loaded, &lists, options)?;
     write_parts(output, &parts)

@@ -1,5 +1,5 @@
 -- One more given node may be contracted, because it is a node that remains, and it follows those before it.
-use Rattle.std.proofs.Common.{◌≡◌, ◌<◌, ℕ, sym, ◌∙◌, subst, get_or, take}
+use Rattle.std.proofs.Common.{◌<◌, ℕ, sym, ◌∙◌, subst, get_or}
 use Rattle.std.proofs.lemmas.List.{take_more}
 use Rattle.ch_contract.specs.Legs.{AreLegsWithin}
 use Rattle.ch_order.specs.Progress.{IsContraction}

@@ -1,5 +1,5 @@
 -- Each node that is taken is the next one by depth, and once none waits the hierarchy is the one from the given nodes.
-use Rattle.std.proofs.Common.{◌≡◌, ◌<◌, sym, ◌∙◌, subst, arith}
+use Rattle.std.proofs.Common.{◌<◌, sym, ◌∙◌, subst, arith}
 use Rattle.std.specs.Prelude.{All}
 use Rattle.std.proofs.lemmas.Result.{IfOk-weaker}
 use Rattle.ch_contract.specs.declared.measure.OrderBy.TheVariants.{Depth}

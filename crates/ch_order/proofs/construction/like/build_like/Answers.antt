@@ -1,5 +1,5 @@
 -- The hierarchy from the first nodes of a given order is one in an order like it, and is kept for the graph.
-use Rattle.std.proofs.Common.{◌≤◌, arith, length}
+use Rattle.std.proofs.Common.{arith}
 use Rattle.ch_contract.specs.declared.measure.OrderBy.TheVariants.{Depth}
 use Rattle.ch_contract.proofs.theory.GivenOrders.{from_kept, like_of}
 use Rattle.ch_order.proofs.construction.like.build_like.Goals as goal

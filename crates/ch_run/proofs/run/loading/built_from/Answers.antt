@@ -30,9 +30,9 @@ returns-clause-went g c =
     let read = c.in_ok-graph.ensures.value in
     let told = c.in_ok-saved.ensures.value in
     let network = c.in_ok-graph.graph in
-    let H = c.in_ok-hierarchy.hierarchy in
     let built = c.in_ok-hierarchy.ensures in
+    let H = built.like.0 in
     let same = c.deref.ensures.value ∙ c.order_in-given.ensures in
     let each = subst (λ (given : List ℕ). IsOrderOf network.nodes given) same built.order in
-    let like = subst (λ (given : List ℕ). IsHierarchyLike network c.args.hops given c.args.fresh H) same built.like in
-    inr (read.0, network, read.1, (read.2, c.arcs.ensures.limits), inr (told.0, H, told.1, (c.in_ok-saved.saved, told.2, each, like, built.kept), (refl, refl)))
+    let like = subst (λ (given : List ℕ). IsHierarchyLike network c.args.hops given c.args.fresh H) same built.like.1 in
+    inr (read.0, network, read.1, (read.2, c.arcs.ensures.limits), inr (told.0, H, told.1, (c.in_ok-saved.saved, told.2, each, like, built.like.2), (refl, built.like.3)))

@@ -1,7 +1,7 @@
 -- The run goes as its story says at each end, so the output takes the near rows, or their first bytes.
 use Rattle.std.proofs.Common.{◌≡◌, inr, refl}
 use Rattle.ch_run.proofs.Stories.{near_delivers}
-use Rattle.ch_run.proofs.Story.{loads_on, loads_stops, node_lists_stop, sources_on, writes_none, writes_weaker}
+use Rattle.ch_run.proofs.Story.{loads_serving, loads_stops, node_lists_stop, sources_on, writes_none, writes_weaker}
 use Rattle.ch_run.specs.declared.run.lists.Lists.{Lists}
 use Rattle.ch_run.specs.NearRun.{sources_reading}
 use Rattle.ch_run.specs.Run.{reading}
@@ -17,22 +17,22 @@ returns-in_err-lists-clause-went g c =
     let targets = reading g.L.Input.read_gives c.args.targets.now c.node_lists_from.new.targets in
     let unread = c.node_lists_from.new.targets ≡ c.args.targets.now in
     let later = c.args.output.now ≡ c.args.output.now in
-    loads_on _ _ _ _ _ _ _ _ _ _
-    (node_lists_stop Lists sources targets c.in_ok-loaded.loaded.graph.nodes c.in_err-lists.field-0.0 c.from_residual-in_err-lists.result unread later _ c.from_residual-in_err-lists.ensures.1 refl c.in_err-lists.ensures.ends)
+    loads_serving _ _ _ _ _ _ _ _ _ _
+    (λ h place. node_lists_stop Lists sources targets c.in_ok-loaded.loaded.graph.nodes c.in_err-lists.field-0.0 c.from_residual-in_err-lists.result unread later _ c.from_residual-in_err-lists.ensures.1 refl c.in_err-lists.ensures.ends)
     c.in_ok-loaded.ensures.went
 
 pub returns-in_err-text-clause-went : goal.returns-in_err-text-clause-went
 returns-in_err-text-clause-went g c =
     let lists = c.in_ok-lists.ensures.value in
-    loads_on _ _ _ _ _ _ _ _ _ _
-    (sources_on _ _ _ _ _ _ _ lists.0 (λ listed same. inr (lists.1.0, _, lists.1.1, lists.1.2, writes_none _ _ _ _ c.from_residual-in_err-text.ensures.1)))
+    loads_serving _ _ _ _ _ _ _ _ _ _
+    (λ h place. sources_on _ _ _ _ _ _ _ lists.0 (λ listed same. inr (lists.1.0, _, lists.1.1, lists.1.2, writes_none _ _ _ _ c.from_residual-in_err-text.ensures.1)))
     c.in_ok-loaded.ensures.went
 
 pub returns-clause-went : goal.returns-clause-went
 returns-clause-went g c =
     let lists = c.in_ok-lists.ensures.value in
-    loads_on _ _ _ _ _ _ _ _ _ _
-    (sources_on _ _ _ _ _ _ _ lists.0
+    loads_serving _ _ _ _ _ _ _ _ _ _
+    (λ h place. sources_on _ _ _ _ _ _ _ lists.0
     (λ listed same. inr (
       lists.1.0,
       _,

@@ -1,0 +1,193 @@
+-- The state of a construction whose first nodes are given, and whose others come in any order.
+use Rattle.std.proofs.Common.{◌≡◌, ℕ, ◌<◌, ◌≤◌, true, false, List, [], ◌∷◌, ◌++◌, length, refl, sym, ◌∙◌, ap, subst, arith, inl, inr, Contains, Option, Some, None, take, length-set, get_or-set_same, get_or-set_other}
+use Rattle.std.specs.Prelude.{◌≢◌, filter, is_some, slice_set, ℤ}
+use Rattle.std.proofs.lemmas.Bool.{true≢false, cases_eq}
+use Rattle.std.proofs.lemmas.List.{length_push, take_all, take-append-le}
+use Rattle.std.proofs.lemmas.List.Elements.{Contains-append_left, Contains-push, Contains-push_cases}
+use Rattle.std.proofs.lemmas.Option.{none-some}
+use Rattle.ch_graph.proofs.Lists.{contains_filter_of}
+use Rattle.ch_graph.specs.declared.limits.TheConstants.{MOST_NODES}
+use Rattle.ch_graph.specs.Graph.{Network, IsWithinLimits}
+use Rattle.ch_queue.specs.Queue.{key_of, HasNone}
+use Rattle.ch_hierarchy.specs.Hierarchy.{LevelsAndLegs, IsLevelled}
+use Rattle.ch_hierarchy.specs.Kept.{IsKept}
+use Rattle.ch_hierarchy.specs.Saved.{IsOrderOf}
+use Rattle.ch_hierarchy.proofs.theory.Ordered.{contains_or_not}
+use Rattle.ch_contract.specs.declared.measure.OrderBy.{OrderBy}
+use Rattle.ch_contract.specs.Legs.{Legs, AreLegsWithin, IsHopBound}
+use Rattle.ch_contract.proofs.theory.Enough.{hierarchy_with_enough}
+use Rattle.ch_contract.proofs.theory.EnoughKept.{hierarchies_with_enough_kept}
+use Rattle.ch_contract.proofs.theory.GivenNodes.{all_others, no_other}
+use Rattle.ch_contract.proofs.theory.OrderSteps.{then_legs}
+use Rattle.ch_order.specs.Progress.{Progress, IsContraction, IsNext, AreAll}
+use Rattle.ch_order.specs.Priorities.{IsRanked}
+use Rattle.ch_order.specs.Quick.{HasKey, IsRekeyed, IsHierarchyAfter}
+use Rattle.ch_order.specs.Steps.{IsAfterGiven, IsAfterSteps}
+use Rattle.ch_order.proofs.PrioritySteps.{key_within}
+use Rattle.ch_order.proofs.StepsMade.{steps_rekeyed, steps_more, legs_within, depth_within, count_fewer, all_steps, all_levelled}
+
+-- each remaining node has a key, and no contracted node has one
+pub record IsWaiting (n : ℕ) (order : List ℕ) (keys : List (Option ℤ)) : Type 0 where
+  pub size : length keys ≡ n
+  pub left : (x : ℕ) → x < n → (Contains order x → ⊥) → HasKey keys x
+  pub taken : (x : ℕ) → Contains order x → key_of keys x ≡ None
+
+-- the state after some steps, of which the first are given, whatever the keys of the remaining nodes are
+pub record IsAfterAny (g : Network) (h : ℕ) (given : List ℕ) (p : Progress) : Type 0 where
+  pub order : List ℕ
+  pub L : ℕ → Legs
+  pub steps : IsAfterSteps g h order L p
+  pub from : length given ≤ length order
+  pub first : take (length given) order ≡ given
+  pub waiting : IsWaiting g.nodes order p.keys
+
+-- a hierarchy that begins with given nodes is kept
+pub after_kept : (g : Network) (h : ℕ) (given : List ℕ) (H : LevelsAndLegs) → IsWithinLimits g → IsHopBound h → IsHierarchyAfter g h given H → IsKept g H
+after_kept g h given H limits hops is = hierarchies_with_enough_kept g h H is.0 is.1 limits (hierarchy_with_enough g h H is.0 is.1 limits hops is.2)
+
+-- an option with a value has one
+value_of : (o : Option ℤ) → is_some o ≡ true → (p : ℤ) × (o ≡ Some p)
+value_of None e = absurd (true≢false (sym e))
+value_of (Some p) e = (p, refl)
+
+-- an option without a value is `None`
+none_of : (o : Option ℤ) → is_some o ≡ false → o ≡ None
+none_of None e = refl
+none_of (Some p) e = absurd (true≢false e)
+
+-- a queue with the same nodes has a key of each node that had one
+pub key_stays : (before after : Progress) (x : ℕ) → IsRekeyed before after → HasKey before.keys x → HasKey after.keys x
+key_stays before after x r k = value_of (key_of after.keys x) (r.same x ∙ ap is_some k.1)
+
+-- nothing has changed
+pub rekeyed_none : (p : Progress) → IsRekeyed p p
+rekeyed_none p = record { rest = refl; size = refl; same = λ x. refl }
+
+-- one change of keys after another is one
+pub rekeyed_then : (p q r : Progress) → IsRekeyed p q → IsRekeyed q r → IsRekeyed p r
+rekeyed_then p q r a b = record {
+  rest = b.rest ∙ ap (λ (z : Progress). record z { keys = r.keys }) a.rest;
+  size = b.size ∙ a.size;
+  same = λ x. b.same x ∙ a.same x;
+}
+
+-- a node with a key gets another one
+pub rekeyed_set : (p : Progress) (keys : List (Option ℤ)) (v : ℕ) (k : ℤ) → HasKey p.keys v → keys ≡ slice_set p.keys v (Some k) → IsRekeyed p (record p { keys = keys })
+rekeyed_set p keys v k has e = record {
+  rest = refl;
+  size = ap length e ∙ length-set p.keys v (Some k);
+  same = λ x. ap (λ l. is_some (key_of l x)) e ∙ elim (cases_eq x v) [
+    | inl is ↦ subst (λ z. is_some (key_of (slice_set p.keys v (Some k)) z) ≡ is_some (key_of p.keys z)) (sym is)
+        (ap is_some (get_or-set_same p.keys v (Some k) None (key_within p.keys v has.0 has.1)) ∙ sym (ap is_some has.1))
+    | inr ne ↦ ap is_some (get_or-set_other p.keys v x (Some k) None ne)
+  ];
+}
+
+-- if nodes with keys are judged, the queue keeps its nodes
+pub rekeyed_ranked : (by : OrderBy) (n h : ℕ) (nodes : List ℕ) (p q : Progress) → ((x : ℕ) → Contains nodes x → HasKey p.keys x) → IsRanked by n h nodes p q → IsRekeyed p q
+rekeyed_ranked by n h nodes p q have r = record {
+  rest = r.rest;
+  size = r.keys.size;
+  same = λ x. elim (contains_or_not nodes x) [
+    | inl has ↦ ap is_some (r.keys.anew x has).1 ∙ sym (ap is_some (have x has).1)
+    | inr away ↦ ap is_some (r.keys.kept x away)
+  ];
+}
+
+-- those of some nodes that pass the test of a key have one
+pub keys_among : (keys : List (Option ℤ)) (nodes list : List ℕ) (x : ℕ) → list ≡ filter (λ y. is_some (key_of keys y)) nodes → Contains list x → HasKey keys x
+keys_among keys nodes list x e has =
+    value_of (key_of keys x) (contains_filter_of (λ y. is_some (key_of keys y)) nodes x (subst (λ l. Contains l x) e has)).1
+
+-- the first node of the queue has a key
+pub next_key : (keys : List (Option ℤ)) (v : ℕ) → IsNext keys v → HasKey keys v
+next_key keys v n = (n.priority, n.has)
+
+-- the nodes that remain are judged after the given ones
+pub any_at_start : (by : OrderBy) (g : Network) (h : ℕ) (given others : List ℕ) (p q : Progress) → IsOrderOf g.nodes (given ++ others) → IsAfterGiven g h given p → IsRanked by g.nodes h others p q → IsAfterAny g h given q
+any_at_start by g h given others p q is u r = record {
+  order = given;
+  L = u.L;
+  steps = subst (IsAfterSteps g h given u.L) (sym r.rest) (steps_rekeyed g h given u.L p q.keys u.after);
+  from = omega arith;
+  first = take_all (length given) given (omega arith);
+  waiting = record {
+    size = r.keys.size ∙ u.keys.0;
+    left = λ x lt away. let k = r.keys.anew x (all_others given others g.nodes is x lt away) in (k.0, k.1);
+    taken = λ x has. r.keys.kept x (no_other given others g.nodes is x has) ∙ u.keys.1 x;
+  };
+}
+
+module _ (g : Network) (h : ℕ) (given : List ℕ) (p : Progress) (u : IsAfterAny g h given p) where
+  -- the remaining legs are within the limits
+  pub any_within : AreLegsWithin g.nodes p.legs
+  any_within = legs_within g h u.order u.L p u.steps
+
+  -- a depth is at most the number of contracted nodes
+  pub any_depth : (x : ℕ) → p.depth x ≤ p.contracted
+  any_depth = depth_within g h u.order u.L p u.steps
+
+  -- the state stays if the queue keeps its nodes
+  pub any_rekeyed : (q : Progress) → IsRekeyed p q → IsAfterAny g h given q
+  any_rekeyed q r = record {
+    order = u.order;
+    L = u.L;
+    steps = subst (IsAfterSteps g h u.order u.L) (sym r.rest) (steps_rekeyed g h u.order u.L p q.keys u.steps);
+    from = u.from;
+    first = u.first;
+    waiting = record {
+      size = r.size ∙ u.waiting.size;
+      left = λ x lt away. key_stays p q x r (u.waiting.left x lt away);
+      taken = λ x has. none_of (key_of q.keys x) (r.same x ∙ ap is_some (u.waiting.taken x has));
+    };
+  }
+
+  module _ (v : ℕ) (k : HasKey p.keys v) where
+    -- a node with a key is a node of the graph
+    pub any_node : v < g.nodes
+    any_node = let lt = key_within p.keys v k.0 k.1 in let size = u.waiting.size in omega arith
+
+    -- a node with a key is not contracted yet
+    left : Contains u.order v → ⊥
+    left has = none-some k.0 (sym (u.waiting.taken v has) ∙ k.1)
+
+    -- while a node remains, the number of contracted nodes is less than the number of nodes
+    pub any_count : p.contracted < g.nodes
+    any_count = count_fewer g h u.order u.L p u.steps v any_node left
+
+    -- the node is contracted and leaves the queue
+    pub any_next : (q : Progress) → IsContraction g.nodes h p v q → q.keys ≡ slice_set p.keys v None → IsAfterAny g h given q
+    any_next q s e = record {
+      order = u.order ++ v ∷ [];
+      L = then_legs (length u.order) u.L q.legs;
+      steps = steps_more g h u.order u.L p u.steps v any_node left q s;
+      from = let size = length_push u.order v in let le = u.from in omega arith;
+      first = take-append-le (length given) u.order (v ∷ []) u.from ∙ u.first;
+      waiting = record {
+        size = ap length e ∙ length-set p.keys v None ∙ u.waiting.size;
+        left = λ x lt away.
+            let ne : x ≢ v = λ same. away (subst (Contains (u.order ++ v ∷ [])) (sym same) (Contains-push u.order v)) in
+            let had = u.waiting.left x lt (λ has. away (Contains-append_left u.order (v ∷ []) x has)) in
+            (had.0, ap (λ l. key_of l x) e ∙ get_or-set_other p.keys v x None None ne ∙ had.1);
+        taken = λ x has. ap (λ l. key_of l x) e ∙ elim (Contains-push_cases u.order v x has) [
+          | inl earlier ↦ get_or-set_other p.keys v x None None (λ same. left (subst (Contains u.order) same earlier)) ∙ u.waiting.taken x earlier
+          | inr same ↦ subst (λ z. key_of (slice_set p.keys v None) z ≡ None) same (get_or-set_same p.keys v None None (key_within p.keys v k.0 k.1))
+        ];
+      };
+    }
+
+  module _ (none : HasNone p.keys) where
+    -- when no node has a key, all are contracted
+    whole : (x : ℕ) → x < g.nodes → Contains u.order x
+    whole x lt = elim (contains_or_not u.order x) [
+      | inl has ↦ has
+      | inr away ↦ let k = u.waiting.left x lt away in absurd (none-some k.0 (sym (none x) ∙ k.1))
+    ]
+
+    -- then it is a hierarchy that begins with the given nodes
+    pub any_at_end : (H : LevelsAndLegs) → AreAll g.nodes p H → IsHierarchyAfter g h given H
+    any_at_end H all = (u.order, u.L, all_steps g h u.order u.L p u.steps whole H all, u.first)
+
+    -- and it is levelled
+    pub any_levelled : g.nodes ≤ MOST_NODES → (H : LevelsAndLegs) → AreAll g.nodes p H → IsLevelled H
+    any_levelled count H all = all_levelled g h u.order u.L p u.steps whole count H all

@@ -1,0 +1,201 @@
+//! The construction of a hierarchy whose first nodes come in a given order, and the others in an order that takes little
+//! time to find.
+ghost use Rattle.std.specs.Prelude.{◌≡◌, ◌^◌, ◌<◌, ◌≤◌, All, Err, IfOk, OnOk, length, take};
+ghost use Rattle.ch_graph.specs.Graph.{IsWithinLimits};
+ghost use Rattle.ch_contract.specs.Legs.{IsHopBound};
+ghost use Rattle.ch_contract.specs.Like.{given_count as count_of};
+ghost use Rattle.ch_order.specs.Quick.{IsHierarchyAfter};
+ghost use Rattle.ch_order.specs.declared.construction.like.OrderError.TheVariants as OrderError;
+ghost use Rattle.ch_hierarchy.specs.Kept.{IsKept};
+ghost use Rattle.ch_hierarchy.specs.Saved.{IsOrderOf};
+
+use super::Construction;
+use super::like::{OrderError, given_count};
+use crate::priority::PriorityJob;
+use ch_contract::OrderBy;
+use ch_contract::memory::ask_ahead;
+use ch_graph::Graph;
+use ch_hierarchy::Hierarchy;
+use ch_work::{Crew, Gate, Stage};
+use std::alloc::{AllocError, Global};
+use std::thread::Threads;
+
+/// All remaining nodes are judged anew each time no more than one in so many of them is left.
+const SHRINKING: usize = 3;
+
+/// The most nodes that are judged before one of them is contracted.
+const MOST_JUDGED: u32 = 16;
+
+/// Builds a contraction hierarchy of a graph that begins like [`build_like`](crate::build_like): all nodes but the last
+/// `fresh` per cent come in the given order. It is for answers that do not depend on the order, because it takes less time
+/// to find the order of the fresh nodes.
+///
+/// The fresh nodes get their priorities by depth when the last given node is contracted. A priority is then computed again
+/// only when its node is the first in the queue, and the node is contracted if it is still the first (Geisberger and
+/// others, "Contraction Hierarchies", 2008: lazy updates). The priority of a node that becomes less is not noticed so, and
+/// therefore all are computed again whenever two thirds of the nodes have gone. Workers share these priorities.
+///
+/// # Errors
+/// `Order` if the given order does not have each node of the graph exactly once, and `NoMemory` if the call or a piece
+/// is refused memory. All workers are joined before the call returns. Everything that it made is dropped, and the graph
+/// and the order are as before.
+pub fn build_like_quickly<R: Threads + Sync, G: Gate>(
+    crew: &Crew<'_, R, G>,
+    graph: &Graph,
+    given: &[u32],
+    fresh: u32,
+    hops: u32,
+) -> Result<Hierarchy, OrderError>
+    requires hops { IsHopBound hops }
+    requires fresh { fresh ≤ 100 }
+    ensures hierarchy { IfOk result (IsHierarchyAfter graph.now hops (take (count_of graph.now.nodes fresh) given.now)) }
+    ensures kept { IfOk result (IsKept graph.now) }
+    ensures order { IfOk result (λ _. IsOrderOf graph.now.nodes given.now) }
+    ensures refused { result ≡ Err OrderError.Order → IsOrderOf graph.now.nodes given.now → ⊥ }
+    ensures limits { IsWithinLimits graph.now }
+{
+    ask_ahead(crew.alloc, graph)?;
+    let first = given_count(crew.alloc, graph, given, fresh)?;
+    Ok(contract_quickly(crew, graph, given, first, hops)?)
+}
+
+/// Builds a contraction hierarchy of a graph. The first `given` nodes of the list are contracted as they come in it, and
+/// then the others. The list has each node once.
+fn contract_quickly<R: Threads + Sync, G: Gate>(
+    crew: &Crew<'_, R, G>,
+    graph: &Graph,
+    nodes: &[u32],
+    given: usize,
+    hops: u32,
+) -> Result<Hierarchy, AllocError>
+    requires hops { IsHopBound hops }
+    requires nodes { IsOrderOf graph.now.nodes nodes.now }
+    requires given { given ≤ length nodes.now }
+    ensures { IfOk result (IsHierarchyAfter graph.now hops (take given nodes.now)) }
+{
+    let (first, others) = nodes.split_at(given);
+    let begun = Construction::after(crew.alloc, crew.gate, graph, first, hops)?;
+    let mut construction = begun.rank(crew, others, hops, OrderBy::Depth)?;
+    let mut due = others.len() / SHRINKING;
+    while let Some(least) = construction.next() {
+        crew.gate
+            .watch(Stage::Building, construction.contracted, graph.nodes());
+        let (judged, node) = construction.judge_first(crew.alloc, least, hops)?;
+        let (taken, _) = judged.take(crew.alloc, node, hops)?;
+        construction = taken.rank_if_due(crew, others, due, hops)?;
+        due = due_after(due, construction.waiting.len());
+    }
+    construction.finish()
+}
+
+/// Returns how many nodes may remain when all are judged again, if so many remain now. `due` is the number before.
+fn due_after(due: usize, remaining: usize) -> usize
+    ensures { result ≤ due }
+{
+    if remaining > due {
+        return due;
+    }
+    due / SHRINKING
+}
+
+impl Construction {
+    ghost use Rattle.std.specs.Prelude.{filter, is_some};
+    ghost use Rattle.ch_queue.specs.Queue.{key_of};
+    ghost use Rattle.ch_order.specs.Quick.{HasKey, IsRekeyed};
+    ghost use Rattle.ch_order.specs.Construction.{IsSized, IsJudging, progress_of};
+
+    /// Judges the first node of the queue, and then the node that is the first with the new priority, until it is one that
+    /// was judged since the last contraction. Returns this node. After [`MOST_JUDGED`] nodes it returns the first one. The
+    /// queue keeps its nodes.
+    fn judge_first(
+        mut self,
+        alloc: Global,
+        first: u32,
+        hops: u32,
+    ) -> Result<(Construction, u32), AllocError>
+        requires hops { IsHopBound hops }
+        requires sizes { IsSized self }
+        requires first { HasKey self.waiting first }
+        requires ready { IsJudging hops self }
+        ensures sizes { IfOk result (λ r. IsSized r.0) }
+        ensures nodes { IfOk result (λ r. r.0.remaining.nodes ≡ self.remaining.nodes) }
+        ensures rekeyed { IfOk result (λ r. IsRekeyed (progress_of self) (progress_of r.0)) }
+        ensures node { IfOk result (λ r. HasKey r.0.waiting r.1) }
+        ensures ready { IfOk result (λ r. IsJudging hops r.0) }
+    {
+        let mut node = first;
+        for _ in 0..MOST_JUDGED {
+            if self.room.judged.iter().any(|other| *other == node) {
+                break;
+            }
+            node = self.judge(alloc, node, hops)?;
+        }
+        Ok((self, node))
+    }
+
+    /// Gives a node of the queue the priority by depth that it has now. Returns the node that is then the first.
+    fn judge(&mut self, alloc: Global, node: u32, hops: u32) -> Result<u32, AllocError>
+        requires hops { IsHopBound hops }
+        requires sizes { IsSized self.old }
+        requires node { HasKey self.old.waiting node }
+        requires ready { IsJudging hops self.old }
+        ensures sizes { OnOk result (IsSized self.new) }
+        ensures nodes { OnOk result (self.new.remaining.nodes ≡ self.old.remaining.nodes) }
+        ensures rekeyed { OnOk result (IsRekeyed (progress_of self.old) (progress_of self.new)) }
+        ensures first { IfOk result (HasKey self.new.waiting) }
+        ensures ready { OnOk result (IsJudging hops self.new) }
+    {
+        let job = PriorityJob {
+            remaining: &self.remaining,
+            depths: self.depths.as_slice(),
+            hops,
+            by: OrderBy::Depth,
+        };
+        let priority = job.priority(alloc, &mut self.room, node)?;
+        self.waiting.set(node, priority);
+        match self.next() {
+            Some(first) => Ok(first),
+            None => Ok(node),
+        }
+    }
+
+    /// Gives all nodes of the queue the priorities by depth that they have now, if they are at most `due`. These are among
+    /// the nodes of the list. Workers share them.
+    fn rank_if_due<R: Threads + Sync, G: Gate>(
+        self,
+        crew: &Crew<'_, R, G>,
+        nodes: &[u32],
+        due: usize,
+        hops: u32,
+    ) -> Result<Construction, AllocError>
+        requires hops { IsHopBound hops }
+        requires sizes { IsSized self }
+        requires nodes { All (λ x. x < self.remaining.nodes) nodes.now }
+        requires count { length nodes.now < 2 ^ 32 }
+        requires ready { IsJudging hops self }
+        ensures sizes { IfOk result IsSized }
+        ensures nodes { IfOk result (λ c. c.remaining.nodes ≡ self.remaining.nodes) }
+        ensures rekeyed { IfOk result (λ c. IsRekeyed (progress_of self) (progress_of c)) }
+        ensures ready { IfOk result (IsJudging hops) }
+    {
+        if self.waiting.len() > due {
+            return Ok(self);
+        }
+        let waiting = self.waiting_among(crew.alloc, nodes)?;
+        self.rank(crew, waiting.as_slice(), hops, OrderBy::Depth)
+    }
+
+    /// Returns those of these nodes that are in the queue.
+    fn waiting_among(&self, alloc: Global, nodes: &[u32]) -> Result<Vec<u32>, AllocError>
+        requires { All (λ x. x < length self.now.waiting) nodes.now }
+        ensures { IfOk result (λ list. list.items ≡ filter (λ x. is_some (key_of self.now.waiting x)) nodes.now) }
+    {
+        let mut list = Vec::new(alloc);
+        for node in nodes {
+            if self.waiting.key(*node).is_some() {
+                list.push(*node)?;
+            }
+        }
+        Ok(list)
+    }
+}
