@@ -6,6 +6,7 @@ pub mod Story
 pub mod Stories
 pub mod Told
 pub mod Source
+pub mod Loaded
 pub mod SavedTextLaws
 pub mod TextLaws
 pub mod Text

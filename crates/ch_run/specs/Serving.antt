@@ -1,7 +1,7 @@
 -- The promises of the parts of a run over requests.
 use Rattle.std.specs.Prelude.{◌≡◌, ℕ, ◌+◌, ◌<◌, ◌≤◌, ◌⊎◌, Bool, true, false, if◌then◌else◌, List, [], length, take, map, All, Option, Some, None, Result, Ok, Err, OnOk, ⊤}
 use Rattle.ch_graph.specs.declared.limits.TheConstants.{MOST_LISTED}
-use Rattle.ch_hierarchy.specs.Hierarchy.{LevelsAndLegs, nodes_of}
+use Rattle.ch_hierarchy.specs.Hierarchy.{nodes_of}
 use Rattle.ch_near.specs.declared.direction.Direction.{Direction}
 use Rattle.ch_near.specs.Direction.{facing}
 use Rattle.ch_near.specs.Near.{Wanted}
@@ -18,6 +18,7 @@ use Rattle.ch_run.specs.declared.run.batch.Then.{Then}
 use Rattle.ch_run.specs.declared.run.batch.Then.TheVariants.{More, Nothing, Stop}
 use Rattle.ch_run.specs.declared.run.answering.Room.{Room}
 use Rattle.ch_run.specs.declared.fault.Which.{Which}
+use Rattle.ch_run.specs.Loaded.{GraphAndHierarchy, IsRight}
 use Rattle.ch_run.specs.Ask.{AreAnswered, TextOf, TookAnswers, TookFirstAnswers, TookBeginning, no_places, places_after}
 use Rattle.ch_text.specs.Moves.{Took, TookUntilFault}
 use Rattle.ch_text.specs.declared.device.DeviceFault.{DeviceFault}
@@ -133,12 +134,12 @@ abbrev pub places_of : Option Wanted → PlaceList
 places_of None = no_places
 places_of (Some near) = record { nodes = near.targets; count = near.count }
 
--- the searches from these places are in this hierarchy, without a limit
-abbrev pub IsSearched : LevelsAndLegs → Option Wanted → Type 0
-IsSearched H None = ⊤
-IsSearched H (Some near) = (near.hierarchy ≡ H) × (near.limit ≡ None)
+-- the searches from these places are in this hierarchy, without a limit, and the hierarchy is right for the graph
+abbrev pub IsSearched : Direction → GraphAndHierarchy → Option Wanted → Type 0
+IsSearched direction checked None = ⊤
+IsSearched direction checked (Some near) = (near.hierarchy ≡ facing direction checked.hierarchy) × (near.limit ≡ None) × IsRight checked
 
--- a room serves a hierarchy, and near rows in this direction
-pub record IsRoomFor (direction : Direction) (H : LevelsAndLegs) (room : Room) : Type 0 where
-  pub scratches : All (λ scratch. scratch ≡ nodes_of H) room.scratches.items
-  pub near : IsSearched (facing direction H) room.near
+-- a room serves a graph and a hierarchy, and near rows in this direction
+pub record IsRoomFor (direction : Direction) (checked : GraphAndHierarchy) (room : Room) : Type 0 where
+  pub scratches : All (λ scratch. scratch ≡ nodes_of checked.hierarchy) room.scratches.items
+  pub near : IsSearched direction checked room.near

@@ -1,9 +1,7 @@
 //! Runs that answer queries.
-ghost use Rattle.std.specs.Prelude.{◌≡◌, ◌≤◌, length, IfOk, IfSome, IsNone};
+ghost use Rattle.std.specs.Prelude.{◌≡◌, ◌≤◌, length, IfOk, IsNone};
 ghost use Rattle.ch_graph.specs.declared.limits.TheConstants.{MOST_QUERIES};
-ghost use Rattle.ch_graph.specs.Graph.{IsWithinLimits};
 ghost use Rattle.ch_contract.specs.Legs.{IsHopBound};
-ghost use Rattle.ch_hierarchy.specs.Kept.{IsKept};
 ghost use Rattle.ch_query.specs.Replies.{AreQueries};
 ghost use Rattle.ch_run.specs.declared.source.Source.TheVariants as SourceOf;
 ghost use Rattle.ch_run.specs.DistRun.{IsAnsweredBy};
@@ -63,7 +61,7 @@ pub fn run_dist<R: Threads + Sync, I: Input, S: Input + Drop, J: Input, O: Outpu
     ensures same { (I.origin graph.new ≡ I.origin graph.old) × (source_origin S.origin source.new ≡ source_origin S.origin source.old) × (J.origin queries.new ≡ J.origin queries.old) }
 {
     let loaded = loaded_from(crew, graph, source, options.routes)?;
-    let queries = queries_from(crew.alloc, queries, &loaded.graph)?;
+    let queries = queries_from(crew.alloc, queries, loaded.graph())?;
     let text = text_of(crew, loaded, &queries, options)?;
     write_text(output, &text)
 }
@@ -75,17 +73,15 @@ fn text_of<R: Threads + Sync, G: Gate>(
     queries: &[(u32, u32)],
     options: &Options,
 ) -> Result<Vec<u8>, AllocError>
-    requires limits { IsWithinLimits loaded.graph }
-    requires kept { IfSome loaded.saved (IsKept loaded.graph) }
     requires hops { IsNone loaded.saved → IsHopBound options.now.hops }
     requires queries { AreQueries loaded.graph.nodes queries.now }
     requires count { length queries.now ≤ MOST_QUERIES }
     ensures { IfOk result (λ text. IsTextBy (writes_routes options.now) loaded.graph (IsOfRoutes options.now loaded.graph loaded.saved) queries.now text.items) }
 {
     if options.plain {
-        return plain_text(crew.alloc, &loaded.graph, queries, crew.gate);
+        return plain_text(crew.alloc, loaded.graph(), queries, crew.gate);
     }
-    let order = options.order_for_queries(crew.plan.workers(), loaded.graph.nodes());
+    let order = options.order_for_queries(crew.plan.workers(), loaded.graph().nodes());
     let hierarchy = loaded.hierarchy(crew, options.hops, order)?;
     answers_by(crew, &hierarchy, queries, options.routes)
 }

@@ -1,9 +1,7 @@
 //! Answers the first of the requests that came together.
 ghost use Rattle.std.specs.Prelude.{◌≡◌, ◌<◌, ◌≤◌, true, false, ⊤, ◌∷◌, List, None, length, map, All, IfOk, MatchOption};
 ghost use Rattle.ch_graph.specs.declared.limits.TheConstants.{MOST_LISTED, MOST_QUERIES};
-ghost use Rattle.ch_graph.specs.Graph.{IsWithinLimits};
 ghost use Rattle.ch_hierarchy.specs.Hierarchy.{nodes_of};
-ghost use Rattle.ch_hierarchy.specs.Kept.{IsKept};
 ghost use Rattle.ch_near.specs.Near.{wanted_within};
 ghost use Rattle.ch_query.specs.Replies.{AreQueries};
 ghost use Rattle.ch_read.specs.Requests.{ArePlaces, AreTwoLists, IsRequest};
@@ -44,14 +42,12 @@ pub(crate) fn answer_first<'a, R: Threads + Sync, G: Gate>(
     room: &mut Room<'a>,
     requests: &[Request],
 ) -> Result<FirstAnswers, AllocError>
-    requires limits { IsWithinLimits by.now.checked.now.graph }
-    requires kept { IsKept by.now.checked.now.graph by.now.checked.now.hierarchy }
-    requires room { IsRoomFor by.now.options.now.direction by.now.checked.now.hierarchy room.old }
+    requires room { IsRoomFor by.now.options.now.direction by.now.checked.now room.old }
     requires some { 0 < length requests.now }
     requires each { All (IsRequest by.now.checked.now.graph.nodes) requests.now }
     requires few { length requests.now ≤ MOST_LISTED }
     ensures first { IfOk result (λ first. AnswersFirst (IsTextOfRequest by.now.options.now by.now.checked.now.graph by.now.checked.now.hierarchy) (places_of room.old.near) (places_of room.new.near) requests.now first.text.items first.count) }
-    ensures room { IfOk result (λ _. IsRoomFor by.now.options.now.direction by.now.checked.now.hierarchy room.new) }
+    ensures room { IfOk result (λ _. IsRoomFor by.now.options.now.direction by.now.checked.now room.new) }
 {
     let rest = &requests[1..];
     match &requests[0] {
@@ -73,13 +69,11 @@ fn first_pairs<R: Threads + Sync, G: Gate>(
     rest: &[Request],
     routed: bool,
 ) -> Result<FirstAnswers, AllocError>
-    requires limits { IsWithinLimits by.now.checked.now.graph }
-    requires kept { IsKept by.now.checked.now.graph by.now.checked.now.hierarchy }
-    requires room { IsRoomFor by.now.options.now.direction by.now.checked.now.hierarchy room.old }
+    requires room { IsRoomFor by.now.options.now.direction by.now.checked.now room.old }
     requires each { All (IsRequest by.now.checked.now.graph.nodes) (asked_for routed first ∷ rest.now) }
     requires few { length rest.now < MOST_LISTED }
     ensures first { IfOk result (λ answers. AnswersFirst (IsTextOfRequest by.now.options.now by.now.checked.now.graph by.now.checked.now.hierarchy) (places_of room.old.near) (places_of room.new.near) (asked_for routed first ∷ rest.now) answers.text.items answers.count) }
-    ensures room { IfOk result (λ _. IsRoomFor by.now.options.now.direction by.now.checked.now.hierarchy room.new) }
+    ensures room { IfOk result (λ _. IsRoomFor by.now.options.now.direction by.now.checked.now room.new) }
 {
     let pairs = pairs_in_front(crew.alloc, first, rest, routed)?;
     let count = pairs.len();
@@ -127,8 +121,6 @@ fn pairs_text<R: Threads + Sync, G: Gate>(
     pairs: &[(u32, u32)],
     routed: bool,
 ) -> Result<Vec<u8>, AllocError>
-    requires limits { IsWithinLimits by.now.checked.now.graph }
-    requires kept { IsKept by.now.checked.now.graph by.now.checked.now.hierarchy }
     requires scratches { All (λ scratch. scratch ≡ nodes_of by.now.checked.now.hierarchy) scratches.old.items }
     requires pairs { AreQueries by.now.checked.now.graph.nodes pairs.now }
     requires count { length pairs.now ≤ MOST_QUERIES }
@@ -136,10 +128,10 @@ fn pairs_text<R: Threads + Sync, G: Gate>(
     ensures scratches { All (λ scratch. scratch ≡ nodes_of by.now.checked.now.hierarchy) scratches.new.items }
 {
     if is_plain(by.options, routed) {
-        return plain_text(crew.alloc, &by.checked.graph, pairs, crew.gate);
+        return plain_text(crew.alloc, by.checked.graph(), pairs, crew.gate);
     }
     let routes = tells_routes(by.options, routed);
-    answers_in(crew, &by.checked.hierarchy, scratches, pairs, routes)
+    answers_in(crew, by.checked.hierarchy(), scratches, pairs, routes)
 }
 
 /// Returns whether queries are answered by rounds over all arcs, which give no route.
@@ -166,13 +158,11 @@ fn first_rows<R: Threads + Sync, G: Gate>(
     within: Option<u64>,
     rest: &[Request],
 ) -> Result<FirstAnswers, AllocError>
-    requires limits { IsWithinLimits by.now.checked.now.graph }
-    requires kept { IsKept by.now.checked.now.graph by.now.checked.now.hierarchy }
-    requires room { IsRoomFor by.now.options.now.direction by.now.checked.now.hierarchy room.old }
+    requires room { IsRoomFor by.now.options.now.direction by.now.checked.now room.old }
     requires each { All (IsRequest by.now.checked.now.graph.nodes) (near_row_of within source ∷ rest.now) }
     requires few { length rest.now < MOST_LISTED }
     ensures first { IfOk result (λ answers. AnswersFirst (IsTextOfRequest by.now.options.now by.now.checked.now.graph by.now.checked.now.hierarchy) (places_of room.old.near) (places_of room.new.near) (near_row_of within source ∷ rest.now) answers.text.items answers.count) }
-    ensures room { IfOk result (λ _. IsRoomFor by.now.options.now.direction by.now.checked.now.hierarchy room.new) }
+    ensures room { IfOk result (λ _. IsRoomFor by.now.options.now.direction by.now.checked.now room.new) }
 {
     let Some(near) = &mut room.near else {
         let mut text = Vec::new(crew.alloc);
@@ -254,15 +244,13 @@ fn first_table<R: Threads + Sync, G: Gate>(
     by: &Answering<'_>,
     lists: &TableLists,
 ) -> Result<FirstAnswers, AllocError>
-    requires limits { IsWithinLimits by.now.checked.now.graph }
-    requires kept { IsKept by.now.checked.now.graph by.now.checked.now.hierarchy }
     requires lists { AreTwoLists by.now.checked.now.graph.nodes lists.now }
     ensures { (places : PlaceList) (rest : List RequestKind) → IfOk result (λ answers. AnswersFirst (IsTextOfRequest by.now.options.now by.now.checked.now.graph by.now.checked.now.hierarchy) places places (RequestOf.Table lists.now ∷ rest) answers.text.items answers.count) }
 {
     let within = limit_of(by.options, lists.within());
     let sources = lists.sources();
     let targets = lists.targets();
-    let text = table_by(crew, &by.checked.hierarchy, sources, targets, within)?;
+    let text = table_by(crew, by.checked.hierarchy(), sources, targets, within)?;
     Ok(FirstAnswers { text, count: 1 })
 }
 
@@ -273,12 +261,10 @@ fn take_places<'a, R: Threads + Sync, G: Gate>(
     room: &mut Room<'a>,
     places: &NearPlaces,
 ) -> Result<FirstAnswers, AllocError>
-    requires kept { IsKept by.now.checked.now.graph by.now.checked.now.hierarchy }
-    requires room { IsRoomFor by.now.options.now.direction by.now.checked.now.hierarchy room.old }
-    requires limits { IsWithinLimits by.now.checked.now.graph }
+    requires room { IsRoomFor by.now.options.now.direction by.now.checked.now room.old }
     requires places { ArePlaces by.now.checked.now.graph.nodes places.now }
     ensures first { (rest : List RequestKind) → IfOk result (λ answers. AnswersFirst (IsTextOfRequest by.now.options.now by.now.checked.now.graph by.now.checked.now.hierarchy) (places_of room.old.near) (places_of room.new.near) (RequestOf.Places places.now ∷ rest) answers.text.items answers.count) }
-    ensures room { IfOk result (λ _. IsRoomFor by.now.options.now.direction by.now.checked.now.hierarchy room.new) }
+    ensures room { IfOk result (λ _. IsRoomFor by.now.options.now.direction by.now.checked.now room.new) }
 {
     // The memory of the earlier searches is freed for these.
     room.near = None;
@@ -286,7 +272,7 @@ fn take_places<'a, R: Threads + Sync, G: Gate>(
     let count = places.count();
     let near = NearTargets::search(
         crew,
-        &by.checked.hierarchy,
+        by.checked.hierarchy(),
         direction,
         places.nodes(),
         None,

@@ -1,6 +1,7 @@
 //! Reads inputs to their end, and judges them.
 ghost use Rattle.std.specs.Prelude.{true, ◌≡◌, ◌<◌, ◌≤◌, All, IfOk, IfErr, vec_len};
 ghost use Rattle.ch_graph.specs.declared.limits.TheConstants.{MOST_LISTED, MOST_QUERIES};
+ghost use Rattle.ch_graph.specs.Graph.{IsWithinLimits};
 ghost use Rattle.ch_text.specs.Device.{CanCountOneMore};
 ghost use Rattle.ch_text.specs.Moves.{GaveAll};
 ghost use Rattle.ch_run.specs.Run.{IsUnread, ReadsGraph, ReadsNodes, ReadsQueries, reading};
@@ -22,12 +23,17 @@ pub(crate) fn graph_from<R: Threads + Sync, I: Input, G: Gate>(
     input: &mut I,
 ) -> Result<Graph, RunFault>
     ensures value { IfOk result (ReadsGraph (reading I.read_gives input.old input.new)) }
+    ensures limits { IfOk result IsWithinLimits }
     ensures same { I.origin input.new ≡ I.origin input.old }
     ensures ends { IfErr result (EndsAt Which.Graph (reading I.read_gives input.old input.new) (IsRefused Which.Graph FormOf.Graph)) }
 {
     let bytes = bytes_from(crew.alloc, input, Which::Graph)?;
     match read_graph_by(crew, &bytes) {
-        Ok(graph) => Ok(graph),
+        Ok(graph) => {
+            // The contract of this call says that the graph keeps the limits.
+            let _ = graph.arcs();
+            Ok(graph)
+        }
         Err(error) => Err(Which::Graph.refusal(error)),
     }
 }

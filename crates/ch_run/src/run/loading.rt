@@ -1,11 +1,12 @@
 //! A graph, and a saved hierarchy or an order if there is one. Both are read to their end and checked.
-ghost use Rattle.std.specs.Prelude.{◌≡◌, ◌<◌, ◌≤◌, Some, IfOk, IfErr, IfSome, IsNone, IsOkAnd, ⊤};
+ghost use Rattle.std.specs.Prelude.{◌≡◌, ◌<◌, ◌≤◌, Some, IfOk, IfErr, IsNone, IsOkAnd, ⊤};
 ghost use Rattle.ch_graph.specs.Saved.{OrderAndLegs};
 ghost use Rattle.ch_hierarchy.specs.Hierarchy.{LevelsAndLegs};
 ghost use Rattle.ch_hierarchy.specs.Kept.{IsKept};
 ghost use Rattle.ch_contract.specs.Legs.{IsHopBound};
 ghost use Rattle.ch_contract.specs.Like.{IsHierarchyLike};
 ghost use Rattle.ch_run.specs.declared.source.Source.TheVariants as SourceOf;
+ghost use Rattle.ch_run.specs.Loaded.{IsRight};
 ghost use Rattle.ch_run.specs.Run.{reading};
 ghost use Rattle.ch_read.specs.declared.form.Form.TheVariants as FormOf;
 ghost use Rattle.ch_read.specs.Names.{NamesGraph, NamesSaved};
@@ -26,20 +27,59 @@ use ch_query::check_watched;
 use ch_read::read_saved_by;
 use ch_text::Input;
 use std::alloc::AllocError;
+use std::marker::Model;
 use std::thread::Threads;
 
 /// A graph, and the hierarchy that is right for it, if one was read, or built like an order that was read.
 #[derive(Drop)]
 pub(crate) struct Loaded {
-    pub(crate) graph: Graph,
-    pub(crate) saved: Option<Hierarchy>,
+    graph: Graph,
+    saved: Option<Hierarchy>,
+}
+
+impl Model for Loaded {
+    ghost use Rattle.ch_run.specs.Loaded.{GraphAndSaved, IsRightIfSaved};
+
+    ghost Value = { GraphAndSaved };
+
+    ghost view = { λ loaded. record { graph = loaded.graph; saved = loaded.saved } };
+
+    ghost invariant = { λ loaded. IsRightIfSaved (record { graph = loaded.graph; saved = loaded.saved }) };
 }
 
 /// A graph, and a hierarchy that is right for it.
 #[derive(Drop)]
 pub(crate) struct Checked {
-    pub(crate) graph: Graph,
-    pub(crate) hierarchy: Hierarchy,
+    graph: Graph,
+    hierarchy: Hierarchy,
+}
+
+impl Model for Checked {
+    ghost use Rattle.ch_run.specs.Loaded.{GraphAndHierarchy, IsRight};
+
+    ghost Value = { GraphAndHierarchy };
+
+    ghost view = { λ checked. record { graph = checked.graph; hierarchy = checked.hierarchy } };
+
+    ghost invariant = { λ checked. IsRight (record { graph = checked.graph; hierarchy = checked.hierarchy }) };
+}
+
+impl Checked {
+    /// Returns the graph.
+    pub(crate) fn graph(&self) -> &Graph
+        ensures graph { result.now ≡ self.now.graph }
+        ensures limits { IsWithinLimits self.now.graph }
+    {
+        &self.graph
+    }
+
+    /// Returns the hierarchy.
+    pub(crate) fn hierarchy(&self) -> &Hierarchy
+        ensures hierarchy { result.now ≡ self.now.hierarchy }
+        ensures right { IsRight self.now }
+    {
+        &self.hierarchy
+    }
 }
 
 /// Reads a graph to its end. Then it reads the saved hierarchy if there is one, and checks it for the graph. Or it
@@ -54,8 +94,6 @@ pub(crate) fn loaded_from<R: Threads + Sync, I: Input, S: Input + Drop, G: Gate>
     requires allowed { IsSourceAllowed source.old }
     ensures went { Loads (reading I.read_gives graph.old graph.new) (source_reading S.read_gives source.old source.new) (source.new ≡ source.old) result ⊤ (λ g h.
         IsOkAnd result (λ loaded. (loaded.graph ≡ g) × IsInPlaceOf named g h loaded.saved)) }
-    ensures limits { IfOk result (λ loaded. IsWithinLimits loaded.graph) }
-    ensures kept { IfOk result (λ loaded. IfSome loaded.saved (IsKept loaded.graph)) }
     ensures built { IfOk result (λ loaded. IsNone loaded.saved → source.old ≡ SourceOf.Built) }
     ensures same_graph { I.origin graph.new ≡ I.origin graph.old }
     ensures same_source { source_origin S.origin source.new ≡ source_origin S.origin source.old }
@@ -64,8 +102,6 @@ pub(crate) fn loaded_from<R: Threads + Sync, I: Input, S: Input + Drop, G: Gate>
         Source::Built => {
             crew.gate.watch(Stage::Reading, 0, 1);
             let graph = graph_from(crew, graph)?;
-            // The contract of this call says that the graph keeps the limits.
-            let _ = graph.arcs();
             Ok(Loaded { graph, saved: None })
         }
         Source::Saved(saved) => {
@@ -97,15 +133,11 @@ fn checked_from<R: Threads + Sync, I: Input, S: Input, G: Gate>(
         Reads Which.Saved (reading S.read_gives saved.old saved.new) (λ bytes H. (s : OrderAndLegs) × NamesSaved bytes g.nodes s × NamesKept g s H) (IsSavedRefusedOn g) result ⊤ (λ H.
         IsOkAnd result (λ checked. (checked.graph ≡ g) × (checked.hierarchy ≡ H)))) }
 
-    ensures limits { IfOk result (λ checked. IsWithinLimits checked.graph) }
-    ensures kept { IfOk result (λ checked. IsKept checked.graph checked.hierarchy) }
     ensures same_graph { I.origin graph.new ≡ I.origin graph.old }
     ensures same_saved { S.origin saved.new ≡ S.origin saved.old }
 {
     crew.gate.watch(Stage::Reading, 0, 2);
     let graph = graph_from(crew, graph)?;
-    // The contract of this call says that the graph keeps the limits.
-    let _ = graph.arcs();
     crew.gate.watch(Stage::Reading, 1, 2);
     let saved = saved_from(crew, saved, &graph, Which::Saved)?;
     match check_watched(crew, &graph, saved) {
@@ -131,15 +163,11 @@ fn built_from<R: Threads + Sync, I: Input, S: Input, G: Gate>(
         Reads Which.Order (reading S.read_gives order.old order.new) (λ bytes H. NamesLike g fresh hops bytes H) (IsOrderRefusedOn g) result ⊤ (λ H.
         IsOkAnd result (λ checked. (checked.graph ≡ g) × IsInPlaceOf named g (Some H) (Some checked.hierarchy)))) }
 
-    ensures limits { IfOk result (λ checked. IsWithinLimits checked.graph) }
-    ensures kept { IfOk result (λ checked. IsKept checked.graph checked.hierarchy) }
     ensures same_graph { I.origin graph.new ≡ I.origin graph.old }
     ensures same_order { S.origin order.new ≡ S.origin order.old }
 {
     crew.gate.watch(Stage::Reading, 0, 2);
     let graph = graph_from(crew, graph)?;
-    // The contract of this call says that the graph keeps the limits.
-    let _ = graph.arcs();
     crew.gate.watch(Stage::Reading, 1, 2);
     let saved = saved_from(crew, order, &graph, Which::Order)?;
     let given = order_in(saved);
@@ -180,6 +208,14 @@ fn order_in(saved: Saved) -> Vec<u32>
 }
 
 impl Loaded {
+    /// Returns the graph.
+    pub(crate) fn graph(&self) -> &Graph
+        ensures graph { result.now ≡ self.now.graph }
+        ensures limits { IsWithinLimits self.now.graph }
+    {
+        &self.graph
+    }
+
     /// Returns the graph with the hierarchy that serves: the one that was loaded, or one that it builds in
     /// this order.
     pub(crate) fn checked<R: Threads + Sync, G: Gate>(
@@ -188,11 +224,9 @@ impl Loaded {
         hops: u32,
         order: OrderBy,
     ) -> Result<Checked, AllocError>
-        requires kept { IfSome self.saved (IsKept self.graph) }
         requires hops { IsNone self.saved → IsHopBound hops }
         ensures graph { IfOk result (λ checked. checked.graph ≡ self.graph) }
         ensures serving { IfOk result (λ checked. IsServing order hops self.graph self.saved checked.hierarchy) }
-        ensures kept { IfOk result (λ checked. IsKept self.graph checked.hierarchy) }
     {
         let Loaded { graph, saved } = self;
         let hierarchy = match saved {
@@ -209,7 +243,6 @@ impl Loaded {
         hops: u32,
         order: OrderBy,
     ) -> Result<Hierarchy, AllocError>
-        requires kept { IfSome self.saved (IsKept self.graph) }
         requires hops { IsNone self.saved → IsHopBound hops }
         ensures serving { IfOk result (IsServing order hops self.graph self.saved) }
         ensures kept { IfOk result (IsKept self.graph) }

@@ -1,8 +1,6 @@
 //! Runs that write the nearest targets of each source of a list, or of each node of the graph.
-ghost use Rattle.std.specs.Prelude.{◌≡◌, IfOk, IfSome, IsNone};
-ghost use Rattle.ch_graph.specs.Graph.{IsWithinLimits};
+ghost use Rattle.std.specs.Prelude.{◌≡◌, IfOk, IsNone};
 ghost use Rattle.ch_contract.specs.Legs.{IsHopBound};
-ghost use Rattle.ch_hierarchy.specs.Kept.{IsKept};
 ghost use Rattle.ch_run.specs.declared.source.Source.TheVariants as SourceOf;
 ghost use Rattle.ch_run.specs.Stories.{RunsNear};
 ghost use Rattle.ch_run.specs.NearRun.{AreNodeLists, IsNearBy, sources_origin, sources_reading};
@@ -80,7 +78,7 @@ pub fn run_near<
         × (sources_origin J.origin sources.new ≡ sources_origin J.origin sources.old) × (L.origin targets.new ≡ L.origin targets.old) }
 {
     let loaded = loaded_from(crew, graph, source, false)?;
-    let lists = node_lists_from(crew.alloc, sources, targets, &loaded.graph)?;
+    let lists = node_lists_from(crew.alloc, sources, targets, loaded.graph())?;
     let text = near_of(crew, loaded, &lists, options)?;
     write_text(output, &text)
 }
@@ -92,13 +90,11 @@ fn near_of<R: Threads + Sync, G: Gate>(
     lists: &Lists,
     options: &Options,
 ) -> Result<Vec<u8>, AllocError>
-    requires limits { IsWithinLimits loaded.graph }
-    requires kept { IfSome loaded.saved (IsKept loaded.graph) }
     requires hops { IsNone loaded.saved → IsHopBound options.now.hops }
     requires lists { AreNodeLists loaded.graph.nodes lists.now.sources.items lists.now.targets.items }
     ensures { IfOk result (λ text. IsNearTextFor options.now loaded.graph lists.now.sources.items lists.now.targets.items text.items) }
 {
-    let order = quick_order(crew.plan.workers(), loaded.graph.nodes());
+    let order = quick_order(crew.plan.workers(), loaded.graph().nodes());
     let hierarchy = loaded.hierarchy(crew, options.hops, order)?;
     near_by(crew, &hierarchy, &lists.sources, &lists.targets, options)
 }

@@ -1,7 +1,6 @@
 //! Runs that save the hierarchy of a graph.
-ghost use Rattle.std.specs.Prelude.{◌≡◌, IfOk, IfSome, IsNone};
+ghost use Rattle.std.specs.Prelude.{◌≡◌, IfOk, IsNone};
 ghost use Rattle.ch_contract.specs.Legs.{IsHopBound};
-ghost use Rattle.ch_hierarchy.specs.Kept.{IsKept};
 ghost use Rattle.ch_run.specs.declared.source.Source.TheVariants as SourceOf;
 ghost use Rattle.ch_run.specs.Run.{Delivers, reading};
 ghost use Rattle.ch_run.specs.Source.{IsOfRoutes, IsSourceAllowed, source_origin, source_reading};
@@ -67,7 +66,6 @@ fn save_text_of<R: Threads + Sync, G: Gate>(
     loaded: Loaded,
     options: &Options,
 ) -> Result<Vec<u8>, AllocError>
-    requires kept { IfSome loaded.saved (IsKept loaded.graph) }
     requires hops { IsNone loaded.saved → IsHopBound options.now.hops }
     ensures { IfOk result (λ text. IsSaveTextOf (IsOfRoutes options.now loaded.graph loaded.saved) text.items) }
 {

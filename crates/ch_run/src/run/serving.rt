@@ -1,7 +1,5 @@
 //! Reads requests and answers them as they come.
 ghost use Rattle.std.specs.Prelude.{◌≡◌, ◌+◌, ◌^◌, ◌<◌, ◌≤◌, length, List, None, Ok, Err, IfErr, IfOk, OnErr, OnOk};
-ghost use Rattle.ch_graph.specs.Graph.{IsWithinLimits};
-ghost use Rattle.ch_hierarchy.specs.Kept.{IsKept};
 ghost use Rattle.ch_read.specs.Requests.{IsUsedUp};
 ghost use Rattle.ch_read.specs.declared.request.Request.{Request as RequestOf};
 ghost use Rattle.ch_run.specs.Ask.{IsTextOfRequest, Serves, places_after};
@@ -29,8 +27,6 @@ pub(crate) fn serve<R: Threads + Sync, J: Input, O: Output, G: Gate>(
     requests: &mut J,
     output: &mut O,
 ) -> Result<(), RunFault>
-    requires limits { IsWithinLimits by.now.checked.now.graph }
-    requires kept { IsKept by.now.checked.now.graph by.now.checked.now.hierarchy }
     ensures { Serves (IsTextOfRequest by.now.options.now by.now.checked.now.graph by.now.checked.now.hierarchy) O.write_gives by.now.checked.now.graph.nodes
         (reading J.read_gives requests.old requests.new) output.old output.new result }
 {
@@ -51,16 +47,14 @@ fn serve_in<'a, R: Threads + Sync, J: Input, O: Output, G: Gate>(
     requests: &mut J,
     output: &mut O,
 ) -> Result<(), RunFault>
-    requires limits { IsWithinLimits by.now.checked.now.graph }
-    requires kept { IsKept by.now.checked.now.graph by.now.checked.now.hierarchy }
     requires buffer { 0 < length buffer.old }
-    requires room { IsRoomFor by.now.options.now.direction by.now.checked.now.hierarchy room.old }
+    requires room { IsRoomFor by.now.options.now.direction by.now.checked.now room.old }
     requires none { room.old.near ≡ None }
     requires requests { CanCountOneMore (J.failed requests.old) }
     ensures { Serves (IsTextOfRequest by.now.options.now by.now.checked.now.graph by.now.checked.now.hierarchy) O.write_gives by.now.checked.now.graph.nodes
         (reading J.read_gives requests.old requests.new) output.old output.new result }
 {
-    let mut reader = RequestReader::new(crew.alloc, by.checked.graph.nodes());
+    let mut reader = RequestReader::new(crew.alloc, by.checked.graph().nodes());
     let mut written = 0;
     for _ in 0..u64::MAX {
         let count = read_once(requests, buffer)?;
@@ -99,9 +93,7 @@ fn answer_whole<'a, R: Threads + Sync, O: Output, G: Gate>(
     output: &mut O,
     written: &mut u64,
 ) -> Result<(), RunFault>
-    requires limits { IsWithinLimits by.now.checked.now.graph }
-    requires kept { IsKept by.now.checked.now.graph by.now.checked.now.hierarchy }
-    requires room { IsRoomFor by.now.options.now.direction by.now.checked.now.hierarchy room.old }
+    requires room { IsRoomFor by.now.options.now.direction by.now.checked.now room.old }
     requires nodes { reader.old.nodes ≡ by.now.checked.now.graph.nodes }
     requires counted { written.old < 2 ^ 64 }
     ensures answered { (given : List RequestOf) × GivesUntil ended reader.old reader.new given result
@@ -110,7 +102,7 @@ fn answer_whole<'a, R: Threads + Sync, O: Output, G: Gate>(
         × OnOk result (places_of room.new.near ≡ places_after (places_of room.old.near) given) }
     ensures used_up { OnOk result (IsUsedUp ended reader.new) }
     ensures nodes { reader.new.nodes ≡ reader.old.nodes }
-    ensures room { OnOk result (IsRoomFor by.now.options.now.direction by.now.checked.now.hierarchy room.new) }
+    ensures room { OnOk result (IsRoomFor by.now.options.now.direction by.now.checked.now room.new) }
 {
     for _ in 0..u64::MAX {
         let batch = gather(crew.alloc, reader, ended);

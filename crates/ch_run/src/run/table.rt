@@ -1,8 +1,6 @@
 //! Runs that make tables.
-ghost use Rattle.std.specs.Prelude.{◌≡◌, ◌^◌, ◌<◌, length, flat_map, IfOk, IfSome, IsNone};
-ghost use Rattle.ch_graph.specs.Graph.{IsWithinLimits};
+ghost use Rattle.std.specs.Prelude.{◌≡◌, ◌^◌, ◌<◌, length, flat_map, IfOk, IsNone};
 ghost use Rattle.ch_contract.specs.Legs.{IsHopBound};
-ghost use Rattle.ch_hierarchy.specs.Kept.{IsKept};
 ghost use Rattle.ch_text.specs.TableText.{IsTableText};
 ghost use Rattle.ch_run.specs.declared.source.Source.TheVariants as SourceOf;
 ghost use Rattle.ch_run.specs.Lists.{AreLists};
@@ -75,7 +73,7 @@ pub fn run_table<
         × (J.origin sources.new ≡ J.origin sources.old) × (L.origin targets.new ≡ L.origin targets.old) }
 {
     let loaded = loaded_from(crew, graph, source, false)?;
-    let lists = lists_from(crew.alloc, sources, targets, &loaded.graph)?;
+    let lists = lists_from(crew.alloc, sources, targets, loaded.graph())?;
     let parts = table_of(crew, loaded, &lists, options)?;
     write_parts(output, &parts)
 }
@@ -87,14 +85,12 @@ fn table_of<R: Threads + Sync, G: Gate>(
     lists: &Lists,
     options: &Options,
 ) -> Result<Vec<Vec<u8>>, AllocError>
-    requires limits { IsWithinLimits loaded.graph }
-    requires kept { IfSome loaded.saved (IsKept loaded.graph) }
     requires hops { IsNone loaded.saved → IsHopBound options.now.hops }
     requires lists { AreLists loaded.graph.nodes lists.now.sources.items lists.now.targets.items }
     ensures text { IfOk result (λ parts. IsTableText loaded.graph options.now.within lists.now.sources.items lists.now.targets.items (flat_map (λ part. part.items) parts.items)) }
     ensures length { IfOk result (λ parts. length (flat_map (λ part. part.items) parts.items) < 2 ^ 64) }
 {
-    let order = quick_order(crew.plan.workers(), loaded.graph.nodes());
+    let order = quick_order(crew.plan.workers(), loaded.graph().nodes());
     let hierarchy = loaded.hierarchy(crew, options.hops, order)?;
     table_parts_by(
         crew,

@@ -10,7 +10,7 @@ use Rattle.ch_run.proofs.run.answering.answer_requests.Given as goal
 -- the first of the requests are answered, and the rest are left
 abbrev pub invariant-loop-rest : goal.invariant-loop-rest
 invariant-loop-rest g l = record {
-  room : IsRoomFor l.by.options.now.direction l.by.checked.now.hierarchy l.room;
+  room : IsRoomFor l.by.options.now.direction l.by.checked.now l.room;
   each : All (IsRequest l.by.checked.now.graph.nodes) l.rest;
   few : length l.rest ≤ MOST_LISTED;
   answered : (done : List Request) × (l.requests ≡ done ++ l.rest)

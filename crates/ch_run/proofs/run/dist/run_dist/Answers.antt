@@ -12,16 +12,16 @@ pub returns-in_err-loaded-clause-went : goal.returns-in_err-loaded-clause-went
 returns-in_err-loaded-clause-went g c = loads_stops _ _ _ _ _ _ _ _ c.from_residual.ensures.1 (refl, refl) c.in_err-loaded.ensures.went
 
 pub returns-in_err-queries-clause-went : goal.returns-in_err-queries-clause-went
-returns-in_err-queries-clause-went g c = loads_serving _ _ _ _ _ _ _ _ _ _ (λ h place. inl (err_as _ _ _ c.from_residual-in_err-queries.ensures.1 c.in_err-queries.ensures.ends, refl)) c.in_ok-loaded.ensures.went
+returns-in_err-queries-clause-went g c = loads_serving _ _ _ _ _ _ _ _ _ _ (λ h place. inl (err_as _ _ _ c.from_residual-in_err-queries.ensures.1 (rw c.graph.ensures.graph at c.in_err-queries.ensures.ends), refl)) c.in_ok-loaded.ensures.went
 
 pub returns-in_err-text-clause-went : goal.returns-in_err-text-clause-went
 returns-in_err-text-clause-went g c =
-    let read = c.in_ok-queries.ensures.value in
+    let read = rw c.graph.ensures.graph at c.in_ok-queries.ensures.value in
     loads_serving _ _ _ _ _ _ _ _ _ _ (λ h place. inr (read.0, _, read.1, read.2, writes_none _ _ _ _ c.from_residual-in_err-text.ensures.1)) c.in_ok-loaded.ensures.went
 
 pub returns-clause-went : goal.returns-clause-went
 returns-clause-went g c =
-    let read = c.in_ok-queries.ensures.value in
+    let read = rw c.graph.ensures.graph at c.in_ok-queries.ensures.value in
     let options = c.args.options.now in
     let network = c.in_ok-loaded.loaded.graph in
     let saved = c.in_ok-loaded.loaded.saved in

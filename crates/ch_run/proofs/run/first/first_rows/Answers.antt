@@ -2,7 +2,6 @@
 use Rattle.std.proofs.Common.{◌≡◌, ◌<◌, ◌∷◌, ◌++◌, [], ℕ, List, Some, length, refl, sym, ap, ◌∙◌, subst}
 use Rattle.std.specs.Prelude.{All}
 use Rattle.ch_hierarchy.specs.Hierarchy.{nodes_of}
-use Rattle.ch_near.specs.Direction.{facing}
 use Rattle.ch_near.specs.Near.{Wanted}
 use Rattle.ch_run.specs.Ask.{IsTextOfRequest}
 use Rattle.ch_text.specs.NearText.{near_row_text}
@@ -24,7 +23,7 @@ pub rows_text-requires-clause-sources : goal.rows_text-requires-clause-sources
 rows_text-requires-clause-sources g c = λ kept within.
     let n = c.args.by.now.checked.now.graph.nodes in
     let searched = rw c.in-Some.is at c.requires.room.near in
-    let size : nodes_of c.in-Some.near.hierarchy ≡ n = ap nodes_of searched.0 ∙ c.requires.kept.nodes in
+    let size : nodes_of c.in-Some.near.hierarchy ≡ n = ap nodes_of searched.0 ∙ searched.2.kept.nodes in
     let all = values_within (near_row_of c.args.within) (near_row_of c.args.within c.args.source ∷ c.args.rest.now) c.in_ok-sources.sources.items c.in_ok-sources.ensures n (λ s. s < n) (λ s is. is) c.requires.each in
     subst (λ m. All (λ s. s < m) c.deref.result.now) (sym size) (subst (All (λ s. s < n)) (sym c.deref.ensures.value) all)
 
@@ -43,14 +42,13 @@ returns-clause-first g c =
     rw (c.in-Some.is) (first_answered (near_row_of c.args.within) (near_row_of c.args.within c.args.source ∷ c.args.rest.now) sources c.in_ok-sources.ensures (IsTextOfRequest options network H)
     (places_of (Some near)) (places_of (Some c.rows_text.new.near)) c.in_ok-text.text.items c.len-count.result (λ places s. refl) (c.len-count.ensures ∙ sym c.deref.ensures.len ∙ ap length c.deref.ensures.value)
     (ap (λ (w : Wanted). places_of (Some w)) c.in_ok-text.ensures.same)
-    (near_answered options network H c.requires.limits c.requires.kept c.args.within near searched.0 sources c.in_ok-text.text.items text))
+    (near_answered options network H searched.2.limits searched.2.kept c.args.within near searched.0 sources c.in_ok-text.text.items text))
 
 pub returns-clause-room : goal.returns-clause-room
 returns-clause-room g c =
     let options = c.args.by.now.options.now in
-    let H = c.args.by.now.checked.now.hierarchy in
     let searched = rw c.in-Some.is at c.requires.room.near in
     record {
       scratches = c.requires.room.scratches;
-      near = subst (λ (w : Wanted). IsSearched (facing options.direction H) (Some w)) (sym c.in_ok-text.ensures.same) searched;
+      near = subst (λ (w : Wanted). IsSearched options.direction c.args.by.now.checked.now (Some w)) (sym c.in_ok-text.ensures.same) searched;
     }

@@ -12,7 +12,7 @@ returns-then-is_plain-clause-text g c = λ places.
     let H = c.args.by.now.checked.now.hierarchy in
     IfOk-weaker c.plain_text.result _ _ (λ text is. split_answers options c.args.routed network (λ K. K ≡ H) places c.args.pairs.now text.items
     (subst (λ (routes : Bool). IsTextBy routes network (λ K. K ≡ H) c.args.pairs.now text.items) (sym (c.is_plain.ensures c.if-is_plain.true)) is))
-    c.plain_text.ensures
+    (rw c.graph.ensures.graph at c.plain_text.ensures)
 
 pub returns-clause-text : goal.returns-clause-text
 returns-clause-text g c = λ places.
@@ -21,4 +21,4 @@ returns-clause-text g c = λ places.
     let H = c.args.by.now.checked.now.hierarchy in
     IfOk-weaker c.answers_in.result _ _ (λ text by. split_answers options c.args.routed network (λ K. K ≡ H) places c.args.pairs.now text.items
     (subst (λ (routes : Bool). IsTextBy routes network (λ K. K ≡ H) c.args.pairs.now text.items) c.tells_routes-routes.ensures
-    (by network c.requires.limits c.requires.kept))) c.answers_in.ensures.text
+    (by network c.hierarchy.ensures.right.limits c.hierarchy.ensures.right.kept))) (rw c.hierarchy.ensures.hierarchy at c.answers_in.ensures.text)

@@ -15,7 +15,7 @@ pub returns-in_err-saved-clause-went : goal.returns-in_err-saved-clause-went
 returns-in_err-saved-clause-went g c =
     let read = c.in_ok-graph.ensures.value in
     let network = c.in_ok-graph.graph in
-    inr (read.0, network, read.1, (read.2, c.arcs.ensures.limits), inl (err_as _ _ _ c.from_residual-in_err-saved.ensures.1 (order_ends _ network _ c.in_err-saved.ensures.ends), tt))
+    inr (read.0, network, read.1, (read.2, c.in_ok-graph.ensures.limits), inl (err_as _ _ _ c.from_residual-in_err-saved.ensures.1 (order_ends _ network _ c.in_err-saved.ensures.ends), tt))
 
 pub returns-in_err-hierarchy-clause-went : goal.returns-in_err-hierarchy-clause-went
 returns-in_err-hierarchy-clause-went g c =
@@ -23,7 +23,7 @@ returns-in_err-hierarchy-clause-went g c =
     let told = c.in_ok-saved.ensures.value in
     let network = c.in_ok-graph.graph in
     let refused = subst (λ (given : List ℕ). IsOrderFault network given c.in_err-hierarchy.field-0.0) (c.deref.ensures.value ∙ c.order_in-given.ensures) c.in_err-hierarchy.ensures.refused in
-    inr (read.0, network, read.1, (read.2, c.arcs.ensures.limits), inl (err_as _ _ _ c.from_residual-in_err-hierarchy.ensures.1 (order_refused _ network told.0 c.in_ok-saved.saved _ told.1 told.2 refused), tt))
+    inr (read.0, network, read.1, (read.2, c.in_ok-graph.ensures.limits), inl (err_as _ _ _ c.from_residual-in_err-hierarchy.ensures.1 (order_refused _ network told.0 c.in_ok-saved.saved _ told.1 told.2 refused), tt))
 
 pub returns-clause-went : goal.returns-clause-went
 returns-clause-went g c =
@@ -35,4 +35,4 @@ returns-clause-went g c =
     let same = c.deref.ensures.value ∙ c.order_in-given.ensures in
     let each = subst (λ (given : List ℕ). IsOrderOf network.nodes given) same built.order in
     let like = subst (λ (given : List ℕ). IsHierarchyLike network c.args.hops given c.args.fresh H) same built.like.1 in
-    inr (read.0, network, read.1, (read.2, c.arcs.ensures.limits), inr (told.0, H, told.1, (c.in_ok-saved.saved, told.2, each, like, built.like.2), (refl, built.like.3)))
+    inr (read.0, network, read.1, (read.2, c.in_ok-graph.ensures.limits), inr (told.0, H, told.1, (c.in_ok-saved.saved, told.2, each, like, built.like.2), (refl, built.like.3)))

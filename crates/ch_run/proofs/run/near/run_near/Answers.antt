@@ -18,19 +18,19 @@ returns-in_err-lists-clause-went g c =
     let unread = c.node_lists_from.new.targets ≡ c.args.targets.now in
     let later = c.args.output.now ≡ c.args.output.now in
     loads_serving _ _ _ _ _ _ _ _ _ _
-    (λ h place. node_lists_stop Lists sources targets c.in_ok-loaded.loaded.graph.nodes c.in_err-lists.field-0.0 c.from_residual-in_err-lists.result unread later _ c.from_residual-in_err-lists.ensures.1 refl c.in_err-lists.ensures.ends)
+    (λ h place. node_lists_stop Lists sources targets c.in_ok-loaded.loaded.graph.nodes c.in_err-lists.field-0.0 c.from_residual-in_err-lists.result unread later _ c.from_residual-in_err-lists.ensures.1 refl (rw c.graph.ensures.graph at c.in_err-lists.ensures.ends))
     c.in_ok-loaded.ensures.went
 
 pub returns-in_err-text-clause-went : goal.returns-in_err-text-clause-went
 returns-in_err-text-clause-went g c =
-    let lists = c.in_ok-lists.ensures.value in
+    let lists = rw c.graph.ensures.graph at c.in_ok-lists.ensures.value in
     loads_serving _ _ _ _ _ _ _ _ _ _
     (λ h place. sources_on _ _ _ _ _ _ _ lists.0 (λ listed same. inr (lists.1.0, _, lists.1.1, lists.1.2, writes_none _ _ _ _ c.from_residual-in_err-text.ensures.1)))
     c.in_ok-loaded.ensures.went
 
 pub returns-clause-went : goal.returns-clause-went
 returns-clause-went g c =
-    let lists = c.in_ok-lists.ensures.value in
+    let lists = rw c.graph.ensures.graph at c.in_ok-lists.ensures.value in
     loads_serving _ _ _ _ _ _ _ _ _ _
     (λ h place. sources_on _ _ _ _ _ _ _ lists.0
     (λ listed same. inr (

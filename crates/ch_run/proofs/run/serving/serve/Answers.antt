@@ -2,7 +2,6 @@
 use Rattle.std.proofs.Common.{◌≡◌, ℕ, sym, subst, arith}
 use Rattle.std.specs.Prelude.{All}
 use Rattle.ch_hierarchy.specs.Hierarchy.{nodes_of}
-use Rattle.ch_near.specs.Direction.{facing}
 use Rattle.ch_run.specs.Ask.{IsTextOfRequest}
 use Rattle.ch_run.specs.Run.{reading}
 use Rattle.ch_run.specs.Serving.{IsSearched}
@@ -29,5 +28,5 @@ serve_in-requires-clause-room g c = λ kept within.
     let H = c.args.by.now.checked.now.hierarchy in
     record {
       scratches = subst (All (λ (scratch : ℕ). scratch ≡ nodes_of H)) (sym c.new-room.ensures.scratches) (λ k d lt. absurd (omega arith));
-      near = subst (IsSearched (facing options.direction H)) (sym c.new-room.ensures.near) tt;
+      near = subst (IsSearched options.direction c.args.by.now.checked.now) (sym c.new-room.ensures.near) tt;
     }

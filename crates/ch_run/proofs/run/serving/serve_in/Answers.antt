@@ -18,7 +18,7 @@ loop-init g c =
     record {
       room = c.requires.buffer;
       kept = c.requires.room;
-      served = rw (c.new-reader.ensures, c.nodes.ensures, c.requires.none) (served_none P n g.J.Input.read_gives g.O.Output.write_gives c.args.requests.now c.args.output.now);
+      served = rw (c.new-reader.ensures, c.nodes.ensures, c.graph.ensures.graph, c.requires.none) (served_none P n g.J.Input.read_gives g.O.Output.write_gives c.args.requests.now c.args.output.now);
       reads = refl;
     }
 
