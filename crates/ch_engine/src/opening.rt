@@ -1,16 +1,21 @@
 //! Opens a network from bytes, without workers.
 ghost use Rattle.std.specs.Prelude.{IfErr, IfOk};
+ghost use Rattle.ch_graph.specs.Graph.{IsWithinLimits};
+ghost use Rattle.ch_contract.specs.Built.{IsHierarchyBy};
+ghost use Rattle.ch_contract.specs.declared.measure.OrderBy.TheVariants as OrderBy;
 ghost use Rattle.ch_hierarchy.specs.Hierarchy.{nodes_of};
+ghost use Rattle.ch_hierarchy.specs.Kept.{IsKept};
 ghost use Rattle.ch_engine.specs.Opened.{IsOpened, IsOpenedLike};
 ghost use Rattle.ch_engine.specs.Refusals.{IsLikeError, IsOpenError};
 
 use crate::fault::OpenError;
 use crate::network::Network;
+use ch_graph::Graph;
 use ch_hierarchy::{CheckError, Hierarchy};
 use ch_order::{OrderError, build_alone, build_like_alone};
 use ch_query::check_alone;
 use ch_read::{ReadError, read_graph, read_saved};
-use std::alloc::Global;
+use std::alloc::{AllocError, Global};
 
 /// The most legs of a witness, if the hierarchy is built. The command line uses the same number by default.
 const BUILT_HOPS: u32 = 5;
@@ -31,7 +36,7 @@ pub(crate) fn opened(alloc: Global, graph: &[u8], saved: &[u8]) -> Result<Networ
         Err(ReadError::NoMemory) => return Err(OpenError::NoMemory),
     };
     if saved.is_empty() {
-        let built = build_alone(alloc, &roads, BUILT_HOPS)?;
+        let built = built_by_depth(alloc, &roads)?;
         let lined = Network::of(alloc, &roads, built)?;
         return Ok(lined);
     }
@@ -49,6 +54,15 @@ pub(crate) fn opened(alloc: Global, graph: &[u8], saved: &[u8]) -> Result<Networ
     };
     let lined = Network::of(alloc, &roads, right)?;
     Ok(lined)
+}
+
+/// Builds the hierarchy of a graph by depth.
+fn built_by_depth(alloc: Global, roads: &Graph) -> Result<Hierarchy, AllocError>
+    ensures hierarchy { IfOk result (IsHierarchyBy OrderBy.Depth roads.now 5) }
+    ensures kept { IfOk result (IsKept roads.now) }
+    ensures limits { IsWithinLimits roads.now }
+{
+    build_alone(alloc, roads, BUILT_HOPS)
 }
 
 /// Returns the network of the graph that the bytes name. Its hierarchy is built in the order of another one, and the last
