@@ -2,6 +2,7 @@
 ghost use Rattle.std.specs.Prelude.{◌≡◌, IfOk};
 ghost use Rattle.ch_contract.specs.Legs.{IsHopBound};
 
+mod like;
 mod remaining;
 mod workers;
 
