@@ -167,7 +167,7 @@ ELSEWHERE = [
     ("table line.p2p from.ss none.ss", 3, "chtab: cannot read targets\n"),
 ]
 
-# Texts that are no numbers within the ranges of an option, and what is told of them. Numbers just outside of its range come from the table.
+# Texts that are no numbers within the ranges of an option, and the message for each. Numbers just outside of its range come from the table.
 NUMBERS = [
     ("--hops", "x", "invalid value 'x'"),
     ("--workers", "1.5", "invalid value '1.5'"),

@@ -49,7 +49,7 @@ LEAFLET = pathlib.Path("/usr/share/javascript/leaflet")
 ENDS = "A", "B"
 # The least and the most characters of an address, and of a header, that aiohttp reads; the service itself refuses shorter ones by a message.
 LONGEST, LONGEST_OF_ALL = 1 << 16, 1 << 24
-# The methods by which OSRM's interface is asked.
+# The methods that OSRM's interface takes.
 READING = hdrs.METH_GET, hdrs.METH_HEAD
 # A pair of nodes whose distance is asked for to check an engine.
 PROBE = numpy.array([[1, 1]])
