@@ -212,7 +212,8 @@ uint32_t chtab_routes(chtab *handle, const uint32_t *sources, size_t sources_len
  * their arcs are those that chtab_routes gives. weights[k] is the weight of the route, or CHTAB_NO_DISTANCE if there is no
  * walk. sums[k] is the sum of the values on the lines of its arcs, such as the metres of the fastest route, and 0 if there is
  * no walk. values[j] is the value of line j, and values_len is the number of arcs of the graph's file. targets_len,
- * weights_len and sums_len are sources_len.
+ * weights_len and sums_len are sources_len. A call with many pairs keeps a copy of the values with the handle, and a word for
+ * each leg of the hierarchy, until a call with many pairs has other values: calls with the same ones are quicker.
  * Errors: CHTAB_CLOSED, CHTAB_LENGTHS, CHTAB_NODE_RANGE. With CHTAB_SUM_TOO_LARGE or CHTAB_NO_MEMORY the weights and sums of
  * the first pairs are written, and `pairs` is their number: the sum of the next pair is 2^64 or more, or there is no memory
  * for its route. */

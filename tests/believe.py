@@ -135,14 +135,14 @@ def page_seconds():
 
 def piece_seconds(piece):
     """How long a piece of the file takes, by the same measure. Its comments are words."""
-    lines = [line for line in piece.splitlines() if line.strip()]
+    lines = [line for line in piece.splitlines() if line.strip(" })")]
     comments = [line for line in lines if line.startswith("--")]
     return WORD * len(re.findall(r"\w[\w.,'-]*", " ".join(comments))) + LINE * (len(lines) - len(comments))
 
 
 def count_lines(piece):
-    """The lines of a piece that are neither empty nor comments."""
-    return sum(bool(line.strip()) and not line.startswith("--") for line in piece.splitlines())
+    """The lines of a piece that are neither empty nor comments, nor close a bracket and do nothing else."""
+    return sum(bool(line.strip(" })")) and not line.startswith("--") for line in piece.splitlines())
 
 
 def check_claim(tally, pieces, std):
@@ -171,7 +171,7 @@ def check_way(tally, page):
     """The lines of definitions between the command and the clause, and of the code outside of contracts, are counted as they are."""
     for row in re.findall(r"^\|.*\]\(\.\./crates/.*specs/.*\|$", page, re.MULTILINE):
         files = [(ROOT / path).read_text() for path in re.findall(r"\]\(\.\./(crates/[^)]+)\)", row)]
-        lines = [line for text in files for line in text.splitlines() if line.strip() and not line.startswith(("--", "use ", "ghost use "))]
+        lines = [line for text in files for line in text.splitlines() if line.strip(" })") and not line.startswith(("--", "use ", "ghost use "))]
         tally.expect(row.endswith(f"| {len(lines)} |"), f"BELIEVE.md: {len(lines)} lines, not as in {row}")
     code = [line for name in ("main", "system") for line in (ROOT / f"crates/chtab/src/{name}.rt").read_text().splitlines()]
     count = sum(bool(line.strip()) and not line.lstrip().startswith("//") for line in code)

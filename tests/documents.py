@@ -255,7 +255,7 @@ def all_in(tally, path, pattern):
 def limits():
     """The value of each constant that is a limit."""
     values = {}
-    for file in "ch_graph/src/limits.rt", "ch_work/src/limits.rt", "ch_run/src/options.rt":
+    for file in "ch_graph/src/limits.rt", "ch_work/src/limits.rt", "ch_job/src/options.rt":
         for name, value in re.findall(r"^pub const (\w+): \w+ = (.*);", (ROOT / "crates" / file).read_text(), re.MULTILINE):
             values[name] = eval(re.sub(r"limits::| as u\d+", "", value), {}, dict(values))
     return values
@@ -442,6 +442,14 @@ def check_first_lines(tally):
         tally.expect(re.match(opening, path.read_text()), f"{told(path)} does not say in its first line what it is about")
 
 
+def check_columns(tally):
+    """No line of specs and proofs is too long to be read, and none leaves many arguments without a name."""
+    for path in sorted([*ROOT.glob("crates/*/specs/**/*.antt"), *ROOT.glob("crates/*/proofs/**/*.antt")]):
+        lines = list(enumerate(path.read_text().splitlines(), 1))
+        tally.expect(not (found := [number for number, line in lines if len(line) > 140]), f"{told(path)} has lines of over 140 columns: {found}")
+        tally.expect(not (found := [number for number, line in lines if " _" * 8 in line]), f"{told(path)} leaves eight arguments in a row without a name: {found}")
+
+
 def check_text(tally, path):
     """A file of text has none of the strange words."""
     try:
@@ -476,6 +484,7 @@ def main():
     check_docstrings(tally)
     check_parts(tally)
     check_first_lines(tally)
+    check_columns(tally)
     layers.check_layers(tally)
     layers.check_times(tally)
     for path in tracked():

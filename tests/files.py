@@ -7,7 +7,7 @@ COUNT runs, 2,000 where it is left out, are drawn from the seed: small files tha
 lines and bytes, with huge numbers, without line feeds, with CR, NUL and bytes beyond ASCII; saved hierarchies with legs that are
 left out, doubled or changed; and orders, with legs of other weights or without. For each the fault line and the status are compared, and where all files are accepted the text, by
 Dijkstra's algorithm. Then files of 50 and 100 MB are read, in
-linear time and bounded memory. The last line is 'N passed, N failed', where each run of the program is counted.
+linear time and bounded memory, and orders whose three million legs take no memory. The last line is 'N passed, N failed', where each run of the program is counted.
 """
 import os
 import random
@@ -271,6 +271,20 @@ def read_long(tally, folder, what, front, part, times, back, wanted):
     tally.expect(taken[1] <= min(MOST_SECONDS, 3 * taken[0] + 1), f"{what}: {taken[0]} and then {taken[1]} seconds")
 
 
+def read_long_orders(tally, folder):
+    """Runs the program on an order with many legs, of which the last has a fault or none. The legs are judged, and take no memory."""
+    (folder / "line.gr").write_text("p sp 2 1\na 1 2 7\n")
+    front, leg, count = b"p ch 2 3000001\no 2\no 1\n", b"l 1 2 7 1 0\n", 3_000_000
+    refused = Answer(1, b"", b"chtab: order line %d: node out of range\n" % (3 + count + 1))
+    for last, wanted in (leg, Answer(0, b"d 1 2 7\n", b"")), (leg.replace(b"2", b"3"), refused):
+        write_long(folder / "long.ch", front, leg, count, last)
+        size = (folder / "long.ch").stat().st_size
+        for workers in "1", "2":
+            answer, _, held = measured(folder, ["dist", "--workers", workers, "--like", "long.ch", "line.gr", "one.p2p"])
+            tally.expect(answer == wanted, f"an order with {count} legs by {workers} workers: {answer}")
+            tally.expect(held <= 2 * size + MORE_BYTES // 4, f"an order with {count} legs by {workers} workers: {held} bytes held for {size}")
+
+
 def main():
     how_many = int(sys.argv[1]) if len(sys.argv) > 1 else 2000
     seed = sys.argv[2] if len(sys.argv) > 2 else "faulty files"
@@ -282,6 +296,7 @@ def main():
         (folder / "one.p2p").write_text("p aux sp p2p 1\nq 1 2\n")
         for long_file in LONG:
             read_long(tally, folder, *long_file)
+        read_long_orders(tally, folder)
     tally.finish()
 
 

@@ -10,6 +10,7 @@ by tests/library/fuzz.py. The last line is 'N passed, N failed'.
 """
 import argparse
 import ctypes
+import itertools
 import random
 import re
 import shutil
@@ -36,6 +37,8 @@ GRAPHS = ROOT / "examples/first.gr", ROOT / "examples/liechtenstein.gr"
 STATUS = statuses()
 # How many questions of each kind are compared on a graph.
 ASKED = 400
+# The sources, and the targets, of a table of sums: so many that it is worth their time to find a tree for each.
+SIDE = 16
 # What valgrind says of memory that is left. Other programs are found by their exit status.
 VALGRIND = "valgrind", "--quiet", "--leak-check=full", "--errors-for-leak-kinds=all", "--error-exitcode=9"
 
@@ -217,6 +220,26 @@ def compare_many_routes(tally, library, graph, hierarchy):
         tally.expect(library.route_sums(handle, sources, targets, values) == (0, len(sources), weights, sums), f"{graph.name}: sums along routes")
     for begin, end, weight in zip([0, *told[3]], told[3], weights):
         tally.expect(begin == end or sum(arcs[line][2] for line in lines[begin + 1:end]) == weight, f"{graph.name}: the weights on the lines of a route")
+    library.close(handle)
+
+
+def compare_table_sums(tally, library, graph, hierarchy):
+    """Sums along the routes of all pairs of a table are those on the lines of these routes, for the same values again and for others."""
+    count, arcs = graph_of(graph)
+    draw = random.Random(f"library sums of tables {graph.name}")
+    status, handle, _ = library.open(graph.read_bytes(), hierarchy.read_bytes())
+    rows, columns = ([draw.randrange(count) for _ in range(SIDE)] for _ in range(2))
+    sources, targets = map(list, zip(*itertools.product(rows, columns)))
+    room = sum(library.route(handle, source, target, count)[2] for source, target in zip(sources, targets))
+    _, _, weights, ends, _, lines = library.routes(handle, sources, targets, room, lines_room=room)
+    first, second = ([draw.randrange(1 << 40) for _ in arcs] for _ in range(2))
+    changed = [*first]
+    for line in {*lines} - {ALL}:
+        changed[line] += 1
+    for values in first, first, second, changed, first:
+        sums = [sum(values[line] for line in lines[begin + 1:end]) for begin, end in zip([0, *ends], ends)]
+        told = library.route_sums(handle, sources, targets, values)
+        tally.expect(told == (0, len(sources), weights, sums), f"{graph.name}: sums along the routes of a table")
     library.close(handle)
 
 
@@ -489,6 +512,7 @@ def main():
             compare_answers(tally, folder, library, graph, saved[graph])
             compare_near(tally, folder, library, graph, saved[graph])
             compare_many_routes(tally, library, graph, saved[graph])
+            compare_table_sums(tally, library, graph, saved[graph])
             compare_sums(tally, library, graph, saved[graph])
             compare_built(tally, library, graph)
             compare_like(tally, library, graph)

@@ -3,6 +3,7 @@
 
 What needs a package that is missing is told and left out. The last line is 'N passed, N failed'.
 """
+import asyncio
 import concurrent.futures
 import contextlib
 import http.client
@@ -12,6 +13,7 @@ import re
 import signal
 import socket
 import subprocess
+import threading
 import time
 import urllib.parse
 
@@ -27,8 +29,13 @@ from helpers.running import PROGRAM, ROOT
 from helpers.serving import by_both, words_of_library
 import chtab
 from chtab.roads import snapping
+from chtab.server import queue
 
 FIRST_SAVED = ROOT / "examples" / "first.ch"
+# Seconds between two parts of a request, so that they come one by one.
+PAUSE = 0.02
+# More requests than have room for their answers in a socket.
+MANY = 1_500
 VADUZ, ESCHEN, SEA = [9.5209, 47.1410], [9.5450, 47.2200], [9.5, 46.0]
 
 
@@ -234,6 +241,148 @@ def answers_end_where_they_say():
     assert found == b"" and len(texts) == 2 and json.loads(max(texts))["code"] == "Ok", (found, texts)
 
 
+class Stream:
+    """A connection on which requests are sent as they are, and answers are read one by one."""
+
+    def __init__(self, address, room=None):
+        self.client = socket.socket()
+        self.client.settimeout(60)
+        self.client.setsockopt(socket.IPPROTO_TCP, socket.TCP_NODELAY, 1)
+        if room is not None:
+            self.client.setsockopt(socket.SOL_SOCKET, socket.SO_RCVBUF, room)
+        self.client.connect((address.hostname, address.port))
+        self.file = self.client.makefile("rb")
+
+    def send(self, *parts):
+        """Sends parts of a request, each by itself."""
+        for part in parts:
+            self.client.sendall(part)
+            if len(parts) > 1:
+                time.sleep(PAUSE)
+
+    def answer(self, has_body=True):
+        """The status, the headers and the body of the next answer; None where the connection was closed."""
+        status = self.file.readline().split()
+        if not status:
+            return None
+        headers = http.client.parse_headers(self.file)
+        return int(status[1]), headers, self.file.read(int(headers["Content-Length"])) if has_body else b""
+
+    def close(self):
+        self.file.close()
+        self.client.close()
+
+
+def each_form_of_a_request_has_the_same_answer():
+    """Requests in one piece and in several, with and without a body: the answer has the same headers and the same body. What follows on the connection
+    is answered too, and a body of a request is no request."""
+    target = b"/route/v1/car/%f,%f;%f,%f?steps=true" % (*VADUZ, *ESCHEN)
+    plain, wrong = b"GET %s HTTP/1.1\r\nHost: x\r\n\r\n" % target, b"GET %s&x=1 HTTP/1.1\r\nHost: x\r\n\r\n" % target
+    middle = len(plain) // 2
+    forms = (
+        [plain.replace(b"Host: x", b"connection: keep-alive\r\nHOST:x")], [plain[:1], plain[1:]], [plain[:middle], plain[middle:]], [plain[:-1], plain[-1:]],
+        [plain.replace(b";", b"%3B")], [plain.replace(b"GET /", b"GET http://x/")],
+        [plain.replace(b"\r\n\r\n", b"\r\nContent-Length: 0\r\n\r\n")], [plain.replace(b"Host: x", b"Host: \xc3\xa4")],
+        [plain.replace(b"\r\n\r\n", b"\r\nContent-Length: %d\r\n\r\n" % len(wrong)), wrong],
+        [plain.replace(b"\r\n\r\n", b"\r\nTransfer-Encoding: chunked\r\n\r\n"), b"%x\r\n%s\r\n0\r\n\r\n" % (len(wrong), wrong)],
+        [plain.replace(b"Host: x", b"Host: x\r\nX-Long: " + 20_000 * b"x")],
+    )
+    with service() as address:
+        with contextlib.closing(Stream(address)) as stream:
+            stream.send(plain)
+            status, headers, body = stream.answer()
+            assert status == 200 and json.loads(body)["code"] == "Ok", (status, body)
+            stream.send(wrong)
+            status, of_wrong, told = stream.answer()
+            assert (status, json.loads(told)["code"]) == (400, "InvalidQuery"), (status, told)
+        for form in forms:
+            with contextlib.closing(Stream(address)) as stream:
+                stream.send(*form)
+                found = stream.answer()
+                assert found[0] == 200 and found[2] == body and names_of(found[1]) == names_of(headers), (form, found)
+                stream.send(plain)
+                assert stream.answer()[2] == body, form
+                stream.send(wrong)
+                found = stream.answer()
+                assert (found[0], found[2]) == (400, told) and names_of(found[1]) == names_of(of_wrong), (form, found)
+        with contextlib.closing(Stream(address)) as stream:
+            stream.send(plain.replace(b"Host: x", b"Connection: close"))
+            assert stream.answer()[2] == body and stream.answer() is None
+
+
+def names_of(headers):
+    """The names of headers, and their values but for the time and the length."""
+    return {name.lower(): value for name, value in headers.items() if name.lower() not in ("date", "content-length")}
+
+
+def answers_come_in_the_order_of_requests():
+    """While a request waits for its answer, further ones come on the same connection, together and in parts: none overtakes it."""
+    target = b"/route/v1/car/%f,%f;%f,%f" % (*VADUZ, *ESCHEN)
+    good, wrong, other = (text % target for text in (b"GET %s HTTP/1.1\r\n\r\n", b"GET %s?x=1 HTTP/1.1\r\n\r\n", b"PUT %s HTTP/1.1\r\nContent-Length: 0\r\n\r\n"))
+    with mood("slow=1"), service(program=STANDIN) as address:
+        for rest, wanted in ([wrong, wrong], [400, 400]), ([wrong + good, wrong], [400, 200, 400]), ([other, wrong], [405, 400]), ([wrong[:9], wrong[9:]], [400]):
+            with contextlib.closing(Stream(address)) as stream:
+                stream.send(good, *rest)
+                found = [stream.answer()[0] for _ in range(1 + len(wanted))]
+                assert found == [200, *wanted], (rest, found)
+
+
+def a_client_that_takes_no_answers_is_held_up():
+    """A client that sends more and more requests and takes no answer: the service reads no more of them, and answers all once the client does."""
+    query = b"steps=true&overview=full&annotations=true&geometries=geojson"
+    request = b"GET /route/v1/car/%f,%f;%f,%f?%s HTTP/1.1\r\n\r\n" % (*VADUZ, *ESCHEN, query)
+    with service() as address, contextlib.closing(Stream(address, 4_096)) as stream:
+        sent = 0
+        while sent < MANY and answered_routes(address) == sent:
+            stream.send(request)
+            sent, until = sent + 1, time.monotonic() + 2
+            while answered_routes(address) < sent and time.monotonic() < until:
+                time.sleep(0.001)
+        assert 1 < sent < MANY and {stream.answer()[0] for _ in range(sent)} == {200}, sent
+        assert answered_routes(address) == sent
+
+
+def answered_routes(address):
+    """How many requests for routes the service has answered."""
+    connection = http.client.HTTPConnection(address.hostname, address.port, timeout=60)
+    with contextlib.closing(connection):
+        connection.request("GET", "/metrics")
+        found = re.search(r'service="route",status="200"} (\d+)', connection.getresponse().read().decode())
+    return int(found[1]) if found else 0
+
+
+def the_loop_answers_for_a_moment_alone():
+    """Questions that are answered together in the loop take less than its moment, also where each takes longer than those before; and more of them
+    are answered together where each takes less."""
+    async def sizes(micros, count):
+        """How many questions of so many microseconds were answered together, in the loop."""
+        found, loop = [], threading.get_ident()
+
+        def answered(questions):
+            begun = time.thread_time()
+            while time.thread_time() < begun + micros[0] * 1e-6 * len(questions):
+                pass
+            if threading.get_ident() == loop:
+                found.append(len(questions))
+            return questions
+
+        turns = queue.Turns(2, 10_000, 64)
+        all_of_them = []
+        for each in micros[1:]:
+            micros[0] = each
+            told = await asyncio.gather(*(turns.answer("x", queue.Asked(answered, k, True, 1, True), lambda: False) for k in range(count)))
+            assert told == list(range(count))
+            all_of_them.append([*found])
+            found.clear()
+        turns.close()
+        return all_of_them
+
+    first, then, last = asyncio.run(sizes([0, 500, 1_000, 10], 1_000))
+    most = queue.MOMENT / 1e-3
+    assert max(first) <= most / 0.5 and max(then[1:]) <= most and min(then[1:-1]) > 4, (first, then)
+    assert max(last) == 64, last
+
+
 def numbers_that_are_none_are_refused():
     """Numbers past any range, of hundreds of digits, and what JSON has no word for: each is a fault of the client's, with a line."""
     huge, place = "1" + "0" * 400, json.dumps(VADUZ)
@@ -268,6 +417,8 @@ SERVICE = "python3-aiohttp", "python3-numpy", "python3-scipy", "python3-shapely"
 GROUPS = (
     (SERVICE, [
         health_is_told_at_once, answers_end_where_they_say, clients_that_do_nothing_are_dropped, ports_that_are_none, what_the_library_lacks_is_told,
+        the_loop_answers_for_a_moment_alone, answers_come_in_the_order_of_requests,
+        *by_both(each_form_of_a_request_has_the_same_answer, a_client_that_takes_no_answers_is_held_up),
         *by_both(places_that_are_too_far, pages_of_other_sites_may_ask, many_clients_get_their_own_answers, numbers_that_are_none_are_refused),
     ]),
 )

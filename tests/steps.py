@@ -23,7 +23,7 @@ from oracles import mapping, telling
 import chtab
 from chtab import files
 from chtab.maps import profiles
-from chtab.server.osrm import answering, url
+from chtab.server.osrm import answering, drawing, options, passing, url
 
 # A thousandth of a degree is 111.195 m on the equator.
 UNIT = 1_000
@@ -238,6 +238,38 @@ def steps_add_up():
                 assert leg["summary"] == "" and {step["name"] for step in leg["steps"]} == {""} and "driving_side" not in leg["steps"][0]
 
 
+def what_is_kept_changes_no_answer():
+    """Routes that are answered together, and again from what is kept, are those that are answered alone and for the first time."""
+    tool("osm_to_gr", "--quiet", "--bends", "--names", f"{COUNTRY}.osm.bz2", "country")
+    draw = random.Random("kept")
+    with chtab.Network.open("country.gr", program=PROGRAM) as network:
+        streets, known = files.read_streets("country.names", len(network.roads.tails)), network.coordinates.known()
+
+        def place():
+            return tuple(part + draw.choice((0, 0, 0.0005)) * draw.gauss(0, 1) for part in network.coordinates.of(draw.choice(known)))
+
+        targets = []
+        for _ in range(60):
+            places = [place() for _ in range(draw.choice((2, 2, 3)))]
+            places[-1] = draw.choice((places[-1], places[-1], places[0]))
+            query = f"steps=true&geometries={draw.choice(options.FORMS)}&overview={draw.choice(('full', 'false', 'simplified'))}"
+            targets.append(f"/route/v1/x/{';'.join(f'{x:.7f},{y:.7f}' for x, y in places)}?{query}")
+
+        def answers_of(*groups):
+            answers = answering.Answers(network, (), answering.Limits(), streets)
+            return [text for group in groups for text in answers.routes([answers.question(url.words_of(target, 1 << 16)) for target in group])]
+
+        alone = [text for target in targets for text in answers_of([target])]
+        assert all('"maneuver"' in text for text in alone)
+        assert answers_of(targets) == alone and answers_of(targets, targets[::-1], targets) == alone + alone[::-1] + alone
+        most, passing.MOST_WAYS, drawing.MOST_TEXTS = (passing.MOST_WAYS, drawing.MOST_TEXTS), 100, 100
+        try:
+            groups = [targets[first:first + 5] for first in range(0, len(targets), 5)]
+            assert answers_of(*groups, *groups) == alone + alone
+        finally:
+            passing.MOST_WAYS, drawing.MOST_TEXTS = most
+
+
 def check_leg(leg):
     steps = leg["steps"]
     assert [step["maneuver"]["type"] for step in (steps[0], steps[-1])] == ["depart", "arrive"]
@@ -389,7 +421,7 @@ def path_of(teller, start, end, nodes):
 GROUPS = (
     (("python3-numpy", "python3-scipy", "python3-shapely"), [
         turns_at_a_cross, where_roads_end_and_bend, slight_ways, fast_roads, exits_of_rings, restrictions_close_branches,
-        *both(steps_add_up), random_maps_agree_with_the_other_teller,
+        *both(steps_add_up, what_is_kept_changes_no_answer), random_maps_agree_with_the_other_teller,
     ]),
 )
 

@@ -8,7 +8,7 @@ import options
 # What the steps change by hand, as (file, text, its replacement): the option --beyond R of `table`, whose value reaches the runs as that of
 # --within does. A text that is empty is that of a new file.
 BY_HAND = (
-    # Its row in the table, the tool that has it, and the field for its value.
+    # Its row in the table, and the tool that has it.
     ("crates/ch_words/src/options.rt", "/// Write at most the K nearest targets", '''/// Leave out distances below R.
 const BEYOND: Row = Row {
     name: "beyond",
@@ -23,35 +23,29 @@ const BEYOND: Row = Row {
 /// Write at most the K nearest targets'''),
     ("crates/ch_words/src/options.rt", "fn table_options() -> [Row; 2]", "fn table_options() -> [Row; 3]"),
     ("crates/ch_words/src/options.rt", "[WITHIN, SAVED]", "[WITHIN, BEYOND, SAVED]"),
-    ("crates/ch_words/src/options.rt", "    pub within: Option<u64>,\n", '''    pub within: Option<u64>,
+    # The option of a run, and its range.
+    ("crates/ch_job/src/options.rt", "    pub within: Option<u64>,\n", '''    pub within: Option<u64>,
     /// The least distance that a table reports, if there is a limit.
     pub beyond: Option<u64>,
 '''),
-    # Its rule, its range, and the value that the line gets.
-    ("crates/ch_words/specs/Line.antt", "table_rules = within_rule ∷", 'table_rules = within_rule ∷ limit_rule (codes "beyond") 0 MOST_WEIGHT ∷'),
-    ("crates/ch_words/specs/Line.antt", "  pub count : IfSome line.choices.count IsCount\n", '''  pub beyond : IfSome line.choices.beyond (λ most. most ≤ MOST_WEIGHT)
-  pub count : IfSome line.choices.count IsCount
+    ("crates/ch_job/specs/Job.antt", "  pub count : IfSome job.options.count IsCount\n", '''  pub beyond : IfSome job.options.beyond (λ most. most ≤ MOST_WEIGHT)
+  pub count : IfSome job.options.count IsCount
 '''),
-    ("crates/ch_words/specs/Line.antt", '''  pub count : line.choices.count ≡ number_in given (codes "count")
-''', '''  pub beyond : line.choices.beyond ≡ number_in given (codes "beyond")
-  pub count : line.choices.count ≡ number_in given (codes "count")
+    ("crates/ch_run_checks/src/runs.rt", "    within: None,\n", "    within: None,\n    beyond: None,\n"),
+    # Its rule, and the value that the line gets.
+    ("crates/ch_words/specs/Line.antt", "table_rules = within_rule ∷", 'table_rules = within_rule ∷ limit_rule (codes "beyond") 0 MOST_WEIGHT ∷'),
+    ("crates/ch_words/specs/Line.antt", '''  pub count : line.job.options.count ≡ number_in given (codes "count")
+''', '''  pub beyond : line.job.options.beyond ≡ number_in given (codes "beyond")
+  pub count : line.job.options.count ≡ number_in given (codes "count")
 '''),
     # The code that reads it.
-    ("crates/ch_words/src/given.rt", '''    ensures count { IfOk result (λ choices. choices.count''', '''    ensures beyond { IfOk result (λ choices. choices.beyond ≡ number_in (rows_of (found_of matches.now)) (codes "beyond")) }
-    ensures great_limit { IfOk result (λ choices. IfSome choices.beyond (λ most. most ≤ MOST_WEIGHT)) }
-    ensures count { IfOk result (λ choices. choices.count'''),
+    ("crates/ch_words/src/given.rt", '''    ensures count { IfOk result (λ options. options.count''', '''    ensures beyond { IfOk result (λ options. options.beyond ≡ number_in (rows_of (found_of matches.now)) (codes "beyond")) }
+    ensures great_limit { IfOk result (λ options. IfSome options.beyond (λ most. most ≤ MOST_WEIGHT)) }
+    ensures count { IfOk result (λ options. options.count'''),
     ("crates/ch_words/src/given.rt", '''        within: limit_given(matches, "within", MOST_WEIGHT)?,
 ''', '''        within: limit_given(matches, "within", MOST_WEIGHT)?,
         beyond: limit_given(matches, "beyond", MOST_WEIGHT)?,
 '''),
-    # The option of a run.
-    ("crates/ch_run/src/options.rt", "    pub within: Option<u64>,\n", '''    pub within: Option<u64>,
-    /// The least distance that a table reports, if there is a limit.
-    pub beyond: Option<u64>,
-'''),
-    ("crates/ch_run_checks/src/runs.rt", "    within: None,\n", "    within: None,\n    beyond: None,\n"),
-    ("crates/ch_line/specs/Line.antt", "  within = choices.within;\n", "  within = choices.within;\n  beyond = choices.beyond;\n"),
-    ("crates/ch_line/src/run.rt", "        within: choices.within,\n", "        within: choices.within,\n        beyond: choices.beyond,\n"),
     # A planted bug, a test of the answers, and the note for users.
     ("crates/ch_words/planted/the_upper_limit_is_taken_for_the_lower.edit", "", '''file: src/given.rt
 old: limit_given(matches, "beyond", MOST_WEIGHT)

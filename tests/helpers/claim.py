@@ -8,7 +8,7 @@ from pathlib import Path
 from helpers.running import ROOT
 
 FILE = ROOT / "docs" / "claim.antt.txt"
-COLUMNS = 134
+COLUMNS = 140
 HEAD = """\
 -- What a distance of chtab rests on, in the order in which it is read. The page docs/BELIEVE.md goes with it.
 --

@@ -239,7 +239,7 @@ static uint32_t write_sums(void) {
 }
 
 /* Whether the call goes on without some of its memory, if that request alone is refused. Building does so: it packs its lists of legs, and
- * asks again. */
+ * asks again. So do sums along routes, which then search for each pair. */
 static int goes_on = 0;
 
 /* Refuses one request more or less each time, until the call meets no refusal. */
@@ -308,7 +308,9 @@ static void refuse_questions(void) {
     }
     refuse_each(write_routes, NULL, "routes");
     read_values();
+    goes_on = 1;
     refuse_each(write_route_sums, NULL, "sums along routes");
+    goes_on = 0;
     free(g.values);
     g.whole = 0;
     for (k = 0; k < 64; k++) {

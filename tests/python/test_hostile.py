@@ -370,11 +370,14 @@ def test_a_sweep_without_memory_is_left_out():
         assert all(numpy.array_equal(getattr(found, name), getattr(wanted, name)) for name in ("offsets", "places", "weights"))
 
 
-def test_a_call_of_seconds_hears_ctrl_c():
+def test_a_call_of_seconds_hears_ctrl_c(monkeypatch):
     """Each call of the library that may take long is broken off within a second, and what it leaves behind answers on."""
     import hashlib
 
-    from chtab.engine import library
+    from chtab.engine import in_process, library
+
+    # In a small network calls of a few hundred searches are made at once, because they take some milliseconds.
+    monkeypatch.setattr(in_process, "SMALL", 0)
 
     def slow(call):
         """The call behind some seconds of C that hears no signal."""

@@ -10,6 +10,7 @@ import subprocess
 import sys
 import threading
 import time
+import tomllib
 
 import pytest
 
@@ -90,6 +91,16 @@ def test_what_is_told_of_the_package():
     with chtab.Network.open(FIRST, program=PROGRAM) as network:
         assert repr(network) == f"<chtab.Network {FIRST}: 3 nodes>" and repr(network.routes([(1, 3)])) == f"<1 routes on {FIRST}>"
     assert repr(network).endswith("3 nodes, closed>")
+
+
+@needs("python3-packaging")
+def test_versions_of_aiohttp_with_known_faults_are_refused():
+    """The package wants Debian's version, whose faults are mended, or one since 3.9.2."""
+    from packaging.requirements import Requirement
+
+    extras = tomllib.loads((ROOT / "python" / "pyproject.toml").read_text())["project"]["optional-dependencies"]
+    [wanted] = [each.specifier for each in map(Requirement, extras["page"]) if each.name == "aiohttp"]
+    assert [version for version in ("3.8.3", "3.8.4", "3.8.5", "3.8.6", "3.9.0", "3.9.1", "3.9.2", "3.10.0") if version in wanted] == ["3.8.4", "3.9.2", "3.10.0"]
 
 
 @needs("python3-numpy")

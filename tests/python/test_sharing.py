@@ -36,6 +36,8 @@ GRAPH = f"{COUNTRY}.gr"
 # Tables of each way to share, in parts of so many; the seconds after which a way has hung.
 TABLES, PART = 1_000, 50
 PATIENCE = 120
+# How many questions are broken off, and how many are answered, at least.
+ENOUGH = 60
 WAYS = "fork", "spawn", "forkserver"
 # The network that forked processes find, and its nodes with the distances between them.
 NETWORK = None
@@ -193,24 +195,28 @@ def test_tasks_of_a_process_share_a_run():
 
 
 def interrupted(network, send):
-    """Asks again and again while something breaks questions off: how many were, and how many answered. No answer is wrong."""
+    """Asks again and again while something breaks questions off, until enough of them were broken off, and enough had an answer: how many of each.
+    No answer is wrong."""
     draw, (nodes, wanted), broken, answered = random.Random("broken off"), known(), 0, 0
-    until = time.monotonic() + 8
-    while time.monotonic() < until:
+    latest = 0.2
+    while min(broken, answered) < ENOUGH:
+        before, late = answered, draw.choice([0.002, latest])
         # Half of the times while a run begins, and half while it answers.
-        late = draw.choice([0.002, 0.2])
         try:
-            send(draw.uniform(0, late))
+            sender = send(draw.uniform(0, late))
             for _ in range(10_000):
                 row, column = draw.randrange(40), draw.randrange(40)
                 assert network.table(nodes[row], nodes[column])[0, 0] == wanted[row, column]
                 answered += 1
-                # What was sent may have come where Python passes it over, as in a destructor.
-                if time.monotonic() > until:
-                    break
+            if sender is not None:
+                # What is sent comes before the next round.
+                sender.join()
             time.sleep(late)
         except (KeyboardInterrupt, Stopped):
             broken += 1
+            # On a machine with other work a run may take longer to begin than this.
+            if answered == before and late == latest:
+                latest *= 1.5
     return broken, answered
 
 
@@ -225,19 +231,25 @@ def test_what_is_broken_off_leaves_no_answer():
         raise KeyboardInterrupt
 
     def end_thread(seconds):
-        threading.Timer(seconds, ctypes.pythonapi.PyThreadState_SetAsyncExc, (ctypes.c_ulong(threading.get_ident()), ctypes.py_object(Stopped))).start()
+        words = ctypes.c_ulong(threading.get_ident()), ctypes.py_object(Stopped)
+        sender = threading.Timer(seconds, ctypes.pythonapi.PyThreadState_SetAsyncExc, words)
+        sender.start()
+        return sender
+
+    def wake(seconds):
+        signal.setitimer(signal.ITIMER_REAL, max(seconds, 1e-5), 1)
 
     with network_of_country() as network:
         held, before = descriptors(), signal.signal(signal.SIGALRM, alarm)
         try:
-            found = interrupted(network, lambda seconds: signal.setitimer(signal.ITIMER_REAL, max(seconds, 1e-5), 1))
+            found = interrupted(network, wake)
         finally:
             signal.setitimer(signal.ITIMER_REAL, 0)
             signal.signal(signal.SIGALRM, before)
-        assert min(found) > 20, found
+        assert min(found) >= ENOUGH, found
         with concurrent.futures.ThreadPoolExecutor(1) as threads:
             found = threads.submit(interrupted, network, end_thread).result(PATIENCE)
-        assert min(found) > 20, found
+        assert min(found) >= ENOUGH, found
         time.sleep(0.5)
         assert wrong_tables(network, 5) == 0
         gc.collect()

@@ -9,7 +9,8 @@ pub use mir.Syntax.{ty_ptr}
 pub use mir.Val.{Val, vstruct, vcons, vnil, vunit, of_list, has_ty, WT}
 pub use contract.Monad.{fact, fact_i}
 pub use contract.Running.{tables}
-pub use types.Kit.{‵, raw, ◌⊛◌, some, later, prop, at_ret, ◌$◌, ◌∵◌, !, qed, done, move, keep, drop, use0, use1, use2, split, join, fsplit, fjoin, feq_i, feq_l, pick, await, rewrite, suffices, frame, group}
+pub use types.Kit.{‵, raw, ◌⊛◌, some, later, prop, at_ret, ◌$◌, ◌∵◌, !, qed, done, move, keep, drop, use0, use1, use2, split, join}
+pub use types.Kit.{fsplit, fjoin, feq_i, feq_l, pick, await, rewrite, suffices, frame, group}
 pub use types.Part.{whole, sub, agg}
 pub use types.Run.{enter, of_opd, lit, stop, fld, no_more, and_then, assigns_last, first, blocks, skips, exec, returns}
 pub use types.ByLocal.{alloc_all, pass_all, free_all, look_at, get, get_in, sets, lands_as, lands_last, env}

@@ -1,6 +1,7 @@
 -- The machine's words of a box, of its parts, and of an engine behind a pointer without a type. Each is a pointer and
 -- an allocator.
-use Rattle.ch_c.proofs.Steps.{◌≡◌, List, [], ◌∷◌, ◌++◌, refl, Val, vstruct, vcons, vnil, vunit, has_ty, WT, T, ty_ptr, lit<, of_list, ap, ◌∙◌}
+use Rattle.ch_c.proofs.Steps.{◌≡◌, List, [], ◌∷◌, ◌++◌, refl, Val, vstruct, vcons, vnil, vunit, has_ty, WT, T, ty_ptr, lit<}
+use Rattle.ch_c.proofs.Steps.{of_list, ap, ◌∙◌}
 use mathlib.Core.Bool.{true, ◌&&◌}
 use denote.Laws.{Is}
 use denote.RattleType.{RattleType}
@@ -32,7 +33,10 @@ word p alloc = vstruct (vcons (ptr_val p) (vcons (heap_word alloc) vnil))
 
 -- the fields of an erased engine have this word
 pub fields_word : (p : Ptr) (alloc : Heap.the_row.Denot) → Is Fields.the_row (record { at = p; alloc = alloc }) (word p alloc ∷ [])
-fields_word p alloc = ((ptr_val p ∷ [], (heap_word alloc ∷ [], tt)), (refl, (refl, (((vstruct (vcons vunit vnil) ∷ [], tt), (refl, (((vunit ∷ [], tt), (refl, (refl, tt))), tt))), tt))))
+fields_word p alloc = (
+  (ptr_val p ∷ [], (heap_word alloc ∷ [], tt)),
+  (refl, (refl, (((vstruct (vcons vunit vnil) ∷ [], tt), (refl, (((vunit ∷ [], tt), (refl, (refl, tt))), tt))), tt))),
+)
 
 -- a box of a value
 abbrev pub Boxed : RattleType → Owning
@@ -40,7 +44,16 @@ Boxed R = Box.the_type R Heap.the_row ghosts
 
 -- an allocator as a type argument
 abbrev pub heap_laws : struct.FLaws (row_field Heap.the_row)
-heap_laws = let word_is = struct.tells Heap.the_type heap.the_laws in record { val = heap_word; tells = word_is; low = heap_word; low-is = word_is; lawful = struct.lawful Heap.the_type heap.the_laws; drops = struct.drops Heap.the_type heap.the_laws }
+heap_laws = let word_is = struct.tells Heap.the_type heap.the_laws in
+    record {
+      val = heap_word;
+      tells = word_is;
+      low = heap_word;
+      low-is = word_is;
+      lawful =
+          struct.lawful Heap.the_type heap.the_laws;
+      drops = struct.drops Heap.the_type heap.the_laws;
+    }
 
 abbrev pub box_laws : (R : RattleType) → owning.Laws (Boxed R)
 box_laws R = (struct.RawPtr-laws, (heap_laws, tt))
@@ -68,7 +81,8 @@ heap_is alloc = ((vstruct (vcons vunit vnil) ∷ [], tt), (refl, (((vunit ∷ []
 pub pair_word : (p : Ptr) (alloc : Heap.the_row.Denot) (vs : List Val) → Is (Tuple (RawPtr ∷ param 1 Heap.the_row ∷ [])) (p, alloc) vs →
     vs ≡ word p alloc ∷ []
 pair_word p alloc vs is =
-    is.1.0 ∙ ap (λ ps. vstruct (of_list (ps ++ (is.0.1.0 ++ []))) ∷ []) is.1.1.0 ∙ ap (λ hs. vstruct (of_list (ptr_val p ∷ (hs ++ []))) ∷ []) (struct.tells Heap.the_type heap.the_laws alloc is.0.1.0 is.1.1.1.0)
+    is.1.0 ∙ ap (λ ps. vstruct (of_list (ps ++ (is.0.1.0 ++ []))) ∷ []) is.1.1.0
+    ∙ ap (λ hs. vstruct (of_list (ptr_val p ∷ (hs ++ []))) ∷ []) (struct.tells Heap.the_type heap.the_laws alloc is.0.1.0 is.1.1.1.0)
 
 -- the allocator as a type argument of a call, with its laws and its drop
 abbrev pub Z : RattleType

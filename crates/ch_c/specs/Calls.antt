@@ -1,5 +1,6 @@
 -- The results of the calls for C, and the state after them.
-use Rattle.std.specs.Prelude.{◌≡◌, ◌⊎◌, ℕ, zero, suc, IsSome, ◌+◌, ◌*◌, ◌<◌, ◌≤◌, List, length, take, slice_index, slice_index_or, Option, Some, None}
+use Rattle.std.specs.Prelude.{◌≡◌, ◌⊎◌, ℕ, zero, suc, IsSome, ◌+◌, ◌*◌, ◌<◌, ◌≤◌, List, length, take, slice_index, slice_index_or}
+use Rattle.std.specs.Prelude.{Option, Some, None}
 use Rattle.ch_graph.specs.declared.arc.InArc.{InArc}
 use Rattle.ch_hierarchy.specs.declared.fault.CheckFault.{CheckFault}
 use Rattle.ch_hierarchy.specs.Hierarchy.{LevelsAndLegs, nodes_of}
@@ -20,10 +21,15 @@ use Rattle.ch_engine.specs.Routes.{AreRoutesWritten, IsFound}
 use Rattle.ch_engine.specs.RouteSums.{ArePairSumsWritten}
 use Rattle.ch_engine.specs.Sums.{AreSumsWritten}
 use Rattle.ch_engine.specs.Cells.{ArePairCells, AreTableCells, no_distance}
-use Rattle.ch_engine.specs.Refusals.{AreNodes, ArePairs, ArePairSumLengths, ArePlaces, AreRouteLengths, AreRowSources, AreSumSources, AreTableLists, IsLikeError, IsNodePair, IsOpenError, IsRefusalOfPairs, IsRefusalOfPairSums, IsRefusalOfPlaces, IsRefusalOfRoute, IsRefusalOfRoutes, IsRefusalOfRows, IsRefusalOfSums, IsRefusalOfSweep, IsRefusalOfTable}
+use Rattle.ch_engine.specs.Refusals.{AreNodes, ArePairs, ArePairSumLengths, ArePlaces, AreRouteLengths, AreRowSources}
+use Rattle.ch_engine.specs.Refusals.{AreSumSources, AreTableLists, IsLikeError, IsNodePair, IsOpenError, IsRefusalOfPairs}
+use Rattle.ch_engine.specs.Refusals.{IsRefusalOfPairSums, IsRefusalOfPlaces, IsRefusalOfRoute, IsRefusalOfRoutes, IsRefusalOfRows}
+use Rattle.ch_engine.specs.Refusals.{IsRefusalOfSums, IsRefusalOfSweep, IsRefusalOfTable}
 use Rattle.ch_c.specs.declared.faults.Fault.{Fault}
 use Rattle.ch_c.specs.declared.answers.Found.{Found}
-use Rattle.ch_c.specs.declared.status.TheConstants.{OK, NO_MEMORY, CLOSED, IS_OPEN, NODE_RANGE, LENGTHS, TOO_LARGE, TOO_SHORT, BAD_GRAPH, BAD_SAVED, WRONG_SAVED, NO_PLACES, SUM_TOO_LARGE, OTHER_NODES, FRESH_RANGE}
+use Rattle.ch_c.specs.declared.status.TheConstants.{OK, NO_MEMORY, CLOSED, IS_OPEN, NODE_RANGE, LENGTHS, TOO_LARGE, TOO_SHORT}
+use Rattle.ch_c.specs.declared.status.TheConstants.{BAD_GRAPH, BAD_SAVED, WRONG_SAVED, NO_PLACES, SUM_TOO_LARGE, OTHER_NODES}
+use Rattle.ch_c.specs.declared.status.TheConstants.{FRESH_RANGE}
 
 -- the status of a refusal
 abbrev pub refusal_status : Refusal → ℕ
@@ -87,35 +93,42 @@ IsOutcome status Done Refused = ((status ≡ OK) × Done) ⊎ ((refusal : Refusa
 -- the distances of pairs of nodes are written, or refused
 abbrev pub ArePairsAnswered : LevelsAndLegs → List ℕ → List ℕ → List ℕ → List ℕ → ℕ → Type 0
 ArePairsAnswered H sources targets before after status =
-    IsOutcome status (ArePairs (nodes_of H) sources targets (length before) × ArePairCells H sources targets after) (λ refusal. (after ≡ before) × IsRefusalOfPairs (nodes_of H) sources targets (length before) refusal)
+    IsOutcome status (ArePairs (nodes_of H) sources targets (length before) × ArePairCells H sources targets after)
+    (λ refusal. (after ≡ before) × IsRefusalOfPairs (nodes_of H) sources targets (length before) refusal)
 
 -- the table of two lists of nodes is written, with the distances up to the limit, or refused
 abbrev pub IsTableAnswered : LevelsAndLegs → ℕ → List ℕ → List ℕ → List ℕ → List ℕ → ℕ → Type 0
 IsTableAnswered H limit sources targets before after status =
-    IsOutcome status (AreTableLists (nodes_of H) sources targets (length before) × AreTableCells H (Some limit) sources targets after) (λ refusal. (after ≡ before) × IsRefusalOfTable (nodes_of H) sources targets (length before) refusal)
+    IsOutcome status (AreTableLists (nodes_of H) sources targets (length before) × AreTableCells H (Some limit) sources targets
+    after) (λ refusal. (after ≡ before) × IsRefusalOfTable (nodes_of H) sources targets (length before) refusal)
 
 -- the nodes of a route from s: s, and then the end of each arc
 abbrev pub AreRouteNodes : ℕ → List InArc → List ℕ → Type 0
-AreRouteNodes s arcs nodes = (slice_index nodes 0 ≡ s) × ((k : ℕ) (d : InArc) → k < length arcs → slice_index nodes (k + 1) ≡ (slice_index_or arcs k d).to)
+AreRouteNodes s arcs nodes = (slice_index nodes 0 ≡ s)
+    × ((k : ℕ) (d : InArc) → k < length arcs → slice_index nodes (k + 1) ≡ (slice_index_or arcs k d).to)
 
 -- the weight of a route and its number of nodes are written, and its nodes if there is room. Behind them all is as
 -- before
 abbrev pub IsRouteTold : ℕ → Option Route → Found → List ℕ → List ℕ → ℕ → Type 0
 IsRouteTold s None found before after status = (status ≡ OK) × (found.weight ≡ no_distance) × (found.nodes ≡ 0) × (after ≡ before)
 IsRouteTold s (Some route) found before after status = (found.weight ≡ route.weight) × (found.nodes ≡ length route.arcs + 1)
-    × (((status ≡ OK) × (length route.arcs < length after) × AreRouteNodes s route.arcs after × StaysFrom (length route.arcs + 1) before after) ⊎ ((status ≡ TOO_SHORT) × (length before ≤ length route.arcs) × (after ≡ before)))
+    × (((status ≡ OK) × (length route.arcs < length after) × AreRouteNodes s route.arcs after × StaysFrom (length route.arcs + 1)
+    before after) ⊎ ((status ≡ TOO_SHORT) × (length before ≤ length route.arcs) × (after ≡ before)))
 
 -- the route between two nodes is written, and has at most as many nodes as the network; or it is refused
 abbrev pub IsRouteAnswered : LevelsAndLegs → ℕ → ℕ → Found → Found → List ℕ → List ℕ → ℕ → Type 0
 IsRouteAnswered H s t found_before found before after status =
-    ((answer : Option Route) × IsNodePair (nodes_of H) s t × IsFound H s t answer × (found.nodes ≤ nodes_of H) × IsRouteTold s answer found before after status)
-    ⊎ ((refusal : Refusal) × (status ≡ refusal_status refusal) × (found ≡ found_before) × (after ≡ before) × IsRefusalOfRoute (nodes_of H) s t refusal)
+    ((answer : Option Route) × IsNodePair (nodes_of H) s t × IsFound H s t answer × (found.nodes ≤ nodes_of H)
+    × IsRouteTold s answer found before after status)
+    ⊎ ((refusal : Refusal) × (status ≡ refusal_status refusal) × (found ≡ found_before) × (after ≡ before)
+    × IsRefusalOfRoute (nodes_of H) s t refusal)
 
 -- the length of the hierarchy's text is written, and the text if there is room. Behind it all is as before
 abbrev pub IsTextTold : LevelsAndLegs → ℕ → List ℕ → List ℕ → ℕ → Type 0
 IsTextTold H size before after status =
     (text : List ℕ) × IsHierarchyText H text × (size ≡ length text)
-    × (((status ≡ OK) × (length text ≤ length after) × (take (length text) after ≡ text) × StaysFrom (length text) before after) ⊎ ((status ≡ TOO_SHORT) × (length before < length text) × (after ≡ before)))
+    × (((status ≡ OK) × (length text ≤ length after) × (take (length text) after ≡ text) × StaysFrom (length text) before after)
+    ⊎ ((status ≡ TOO_SHORT) × (length before < length text) × (after ≡ before)))
 
 -- the text is written so, or there is no memory for it
 abbrev pub IsSaved : LevelsAndLegs → ℕ → ℕ → List ℕ → List ℕ → ℕ → Type 0
@@ -127,24 +140,29 @@ IsSaved H size_before size before after status =
 abbrev pub IsOpening : List ℕ → List ℕ → Option Held → Option Held → Fault → Fault → ℕ → Type 0
 IsOpening graph saved (Some held) after fault_before fault status = (status ≡ IS_OPEN) × (after ≡ Some held) × (fault ≡ fault_before)
 IsOpening graph saved None after fault_before fault status =
-    ((status ≡ OK) × ((H : LevelsAndLegs) × (lines : Lines) × (after ≡ Some (only H lines)) × IsOpened graph saved H lines) × (fault ≡ fault_before))
+    ((status ≡ OK) × ((H : LevelsAndLegs) × (lines : Lines) × (after ≡ Some (only H lines)) × IsOpened graph saved H lines)
+    × (fault ≡ fault_before))
     ⊎ ((error : OpenError) × (status ≡ error_status error) × (after ≡ None) × (fault ≡ fault_of error) × IsOpenError graph saved error)
 
 -- an open handle stays, and so does a closed one if the other handle is closed. Otherwise it opens with a hierarchy that is
 -- right for the graph, in the order of the other handle's hierarchy, or stays closed with an error that is true of the bytes
 abbrev pub IsOpeningLike : List ℕ → ℕ → Option Held → Option Held → Option Held → Fault → Fault → ℕ → Type 0
-IsOpeningLike graph fresh other (Some held) after fault_before fault status = (status ≡ IS_OPEN) × (after ≡ Some held) × (fault ≡ fault_before)
+IsOpeningLike graph fresh other (Some held) after fault_before fault status = (status ≡ IS_OPEN) × (after ≡ Some held)
+    × (fault ≡ fault_before)
 IsOpeningLike graph fresh None None after fault_before fault status = (status ≡ CLOSED) × (after ≡ None) × (fault ≡ fault_before)
 IsOpeningLike graph fresh (Some other) None after fault_before fault status =
-    ((status ≡ OK) × ((H : LevelsAndLegs) × (lines : Lines) × (after ≡ Some (only H lines)) × IsOpenedLike graph other.hierarchy fresh H lines) × (fault ≡ fault_before))
-    ⊎ ((error : OpenError) × (status ≡ error_status error) × (after ≡ None) × (fault ≡ fault_of error) × IsLikeError graph (nodes_of other.hierarchy) fresh error)
+    ((status ≡ OK) × ((H : LevelsAndLegs) × (lines : Lines) × (after ≡ Some (only H lines))
+    × IsOpenedLike graph other.hierarchy fresh H lines) × (fault ≡ fault_before))
+    ⊎ ((error : OpenError) × (status ≡ error_status error) × (after ≡ None) × (fault ≡ fault_of error)
+    × IsLikeError graph (nodes_of other.hierarchy) fresh error)
 
 -- an open handle is not opened again; a closed one gets the network of an open one, without its places, or there is
 -- no memory
 abbrev pub IsSharing : Option Held → Option Held → Option Held → ℕ → Type 0
 IsSharing network (Some held) after status = (status ≡ IS_OPEN) × (after ≡ Some held)
 IsSharing None None after status = (status ≡ CLOSED) × (after ≡ None)
-IsSharing (Some held) None after status = ((status ≡ OK) × (after ≡ Some (only held.hierarchy held.lines))) ⊎ ((status ≡ NO_MEMORY) × (after ≡ None))
+IsSharing (Some held) None after status = ((status ≡ OK) × (after ≡ Some (only held.hierarchy held.lines)))
+    ⊎ ((status ≡ NO_MEMORY) × (after ≡ None))
 
 -- the direction for a number: to the places for 0, and otherwise from them
 abbrev pub direction_of : ℕ → Direction
@@ -154,8 +172,11 @@ direction_of (suc n) = From
 -- places are kept in place of those before, or refused
 abbrev pub ArePlacesKept : ℕ → List ℕ → ℕ → ℕ → Held → Option Held → ℕ → Type 0
 ArePlacesKept is_from places limit count held after status =
-    ((status ≡ OK) × ArePlaces (nodes_of held.hierarchy) places × (after ≡ Some (with_places held (record { direction = direction_of is_from; targets = places; limit = Some limit; count = Some count }))))
-    ⊎ ((refusal : Refusal) × (status ≡ refusal_status refusal) × (after ≡ Some held) × IsRefusalOfPlaces (nodes_of held.hierarchy) places refusal)
+    ((status ≡ OK) × ArePlaces (nodes_of held.hierarchy) places
+    × (after ≡ Some (with_places held
+    (record { direction = direction_of is_from; targets = places; limit = Some limit; count = Some count }))))
+    ⊎ ((refusal : Refusal) × (status ≡ refusal_status refusal) × (after ≡ Some held)
+    × IsRefusalOfPlaces (nodes_of held.hierarchy) places refusal)
 
 -- the rows of all nodes are made, if places are kept, or the sweep is refused
 abbrev pub IsSwept : Held → ℕ → Type 0
@@ -177,16 +198,19 @@ pub record Arrays : Type 0 where
 -- behind so many rows and their pairs all is as before
 abbrev pub IsRestKept : Arrays → Arrays → Type 0
 IsRestKept before after = StaysFrom after.rows before.ends after.ends
-    × StaysFrom (begin_of after.ends after.rows) before.weights after.weights × StaysFrom (begin_of after.ends after.rows) before.places after.places
+    × StaysFrom (begin_of after.ends after.rows) before.weights after.weights
+    × StaysFrom (begin_of after.ends after.rows) before.places after.places
 
 -- near rows of nodes are written as far as there is room and memory, or they are refused and all is as before
 abbrev pub AreRowsAnswered : Held → List ℕ → Arrays → Arrays → ℕ → Type 0
 AreRowsAnswered held sources before after status =
     ((end : End) × (status ≡ end_status end)
     × AreRowSources (nodes_of held.hierarchy) held.near sources (length before.ends) (length before.weights) (length before.places)
-    × AreRowsWritten held sources after.ends after.weights after.places (record { count = after.rows; end = end }) × IsRestKept before after)
+    × AreRowsWritten held sources after.ends after.weights after.places (record { count = after.rows; end = end })
+    × IsRestKept before after)
     ⊎ ((refusal : Refusal) × (status ≡ refusal_status refusal) × (after ≡ before)
-    × IsRefusalOfRows (nodes_of held.hierarchy) held.near sources (length before.ends) (length before.weights) (length before.places) refusal)
+    × IsRefusalOfRows (nodes_of held.hierarchy) held.near sources (length before.ends) (length before.weights)
+    (length before.places) refusal)
 
 -- the arrays for routes: the number of routes, the weight of each, the end of its nodes, the nodes, and the lines
 pub record RouteArrays : Type 0 where
@@ -199,16 +223,20 @@ pub record RouteArrays : Type 0 where
 -- behind so many routes and their nodes all is as before
 abbrev pub IsRouteRestKept : RouteArrays → RouteArrays → Type 0
 IsRouteRestKept before after = StaysFrom after.routes before.weights after.weights × StaysFrom after.routes before.ends after.ends
-    × StaysFrom (begin_of after.ends after.routes) before.nodes after.nodes × StaysFrom (begin_of after.ends after.routes) before.lines after.lines
+    × StaysFrom (begin_of after.ends after.routes) before.nodes after.nodes
+    × StaysFrom (begin_of after.ends after.routes) before.lines after.lines
 
 -- routes of pairs of nodes are written as far as there is room and memory, or they are refused and all is as before
 abbrev pub AreRoutesAnswered : Held → List ℕ → List ℕ → RouteArrays → RouteArrays → ℕ → Type 0
 AreRoutesAnswered held sources targets before after status =
-    ((end : End) × (status ≡ end_status end) × AreRouteLengths (length sources) (length targets) (length before.weights) (length before.ends) (length before.nodes) (length before.lines)
+    ((end : End) × (status ≡ end_status end) × AreRouteLengths (length sources) (length targets) (length before.weights)
+    (length before.ends) (length before.nodes) (length before.lines)
     × (AreNodes (nodes_of held.hierarchy) sources × AreNodes (nodes_of held.hierarchy) targets)
-    × AreRoutesWritten held sources targets after.weights after.ends after.nodes after.lines (record { count = after.routes; end = end }) × IsRouteRestKept before after)
+    × AreRoutesWritten held sources targets after.weights after.ends after.nodes after.lines
+    (record { count = after.routes; end = end }) × IsRouteRestKept before after)
     ⊎ ((refusal : Refusal) × (status ≡ refusal_status refusal) × (after ≡ before)
-    × IsRefusalOfRoutes (nodes_of held.hierarchy) sources targets (length before.weights) (length before.ends) (length before.nodes) (length before.lines) refusal)
+    × IsRefusalOfRoutes (nodes_of held.hierarchy) sources targets (length before.weights) (length before.ends) (length before.nodes)
+    (length before.lines) refusal)
 
 -- the status for the reason why the sums of no more sources or pairs were written
 abbrev pub sums_status : SumsEnd → ℕ
@@ -225,9 +253,12 @@ pub record SumArrays : Type 0 where
 -- before. Behind the sums that are written all is as before
 abbrev pub AreSumsAnswered : Held → List ℕ → List ℕ → List ℕ → SumArrays → SumArrays → ℕ → Type 0
 AreSumsAnswered held sources values limits before after status =
-    ((end : SumsEnd) × (status ≡ sums_status end) × AreSumSources (nodes_of held.hierarchy) held.near sources values (length limits) (length before.sums)
-    × AreSumsWritten held sources values limits after.sums (record { count = after.rows; end = end }) × StaysFrom (after.rows * length limits) before.sums after.sums)
-    ⊎ ((refusal : Refusal) × (status ≡ refusal_status refusal) × (after ≡ before) × IsRefusalOfSums (nodes_of held.hierarchy) held.near sources values (length limits) (length before.sums) refusal)
+    ((end : SumsEnd) × (status ≡ sums_status end)
+    × AreSumSources (nodes_of held.hierarchy) held.near sources values (length limits) (length before.sums)
+    × AreSumsWritten held sources values limits after.sums (record { count = after.rows; end = end })
+    × StaysFrom (after.rows * length limits) before.sums after.sums)
+    ⊎ ((refusal : Refusal) × (status ≡ refusal_status refusal) × (after ≡ before)
+    × IsRefusalOfSums (nodes_of held.hierarchy) held.near sources values (length limits) (length before.sums) refusal)
 
 -- the number of pairs whose sums are written, the weights of their routes, and the sums
 pub record PairSumArrays : Type 0 where
@@ -239,9 +270,11 @@ pub record PairSumArrays : Type 0 where
 -- is as before. Behind the pairs that are written all is as before
 abbrev pub ArePairSumsAnswered : Held → List ℕ → List ℕ → List ℕ → PairSumArrays → PairSumArrays → ℕ → Type 0
 ArePairSumsAnswered held sources targets values before after status =
-    ((end : SumsEnd) × (status ≡ sums_status end) × ArePairSumLengths (length sources) (length targets) (length before.weights) (length before.sums) (length values) held.lines.count
+    ((end : SumsEnd) × (status ≡ sums_status end) × ArePairSumLengths (length sources) (length targets) (length before.weights)
+    (length before.sums) (length values) held.lines.count
     × (AreNodes (nodes_of held.hierarchy) sources × AreNodes (nodes_of held.hierarchy) targets)
     × ArePairSumsWritten held sources targets values after.weights after.sums (record { count = after.pairs; end = end })
     × (StaysFrom after.pairs before.weights after.weights × StaysFrom after.pairs before.sums after.sums))
     ⊎ ((refusal : Refusal) × (status ≡ refusal_status refusal) × (after ≡ before)
-    × IsRefusalOfPairSums (nodes_of held.hierarchy) held.lines.count sources targets (length values) (length before.weights) (length before.sums) refusal)
+    × IsRefusalOfPairSums (nodes_of held.hierarchy) held.lines.count sources targets (length values) (length before.weights)
+    (length before.sums) refusal)

@@ -5,7 +5,6 @@ pub mod Puts
 pub mod Rooms
 pub mod OpenLists
 pub mod ClearedLists
-pub mod Words
 pub mod LightLegs
 pub mod Lowering
 pub mod KnownViews

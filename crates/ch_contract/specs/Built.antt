@@ -13,7 +13,8 @@ use Rattle.ch_contract.specs.LegRows.{AreLegsFrom, AreLegsTo}
 
 -- nodes are taken in any order: order[i] has level i + 1. Its up legs are the legs from it just before it is
 -- taken, and its down legs the legs to it
-pub record IsHierarchyIn (IsStep : Legs → ℕ → Legs → Type 0) (g : Network) (H : LevelsAndLegs) (order : List ℕ) (L : ℕ → Legs) : Type 0 where
+pub record IsHierarchyIn (IsStep : Legs → ℕ → Legs → Type 0) (g : Network) (H : LevelsAndLegs) (order : List ℕ)
+    (L : ℕ → Legs) : Type 0 where
   pub contracted : AreTaken IsStep g order L
   pub sizes : (length H.level ≡ g.nodes) × (length H.up ≡ g.nodes) × (length H.down ≡ g.nodes)
   pub level : (i : ℕ) → i < g.nodes → slice_index H.level (slice_index order i) ≡ i + 1

@@ -27,4 +27,6 @@ IsMostFor n first most second = IsCandidate n first second → IsAtMost (cost_su
 -- no leg of the list makes a candidate, or this is the greatest cost of the candidates
 abbrev pub AreBounded : ℕ → Leg → List Leg → Option Cost → Type 0
 AreBounded n first up o =
-    MatchOption o (All (λ l. IsCandidate n first l → ⊥) up) (λ most. ((l : Leg) × Contains up l × IsCandidate n first l × (most ≡ cost_sum first.cost l.cost)) × All (IsMostFor n first most) up)
+    MatchOption o (All (λ l. IsCandidate n first l → ⊥) up)
+    (λ most. ((l : Leg) × Contains up l × IsCandidate n first l × (most ≡ cost_sum first.cost l.cost))
+    × All (IsMostFor n first most) up)

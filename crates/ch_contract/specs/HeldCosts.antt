@@ -33,4 +33,8 @@ IsKnownCost limit c = (c ≡ never) ⊎ IsHeld limit c
 
 -- the cost in a word, from the lowest bit: 31 bits of arcs, 32 bits of weight, and a bit that adds `never`
 abbrev pub cost_in : ℕ → Cost
-cost_in bits = record { weight = bits % NEVER_BIT / WEIGHT_UNIT + MOST_WEIGHT * (bits / NEVER_BIT); arcs = bits % NEVER_BIT % WEIGHT_UNIT + NEVER_ARCS * (bits / NEVER_BIT) }
+cost_in bits = record {
+  weight = bits % NEVER_BIT / WEIGHT_UNIT + MOST_WEIGHT * (bits / NEVER_BIT);
+  arcs =
+      bits % NEVER_BIT % WEIGHT_UNIT + NEVER_ARCS * (bits / NEVER_BIT);
+}

@@ -28,11 +28,13 @@ AreLeastCostsKept g order L =
 
 -- contraction in any order keeps the least costs
 abbrev pub ContractionKeepsLeastCosts : Type 0
-ContractionKeepsLeastCosts = (g : Network) (h : ℕ) (order : List ℕ) (L : ℕ → Legs) → IsWithinLimits g → IsHopBound h → AreContracted g h order L → AreLeastCostsKept g order L
+ContractionKeepsLeastCosts = (g : Network) (h : ℕ) (order : List ℕ) (L : ℕ → Legs) → IsWithinLimits g → IsHopBound h →
+    AreContracted g h order L → AreLeastCostsKept g order L
 
 -- contraction in any order with enough shortcuts keeps the least costs; these may be more than are needed
 abbrev pub EnoughKeepsLeastCosts : Type 0
-EnoughKeepsLeastCosts = (g : Network) (h : ℕ) (order : List ℕ) (L : ℕ → Legs) → IsWithinLimits g → AreTaken (ContractsWithEnough g.nodes h) g order L → AreLeastCostsKept g order L
+EnoughKeepsLeastCosts = (g : Network) (h : ℕ) (order : List ℕ) (L : ℕ → Legs) → IsWithinLimits g →
+    AreTaken (ContractsWithEnough g.nodes h) g order L → AreLeastCostsKept g order L
 
 -- the contraction hierarchy of a graph is right for the graph, for each order and each bound on hops
 abbrev pub HierarchiesAreKept : Type 0
@@ -41,4 +43,5 @@ HierarchiesAreKept =
 
 -- each hierarchy of nodes that are contracted in any order with enough shortcuts is right for the graph
 abbrev pub HierarchiesWithEnoughAreKept : Type 0
-HierarchiesWithEnoughAreKept = (g : Network) (h : ℕ) (H : LevelsAndLegs) (order : List ℕ) (L : ℕ → Legs) → IsWithinLimits g → IsHierarchyIn (ContractsWithEnough g.nodes h) g H order L → IsKept g H
+HierarchiesWithEnoughAreKept = (g : Network) (h : ℕ) (H : LevelsAndLegs) (order : List ℕ) (L : ℕ → Legs) → IsWithinLimits g →
+    IsHierarchyIn (ContractsWithEnough g.nodes h) g H order L → IsKept g H

@@ -1,5 +1,6 @@
 -- The costs that a search for witnesses knows of each node.
-use Rattle.std.specs.Prelude.{◌≡◌, ◌≢◌, ℕ, ◌+◌, ◌<◌, ◌≤◌, Bool, IsTrue, vec_len, vec_capacity, List, [], length, map, slice_index_or, Contains, All, ◌⊎◌, Some}
+use Rattle.std.specs.Prelude.{◌≡◌, ◌≢◌, ℕ, ◌+◌, ◌<◌, ◌≤◌, Bool, IsTrue, vec_len, vec_capacity, List, [], length, map}
+use Rattle.std.specs.Prelude.{slice_index_or, Contains, All, ◌⊎◌, Some}
 use Rattle.std.specs.List.{AllByRecursion}
 use Rattle.ch_graph.specs.declared.cost.Cost.{Cost}
 use Rattle.ch_graph.specs.Cost.{IsAtMost, cost_sum}

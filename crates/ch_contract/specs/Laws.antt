@@ -10,4 +10,5 @@ LeadsWithin n L = (u x : ℕ) → IsSome (L u x) → x < n
 
 -- the search of the reference program returns true exactly if there is a witness
 abbrev pub ReferenceSearchFindsWitnesses : Type 0
-ReferenceSearchFindsWitnesses = (n : ℕ) (L : Legs) (v u w : ℕ) (c : Cost) (h : ℕ) → LeadsWithin n L → u ≢ w → u ≢ v → IsTrue (has_witness n L v u w c h) ↔ HasWitness L v u w c h
+ReferenceSearchFindsWitnesses = (n : ℕ) (L : Legs) (v u w : ℕ) (c : Cost) (h : ℕ) → LeadsWithin n L → u ≢ w → u ≢ v →
+    IsTrue (has_witness n L v u w c h) ↔ HasWitness L v u w c h

@@ -18,12 +18,14 @@ IsPriorityFrom k by n h order L i x p =
 -- at each step after the first k the node comes before all remaining nodes
 abbrev pub TakesFirstFrom : ℕ → OrderBy → Network → ℕ → List ℕ → (ℕ → Legs) → Type 0
 TakesFirstFrom k by g h order L = (i x : ℕ) → k ≤ i → i < g.nodes → x < g.nodes → (Contains (take i order) x → ⊥) →
-    (p q : ℤ) × IsPriorityFrom k by g.nodes h order L i (slice_index order i) p × IsPriorityFrom k by g.nodes h order L i x q × IsContractedBefore p (slice_index order i) q x
+    (p q : ℤ) × IsPriorityFrom k by g.nodes h order L i (slice_index order i) p × IsPriorityFrom k by g.nodes h order L i x q
+    × IsContractedBefore p (slice_index order i) q x
 
 -- the contraction hierarchy of a graph whose given nodes are contracted first, as given, and then each time the first of
 -- the others in this order
 abbrev pub IsHierarchyFrom : OrderBy → Network → ℕ → List ℕ → LevelsAndLegs → Type 0
-IsHierarchyFrom by g h given H = (order : List ℕ) × (L : ℕ → Legs) × IsHierarchyOf g h H order L × (take (length given) order ≡ given) × TakesFirstFrom (length given) by g h order L
+IsHierarchyFrom by g h given H = (order : List ℕ) × (L : ℕ → Legs) × IsHierarchyOf g h H order L
+    × (take (length given) order ≡ given) × TakesFirstFrom (length given) by g h order L
 
 -- how many of n nodes come in the given order, if this per cent of them, rounded down, are ordered afresh
 abbrev pub given_count : ℕ → ℕ → ℕ

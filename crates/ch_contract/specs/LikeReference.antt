@@ -16,7 +16,8 @@ abbrev pub steps_given : OrderBy → ℕ → ℕ → Legs → (ℕ → ℕ) → 
 steps_given by n h L depth [] others = steps_from by n n h L depth (map (λ v. (priority_by by n h L depth v, v)) others)
 steps_given by n h L depth (v ∷ given) others =
     let M : Legs = legs_after_contraction L v (shortcuts_of n h L v) in
-    record { node = v; priority = pos 0; up = legs_in_order n (λ x. L v x); down = legs_in_order n (λ x. L x v) } ∷ steps_given by n h M (next_depth L v depth) given others
+    record { node = v; priority = pos 0; up = legs_in_order n (λ x. L v x); down = legs_in_order n (λ x. L x v) }
+    ∷ steps_given by n h M (next_depth L v depth) given others
 
 -- the steps in an order like the given one, whose last per cent of nodes are ordered afresh by depth
 abbrev pub steps_like : Network → ℕ → List ℕ → ℕ → List ContractedNode

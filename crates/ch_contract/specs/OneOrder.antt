@@ -19,7 +19,8 @@ RoundsNameOneHierarchy = (g : Network) (h : ℕ) (H K : LevelsAndLegs) → IsHie
 -- two hierarchies of a graph with the same given nodes, then in the same order, and with the same bound on the legs of a
 -- witness are equal
 abbrev pub GivenNodesNameOneHierarchy : Type 0
-GivenNodesNameOneHierarchy = (by : OrderBy) (g : Network) (h : ℕ) (given : List ℕ) (H K : LevelsAndLegs) → IsHierarchyFrom by g h given H → IsHierarchyFrom by g h given K → H ≡ K
+GivenNodesNameOneHierarchy = (by : OrderBy) (g : Network) (h : ℕ) (given : List ℕ) (H K : LevelsAndLegs) →
+    IsHierarchyFrom by g h given H → IsHierarchyFrom by g h given K → H ≡ K
 
 -- two hierarchies of a graph whose nodes are contracted in the same list, with the same bound on the legs of a witness, are
 -- equal

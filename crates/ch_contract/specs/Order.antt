@@ -1,8 +1,8 @@
 -- The order of contraction.
-use Rattle.std.specs.Prelude.{◌≡◌, ◌≢◌, ℕ, zero, suc, ◌+◌, ◌-◌, ◌<◌, ◌≤◌, ◌||◌, Bool, true, false, if◌then◌else◌, max, List, length, slice_index, AllPairs, All, Contains, is_some, ℤ, ◌≤ℤ◌, take}
+use Rattle.std.specs.Prelude.{◌≡◌, ◌≢◌, ℕ, zero, suc, ◌+◌, ◌-◌, ◌<◌, ◌≤◌, ◌||◌, Bool, true, false, if◌then◌else◌, max, List, length}
+use Rattle.std.specs.Prelude.{slice_index, AllPairs, All, Contains, is_some, ℤ, ◌≤ℤ◌, take}
 use Rattle.ch_graph.specs.Graph.{Network}
 use Rattle.ch_contract.specs.declared.measure.OrderBy.{OrderBy}
-use Rattle.ch_contract.specs.declared.measure.OrderBy.TheVariants.{Difference}
 use Rattle.ch_contract.specs.Legs.{Legs, SameLegs, opening}
 use Rattle.ch_contract.specs.Contraction.{Contracts, IsPriorityBy}
 
@@ -47,13 +47,5 @@ AreContracted g h order L = AreTaken (Contracts g.nodes h) g order L
 -- at each step the node comes before all remaining nodes
 abbrev pub TakesFirst : OrderBy → Network → ℕ → List ℕ → (ℕ → Legs) → Type 0
 TakesFirst by g h order L = (i x : ℕ) → i < g.nodes → x < g.nodes → (Contains (take i order) x → ⊥) →
-    (p q : ℤ) × IsPriorityAfter by g.nodes h order L i (slice_index order i) p × IsPriorityAfter by g.nodes h order L i x q × IsContractedBefore p (slice_index order i) q x
-
--- the order in which the nodes of g are contracted
-pub record IsOrderBy (by : OrderBy) (g : Network) (h : ℕ) (order : List ℕ) (L : ℕ → Legs) : Type 0 where
-  pub contracted : AreContracted g h order L
-  pub least : TakesFirst by g h order L
-
--- the order by the number of shortcuts less the number of legs
-abbrev pub IsOrder : Network → ℕ → List ℕ → (ℕ → Legs) → Type 0
-IsOrder g h order L = IsOrderBy Difference g h order L
+    (p q : ℤ) × IsPriorityAfter by g.nodes h order L i (slice_index order i) p × IsPriorityAfter by g.nodes h order L i x q
+    × IsContractedBefore p (slice_index order i) q x

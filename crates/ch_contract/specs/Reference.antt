@@ -1,5 +1,7 @@
 -- The reference program: the definitions computed on small graphs.
-use Rattle.std.specs.Prelude.{ℕ, zero, suc, ◌+◌, ◌==◌, ◌&&◌, ◌||◌, not, nat_lt, nat_le, filter_map, option_map, find, Bool, true, false, if◌then◌else◌, List, [], ◌∷◌, length, map, flat_map, filter, unwrap_or, Option, Some, None, ℤ, pos, ◌-ℤ◌, int_lt}
+use Rattle.std.specs.Prelude.{ℕ, zero, suc, ◌+◌, ◌==◌, ◌&&◌, ◌||◌, not, nat_lt, nat_le, filter_map, option_map, find, Bool, true}
+use Rattle.std.specs.Prelude.{false, if◌then◌else◌, List, [], ◌∷◌, length, map, flat_map, filter, unwrap_or, Option, Some, None, ℤ}
+use Rattle.std.specs.Prelude.{pos, ◌-ℤ◌, int_lt}
 use Rattle.std.specs.List.{range_with_len}
 use Rattle.std.specs.Option.{option_and_then}
 use Rattle.ch_graph.specs.declared.limits.TheConstants.{MOST_WEIGHT}
@@ -36,7 +38,9 @@ plus_cost c (Some d) = Some (cost_sum c d)
 -- the least cost of a chain of at most k legs from u to w that visits no v after u
 abbrev pub cheapest : ℕ → Legs → ℕ → ℕ → ℕ → ℕ → Option Cost
 cheapest n L v w zero u = if u == w then Some no_cost else None
-cheapest n L v w (suc k) u = if u == w then Some no_cost else cheapest_below n (λ x. elim (L u x) [ None ↦ None | Some l ↦ elim (x == v) [ true ↦ None | false ↦ plus_cost l.cost (cheapest n L v w k x) ] ])
+cheapest n L v w (suc k) u = if u == w then Some no_cost
+    else cheapest_below n (λ x.
+    elim (L u x) [ None ↦ None | Some l ↦ elim (x == v) [ true ↦ None | false ↦ plus_cost l.cost (cheapest n L v w k x) ] ])
 
 abbrev pub costs_at_most : Option Cost → Cost → Bool
 costs_at_most None c = false
@@ -46,7 +50,8 @@ abbrev pub has_witness : ℕ → Legs → ℕ → ℕ → ℕ → Cost → ℕ �
 has_witness n L v u w c h = costs_at_most (cheapest n L v w h u) c
 
 abbrev pub shortcut_if : ℕ → ℕ → Legs → ℕ → ℕ → ℕ → Cost → List Shortcut
-shortcut_if n h L v u w c = if nat_le c.weight MOST_WEIGHT && nat_lt c.arcs n && not (has_witness n L v u w c h) then record { from = u; to = w; cost = c } ∷ [] else []
+shortcut_if n h L v u w c = if nat_le c.weight MOST_WEIGHT && nat_lt c.arcs n && not (has_witness n L v u w c h)
+    then record { from = u; to = w; cost = c } ∷ [] else []
 
 abbrev pub shortcut_between : ℕ → ℕ → Legs → ℕ → ℕ → ℕ → Option Label → Option Label → List Shortcut
 shortcut_between n h L v u w None b = []
@@ -97,11 +102,17 @@ steps_from by (suc k) n h L depth (e ∷ list) =
     let first : ℤ × ℕ = first_of e list in
     let M : Legs = legs_after_contraction L first.1 (shortcuts_of n h L first.1) in
     let deeper : ℕ → ℕ = next_depth L first.1 depth in
-    record { node = first.1; priority = first.0; up = legs_in_order n (λ x. L first.1 x); down = legs_in_order n (λ x. L x first.1) } ∷ steps_from by k n h M deeper (waiting_after by n h L M deeper first.1 (e ∷ list))
+    record {
+      node = first.1;
+      priority = first.0;
+      up = legs_in_order n (λ x. L first.1 x);
+      down = legs_in_order n (λ x. L x first.1);
+    } ∷ steps_from by k n h M deeper (waiting_after by n h L M deeper first.1 (e ∷ list))
 
 -- the steps in which all nodes are contracted, one after the other in this order
 abbrev pub steps_by : OrderBy → Network → ℕ → List ContractedNode
-steps_by by g h = steps_from by g.nodes g.nodes h (opening g) (λ v. 0) (map (λ v. (priority_by by g.nodes h (opening g) (λ x. 0) v, v)) (range_with_len 0 g.nodes))
+steps_by by g h = steps_from by g.nodes g.nodes h (opening g) (λ v. 0)
+    (map (λ v. (priority_by by g.nodes h (opening g) (λ x. 0) v, v)) (range_with_len 0 g.nodes))
 
 abbrev pub order_by : OrderBy → Network → ℕ → List (ℤ × ℕ)
 order_by by g h = map (λ s. (s.priority, s.node)) (steps_by by g h)

@@ -10,7 +10,8 @@ use Rattle.ch_contract.specs.RoundOrder.{IsHierarchyByRounds}
 -- a round of nodes that are apart equals their contractions one after the other with enough shortcuts. Just
 -- before its contraction each node has the same legs as before the round
 abbrev pub RoundsAreContractions : Type 0
-RoundsAreContractions = (n h : ℕ) (L : Legs) (nodes : List ℕ) (M : Legs) → IsHopBound h → AreLegsWithin n L → AreApart L nodes → ContractsRound n h L nodes M → TakesInTurn (IsStepOfRound n h L) L nodes M
+RoundsAreContractions = (n h : ℕ) (L : Legs) (nodes : List ℕ) (M : Legs) → IsHopBound h → AreLegsWithin n L → AreApart L nodes →
+    ContractsRound n h L nodes M → TakesInTurn (IsStepOfRound n h L) L nodes M
 
 -- a hierarchy by rounds is right for its graph, for each bound on hops
 abbrev pub HierarchiesByRoundsAreKept : Type 0

@@ -1,5 +1,6 @@
 -- The order of contraction by rounds, and the hierarchy that it leaves.
-use Rattle.std.specs.Prelude.{◌≡◌, ℕ, zero, suc, ◌+◌, ◌*◌, ◌<◌, ◌≤◌, ◌&&◌, ◌||◌, not, nat_lt, Bool, true, false, List, [], length, take, Contains, slice_index, slice_index_or, ℤ}
+use Rattle.std.specs.Prelude.{◌≡◌, ℕ, zero, suc, ◌+◌, ◌*◌, ◌<◌, ◌≤◌, ◌&&◌, ◌||◌, not, nat_lt, Bool, true, false, List, [], length}
+use Rattle.std.specs.Prelude.{take, Contains, slice_index, slice_index_or, ℤ}
 use Rattle.std.specs.List.{list_any, concat}
 use Rattle.ch_graph.specs.Graph.{Network}
 use Rattle.ch_hierarchy.specs.Hierarchy.{LevelsAndLegs}
@@ -61,7 +62,8 @@ IsLeftAfter n rounds r x = (x < n) × (Contains (nodes_before rounds r) x → �
 pub record AreRounds (g : Network) (h : ℕ) (rounds : List (List ℕ)) (L : ℕ → Legs) : Type 0 where
   pub start : SameLegs (L 0) (opening g)
   pub some : (r : ℕ) → r < length rounds → 0 < length (round_at rounds r)
-  pub round : (r : ℕ) → r < length rounds → IsRound (IsKeyAfter g.nodes h rounds L r) (IsLeftAfter g.nodes rounds r) (L r) (round_at rounds r)
+  pub round : (r : ℕ) → r < length rounds →
+      IsRound (IsKeyAfter g.nodes h rounds L r) (IsLeftAfter g.nodes rounds r) (L r) (round_at rounds r)
   pub legs : (r : ℕ) → r < length rounds → ContractsRound g.nodes h (L r) (round_at rounds r) (L (r + 1))
   pub all : (x : ℕ) → x < g.nodes → Contains (concat rounds) x
 

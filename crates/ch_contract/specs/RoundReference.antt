@@ -1,5 +1,6 @@
 -- The reference program by rounds: the definitions of rounds computed on small graphs.
-use Rattle.std.specs.Prelude.{ℕ, zero, suc, ◌+◌, ◌*◌, ◌==◌, ◌&&◌, ◌||◌, not, nat_lt, nat_le, Bool, if◌then◌else◌, List, [], ◌∷◌, length, map, flat_map, filter, find, unwrap_or, option_map, Option, None, ℤ, int_lt, slice_index_or}
+use Rattle.std.specs.Prelude.{ℕ, zero, suc, ◌+◌, ◌*◌, ◌==◌, ◌&&◌, ◌||◌, not, nat_lt, nat_le, Bool, if◌then◌else◌, List, [], ◌∷◌}
+use Rattle.std.specs.Prelude.{length, map, flat_map, filter, find, unwrap_or, option_map, Option, None, ℤ, int_lt, slice_index_or}
 use Rattle.std.specs.List.{range_with_len, list_any, list_all}
 use Rattle.ch_graph.specs.Graph.{Network}
 use Rattle.ch_hierarchy.specs.Hierarchy.{LevelsAndLegs}
@@ -13,7 +14,8 @@ use Rattle.ch_contract.specs.Reference.{shortcut_between, shortcuts_of, legs_in_
 
 -- whether the first node comes before the second, each after its key
 abbrev pub comes_before : ℤ × ℕ → ℤ × ℕ → Bool
-comes_before a b = int_lt a.0 b.0 || (not (int_lt b.0 a.0) && (nat_lt (mixed_number a.1) (mixed_number b.1) || (mixed_number a.1 == mixed_number b.1 && nat_le a.1 b.1)))
+comes_before a b = int_lt a.0 b.0 || (not (int_lt b.0 a.0)
+    && (nat_lt (mixed_number a.1) (mixed_number b.1) || (mixed_number a.1 == mixed_number b.1 && nat_le a.1 b.1)))
 
 abbrev pub is_within_two_legs : ℕ → Legs → ℕ → ℕ → Bool
 is_within_two_legs n L v x = are_neighbours L v x || list_any (λ y. are_neighbours L v y && are_neighbours L y x) (range_with_len 0 n)
@@ -53,7 +55,8 @@ abbrev pub counted_after : ℕ → ℕ → ℕ → Legs → Legs → List ℕ �
 counted_after n h done before after nodes list =
     let late : Bool = not (nat_lt (10 * (done + length nodes)) (7 * n)) in
     let first : Bool = nat_lt (10 * done) (7 * n) in
-    map (λ e. if late && (first || list_any (λ v. are_neighbours before v e.1) nodes) then counted_of n h after e.1 else e) (filter (λ e. not (is_one_of nodes e.1)) list)
+    map (λ e. if late && (first || list_any (λ v. are_neighbours before v e.1) nodes) then counted_of n h after e.1 else e)
+    (filter (λ e. not (is_one_of nodes e.1)) list)
 
 abbrev pub keyed_of : ℕ → Legs → (ℕ → ℕ) → Counted → List (ℤ × ℕ)
 keyed_of n L depth list = map (λ e. (key_by Rounds e.0 (count_touching n L e.1) (depth e.1), e.1)) list
@@ -67,11 +70,13 @@ rounds_from (suc k) n h done rows depth (e ∷ list) =
     let nodes : List ℕ = map (λ f. f.1) round in
     let after : List (List (Option Label)) = table_after_round n h L nodes in
     map (λ f. record { node = f.1; priority = f.0; up = legs_in_order n (λ x. L f.1 x); down = legs_in_order n (λ x. L x f.1) }) round
-    ∷ rounds_from k n h (done + length nodes) after (depth_after_round L nodes depth) (counted_after n h done L (legs_in after) nodes (e ∷ list))
+    ∷ rounds_from k n h (done + length nodes) after (depth_after_round L nodes depth)
+    (counted_after n h done L (legs_in after) nodes (e ∷ list))
 
 -- the rounds in which all nodes are contracted
 abbrev pub steps_by_rounds : Network → ℕ → List (List ContractedNode)
-steps_by_rounds g h = rounds_from g.nodes g.nodes h 0 (table_of g.nodes (opening g)) (λ v. 0) (map (counted_of g.nodes h (opening g)) (range_with_len 0 g.nodes))
+steps_by_rounds g h = rounds_from g.nodes g.nodes h 0 (table_of g.nodes (opening g)) (λ v. 0)
+    (map (counted_of g.nodes h (opening g)) (range_with_len 0 g.nodes))
 
 -- the nodes of each round, each after its key
 abbrev pub rounds_of : Network → ℕ → List (List (ℤ × ℕ))

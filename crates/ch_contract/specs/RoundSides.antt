@@ -1,5 +1,6 @@
 -- The lists of one side, changed for all nodes of a round.
-use Rattle.std.specs.Prelude.{◌≡◌, ◌≢◌, ℕ, ◌<◌, ◌||◌, ◌⊎◌, if◌then◌else◌, List, [], ◌∷◌, length, slice_index, All, AllPairs, Contains, Some, None}
+use Rattle.std.specs.Prelude.{◌≡◌, ◌≢◌, ℕ, ◌<◌, ◌||◌, ◌⊎◌, if◌then◌else◌, List, [], ◌∷◌, length, slice_index, All, AllPairs}
+use Rattle.std.specs.Prelude.{Contains, Some, None}
 use Rattle.std.specs.Global.{Vec}
 use Rattle.ch_hierarchy.specs.declared.leg.Leg.{Leg}
 use Rattle.ch_hierarchy.specs.Rows.{row}

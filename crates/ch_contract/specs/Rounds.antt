@@ -1,5 +1,6 @@
 -- A round contracts several nodes together. They are more than two legs apart.
-use Rattle.std.specs.Prelude.{◌≡◌, ◌≢◌, ℕ, ◌*◌, ◌%◌, ◌^◌, ◌<◌, ◌≤◌, ◌==◌, ◌||◌, ◌⊎◌, Bool, true, if◌then◌else◌, List, [], ◌∷◌, AllPairs, Contains, None, ℤ, ◌≤ℤ◌}
+use Rattle.std.specs.Prelude.{◌≡◌, ◌≢◌, ℕ, ◌*◌, ◌%◌, ◌^◌, ◌<◌, ◌≤◌, ◌==◌, ◌||◌, ◌⊎◌, Bool, true, if◌then◌else◌, List, [], ◌∷◌}
+use Rattle.std.specs.Prelude.{AllPairs, Contains, None, ℤ, ◌≤ℤ◌}
 use Rattle.std.specs.List.{list_any}
 use Rattle.ch_contract.specs.declared.shortcut.Shortcut.{Shortcut}
 use Rattle.ch_contract.specs.Legs.{Legs, SameLegs, HasWitness}
@@ -56,7 +57,8 @@ legs_with_shortcuts (v ∷ nodes) lists L = legs_with_shortcuts nodes lists (λ 
 -- M are the legs after a round of these nodes: their legs are taken out of L, then their shortcuts are put in;
 -- witnesses avoid all nodes of the round
 abbrev pub ContractsRound : ℕ → ℕ → Legs → List ℕ → Legs → Type 0
-ContractsRound n h L nodes M = (lists : ℕ → List Shortcut) × ((v : ℕ) → Contains nodes v → AreShortcutsAmong n h L (legs_away nodes L) v (lists v)) × SameLegs M (legs_with_shortcuts nodes lists (legs_away nodes L))
+ContractsRound n h L nodes M = (lists : ℕ → List Shortcut) × ((v : ℕ) → Contains nodes v →
+    AreShortcutsAmong n h L (legs_away nodes L) v (lists v)) × SameLegs M (legs_with_shortcuts nodes lists (legs_away nodes L))
 
 -- the depths after a round of these nodes: the depth of each neighbour of a node is at least one more than that of the
 -- node

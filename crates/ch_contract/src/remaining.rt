@@ -78,7 +78,9 @@ impl Remaining {
     /// Returns the legs from `v`, ordered by their ends. It takes no memory.
     pub fn out_legs(&self, v: u32) -> &[Leg]
         requires { v < self.now.nodes }
-        ensures { AreLegsFrom (legs_of self.now) v result.now }
+        ensures legs { AreLegsFrom (legs_of self.now) v result.now }
+        ensures count { self.now.nodes ≤ MOST_NODES }
+        ensures limits { AreLegsWithin self.now.nodes (legs_of self.now) }
     {
         self.outs.at(v)
     }
@@ -86,7 +88,9 @@ impl Remaining {
     /// Returns the legs to `v`, ordered by their starts. It takes no memory.
     pub fn in_legs(&self, v: u32) -> &[Leg]
         requires { v < self.now.nodes }
-        ensures { AreLegsTo (legs_of self.now) v result.now }
+        ensures legs { AreLegsTo (legs_of self.now) v result.now }
+        ensures count { self.now.nodes ≤ MOST_NODES }
+        ensures limits { AreLegsWithin self.now.nodes (legs_of self.now) }
     {
         self.ins.at(v)
     }

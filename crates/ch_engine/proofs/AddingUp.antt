@@ -20,7 +20,8 @@ places_low held s row values kept has = at held.near kept has
     at : (near : Option Asked) → MatchOption near ⊤ (λ asked. IsRowOf held.hierarchy asked s row) → HasValues near values →
         All (λ e. e.1 < length values) row
     at None kept has = absurd has
-    at (Some asked) kept has = λ k d low. omega (arith, has, (kept.sound (get_or row k d) (k, low, get_or_default row k (get_or row k d) d low)).0)
+    at (Some asked) kept has =
+        λ k d low. omega (arith, has, (kept.sound (get_or row k d) (k, low, get_or_default row k (get_or row k d) d low)).0)
 
 -- the sums of one source end before those of the next
 pub ends_before : (k i m : ℕ) → k < i → k * m + m ≤ i * m
@@ -33,6 +34,8 @@ module _ (held : Held) (sources values limits sums sums' : List ℕ) (i : ℕ) w
       (row : List (ℕ × ℕ)) → IsKeptRow held (get_or sources i 0) row → AreSumsAt values limits row (i * length limits) sums' →
       (k : ℕ) → k < i + 1 → AreSumsOf held values limits (get_or sources k 0) (k * length limits) sums'
   sums_more are agree row kept here k more = elim (cases_lt k i) [
-    | inl less ↦ (let is = are k less in let before = ends_before k i (length limits) less in (is.0, is.1, λ j low. agree (k * length limits + j) (omega (arith, before, low)) ∙ is.2 j low))
-    | inr past ↦ (let same : i ≡ k = omega arith in subst (λ (n : ℕ). AreSumsOf held values limits (get_or sources n 0) (n * length limits) sums') same (row, kept, here))
+    | inl less ↦ (let is = are k less in let before = ends_before k i (length limits) less in
+        (is.0, is.1, λ j low. agree (k * length limits + j) (omega (arith, before, low)) ∙ is.2 j low))
+    | inr past ↦ (let same : i ≡ k = omega arith in subst
+        (λ (n : ℕ). AreSumsOf held values limits (get_or sources n 0) (n * length limits) sums') same (row, kept, here))
   ]

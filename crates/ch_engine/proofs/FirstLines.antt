@@ -37,7 +37,8 @@ line_or_none arcs P word low best = elim best [
 ]
 
 -- with one line more
-word_more : (arcs : List InArc) (P : ℕ → Type 0) (word line result : ℕ) → length arcs ≤ MOST_ARCS → ((k : ℕ) → P k → k < length arcs) → IsLineWord arcs P word → IsBetter arcs word line result →
+word_more : (arcs : List InArc) (P : ℕ → Type 0) (word line result : ℕ) → length arcs ≤ MOST_ARCS →
+    ((k : ℕ) → P k → k < length arcs) → IsLineWord arcs P word → IsBetter arcs word line result →
     IsLineWord arcs (λ k. P k ⊎ (k ≡ line)) result
 word_more arcs P word line result few low best better = elim best [
   | inl first ↦ inl (record {
@@ -46,7 +47,8 @@ word_more arcs P word line result few low best better = elim best [
       | inr old ↦ inl (subst P (sym old.0) first.is)
     ];
     least = λ k among. elim among [
-      | inl p ↦ precedes_on arcs result word k (better.before_word (λ none. let inside = low word first.is in omega arith)) (first.least k p)
+      | inl p ↦ precedes_on arcs result word k (better.before_word (λ none. let inside = low word first.is in omega arith))
+          (first.least k p)
       | inr same ↦ subst (Precedes arcs result) (sym same) better.before_line
     ];
   })
@@ -77,7 +79,8 @@ module _ (arcs : List InArc) (side : Side) (seen : List ℕ) (i x : ℕ) where
 
   -- one line more is seen, and noted if its other end is x
   pub noted : (word result : ℕ) → length arcs ≤ MOST_ARCS → ((line : ℕ) → IsSeen arcs side seen i x line → line < length arcs) →
-      IsLineWord arcs (IsSeen arcs side seen i x) word → (x ≡ far_end side (arc_on arcs (get_or seen i 0)) → IsBetter arcs word (get_or seen i 0) result) →
+      IsLineWord arcs (IsSeen arcs side seen i x) word →
+      (x ≡ far_end side (arc_on arcs (get_or seen i 0)) → IsBetter arcs word (get_or seen i 0) result) →
       (x ≢ far_end side (arc_on arcs (get_or seen i 0)) → result ≡ word) → IsLineWord arcs (IsSeen arcs side seen (i + 1) x) result
   noted word result few low best here other = elim (cases_eq x (far_end side (arc_on arcs (get_or seen i 0)))) [
     | inl same ↦ word_for arcs (λ k. IsSeen arcs side seen i x k ⊎ (k ≡ get_or seen i 0)) (IsSeen arcs side seen (i + 1) x) result

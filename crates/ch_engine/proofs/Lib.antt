@@ -1,7 +1,9 @@
 -- The lemmas on engines: which hierarchy one opens with, the lines of its legs, and answers in arrays of words.
 mod AddingUp
 mod Filled
+mod EntrySearch
 mod FirstLines
+mod LegSums
 mod LineOfPair
 mod Bounds
 mod BuiltLike
@@ -10,5 +12,8 @@ mod RouteSums
 mod Rows
 mod SeenLines
 pub mod NearRows
+mod MeetingTrees
+mod PathTrees
+mod TreeSums
 mod Ways
 mod WhichHierarchy

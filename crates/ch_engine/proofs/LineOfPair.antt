@@ -24,14 +24,16 @@ module _ (g : Network) (H : LevelsAndLegs) (lines : Lines) (kept : IsKept g H) (
   pub line_up : u < length H.up → get_or H.level u 0 < get_or H.level w 0 → (word : ℕ) →
       IsWordAt (row H.up u) (get_or lines.up u []) w word → IsLineWord g.arcs (Leads g.arcs u w) word
   line_up inside rises word at = elim at [
-    | inl found ↦ subst (λ (x : ℕ). IsLineWord g.arcs (Leads g.arcs u x) word) found.2 (subst (IsLineWord g.arcs (Leads g.arcs u (node_at (row H.up u) found.0))) (sym found.3) (are.0.each u found.0 inside found.1))
+    | inl found ↦ subst (λ (x : ℕ). IsLineWord g.arcs (Leads g.arcs u x) word) found.2
+        (subst (IsLineWord g.arcs (Leads g.arcs u (node_at (row H.up u) found.0))) (sym found.3) (are.0.each u found.0 inside found.1))
     | inr missed ↦ inr (
       missed.0,
       λ line leads.
           let a = arc_on g.arcs line in
           let leg = kept.arcs a (on_line g.arcs line leads.0) (λ same. differ (sym leads.1 ∙ same ∙ leads.2)) in
           elim leg.2.3 [
-            | inl up ↦ (let place = at_place (row H.up u) leg.2.0 w (subst (λ x. Contains (row H.up x) leg.2.0) leads.1 up.0) (up.1 ∙ leads.2) in missed.1 place.0 place.1 place.2)
+            | inl up ↦ (let place = at_place (row H.up u) leg.2.0 w (subst (λ x. Contains (row H.up x) leg.2.0) leads.1 up.0)
+                (up.1 ∙ leads.2) in missed.1 place.0 place.1 place.2)
             | inr down ↦ (
                 let has = subst (λ x. Contains (row H.down x) leg.2.0) leads.2 down.0 in
                 let higher = (All-contains (IsLegUp H w) (row H.down w) leg.2.0 (kept.levelled.down.1 w).1 has).higher in
@@ -46,7 +48,8 @@ module _ (g : Network) (H : LevelsAndLegs) (lines : Lines) (kept : IsKept g H) (
   pub line_down : w < length H.down → get_or H.level w 0 ≤ get_or H.level u 0 → (word : ℕ) →
       IsWordAt (row H.down w) (get_or lines.down w []) u word → IsLineWord g.arcs (Leads g.arcs u w) word
   line_down inside falls word at = elim at [
-    | inl found ↦ subst (λ (x : ℕ). IsLineWord g.arcs (Leads g.arcs x w) word) found.2 (subst (IsLineWord g.arcs (Leads g.arcs (node_at (row H.down w) found.0) w)) (sym found.3) (are.1.each w found.0 inside found.1))
+    | inl found ↦ subst (λ (x : ℕ). IsLineWord g.arcs (Leads g.arcs x w) word) found.2
+        (subst (IsLineWord g.arcs (Leads g.arcs (node_at (row H.down w) found.0) w)) (sym found.3) (are.1.each w found.0 inside found.1))
     | inr missed ↦ inr (
       missed.0,
       λ line leads.
@@ -59,7 +62,9 @@ module _ (g : Network) (H : LevelsAndLegs) (lines : Lines) (kept : IsKept g H) (
                 let is : leg.2.0.node ≡ w = up.1 ∙ leads.2 in
                 let level = ap (λ x. get_or H.level x 0) is in
                 omega (arith, higher, level, falls))
-            | inr down ↦ (let place = at_place (row H.down w) leg.2.0 u (subst (λ x. Contains (row H.down x) leg.2.0) leads.2 down.0) (down.1 ∙ leads.1) in missed.1 place.0 place.1 place.2)
+            | inr down ↦ (let place =
+                at_place (row H.down w) leg.2.0 u (subst (λ x. Contains (row H.down x) leg.2.0) leads.2 down.0)
+                (down.1 ∙ leads.1) in missed.1 place.0 place.1 place.2)
           ],
     )
   ]

@@ -19,14 +19,16 @@ pub set_stays : (before ends : List ℕ) (i end : ℕ) → StaysFrom i before en
 set_stays before ends i end old k from = get_or-set_other ends i k end 0 (λ same. omega arith) ∙ old k (omega arith)
 
 -- a row stays if the arrays change only after its end
-row_stays : (held : Held) (s begin end at : ℕ) (weights places weights' places' : List ℕ) → IsRowAt held s begin end weights places → end ≤ at → Agree at weights places weights' places' →
+row_stays : (held : Held) (s begin end at : ℕ) (weights places weights' places' : List ℕ) →
+    IsRowAt held s begin end weights places → end ≤ at → Agree at weights places weights' places' →
     length weights' ≡ length weights → IsRowAt held s begin end weights' places'
 row_stays held s begin end at weights places weights' places' row low agree long = (
   row.0,
   row.1,
   row.2,
   omega (arith, long, row.3),
-  λ j inside. let same = agree (begin + j) (omega (arith, low, inside, row.2)) in let stands = row.4 j inside in (same.0 ∙ stands.0, same.1 ∙ stands.1),
+  λ j inside. let same = agree (begin + j) (omega (arith, low, inside, row.2)) in let stands = row.4 j inside in
+      (same.0 ∙ stands.0, same.1 ∙ stands.1),
 )
 
 -- writing the end of row i keeps the begins of the rows up to i
@@ -40,19 +42,26 @@ begin_next ends i = let next : i + 1 ≡ suc i = omega arith in subst (λ n. beg
 
 module _ (held : Held) (sources ends weights places weights' places' : List ℕ) (i begin : ℕ) where
   -- the rows before stay, and one more comes after them
-  pub rows_more : AreRowsAt held sources ends weights places i → begin ≡ begin_of ends i → ((k : ℕ) → k < i → get_or ends k 0 ≤ begin) → i < length ends →
-      Agree begin weights places weights' places' → length weights' ≡ length weights → (row : List (ℕ × ℕ)) → IsKeptRow held (get_or sources i 0) row → begin + length row ≤ length weights →
+  pub rows_more : AreRowsAt held sources ends weights places i → begin ≡ begin_of ends i →
+      ((k : ℕ) → k < i → get_or ends k 0 ≤ begin) → i < length ends →
+      Agree begin weights places weights' places' → length weights' ≡ length weights → (row : List (ℕ × ℕ)) →
+      IsKeptRow held (get_or sources i 0) row → begin + length row ≤ length weights →
       StandsAt begin row weights' places' → AreRowsAt held sources (set ends i (begin + length row)) weights' places' (i + 1)
   rows_more are here low inside agree long row kept fits stands k more =
       let end = begin + length row in
       let own : IsRowAt held (get_or sources i 0) begin end weights' places' = (row, kept, refl, omega (arith, long, fits), stands) in
       elim (cases_order k i) [
-        | inl same ↦ subst (λ (n : ℕ). IsRowAt held (get_or sources n 0) (begin_of (set ends i end) n) (get_or (set ends i end) n 0) weights' places') (sym same)
-            (subst (λ b. IsRowAt held (get_or sources i 0) b (get_or (set ends i end) i 0) weights' places') (here ∙ sym (begins_stay ends i end i (omega arith)))
+        | inl same ↦ subst (λ (n : ℕ). IsRowAt held (get_or sources n 0) (begin_of (set ends i end) n) (get_or (set ends i end) n 0)
+            weights' places') (sym same)
+            (subst (λ b. IsRowAt held (get_or sources i 0) b (get_or (set ends i end) i 0) weights' places')
+            (here ∙ sym (begins_stay ends i end i (omega arith)))
             (subst (λ e. IsRowAt held (get_or sources i 0) begin e weights' places') (sym (get_or-set_same ends i end 0 inside)) own))
-        | inr (inl less) ↦ subst (λ b. IsRowAt held (get_or sources k 0) b (get_or (set ends i end) k 0) weights' places') (sym (begins_stay ends i end k (omega arith)))
-            (subst (λ e. IsRowAt held (get_or sources k 0) (begin_of ends k) e weights' places') (sym (get_or-set_other ends i k end 0 (λ same. omega arith)))
-            (row_stays held (get_or sources k 0) (begin_of ends k) (get_or ends k 0) begin weights places weights' places' (are k less) (low k less) agree long))
+        | inr (inl less) ↦ subst (λ b. IsRowAt held (get_or sources k 0) b (get_or (set ends i end) k 0) weights' places')
+            (sym (begins_stay ends i end k (omega arith)))
+            (subst (λ e. IsRowAt held (get_or sources k 0) (begin_of ends k) e weights' places')
+            (sym (get_or-set_other ends i k end 0 (λ same. omega arith)))
+            (row_stays held (get_or sources k 0) (begin_of ends k) (get_or ends k 0) begin weights places weights' places'
+            (are k less) (low k less) agree long))
         | inr (inr past) ↦ absurd (omega arith)
       ]
 

@@ -1,5 +1,6 @@
 -- The lines of a route's arcs.
-use Rattle.std.proofs.Common.{◌≡◌, ◌≢◌, ℕ, zero, suc, ◌+◌, ◌<◌, ◌≤◌, List, [], ◌∷◌, length, get_or, set, All, Contains, Option, Some, None, inl, inr, sym, ap, ◌∙◌, subst, arith}
+use Rattle.std.proofs.Common.{◌≡◌, ◌≢◌, ℕ, zero, suc, ◌+◌, ◌<◌, ◌≤◌, List, [], ◌∷◌, length, get_or, set, All, Contains, Option}
+use Rattle.std.proofs.Common.{Some, None, inl, inr, sym, ap, ◌∙◌, subst, arith}
 use Rattle.std.specs.Prelude.{MatchOption, ⊤}
 use Rattle.std.proofs.lemmas.List.{get_or_default, length-map}
 use Rattle.std.proofs.lemmas.List.Elements.{All-contains}
@@ -15,20 +16,24 @@ use Rattle.ch_engine.specs.Routes.{AreArcLines, AreNoted, IsArcLine, nodes_from}
 use Rattle.ch_engine.proofs.LineOfPair.{on_line}
 
 -- an arc of a walk is one of the graph
-arc_of_walk : (g : Network) (s t : ℕ) (arcs : List InArc) (j : ℕ) (d : InArc) → j < length arcs → IsWalk g s t arcs → Contains g.arcs (get_or arcs j d)
+arc_of_walk : (g : Network) (s t : ℕ) (arcs : List InArc) (j : ℕ) (d : InArc) → j < length arcs → IsWalk g s t arcs →
+    Contains g.arcs (get_or arcs j d)
 arc_of_walk g s t [] j d low walk = absurd (omega (arith, low))
 arc_of_walk g s t (a ∷ arcs) zero d low walk = walk.0
 arc_of_walk g s t (a ∷ arcs) (suc j) d low walk = arc_of_walk g a.to t arcs j d (omega (arith, low)) walk.2
 
 -- an arc of a walk can be replaced by another one between the same nodes
-walk_with : (g : Network) (s t : ℕ) (arcs : List InArc) (j : ℕ) (d b : InArc) → j < length arcs → IsWalk g s t arcs → Contains g.arcs b → b.from ≡ (get_or arcs j d).from → b.to ≡ (get_or arcs j d).to →
+walk_with : (g : Network) (s t : ℕ) (arcs : List InArc) (j : ℕ) (d b : InArc) → j < length arcs → IsWalk g s t arcs →
+    Contains g.arcs b → b.from ≡ (get_or arcs j d).from → b.to ≡ (get_or arcs j d).to →
     IsWalk g s t (set arcs j b)
 walk_with g s t [] j d b low walk has from to = absurd (omega (arith, low))
 walk_with g s t (a ∷ arcs) zero d b low walk has from to = (has, from ∙ walk.1, subst (λ v. IsWalk g v t arcs) (sym to) walk.2)
-walk_with g s t (a ∷ arcs) (suc j) d b low walk has from to = (walk.0, walk.1, walk_with g a.to t arcs j d b (omega (arith, low)) walk.2 has from to)
+walk_with g s t (a ∷ arcs) (suc j) d b low walk has from to =
+    (walk.0, walk.1, walk_with g a.to t arcs j d b (omega (arith, low)) walk.2 has from to)
 
 -- an arc from a node to itself can be left out
-walk_without : (g : Network) (s t : ℕ) (arcs : List InArc) (j : ℕ) (d : InArc) → j < length arcs → IsWalk g s t arcs → (get_or arcs j d).from ≡ (get_or arcs j d).to →
+walk_without : (g : Network) (s t : ℕ) (arcs : List InArc) (j : ℕ) (d : InArc) → j < length arcs → IsWalk g s t arcs →
+    (get_or arcs j d).from ≡ (get_or arcs j d).to →
     (less : List InArc) × IsWalk g s t less × (weight_of less ≤ weight_of arcs) × (length less < length arcs)
 walk_without g s t [] j d low walk loop = absurd (omega (arith, low))
 walk_without g s t (a ∷ arcs) zero d low walk loop =
@@ -53,7 +58,8 @@ module _ (g : Network) (s t : ℕ) (arcs : List InArc) (least : IsLeastWalk g s 
       omega (arith, count, shorter.3)
 
   -- no arc between the same nodes is lighter
-  lightest : (b : InArc) → Contains g.arcs b → b.from ≡ (get_or arcs j d).from → b.to ≡ (get_or arcs j d).to → (get_or arcs j d).weight ≤ b.weight
+  lightest : (b : InArc) → Contains g.arcs b → b.from ≡ (get_or arcs j d).from → b.to ≡ (get_or arcs j d).to →
+      (get_or arcs j d).weight ≤ b.weight
   lightest b has from to =
       let f : InArc → ℕ = λ x. x.weight in
       let most = (least.least.least (set arcs j b) (walk_with g s t arcs j d b low least.walk has from to)).0 in
@@ -61,8 +67,10 @@ module _ (g : Network) (s t : ℕ) (arcs : List InArc) (least : IsLeastWalk g s 
       omega (arith, most, sums)
 
 -- the line between the ends of a route's arc is the line of this arc
-pub arc_line : (H : LevelsAndLegs) (lines : Lines) (s t : ℕ) (route : Route) → IsRouteBy H s t (Some route) → (j : ℕ) (d : InArc) → j < length route.arcs → (word : ℕ) →
-    ((get_or route.arcs j d).from ≢ (get_or route.arcs j d).to → IsLineBy H lines (get_or route.arcs j d).from (get_or route.arcs j d).to word) → IsArcLine H lines (get_or route.arcs j d) word
+pub arc_line : (H : LevelsAndLegs) (lines : Lines) (s t : ℕ) (route : Route) → IsRouteBy H s t (Some route) → (j : ℕ) (d : InArc) →
+    j < length route.arcs → (word : ℕ) →
+    ((get_or route.arcs j d).from ≢ (get_or route.arcs j d).to → IsLineBy H lines (get_or route.arcs j d).from
+    (get_or route.arcs j d).to word) → IsArcLine H lines (get_or route.arcs j d) word
 arc_line H lines s t route by j d low word noted g within kept are =
     let least = (by g within kept).0 in
     let a = get_or route.arcs j d in
@@ -83,26 +91,32 @@ arc_line H lines s t route by j d low word noted g within kept are =
     ]
 
 -- what is noted of a route are the lines of its arcs
-pub route_lines : (H : LevelsAndLegs) (lines : Lines) (s t : ℕ) (answer : Option Route) → IsRouteBy H s t answer → (begin : ℕ) (array : List ℕ) → AreNoted H lines answer begin array → AreArcLines H lines answer begin array
+pub route_lines : (H : LevelsAndLegs) (lines : Lines) (s t : ℕ) (answer : Option Route) → IsRouteBy H s t answer →
+    (begin : ℕ) (array : List ℕ) → AreNoted H lines answer begin array → AreArcLines H lines answer begin array
 route_lines H lines s t None by begin array noted = tt
-route_lines H lines s t (Some route) by begin array noted = λ some. ((noted some).0, λ j d low. arc_line H lines s t route by j d low (get_or array (begin + 1 + j) 0) ((noted some).1 j d low))
+route_lines H lines s t (Some route) by begin array noted = λ some.
+    ((noted some).0, λ j d low. arc_line H lines s t route by j d low (get_or array (begin + 1 + j) 0) ((noted some).1 j d low))
 
 -- the ends of a route's arcs are nodes
-pub route_ends : (H : LevelsAndLegs) (lines : Lines) → IsOfSome H lines → (s t : ℕ) (answer : Option Route) → IsRouteBy H s t answer → MatchOption answer ⊤ (λ route. All (HasEnds (nodes_of H)) route.arcs)
+pub route_ends : (H : LevelsAndLegs) (lines : Lines) → IsOfSome H lines → (s t : ℕ) (answer : Option Route) →
+    IsRouteBy H s t answer → MatchOption answer ⊤ (λ route. All (HasEnds (nodes_of H)) route.arcs)
 route_ends H lines of s t None by = tt
 route_ends H lines of s t (Some route) by = λ j d low.
     let g = of.0 in
     let least = (by g of.1 of.2).0 in
-    let ends = (All-contains (IsArcWithin g.nodes) g.arcs (get_or route.arcs j d) of.1.each (arc_of_walk g s t route.arcs j d low least.walk)).ends in
+    let ends = (All-contains (IsArcWithin g.nodes) g.arcs (get_or route.arcs j d) of.1.each
+    (arc_of_walk g s t route.arcs j d low least.walk)).ends in
     subst (λ n. HasEnds n (get_or route.arcs j d)) (sym of.2.nodes) ends
 
 -- the lines of a route stay if the array changes only after its end
-pub lines_stay : (H : LevelsAndLegs) (lines : Lines) (s : ℕ) (answer : Option Route) (begin at : ℕ) (array array' : List ℕ) → AreArcLines H lines answer begin array → begin + length (nodes_from s answer) ≤ at →
+pub lines_stay : (H : LevelsAndLegs) (lines : Lines) (s : ℕ) (answer : Option Route) (begin at : ℕ) (array array' : List ℕ) →
+    AreArcLines H lines answer begin array → begin + length (nodes_from s answer) ≤ at →
     ((k : ℕ) → k < at → get_or array' k 0 ≡ get_or array k 0) → length array' ≡ length array → AreArcLines H lines answer begin array'
 lines_stay H lines s None begin at array array' are low agree long = tt
 lines_stay H lines s (Some route) begin at array array' are low agree long = λ some.
     let size = length-map route.arcs (λ a. a.to) in
     let old = are (omega (arith, some, long)) in (
       agree begin (omega (arith, low, size)) ∙ old.0,
-      λ j d inside. subst (IsArcLine H lines (get_or route.arcs j d)) (sym (agree (begin + 1 + j) (omega (arith, low, size, inside)))) (old.1 j d inside),
+      λ j d inside. subst (IsArcLine H lines (get_or route.arcs j d))
+          (sym (agree (begin + 1 + j) (omega (arith, low, size, inside)))) (old.1 j d inside),
     )

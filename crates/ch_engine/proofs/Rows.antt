@@ -24,14 +24,16 @@ some_column : (rows columns k : ℕ) → k < rows * columns → 0 < columns
 some_column rows zero k low = absurd (omega (arith, low))
 some_column rows (suc n) k low = omega arith
 
-module _ (H : LevelsAndLegs) (limit : Option ℕ) (sources targets : List ℕ) (rows : List (List (Option ℕ))) (all : AllZip (IsRowBy H limit targets) sources rows) where
+module _ (H : LevelsAndLegs) (limit : Option ℕ) (sources targets : List ℕ) (rows : List (List (Option ℕ)))
+    (all : AllZip (IsRowBy H limit targets) sources rows) where
   -- there are as many rows as sources
   pub row_count : length rows ≡ length sources
   row_count = zipped_length (IsRowBy H limit targets) sources rows all
 
   -- each row has as many answers as there are targets
   pub row_length : (i : ℕ) → i < length sources → length (get_or rows i []) ≡ length targets
-  row_length i low = zipped_length (IsDistanceWithin H limit (get_or sources i 0)) targets (get_or rows i []) (at_place (IsRowBy H limit targets) sources rows all i low 0 [])
+  row_length i low = zipped_length (IsDistanceWithin H limit (get_or sources i 0)) targets (get_or rows i [])
+      (at_place (IsRowBy H limit targets) sources rows all i low 0 [])
 
   -- the word of each answer is the word of its cell
   pub cell_word : IsKeptForSome H → (i j : ℕ) → i < length sources → j < length targets →
@@ -40,15 +42,23 @@ module _ (H : LevelsAndLegs) (limit : Option ℕ) (sources targets : List ℕ) (
       let s = get_or sources i 0 in
       let answer = get_or (get_or rows i []) j None in
       let within : IsDistanceWithin H limit s (get_or targets j 0) answer
-      = at_place (IsDistanceWithin H limit s) targets (get_or rows i []) (at_place (IsRowBy H limit targets) sources rows all i row 0 []) j column 0 None in
-      (within.whole, answer, within.distance, within.cut, word_within H kept s (get_or targets j 0) limit within.whole within.distance answer within.cut)
+      = at_place (IsDistanceWithin H limit s) targets (get_or rows i [])
+      (at_place (IsRowBy H limit targets) sources rows all i row 0 []) j column 0 None in (
+        within.whole,
+        answer,
+        within.distance,
+        within.cut,
+        word_within H kept s (get_or targets j 0) limit within.whole within.distance answer within.cut,
+      )
 
   -- the words, row after row, are the words of the cells
-  pub cell_at : IsKeptForSome H → (words : List ℕ) → length words ≡ length sources * length targets → AreRowWords rows (length targets) words → (k : ℕ) → k < length words →
+  pub cell_at : IsKeptForSome H → (words : List ℕ) → length words ≡ length sources * length targets →
+      AreRowWords rows (length targets) words → (k : ℕ) → k < length words →
       IsCell H limit (get_or sources (k / length targets) 0) (get_or targets (k % length targets) 0) (get_or words k 0)
   cell_at kept words room are k low =
       let inside : k < length sources * length targets = subst (λ n. k < n) room low in
       let some = some_column (length sources) (length targets) k inside in
       let row = (div-lt_iff_lt-mul some).1 inside in
       let column = mod-lt k some in
-      subst (IsCell H limit (get_or sources (k / length targets) 0) (get_or targets (k % length targets) 0)) (sym (are k low)) (cell_word kept (k / length targets) (k % length targets) row column)
+      subst (IsCell H limit (get_or sources (k / length targets) 0) (get_or targets (k % length targets) 0)) (sym (are k low))
+      (cell_word kept (k / length targets) (k % length targets) row column)

@@ -1,5 +1,6 @@
 -- The routes of many pairs in arrays, one after the other.
-use Rattle.std.proofs.Common.{◌≡◌, ℕ, zero, suc, ◌+◌, ◌<◌, ◌≤◌, List, ◌∷◌, length, get_or, set, Option, Some, None, Ok, Err, inl, inr, refl, sym, ◌∙◌, subst, arith}
+use Rattle.std.proofs.Common.{◌≡◌, ℕ, ◌+◌, ◌<◌, ◌≤◌, List, length, get_or, set, Option, Some, None, Ok, Err, inl}
+use Rattle.std.proofs.Common.{inr, refl, sym, ◌∙◌, subst, arith}
 use Rattle.std.specs.Prelude.{IfOk, MatchOption, Result, ⊤}
 use Rattle.std.proofs.lemmas.List.{get_or-map, get_or-set_same, get_or-set_other, length-map}
 use Rattle.std.proofs.lemmas.Bool.{cases_order}
@@ -20,7 +21,8 @@ way_short s n None few = omega arith
 way_short s n (Some route) few = let same = length-map route.arcs (λ a. a.to) in omega (arith, same, few)
 
 -- an answer that is the named route, and a walk of least cost with few arcs, is what is asked for
-pub found_if : {E : Type 0} (H : LevelsAndLegs) (s t : ℕ) (result : Result (Option Route) E) → IfOk result (λ answer. MatchOption answer (NeverMeets H s t) (IsRoute H s t)) → IfOk result (IsRouteBy H s t) →
+pub found_if : {E : Type 0} (H : LevelsAndLegs) (s t : ℕ) (result : Result (Option Route) E) →
+    IfOk result (λ answer. MatchOption answer (NeverMeets H s t) (IsRoute H s t)) → IfOk result (IsRouteBy H s t) →
     IfOk result (λ answer. MatchOption answer ⊤ (λ route. length route.arcs < nodes_of H)) → IfOk result (IsFound H s t)
 found_if H s t (Ok answer) chosen walk few = record { chosen = chosen; walk = walk; few = way_short s (nodes_of H) answer few }
 found_if H s t (Err fault) chosen walk few = tt
@@ -36,17 +38,11 @@ heads_more arcs begin j nodes d low inside before k less = elim (cases_order k j
   | inr (inr past) ↦ absurd (omega arith)
 ]
 
--- one number before a list that is in an array
-pub holds_after : (begin s : ℕ) (list array : List ℕ) → get_or array begin 0 ≡ s → HoldsFrom (begin + 1) list array →
-    HoldsFrom begin (s ∷ list) array
-holds_after begin s list array here rest zero low =
-    let at : begin + zero ≡ begin = omega arith in subst (λ (n : ℕ). get_or array n 0 ≡ s) (sym at) here
-holds_after begin s list array here rest (suc j) low =
-    let at : begin + suc j ≡ begin + 1 + j = omega arith in subst (λ (n : ℕ). get_or array n 0 ≡ get_or list j 0) (sym at) (rest j (omega (arith, low)))
-
 -- a route stays if the arrays change only after its end
-route_stays : (held : Held) (s t weight begin end at : ℕ) (nodes nodes' lines lines' : List ℕ) → IsRouteAt held s t weight begin end nodes lines → end ≤ at → ((k : ℕ) → k < at → get_or nodes' k 0 ≡ get_or nodes k 0) →
-    length nodes' ≡ length nodes → ((k : ℕ) → k < at → get_or lines' k 0 ≡ get_or lines k 0) → length lines' ≡ length lines → IsRouteAt held s t weight begin end nodes' lines'
+route_stays : (held : Held) (s t weight begin end at : ℕ) (nodes nodes' lines lines' : List ℕ) →
+    IsRouteAt held s t weight begin end nodes lines → end ≤ at → ((k : ℕ) → k < at → get_or nodes' k 0 ≡ get_or nodes k 0) →
+    length nodes' ≡ length nodes → ((k : ℕ) → k < at → get_or lines' k 0 ≡ get_or lines k 0) → length lines' ≡ length lines →
+    IsRouteAt held s t weight begin end nodes' lines'
 route_stays held s t weight begin end at nodes nodes' lines lines' is low agree long same wide = (
   is.0,
   is.1,
@@ -59,24 +55,33 @@ route_stays held s t weight begin end at nodes nodes' lines lines' is low agree 
 
 module _ (held : Held) (sources targets weights ends nodes nodes' lines lines' : List ℕ) (i begin : ℕ) where
   -- the routes before stay, and one more comes after them
-  pub routes_more : AreRoutesAt held sources targets weights ends nodes lines i → begin ≡ begin_of ends i → ((k : ℕ) → k < i → get_or ends k 0 ≤ begin) → i < length weights → i < length ends →
-      ((k : ℕ) → k < begin → get_or nodes' k 0 ≡ get_or nodes k 0) → length nodes' ≡ length nodes → ((k : ℕ) → k < begin → get_or lines' k 0 ≡ get_or lines k 0) → length lines' ≡ length lines →
-      (answer : Option Route) → IsFound held.hierarchy (get_or sources i 0) (get_or targets i 0) answer → (weight : ℕ) → weight ≡ weight_word answer →
-      begin + length (nodes_from (get_or sources i 0) answer) ≤ length nodes → HoldsFrom begin (nodes_from (get_or sources i 0) answer) nodes' → AreArcLines held.hierarchy held.lines answer begin lines' →
-      AreRoutesAt held sources targets (set weights i weight) (set ends i (begin + length (nodes_from (get_or sources i 0) answer))) nodes' lines' (i + 1)
+  pub routes_more : AreRoutesAt held sources targets weights ends nodes lines i → begin ≡ begin_of ends i →
+      ((k : ℕ) → k < i → get_or ends k 0 ≤ begin) → i < length weights → i < length ends →
+      ((k : ℕ) → k < begin → get_or nodes' k 0 ≡ get_or nodes k 0) → length nodes' ≡ length nodes →
+      ((k : ℕ) → k < begin → get_or lines' k 0 ≡ get_or lines k 0) → length lines' ≡ length lines →
+      (answer : Option Route) → IsFound held.hierarchy (get_or sources i 0) (get_or targets i 0) answer → (weight : ℕ) →
+      weight ≡ weight_word answer →
+      begin + length (nodes_from (get_or sources i 0) answer) ≤ length nodes → HoldsFrom begin
+      (nodes_from (get_or sources i 0) answer) nodes' → AreArcLines held.hierarchy held.lines answer begin lines' →
+      AreRoutesAt held sources targets (set weights i weight) (set ends i (begin + length (nodes_from (get_or sources i 0) answer)))
+      nodes' lines' (i + 1)
   routes_more are here low weighs inside agree long same wide answer found weight is fits holds lined k more =
       let s = get_or sources i 0 in
       let end = begin + length (nodes_from s answer) in
       let At : ℕ → ℕ → ℕ → ℕ → Type 0 = λ n w b e. IsRouteAt held (get_or sources n 0) (get_or targets n 0) w b e nodes' lines' in
       let own : At i weight begin end = (answer, found, is, refl, omega (arith, long, fits), holds, lined) in
       elim (cases_order k i) [
-        | inl equal ↦ subst (λ (n : ℕ). At n (get_or (set weights i weight) n 0) (begin_of (set ends i end) n) (get_or (set ends i end) n 0)) (sym equal)
-            (subst (λ w. At i w (begin_of (set ends i end) i) (get_or (set ends i end) i 0)) (sym (get_or-set_same weights i weight 0 weighs))
+        | inl equal ↦ subst (λ (n : ℕ). At n (get_or (set weights i weight) n 0) (begin_of (set ends i end) n)
+            (get_or (set ends i end) n 0)) (sym equal)
+            (subst (λ w. At i w (begin_of (set ends i end) i) (get_or (set ends i end) i 0))
+            (sym (get_or-set_same weights i weight 0 weighs))
             (subst (λ b. At i weight b (get_or (set ends i end) i 0)) (here ∙ sym (begins_stay ends i end i (omega arith)))
             (subst (λ e. At i weight begin e) (sym (get_or-set_same ends i end 0 inside)) own)))
-        | inr (inl less) ↦ subst (λ w. At k w (begin_of (set ends i end) k) (get_or (set ends i end) k 0)) (sym (get_or-set_other weights i k weight 0 (λ equal. omega arith)))
+        | inr (inl less) ↦ subst (λ w. At k w (begin_of (set ends i end) k) (get_or (set ends i end) k 0))
+            (sym (get_or-set_other weights i k weight 0 (λ equal. omega arith)))
             (subst (λ b. At k (get_or weights k 0) b (get_or (set ends i end) k 0)) (sym (begins_stay ends i end k (omega arith)))
             (subst (λ e. At k (get_or weights k 0) (begin_of ends k) e) (sym (get_or-set_other ends i k end 0 (λ equal. omega arith)))
-            (route_stays held (get_or sources k 0) (get_or targets k 0) (get_or weights k 0) (begin_of ends k) (get_or ends k 0) begin nodes nodes' lines lines' (are k less) (low k less) agree long same wide)))
+            (route_stays held (get_or sources k 0) (get_or targets k 0) (get_or weights k 0) (begin_of ends k) (get_or ends k 0)
+            begin nodes nodes' lines lines' (are k less) (low k less) agree long same wide)))
         | inr (inr past) ↦ absurd (omega arith)
       ]

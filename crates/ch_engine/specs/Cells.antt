@@ -30,7 +30,8 @@ ArePairCells H sources targets words =
 -- the words are those of a table, row after row
 abbrev pub AreTableCells : LevelsAndLegs → Option ℕ → List ℕ → List ℕ → List ℕ → Type 0
 AreTableCells H limit sources targets words =
-    (k : ℕ) → k < length words → IsCell H limit (slice_index sources (k / length targets)) (slice_index targets (k % length targets)) (slice_index words k)
+    (k : ℕ) → k < length words → IsCell H limit (slice_index sources (k / length targets))
+    (slice_index targets (k % length targets)) (slice_index words k)
 
 -- the words are those of the rows' answers, row after row
 abbrev pub AreRowWords : List (List (Option ℕ)) → ℕ → List ℕ → Type 0

@@ -1,6 +1,7 @@
 -- The definitions of what an engine answers: cells, lines, near rows, routes and sums, and why it refuses a call.
 pub mod Cells
 pub mod Held
+pub mod LegSums
 pub mod Lines
 pub mod NearRows
 pub mod Refusals
@@ -8,3 +9,4 @@ pub mod Routes
 pub mod RouteSums
 pub mod Sums
 pub mod Opened
+pub mod PathTrees

@@ -54,7 +54,8 @@ pub record AreLinesOn (side : Side) (arcs : List InArc) (rows : List (List Leg))
   pub count : length words ≡ length rows
   pub long : (v : ℕ) → v < length rows → length (slice_index_or words v []) ≡ length (row rows v)
   pub each : (v k : ℕ) → v < length rows → k < length (row rows v) →
-      IsLineWord arcs (Leads arcs (tail_of side v (node_at (row rows v) k)) (head_of side v (node_at (row rows v) k))) (slice_index (slice_index_or words v []) k)
+      IsLineWord arcs (Leads arcs (tail_of side v (node_at (row rows v) k)) (head_of side v (node_at (row rows v) k)))
+      (slice_index (slice_index_or words v []) k)
 
 -- a word for each leg up and for each leg down, and the number of lines
 pub record Lines : Type 0 where
@@ -100,4 +101,5 @@ pub record IsBetter (arcs : List InArc) (word line result : ℕ) : Type 0 where
 -- the word beside the leg at a node, or the word for none
 abbrev pub IsWordAt : List Leg → List ℕ → ℕ → ℕ → Type 0
 IsWordAt legs words node word =
-    ((k : ℕ) × (k < length legs) × (node_at legs k ≡ node) × (word ≡ slice_index words k)) ⊎ ((word ≡ no_line) × ((k : ℕ) → k < length legs → node_at legs k ≢ node))
+    ((k : ℕ) × (k < length legs) × (node_at legs k ≡ node) × (word ≡ slice_index words k))
+    ⊎ ((word ≡ no_line) × ((k : ℕ) → k < length legs → node_at legs k ≢ node))

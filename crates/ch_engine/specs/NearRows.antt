@@ -17,7 +17,8 @@ begin_of ends (suc k) = slice_index ends k
 -- the weights and the places of a row are in the arrays from this place on
 abbrev pub StandsAt : ℕ → List (ℕ × ℕ) → List ℕ → List ℕ → Type 0
 StandsAt begin row weights places =
-    (j : ℕ) → j < length row → (slice_index weights (begin + j) ≡ (slice_index_or row j (0, 0)).0) × (slice_index places (begin + j) ≡ (slice_index_or row j (0, 0)).1)
+    (j : ℕ) → j < length row → (slice_index weights (begin + j) ≡ (slice_index_or row j (0, 0)).0)
+    × (slice_index places (begin + j) ≡ (slice_index_or row j (0, 0)).1)
 
 -- the near row of a source is in the arrays from its begin to its end
 abbrev pub IsRowAt : Held → ℕ → ℕ → ℕ → List ℕ → List ℕ → Type 0

@@ -32,4 +32,5 @@ IsBuiltLike g other fresh H = (order : List ℕ) × IsByLevel other order × IsH
 -- the hierarchy is right for the graph that the bytes name, and the lines are those of this graph's arcs. The hierarchy is
 -- built in the order of another one of as many nodes
 abbrev pub IsOpenedLike : List ℕ → LevelsAndLegs → ℕ → LevelsAndLegs → Lines → Type 0
-IsOpenedLike graph other fresh H lines = (g : Network) × NamesGraph graph g × IsWithinLimits g × IsKept g H × (g.nodes ≡ nodes_of other) × (fresh ≤ 100) × IsBuiltLike g other fresh H × AreLines g H lines
+IsOpenedLike graph other fresh H lines = (g : Network) × NamesGraph graph g × IsWithinLimits g × IsKept g H
+    × (g.nodes ≡ nodes_of other) × (fresh ≤ 100) × IsBuiltLike g other fresh H × AreLines g H lines

@@ -15,8 +15,10 @@ use Rattle.ch_near.specs.Searched.{Asked}
 abbrev pub IsOpenError : List ℕ → List ℕ → OpenError → Type 0
 IsOpenError graph saved OpenError.NoMemory = ⊤
 IsOpenError graph saved (OpenError.BadGraph f) = IsFault Graph graph f.line f.kind
-IsOpenError graph saved (OpenError.BadSaved f) = (saved ≢ []) × ((g : Network) × NamesGraph graph g × IsFault (Saved g.nodes) saved f.line f.kind)
-IsOpenError graph saved (OpenError.WrongSaved f) = (g : Network) × (s : OrderAndLegs) × NamesGraph graph g × NamesSaved saved g.nodes s × IsFirstFault g s f
+IsOpenError graph saved (OpenError.BadSaved f) = (saved ≢ [])
+    × ((g : Network) × NamesGraph graph g × IsFault (Saved g.nodes) saved f.line f.kind)
+IsOpenError graph saved (OpenError.WrongSaved f) = (g : Network) × (s : OrderAndLegs) × NamesGraph graph g
+    × NamesSaved saved g.nodes s × IsFirstFault g s f
 IsOpenError graph saved OpenError.OtherNodes = ⊥
 IsOpenError graph saved OpenError.FreshRange = ⊥
 
@@ -41,7 +43,8 @@ ArePairs n sources targets room = (length sources ≡ room) × (length targets �
 -- the reason for refusing the distances of pairs, with room for `room` words. Lengths come before nodes
 abbrev pub IsRefusalOfPairs : ℕ → List ℕ → List ℕ → ℕ → Refusal → Type 0
 IsRefusalOfPairs n sources targets room Refusal.NoMemory = ⊥
-IsRefusalOfPairs n sources targets room Refusal.NodeRange = (length sources ≡ room) × (length targets ≡ room) × (AreNodes n sources × AreNodes n targets → ⊥)
+IsRefusalOfPairs n sources targets room Refusal.NodeRange = (length sources ≡ room) × (length targets ≡ room)
+    × (AreNodes n sources × AreNodes n targets → ⊥)
 IsRefusalOfPairs n sources targets room Refusal.Lengths = (length sources ≡ room) × (length targets ≡ room) → ⊥
 IsRefusalOfPairs n sources targets room Refusal.TooLarge = ⊥
 IsRefusalOfPairs n sources targets room Refusal.NoPlaces = ⊥
@@ -49,15 +52,18 @@ IsRefusalOfPairs n sources targets room Refusal.NoPlaces = ⊥
 -- these are the sources and the targets of a table, with room for a word of each cell
 abbrev pub AreTableLists : ℕ → List ℕ → List ℕ → ℕ → Type 0
 AreTableLists n sources targets room =
-    (length sources * length targets ≡ room) × AreNodes n sources × AreNodes n targets × (length sources ≤ MOST_LISTED) × (length targets ≤ MOST_LISTED)
+    (length sources * length targets ≡ room) × AreNodes n sources × AreNodes n targets × (length sources ≤ MOST_LISTED)
+    × (length targets ≤ MOST_LISTED)
 
 -- the reason for refusing a table. Lengths come before nodes, nodes before sizes, and sizes before memory
 abbrev pub IsRefusalOfTable : ℕ → List ℕ → List ℕ → ℕ → Refusal → Type 0
 IsRefusalOfTable n sources targets room Refusal.NoMemory = AreTableLists n sources targets room
-IsRefusalOfTable n sources targets room Refusal.NodeRange = (length sources * length targets ≡ room) × (AreNodes n sources × AreNodes n targets → ⊥)
+IsRefusalOfTable n sources targets room Refusal.NodeRange = (length sources * length targets ≡ room)
+    × (AreNodes n sources × AreNodes n targets → ⊥)
 IsRefusalOfTable n sources targets room Refusal.Lengths = length sources * length targets ≡ room → ⊥
 IsRefusalOfTable n sources targets room Refusal.TooLarge =
-    (length sources * length targets ≡ room) × AreNodes n sources × AreNodes n targets × ((length sources ≤ MOST_LISTED) × (length targets ≤ MOST_LISTED) → ⊥)
+    (length sources * length targets ≡ room) × AreNodes n sources × AreNodes n targets
+    × ((length sources ≤ MOST_LISTED) × (length targets ≤ MOST_LISTED) → ⊥)
 IsRefusalOfTable n sources targets room Refusal.NoPlaces = ⊥
 
 -- both are nodes of a network of n nodes
@@ -78,7 +84,8 @@ IsLinesRoom nodes lines = (lines ≡ 0) ⊎ (lines ≡ nodes)
 
 -- arrays of these lengths fit so many pairs
 abbrev pub AreRouteLengths : ℕ → ℕ → ℕ → ℕ → ℕ → ℕ → Type 0
-AreRouteLengths sources targets weights ends nodes lines = (targets ≡ sources) × (weights ≡ sources) × (ends ≡ sources) × IsLinesRoom nodes lines
+AreRouteLengths sources targets weights ends nodes lines = (targets ≡ sources) × (weights ≡ sources) × (ends ≡ sources)
+    × IsLinesRoom nodes lines
 
 -- the reason for refusing routes, with arrays of these lengths for weights, ends, nodes and lines. Lengths come before
 -- nodes
@@ -86,13 +93,15 @@ abbrev pub IsRefusalOfRoutes : ℕ → List ℕ → List ℕ → ℕ → ℕ →
 IsRefusalOfRoutes n sources targets weights ends nodes lines Refusal.NoMemory = ⊥
 IsRefusalOfRoutes n sources targets weights ends nodes lines Refusal.NodeRange =
     AreRouteLengths (length sources) (length targets) weights ends nodes lines × (AreNodes n sources × AreNodes n targets → ⊥)
-IsRefusalOfRoutes n sources targets weights ends nodes lines Refusal.Lengths = AreRouteLengths (length sources) (length targets) weights ends nodes lines → ⊥
+IsRefusalOfRoutes n sources targets weights ends nodes lines Refusal.Lengths =
+    AreRouteLengths (length sources) (length targets) weights ends nodes lines → ⊥
 IsRefusalOfRoutes n sources targets weights ends nodes lines Refusal.TooLarge = ⊥
 IsRefusalOfRoutes n sources targets weights ends nodes lines Refusal.NoPlaces = ⊥
 
 -- arrays of these lengths fit so many pairs, and there is a value for each line
 abbrev pub ArePairSumLengths : ℕ → ℕ → ℕ → ℕ → ℕ → ℕ → Type 0
-ArePairSumLengths sources targets weights sums values lines = (targets ≡ sources) × (weights ≡ sources) × (sums ≡ sources) × (values ≡ lines)
+ArePairSumLengths sources targets weights sums values lines = (targets ≡ sources) × (weights ≡ sources) × (sums ≡ sources)
+    × (values ≡ lines)
 
 -- the reason for refusing sums along routes in a network of n nodes and so many lines, with arrays of these lengths for
 -- values, weights and sums. Lengths come before nodes
@@ -100,7 +109,8 @@ abbrev pub IsRefusalOfPairSums : ℕ → ℕ → List ℕ → List ℕ → ℕ �
 IsRefusalOfPairSums n lines sources targets values weights sums Refusal.NoMemory = ⊥
 IsRefusalOfPairSums n lines sources targets values weights sums Refusal.NodeRange =
     ArePairSumLengths (length sources) (length targets) weights sums values lines × (AreNodes n sources × AreNodes n targets → ⊥)
-IsRefusalOfPairSums n lines sources targets values weights sums Refusal.Lengths = ArePairSumLengths (length sources) (length targets) weights sums values lines → ⊥
+IsRefusalOfPairSums n lines sources targets values weights sums Refusal.Lengths =
+    ArePairSumLengths (length sources) (length targets) weights sums values lines → ⊥
 IsRefusalOfPairSums n lines sources targets values weights sums Refusal.TooLarge = ⊥
 IsRefusalOfPairSums n lines sources targets values weights sums Refusal.NoPlaces = ⊥
 
@@ -131,7 +141,8 @@ AreRowSources n near sources ends weights places = (length sources ≡ ends) × 
 -- the reason for refusing near rows. Lengths come before the places that are kept, and these before nodes
 abbrev pub IsRefusalOfRows : ℕ → Option Asked → List ℕ → ℕ → ℕ → ℕ → Refusal → Type 0
 IsRefusalOfRows n near sources ends weights places Refusal.NoMemory = ⊥
-IsRefusalOfRows n near sources ends weights places Refusal.NodeRange = (length sources ≡ ends) × (weights ≡ places) × IsSome near × (AreNodes n sources → ⊥)
+IsRefusalOfRows n near sources ends weights places Refusal.NodeRange = (length sources ≡ ends) × (weights ≡ places) × IsSome near
+    × (AreNodes n sources → ⊥)
 IsRefusalOfRows n near sources ends weights places Refusal.Lengths = (length sources ≡ ends) × (weights ≡ places) → ⊥
 IsRefusalOfRows n near sources ends weights places Refusal.TooLarge = ⊥
 IsRefusalOfRows n near sources ends weights places Refusal.NoPlaces = (length sources ≡ ends) × (weights ≡ places) × (near ≡ None)
@@ -147,7 +158,9 @@ AreSumSources n near sources values limits sums = HasValues near values × (sums
 -- the reason for refusing sums. Places come before lengths, and lengths before nodes
 abbrev pub IsRefusalOfSums : ℕ → Option Asked → List ℕ → List ℕ → ℕ → ℕ → Refusal → Type 0
 IsRefusalOfSums n near sources values limits sums Refusal.NoMemory = ⊥
-IsRefusalOfSums n near sources values limits sums Refusal.NodeRange = HasValues near values × (sums ≡ length sources * limits) × (AreNodes n sources → ⊥)
-IsRefusalOfSums n near sources values limits sums Refusal.Lengths = IsSome near × (HasValues near values × (sums ≡ length sources * limits) → ⊥)
+IsRefusalOfSums n near sources values limits sums Refusal.NodeRange = HasValues near values × (sums ≡ length sources * limits)
+    × (AreNodes n sources → ⊥)
+IsRefusalOfSums n near sources values limits sums Refusal.Lengths = IsSome near
+    × (HasValues near values × (sums ≡ length sources * limits) → ⊥)
 IsRefusalOfSums n near sources values limits sums Refusal.TooLarge = ⊥
 IsRefusalOfSums n near sources values limits sums Refusal.NoPlaces = near ≡ None

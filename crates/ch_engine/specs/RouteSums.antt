@@ -27,22 +27,26 @@ IsSumAlong H lines values (Some route) sum = (along : List ℕ) × AreLinesAlong
 
 -- the weight of the route from s to t, and the sum along it
 abbrev pub IsPairSum : Held → List ℕ → ℕ → ℕ → ℕ → ℕ → Type 0
-IsPairSum held values s t weight sum = (answer : Option Route) × IsFound held.hierarchy s t answer × (weight ≡ weight_word answer) × IsSumAlong held.hierarchy held.lines values answer sum
+IsPairSum held values s t weight sum = (answer : Option Route) × IsFound held.hierarchy s t answer × (weight ≡ weight_word answer)
+    × IsSumAlong held.hierarchy held.lines values answer sum
 
 -- the sum along the route from s to t is 2^64 or more
 abbrev pub IsPairTooLarge : Held → List ℕ → ℕ → ℕ → Type 0
-IsPairTooLarge held values s t = (answer : Option Route) × (sum : ℕ) × IsFound held.hierarchy s t answer × IsSumAlong held.hierarchy held.lines values answer sum × (2 ^ 64 ≤ sum)
+IsPairTooLarge held values s t = (answer : Option Route) × (sum : ℕ) × IsFound held.hierarchy s t answer
+    × IsSumAlong held.hierarchy held.lines values answer sum × (2 ^ 64 ≤ sum)
 
 -- the reason why the sums of no more pairs were written
 abbrev pub IsPairsEnd : Held → List ℕ → List ℕ → List ℕ → ℕ → SumsEnd → Type 0
 IsPairsEnd held sources targets values n SumsEnd.All = n ≡ length sources
-IsPairsEnd held sources targets values n SumsEnd.TooLarge = (n < length sources) × IsPairTooLarge held values (slice_index sources n) (slice_index targets n)
+IsPairsEnd held sources targets values n SumsEnd.TooLarge = (n < length sources)
+    × IsPairTooLarge held values (slice_index sources n) (slice_index targets n)
 IsPairsEnd held sources targets values n SumsEnd.NoMemory = n ≤ length sources
 
 -- the weights and sums of so many pairs were written, and this is the reason why no more were
 abbrev pub ArePairSumsWritten : Held → List ℕ → List ℕ → List ℕ → List ℕ → List ℕ → Summed → Type 0
 ArePairSumsWritten held sources targets values weights sums summed =
-    ((k : ℕ) → k < summed.count → IsPairSum held values (slice_index sources k) (slice_index targets k) (slice_index weights k) (slice_index sums k)) × IsPairsEnd held sources targets values summed.count summed.end
+    ((k : ℕ) → k < summed.count → IsPairSum held values (slice_index sources k) (slice_index targets k) (slice_index weights k)
+    (slice_index sums k)) × IsPairsEnd held sources targets values summed.count summed.end
 
 -- an answer that is a walk of least cost between some two nodes, or none
 abbrev pub IsOfSomePair : LevelsAndLegs → Option Route → Type 0

@@ -1,6 +1,7 @@
 -- Routes of pairs of nodes, one after the other in arrays: the weight of each, where its nodes end, its nodes, and on
 -- request the lines of its arcs.
-use Rattle.std.specs.Prelude.{◌≡◌, ◌≢◌, ℕ, ◌+◌, ◌<◌, ◌≤◌, List, [], ◌∷◌, length, map, slice_index, slice_index_or, ⊤, Option, Some, None, MatchOption}
+use Rattle.std.specs.Prelude.{◌≡◌, ◌≢◌, ℕ, ◌+◌, ◌<◌, ◌≤◌, List, [], ◌∷◌, length, map, slice_index, slice_index_or, ⊤, Option, Some}
+use Rattle.std.specs.Prelude.{None, MatchOption}
 use Rattle.ch_graph.specs.declared.arc.InArc.{InArc}
 use Rattle.ch_graph.specs.Graph.{Network, IsWithinLimits}
 use Rattle.ch_hierarchy.specs.Hierarchy.{LevelsAndLegs, nodes_of}
@@ -43,35 +44,42 @@ HoldsFrom begin list array = (j : ℕ) → j < length list → slice_index array
 -- the line of an arc of a route, in each graph that the hierarchy is right for and that has these lines: the arc is on
 -- it, and of the arcs between the same nodes it is the first of least weight
 abbrev pub IsArcLine : LevelsAndLegs → Lines → InArc → ℕ → Type 0
-IsArcLine H lines a line = (g : Network) → IsWithinLimits g → IsKept g H → AreLines g H lines → IsFirstLine g.arcs (Leads g.arcs a.from a.to) line × (arc_on g.arcs line ≡ a)
+IsArcLine H lines a line = (g : Network) → IsWithinLimits g → IsKept g H → AreLines g H lines →
+    IsFirstLine g.arcs (Leads g.arcs a.from a.to) line × (arc_on g.arcs line ≡ a)
 
 -- if lines are asked for: the word for none, and then the line of each arc, in an array from this place on
 abbrev pub AreArcLines : LevelsAndLegs → Lines → Option Route → ℕ → List ℕ → Type 0
 AreArcLines H lines None begin array = ⊤
 AreArcLines H lines (Some route) begin array =
-    0 < length array → (slice_index array begin ≡ no_line) × ((j : ℕ) (d : InArc) → j < length route.arcs → IsArcLine H lines (slice_index_or route.arcs j d) (slice_index array (begin + 1 + j)))
+    0 < length array → (slice_index array begin ≡ no_line) × ((j : ℕ) (d : InArc) → j < length route.arcs →
+    IsArcLine H lines (slice_index_or route.arcs j d) (slice_index array (begin + 1 + j)))
 
 -- the same of arcs that need not be those of a route
 abbrev pub AreNoted : LevelsAndLegs → Lines → Option Route → ℕ → List ℕ → Type 0
 AreNoted H lines None begin array = ⊤
-AreNoted H lines (Some route) begin array = 0 < length array → (slice_index array begin ≡ no_line) × ((j : ℕ) (d : InArc) → j < length route.arcs →
-    (slice_index_or route.arcs j d).from ≢ (slice_index_or route.arcs j d).to → IsLineBy H lines (slice_index_or route.arcs j d).from (slice_index_or route.arcs j d).to (slice_index array (begin + 1 + j)))
+AreNoted H lines (Some route) begin array = 0 < length array →
+    (slice_index array begin ≡ no_line) × ((j : ℕ) (d : InArc) → j < length route.arcs →
+    (slice_index_or route.arcs j d).from ≢ (slice_index_or route.arcs j d).to → IsLineBy H lines
+    (slice_index_or route.arcs j d).from (slice_index_or route.arcs j d).to (slice_index array (begin + 1 + j)))
 
 -- the weight of the route from s to t, its nodes from their begin to their end, and the lines of its arcs
 abbrev pub IsRouteAt : Held → ℕ → ℕ → ℕ → ℕ → ℕ → List ℕ → List ℕ → Type 0
 IsRouteAt held s t weight begin end nodes lines =
-    (answer : Option Route) × IsFound held.hierarchy s t answer × (weight ≡ weight_word answer) × (end ≡ begin + length (nodes_from s answer)) × (end ≤ length nodes)
+    (answer : Option Route) × IsFound held.hierarchy s t answer × (weight ≡ weight_word answer)
+    × (end ≡ begin + length (nodes_from s answer)) × (end ≤ length nodes)
     × HoldsFrom begin (nodes_from s answer) nodes × AreArcLines held.hierarchy held.lines answer begin lines
 
 -- the routes of the first n pairs are in the arrays, one after the other
 abbrev pub AreRoutesAt : Held → List ℕ → List ℕ → List ℕ → List ℕ → List ℕ → List ℕ → ℕ → Type 0
 AreRoutesAt held sources targets weights ends nodes lines n =
-    (k : ℕ) → k < n → IsRouteAt held (slice_index sources k) (slice_index targets k) (slice_index weights k) (begin_of ends k) (slice_index ends k) nodes lines
+    (k : ℕ) → k < n → IsRouteAt held (slice_index sources k) (slice_index targets k) (slice_index weights k) (begin_of ends k)
+    (slice_index ends k) nodes lines
 
 -- the route after the first n has more nodes than there is room left for
 abbrev pub LacksRoom : LevelsAndLegs → List ℕ → List ℕ → List ℕ → List ℕ → ℕ → Type 0
 LacksRoom H sources targets ends nodes n =
-    (answer : Option Route) × IsFound H (slice_index sources n) (slice_index targets n) answer × (length nodes < begin_of ends n + length (nodes_from (slice_index sources n) answer))
+    (answer : Option Route) × IsFound H (slice_index sources n) (slice_index targets n) answer
+    × (length nodes < begin_of ends n + length (nodes_from (slice_index sources n) answer))
 
 -- the reason why no more routes were written
 abbrev pub IsEnd : LevelsAndLegs → List ℕ → List ℕ → List ℕ → List ℕ → ℕ → End → Type 0
@@ -82,4 +90,5 @@ IsEnd H sources targets ends nodes n End.NoMemory = n ≤ length sources
 -- this number of routes was written, and this is the reason why no more were
 abbrev pub AreRoutesWritten : Held → List ℕ → List ℕ → List ℕ → List ℕ → List ℕ → List ℕ → Written → Type 0
 AreRoutesWritten held sources targets weights ends nodes lines written =
-    AreRoutesAt held sources targets weights ends nodes lines written.count × IsEnd held.hierarchy sources targets ends nodes written.count written.end
+    AreRoutesAt held sources targets weights ends nodes lines written.count
+    × IsEnd held.hierarchy sources targets ends nodes written.count written.end

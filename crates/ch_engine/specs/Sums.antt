@@ -38,4 +38,5 @@ IsSumsEnd held sources values limits n SumsEnd.NoMemory = n ≤ length sources
 -- the sums of so many sources were written, a row of one for each limit, and this is the reason why no more were
 abbrev pub AreSumsWritten : Held → List ℕ → List ℕ → List ℕ → List ℕ → Summed → Type 0
 AreSumsWritten held sources values limits sums summed =
-    ((k : ℕ) → k < summed.count → AreSumsOf held values limits (slice_index sources k) (k * length limits) sums) × IsSumsEnd held sources values limits summed.count summed.end
+    ((k : ℕ) → k < summed.count → AreSumsOf held values limits (slice_index sources k) (k * length limits) sums)
+    × IsSumsEnd held sources values limits summed.count summed.end

@@ -11,6 +11,7 @@ ghost use Rattle.ch_engine.specs.Routes.{IsFound};
 ghost use Rattle.ch_engine.specs.Refusals.{AreNodes, ArePairs, AreTableLists, IsLikeError, IsNodePair, IsOpenError, IsRefusalOfPairs, IsRefusalOfRoute, IsRefusalOfTable};
 
 use crate::fault::{OpenError, Refusal};
+use crate::leg_sums::KeptSums;
 use crate::network::Network;
 use crate::opening::{opened, opened_like};
 use crate::words::{are_both_nodes, word_of, write_table};
@@ -29,11 +30,13 @@ use std::sync::Arc;
 #[derive(Drop)]
 pub struct Engine {
     pub(crate) network: Arc<Network, Global>,
-    scratch: Scratch,
+    pub(crate) scratch: Scratch,
     /// The places of near rows, if some are kept.
     pub(crate) kept: Option<KeptTargets>,
     /// The number of these places.
     pub(crate) places: usize,
+    /// The sums along all legs for some values of lines, if they were needed.
+    pub(crate) sums: Option<KeptSums>,
 }
 
 impl Model for Engine {
@@ -42,12 +45,13 @@ impl Model for Engine {
     ghost use Rattle.ch_hierarchy.specs.Hierarchy.{nodes_of};
     ghost use Rattle.ch_near.specs.Kept.{AreKeptIn, asked_by};
     ghost use Rattle.ch_engine.specs.Held.{Held};
+    ghost use Rattle.ch_engine.specs.LegSums.{AreKeptSums};
 
     ghost Value = { Held };
 
     ghost view = { λ engine. record { hierarchy = (arc_value engine.network).0; lines = (arc_value engine.network).1; near = option_map asked_by engine.kept } };
 
-    ghost invariant = { λ engine. (engine.scratch ≡ nodes_of (arc_value engine.network).0) × MatchOption engine.kept ⊤ (AreKeptIn (arc_value engine.network).0) × MatchOption engine.kept ⊤ (λ kept. engine.places ≡ length (asked_by kept).targets) };
+    ghost invariant = { λ engine. (engine.scratch ≡ nodes_of (arc_value engine.network).0) × MatchOption engine.kept ⊤ (AreKeptIn (arc_value engine.network).0) × MatchOption engine.kept ⊤ (λ kept. engine.places ≡ length (asked_by kept).targets) × MatchOption engine.sums ⊤ (AreKeptSums (arc_value engine.network).0 (arc_value engine.network).1) };
 }
 
 impl Engine {
@@ -95,6 +99,7 @@ impl Engine {
             scratch,
             kept: None,
             places: 0,
+            sums: None,
         }))
     }
 
@@ -112,6 +117,7 @@ impl Engine {
             scratch,
             kept: None,
             places: 0,
+            sums: None,
         })
     }
 

@@ -15,11 +15,14 @@
 
 mod engine;
 mod fault;
+mod leg_sums;
 mod lines;
 mod near;
 mod network;
 mod opening;
+mod path_tree;
 mod route_sums;
+mod route_trees;
 mod routes;
 mod sums;
 mod words;

@@ -144,7 +144,7 @@ fn far_end(side: Side, arc: InArc) -> u32
 }
 
 /// Returns the legs of a node in a direction.
-fn legs_of(hierarchy: &Hierarchy, side: Side, node: u32) -> &[Leg]
+pub(crate) fn legs_of(hierarchy: &Hierarchy, side: Side, node: u32) -> &[Leg]
     requires { node < nodes_of hierarchy.now }
     ensures row { result.now ≡ the_row_of (rows_of hierarchy.now side) node }
     ensures levelled { IsLevelled hierarchy.now }
@@ -156,7 +156,7 @@ fn legs_of(hierarchy: &Hierarchy, side: Side, node: u32) -> &[Leg]
 }
 
 /// Returns the place of the leg at a node, if there is one, by binary search.
-fn place_in(legs: &[Leg], node: u32) -> Option<usize>
+pub(crate) fn place_in(legs: &[Leg], node: u32) -> Option<usize>
     requires { IsRow legs.now }
     ensures { MatchOption result ((k : ℕ) → k < length legs.now → node_at legs.now k ≢ node) (λ k. (k < length legs.now) × (node_at legs.now k ≡ node)) }
 {

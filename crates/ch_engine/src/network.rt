@@ -1,9 +1,11 @@
 //! The hierarchy that engines share, with the lines of its legs.
-ghost use Rattle.std.specs.Prelude.{◌≡◌, ◌≢◌, ◌<◌, IfOk};
+ghost use Rattle.std.specs.Prelude.{◌≡◌, ◌≢◌, ◌<◌, length, IfOk};
 ghost use Rattle.ch_hierarchy.specs.Hierarchy.{nodes_of};
 ghost use Rattle.ch_hierarchy.specs.Kept.{IsKept};
+ghost use Rattle.ch_hierarchy.specs.Rows.{row as the_row_of};
 ghost use Rattle.ch_query.specs.Distance.{IsKeptForSome};
-ghost use Rattle.ch_engine.specs.Lines.{AreLines, IsLineBy, IsOfSome};
+ghost use Rattle.ch_query.specs.Side.{rows_of};
+ghost use Rattle.ch_engine.specs.Lines.{AreLines, IsLineBy, IsOfSome, head_of, node_at, tail_of};
 
 use crate::lines::{lines_of, word_at};
 use ch_graph::{Graph, Rows};
@@ -87,6 +89,20 @@ impl Network {
             word_at(hierarchy.up(from), self.ups.row(from), to)
         } else {
             word_at(hierarchy.down(to), self.downs.row(to), from)
+        }
+    }
+
+    /// Returns the line of the arc between the ends of the leg at place `place` in the row of a node.
+    pub(crate) fn line_of_leg(&self, side: Side, node: u32, place: usize) -> u32
+        requires node { node < nodes_of self.now.0 }
+        requires place { place < length (the_row_of (rows_of self.now.0 side) node) }
+        ensures { IsLineBy self.now.0 self.now.1 (tail_of side node (node_at (the_row_of (rows_of self.now.0 side) node) place)) (head_of side node (node_at (the_row_of (rows_of self.now.0 side) node) place)) result }
+    {
+        // This call tells the proof that each node has a row.
+        let _ = self.hierarchy.nodes();
+        match side {
+            Side::Up => self.ups.row(node)[place],
+            Side::Down => self.downs.row(node)[place],
         }
     }
 }

@@ -1,21 +1,29 @@
 //! Sums of values along the routes of many pairs of nodes.
-ghost use Rattle.std.specs.Prelude.{◌≡◌, ◌≢◌, ◌+◌, ◌<◌, ℕ, List, length, slice_index, slice_set, IfErr, IfOk, OnOk, Some};
+ghost use Rattle.std.specs.Prelude.{◌≡◌, ◌≢◌, ◌+◌, ◌<◌, ℕ, List, length, slice_index, slice_set, IfErr, IfOk, MatchOption, OnOk, Some, ⊤};
 ghost use Rattle.ch_graph.specs.Graph.{HasEnds};
-ghost use Rattle.ch_hierarchy.specs.Hierarchy.{nodes_of};
-ghost use Rattle.ch_engine.specs.Lines.{IsLineBy};
+ghost use Rattle.ch_hierarchy.specs.Hierarchy.{LevelsAndLegs, nodes_of};
+ghost use Rattle.ch_engine.specs.Lines.{IsLineBy, Lines as AnyLines};
 ghost use Rattle.ch_engine.specs.NearRows.{StaysFrom};
+ghost use Rattle.ch_engine.specs.PathTrees.{AreBothTrees, IsRouteSum};
 ghost use Rattle.ch_engine.specs.Refusals.{AreNodes, ArePairSumLengths, IsRefusalOfPairSums};
 ghost use Rattle.ch_engine.specs.RouteSums.{AreLinesAlong, ArePairSumsWritten, IsOfSomePair, IsSumAlong, IsTotal, sum_on};
 
 use crate::engine::Engine;
 use crate::fault::Refusal;
 use crate::network::Network;
+use crate::route_trees::{BothTrees, different, in_order};
 use crate::routes::weight_of;
 use crate::words::are_both_nodes;
 use crate::written::{Summed, SumsEnd};
 use ch_graph::InArc;
 use ch_query::Route;
 use std::alloc::Global;
+
+/// Lines of the graph for each pair, up to which the sums along all legs are worth their time.
+const WORTH: usize = 32;
+
+/// Pairs for each tree, from which on trees take less time than a search for each pair.
+const PAIRS: usize = 3;
 
 impl Engine {
     /// Writes sums along the routes of pairs: the weight of each route as a word, and the sum of the values on the
@@ -71,7 +79,14 @@ impl Engine {
         ensures behind { StaysFrom result.count weights.old weights.new × StaysFrom result.count sums.old sums.new }
         ensures same { self.new ≡ self.old }
     {
+        // This call tells the proof that the hierarchy is right for some graph.
+        let _ = self.nodes();
+        let trees = self.trees_for(alloc, sources, targets, values);
         for i in 0..sources.len() {
+            if let Some((weight, sum)) = sum_by(&trees, sources[i], targets[i]) {
+                write_pair(i, weight, sum, weights, sums);
+                continue;
+            }
             let count = i as u64;
             let Ok(answer) = self.find_route(alloc, sources[i], targets[i]) else {
                 let end = SumsEnd::NoMemory;
@@ -86,6 +101,45 @@ impl Engine {
         Summed {
             count: sources.len() as u64,
             end: SumsEnd::All,
+        }
+    }
+
+    /// Returns the trees of all pairs, if there are so many pairs that the sums along all legs are worth their time,
+    /// so many for each tree, and memory for them.
+    fn trees_for(
+        &mut self,
+        alloc: Global,
+        sources: &[u32],
+        targets: &[u32],
+        values: &[u64],
+    ) -> Option<BothTrees>
+        ensures trees { MatchOption result ⊤ (AreBothTrees self.old.hierarchy self.old.lines values.now) }
+        ensures same { self.new ≡ self.old }
+    {
+        if sources.len() < self.network.count() / WORTH {
+            return None;
+        }
+        let Ok(starts) = in_order(alloc, sources) else {
+            return None;
+        };
+        let Ok(ends) = in_order(alloc, targets) else {
+            return None;
+        };
+        if sources.len() / PAIRS < different(&starts).saturating_add(different(&ends)) {
+            return None;
+        }
+        let Ok(()) = self.network.keep_sums(alloc, &mut self.sums, values) else {
+            return None;
+        };
+        let Some(kept) = &self.sums else {
+            return None;
+        };
+        match self
+            .network
+            .trees(alloc, &mut self.scratch, &starts, &ends, &kept.sums)
+        {
+            Ok(trees) => Some(trees),
+            Err(_) => None,
         }
     }
 }
@@ -126,6 +180,16 @@ impl Network {
         ensures { arc.from ≢ arc.to → IsLineBy self.now.0 self.now.1 arc.from arc.to result }
     {
         self.line(arc.from, arc.to)
+    }
+}
+
+/// Returns the weight of the route of a pair and the sum along it, if there are trees that have it.
+fn sum_by(trees: &Option<BothTrees>, source: u32, target: u32) -> Option<(u64, u64)>
+    ensures { (H : LevelsAndLegs) (lines : AnyLines) (values : List ℕ) → MatchOption trees.now ⊤ (AreBothTrees H lines values) → MatchOption result ⊤ (IsRouteSum H lines values source target) }
+{
+    match trees {
+        Some(trees) => trees.sum(source, target),
+        None => None,
     }
 }
 

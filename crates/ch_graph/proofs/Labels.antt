@@ -1,6 +1,7 @@
 -- Labels are the weights known of each node. When an arc lowers a label, all that was known still holds, and the
 -- total falls.
-use Rattle.std.proofs.Common.{◌≡◌, ℕ, ◌+◌, ◌*◌, ◌<◌, ◌≤◌, cond, List, [], ◌∷◌, ◌++◌, length, Contains, Option, Some, None, refl, sym, ◌∙◌, ap, subst, arith, get_or-set_same, get_or-set_other, set, length-set, inl, inr}
+use Rattle.std.proofs.Common.{◌≡◌, ℕ, ◌+◌, ◌*◌, ◌<◌, ◌≤◌, cond, List, [], ◌∷◌, ◌++◌, length, Contains, Option, Some, None, refl}
+use Rattle.std.proofs.Common.{sym, ◌∙◌, ap, subst, arith, get_or-set_same, get_or-set_other, set, length-set, inl, inr}
 use Rattle.std.proofs.lemmas.Bool.{cases_eq, cases_lt}
 use Rattle.std.proofs.lemmas.Option.{same_Some, none-some}
 use Rattle.std.proofs.Math.Nat.{mul-le-mul_left}
@@ -82,7 +83,11 @@ module _ (g : Network) (s : ℕ) (start : s < g.nodes) where
   only : (v d : ℕ) → weight_at first v ≡ Some d → (s ≡ v) × (0 ≡ d)
   unfolding first
   only v d e = elim (cases_eq v s) [
-    | inl same ↦ (sym same, same_Some _ _ (sym (get_or-set_same blank s (Some 0) None (omega (arith, size))) ∙ ap (weight_at first) (sym same) ∙ e))
+    | inl same ↦ (
+      sym same,
+      same_Some _ _
+          (sym (get_or-set_same blank s (Some 0) None (omega (arith, size))) ∙ ap (weight_at first) (sym same) ∙ e),
+    )
     | inr away ↦ absurd (none-some _ (sym (get_or-set_other blank s v (Some 0) None away ∙ none v) ∙ e))
   ]
 
@@ -92,11 +97,13 @@ module _ (g : Network) (s : ℕ) (start : s < g.nodes) where
     nodes = length-set blank s (Some 0) ∙ size;
     start = get_or-set_same blank s (Some 0) None (omega (arith, size));
     walks = λ v d e. ([], (only v d e).0, (only v d e).1);
-    small = λ v d e. let one = count-first blank s 0 (none s) (omega (arith, size)) in let zero = (only v d e).1 in rw (sym zero) (omega arith);
+    small = λ v d e. let one = count-first blank s 0 (none s) (omega (arith, size)) in let zero = (only v d e).1 in
+        rw (sym zero) (omega arith);
   }
 
 -- an arc of the graph that lowers the label of its end
-module _ (g : Network) (s : ℕ) (best : List (Option ℕ)) (new : List (Option ℕ)) (a : InArc) (p : IsPartial g s best) (has : Contains g.arcs a) (fits : IsArcWithin g.nodes a) (h : IsLowered best new a) where
+module _ (g : Network) (s : ℕ) (best : List (Option ℕ)) (new : List (Option ℕ)) (a : InArc) (p : IsPartial g s best)
+    (has : Contains g.arcs a) (fits : IsArcWithin g.nodes a) (h : IsLowered best new a) where
   -- the new label
   sum : ℕ
   sum = h.before + a.weight
@@ -137,7 +144,8 @@ module _ (g : Network) (s : ℕ) (best : List (Option ℕ)) (new : List (Option 
   other v away = get_or-set_other best a.to v (Some sum) None away
 
   -- a property of all old labels holds of all new labels if it holds of the label that changed
-  each : (P : ℕ → ℕ → Type 0) → P a.to sum → ((v d : ℕ) → weight_at best v ≡ Some d → P v d) → (v d : ℕ) → weight_at later v ≡ Some d → P v d
+  each : (P : ℕ → ℕ → Type 0) → P a.to sum → ((v d : ℕ) → weight_at best v ≡ Some d → P v d) → (v d : ℕ) →
+      weight_at later v ≡ Some d → P v d
   each P first old v d e = elim (cases_eq v a.to) [
     | inl same ↦
         let label : sum ≡ d = same_Some _ _ (sym here ∙ ap (weight_at later) (sym same) ∙ e) in
@@ -179,7 +187,8 @@ module _ (g : Network) (s : ℕ) (best : List (Option ℕ)) (new : List (Option 
   small : (v d : ℕ) → weight_at later v ≡ Some d → g.nodes * d + MOST_WEIGHT ≤ count_by is_some later * MOST_WEIGHT
   small =
       let count = more _ refl in
-      each (λ v d. g.nodes * d + MOST_WEIGHT ≤ count_by is_some later * MOST_WEIGHT) (small_here _ refl) (λ v d e. let bound = p.small v d e in omega arith)
+      each (λ v d. g.nodes * d + MOST_WEIGHT ≤ count_by is_some later * MOST_WEIGHT) (small_here _ refl)
+      (λ v d e. let bound = p.small v d e in omega arith)
 
   -- the start keeps its label, because no weight is below 0
   start : weight_at later s ≡ Some 0

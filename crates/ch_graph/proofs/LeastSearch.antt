@@ -10,7 +10,8 @@ use Rattle.ch_graph.specs.Walk.{IsWalk, weight_of, cost_of, IsDistance, IsLeast,
 use Rattle.ch_graph.specs.WalkLaws.{IsWalkCost, arc_cost}
 use Rattle.ch_graph.proofs.CostOrder.{IsAtMost_refl, IsAtMost_trans, IsAtMost_or_IsBelow, IsBelow-IsAtMost, IsAtMost-no_cost}
 use Rattle.ch_graph.proofs.CostSums.{IsAtMost-cost_sum, cost_sum_assoc, no_cost-cost_sum}
-use Rattle.ch_graph.proofs.WalkCosts.{IsAtMost_between, IsAtMost-cost_sum_more, cost_of-cons, IsWalkCost-cost_sum, IsWalkCost-cons, IsLeast-from, IsLeast-IsAtMost}
+use Rattle.ch_graph.proofs.WalkCosts.{IsAtMost_between, IsAtMost-cost_sum_more, cost_of-cons, IsWalkCost-cost_sum, IsWalkCost-cons}
+use Rattle.ch_graph.proofs.WalkCosts.{IsLeast-from, IsLeast-IsAtMost}
 
 -- c is the least cost that has the property
 pub record IsLeastWith (P : Cost → Type 0) (c : Cost) : Type 0 where
@@ -24,8 +25,22 @@ LeastOrNone P = ((c : Cost) × IsLeastWith P c) ⊎ ((c : Cost) → P c → ⊥)
 -- if P and Q each have a least cost or none, so does their union
 pub least_either : (P Q : Cost → Type 0) → LeastOrNone P → LeastOrNone Q → LeastOrNone (λ c. P c ⊎ Q c)
 least_either P Q (inl p) (inl q) = elim (IsAtMost_or_IsBelow p.0 q.0) [
-  | inl first ↦ inl (p.0, record { has = inl p.1.has; least = λ d h. elim h [ inl x ↦ p.1.least d x | inr y ↦ IsAtMost_trans _ _ _ first (q.1.least d y) ] })
-  | inr second ↦ inl (q.0, record { has = inr q.1.has; least = λ d h. elim h [ inl x ↦ IsAtMost_trans _ _ _ (IsBelow-IsAtMost _ _ second) (p.1.least d x) | inr y ↦ q.1.least d y ] })
+  | inl first ↦ inl (
+    p.0,
+    record {
+      has = inl p.1.has;
+      least =
+          λ d h. elim h [ inl x ↦ p.1.least d x | inr y ↦ IsAtMost_trans _ _ _ first (q.1.least d y) ];
+    },
+  )
+  | inr second ↦ inl (
+    q.0,
+    record {
+      has = inr q.1.has;
+      least =
+          λ d h. elim h [ inl x ↦ IsAtMost_trans _ _ _ (IsBelow-IsAtMost _ _ second) (p.1.least d x) | inr y ↦ q.1.least d y ];
+    },
+  )
 ]
 least_either P Q (inl p) (inr none) =
     inl (p.0, record { has = inl p.1.has; least = λ d h. elim h [ inl x ↦ p.1.least d x | inr y ↦ absurd (none d y) ] })
@@ -102,14 +117,16 @@ module _ (n : ℕ) where
         let rest = IsWalkCost-cons (over (a ∷ list)) a.from t a back.1 (0, omega arith, refl) refl (with_more a.to t back.1 back.3) in
         let cost : cost_sum (arc_cost a) back.1 ≡ h.1 = ap (λ q. cost_sum q back.1) (sym back.2) ∙ back.4 in
         subst (IsWalkCost (over (a ∷ list)) s t) h.4
-        (IsWalkCost-cost_sum (over (a ∷ list)) s a.from t h.0 h.1 (with_more s a.from h.0 h.2) (subst (IsWalkCost (over (a ∷ list)) a.from t) cost rest))
+        (IsWalkCost-cost_sum (over (a ∷ list)) s a.from t h.0 h.1 (with_more s a.from h.0 h.2)
+        (subst (IsWalkCost (over (a ∷ list)) a.from t) cost rest))
 
     -- there is such a walk that costs at most c
     Reduced : (s t : ℕ) → Cost → Type 0
     Reduced s t c = (d : Cost) × AtMostOnce s t d × IsAtMost d c
 
     -- if a is taken first, a walk from its end that costs at most the rest is enough
-    taken_first : (s t : ℕ) (x : InArc) (xs : List InArc) → a ≡ x → x.from ≡ s → (e : Cost) → IsWalkCost (over list) a.to t e → IsAtMost e (cost_of xs) →
+    taken_first : (s t : ℕ) (x : InArc) (xs : List InArc) → a ≡ x → x.from ≡ s → (e : Cost) → IsWalkCost (over list) a.to t e →
+        IsAtMost e (cost_of xs) →
         Reduced s t (cost_of (x ∷ xs))
     unfolding over Once AtMostOnce Reduced
     taken_first s t x xs same here e w le = (
@@ -181,7 +198,8 @@ module _ (n : ℕ) where
       least_among (AtMostOnce a list s t) (IsWalkCost (over (a ∷ list)) s t) (walks_over a list s t)
       (λ c w. let r = reduced a list s t w.0 w.1 in (r.0, r.1, subst (IsAtMost r.0) w.2 r.2))
       (least_either (IsWalkCost (over list) s t) (Once a list s t) (least_over list s t)
-      (least_sum (IsWalkCost (over list) s a.from) (IsSumOf (λ d. d ≡ arc_cost a) (IsWalkCost (over list) a.to t)) (least_over list s a.from)
+      (least_sum (IsWalkCost (over list) s a.from) (IsSumOf (λ d. d ≡ arc_cost a) (IsWalkCost (over list) a.to t))
+      (least_over list s a.from)
       (least_sum (λ d. d ≡ arc_cost a) (IsWalkCost (over list) a.to t) only (least_over list a.to t))))
     where
       only : LeastOrNone (λ d. d ≡ arc_cost a)
@@ -210,8 +228,12 @@ IsLeast-IsDistance g s t c l = record { walk = (l.walk.0, l.walk.1, ap (λ d. d.
 pub IsDistance-IsLeast : (g : Network) (s t x : ℕ) → IsDistance g s t x → (c : Cost) × IsLeast g s t c × (c.weight ≡ x)
 IsDistance-IsLeast g s t x d =
     let walk = d.walk in
-    let found = IsLeast-of_walk g s t (cost_of walk.0) (walk.0, walk.1, refl) in
-    (found.0, found.1, equal found.0.weight (weight_of walk.0) x walk.2 found.2.0 (subst (λ w. x ≤ w) (ap (λ c. c.weight) found.1.walk.2) (d.least found.1.walk.0 found.1.walk.1)))
+    let found = IsLeast-of_walk g s t (cost_of walk.0) (walk.0, walk.1, refl) in (
+      found.0,
+      found.1,
+      equal found.0.weight (weight_of walk.0) x walk.2 found.2.0
+          (subst (λ w. x ≤ w) (ap (λ c. c.weight) found.1.walk.2) (d.least found.1.walk.0 found.1.walk.1)),
+    )
   where
     equal : (a b x : ℕ) → b ≡ x → a ≤ b → x ≤ a → a ≡ x
     equal a b x e le ge = omega arith

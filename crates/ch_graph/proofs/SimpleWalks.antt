@@ -1,5 +1,6 @@
 -- Walks that visit no node twice: there is one of no greater cost for each walk, and they are short and light.
-use Rattle.std.proofs.Common.{◌≡◌, ℕ, ◌*◌, ◌<◌, ◌≤◌, Bool, true, false, eqb, ◌||◌, List, [], ◌∷◌, length, map, All, refl, sym, ◌∙◌, ap, subst, arith, inl, inr}
+use Rattle.std.proofs.Common.{◌≡◌, ℕ, ◌*◌, ◌<◌, ◌≤◌, Bool, true, false, eqb, ◌||◌, List, [], ◌∷◌, length, map, All, refl, sym, ◌∙◌}
+use Rattle.std.proofs.Common.{ap, subst, arith, inl, inr}
 use Rattle.std.specs.Prelude.{◌⊎◌}
 use Rattle.std.specs.List.{IsDistinct, AllByRecursion, list_any}
 use Rattle.std.proofs.Math.Nat.{mul-add, le_of_mul-le-mul_left}
@@ -82,7 +83,8 @@ least_walk_simple g s t (x ∷ xs) w least =
       (λ there. IsBelow_not _ _ (IsBelow-cons x no_cost xs (IsAtMost-no_cost (cost_of xs))) (least [] (sym w.1 ∙ there))),
       elim (leaves_again g x.to x.from t xs w.2) [
         | inl never ↦ never
-        | inr again ↦ absurd (IsBelow_not _ _ (IsBelow-cons x (cost_of again.rest) xs again.cheap) (least again.rest (subst (λ q. IsWalk g q t again.rest) w.1 again.is_walk)))
+        | inr again ↦ absurd (IsBelow_not _ _ (IsBelow-cons x (cost_of again.rest) xs again.cheap)
+            (least again.rest (subst (λ q. IsWalk g q t again.rest) w.1 again.is_walk)))
       ],
       after,
     )
@@ -127,7 +129,8 @@ module _ (g : Network) (each : All (IsArcWithin g.nodes) g.arcs) where
     where
       at : (b : Bool) → eqb q x.from ≡ b → (b || list_any (eqb q) (starts xs)) ≡ true →
           (list_any (eqb q) (starts xs) ≡ true → q < g.nodes) → q < g.nodes
-      at true e h' more = let same = eqb-true q x.from e in let lt = (All-contains (IsArcWithin g.nodes) g.arcs x each w.0).ends.0 in omega arith
+      at true e h' more = let same = eqb-true q x.from e in
+          let lt = (All-contains (IsArcWithin g.nodes) g.arcs x each w.0).ends.0 in omega arith
       at false e h' more = more h'
 
   -- each arc of a walk begins at a node of the graph, and its end is a node too
@@ -148,7 +151,8 @@ module _ (g : Network) (each : All (IsArcWithin g.nodes) g.arcs) where
   simple_fewer : (s t : ℕ) (xs : List InArc) → t < g.nodes → IsWalk g s t xs → IsSimple t xs → length xs < g.nodes
   unfolding IsDistinct
   simple_fewer s t xs lt w simple =
-      let most = length-le_from_distinct_below (t ∷ starts xs) g.nodes (apart_end t xs simple, distinct t xs simple) (below_end s t xs lt w) in
+      let most = length-le_from_distinct_below (t ∷ starts xs) g.nodes (apart_end t xs simple, distinct t xs simple)
+      (below_end s t xs lt w) in
       omega (arith, length-starts xs)
 
   -- the number of nodes times the weight of a walk is at most MOST_WEIGHT for each arc
@@ -184,10 +188,12 @@ IsSimple-weight g s t xs limits = simple_weight g limits.each s t xs
 pub IsLeast-arcs : (g : Network) (s t : ℕ) (c : Cost) → IsWithinLimits g → t < g.nodes → IsLeast g s t c → c.arcs < g.nodes
 IsLeast-arcs g s t c limits lt l =
     let w = l.walk in
-    subst (λ d. d.arcs < g.nodes) w.2 (IsSimple-arcs g s t w.0 limits lt w.1 (IsLeast-IsSimple g s t w.0 (subst (IsLeast g s t) (sym w.2) l) w.1))
+    subst (λ d. d.arcs < g.nodes) w.2
+    (IsSimple-arcs g s t w.0 limits lt w.1 (IsLeast-IsSimple g s t w.0 (subst (IsLeast g s t) (sym w.2) l) w.1))
 
 -- a least cost weighs at most MOST_WEIGHT
 pub IsLeast-weight : (g : Network) (s t : ℕ) (c : Cost) → IsWithinLimits g → IsLeast g s t c → c.weight ≤ MOST_WEIGHT
 IsLeast-weight g s t c limits l =
     let w = l.walk in
-    subst (λ d. d.weight ≤ MOST_WEIGHT) w.2 (IsSimple-weight g s t w.0 limits w.1 (IsLeast-IsSimple g s t w.0 (subst (IsLeast g s t) (sym w.2) l) w.1))
+    subst (λ d. d.weight ≤ MOST_WEIGHT) w.2
+    (IsSimple-weight g s t w.0 limits w.1 (IsLeast-IsSimple g s t w.0 (subst (IsLeast g s t) (sym w.2) l) w.1))

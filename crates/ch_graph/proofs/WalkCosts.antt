@@ -8,7 +8,8 @@ use Rattle.ch_graph.specs.Graph.{Network}
 use Rattle.ch_graph.specs.Walk.{IsWalk, cost_of, IsLeast}
 use Rattle.ch_graph.specs.WalkLaws.{IsWalkCost, arc_cost}
 use Rattle.ch_graph.proofs.CostOrder.{same_costs, IsAtMost_refl, IsAtMost_antisymm}
-use Rattle.ch_graph.proofs.CostSums.{cost_sum-no_cost, IsAtMost-cost_sum, IsBelow-cost_sum_right, cost_sum_cancel_left, cost_sum_cancel_right}
+use Rattle.ch_graph.proofs.CostSums.{cost_sum-no_cost, IsAtMost-cost_sum, IsBelow-cost_sum_right, cost_sum_cancel_left}
+use Rattle.ch_graph.proofs.CostSums.{cost_sum_cancel_right}
 use Rattle.ch_graph.proofs.WalkLemmas.{walk_append}
 
 -- the order of costs, rewritten by equations
@@ -29,7 +30,8 @@ cost_of-append xs ys = same_costs _ _ (sum_by-append (λ (a : InArc). a.weight) 
 
 -- one more arc in front keeps the order
 pub IsAtMost-cons : (x : InArc) (ys xs : List InArc) → IsAtMost (cost_of ys) (cost_of xs) → IsAtMost (cost_of (x ∷ ys)) (cost_of (x ∷ xs))
-IsAtMost-cons x ys xs h = IsAtMost_between (cost_of-cons x ys) (cost_of-cons x xs) (IsAtMost-cost_sum (arc_cost x) (arc_cost x) (cost_of ys) (cost_of xs) (IsAtMost_refl (arc_cost x)) h)
+IsAtMost-cons x ys xs h = IsAtMost_between (cost_of-cons x ys) (cost_of-cons x xs)
+    (IsAtMost-cost_sum (arc_cost x) (arc_cost x) (cost_of ys) (cost_of xs) (IsAtMost_refl (arc_cost x)) h)
 
 -- the same arc in front of both walks can be left out
 pub IsAtMost-uncons : (x : InArc) (ys xs : List InArc) → IsAtMost (cost_of (x ∷ ys)) (cost_of (x ∷ xs)) → IsAtMost (cost_of ys) (cost_of xs)
@@ -101,18 +103,16 @@ IsLeast-again g s t c d l w h = IsAtMost_antisymm d c h (IsLeast-IsAtMost g s t 
 pub IsLeast_unique : (g : Network) (s t : ℕ) (c d : Cost) → IsLeast g s t c → IsLeast g s t d → c ≡ d
 IsLeast_unique g s t c d l k = IsAtMost_antisymm c d (IsLeast-IsAtMost g s t c d l k.walk) (IsLeast-IsAtMost g s t d c k l.walk)
 
--- the least cost from a node to itself is no cost
-pub IsLeast-no_cost : (g : Network) (s : ℕ) → IsLeast g s s no_cost
-IsLeast-no_cost g s = IsLeast-from g s s no_cost (IsWalkCost-no_cost g s) (λ d w. (omega arith, λ tie. omega arith))
-
 -- the first part of a least walk has the least cost
 pub IsLeast-front : (g : Network) (s m t : ℕ) (a b : Cost) → IsLeast g s t (cost_sum a b) → IsWalkCost g s m a → IsWalkCost g m t b →
     IsLeast g s m a
 IsLeast-front g s m t a b l p q =
-    IsLeast-from g s m a p (λ d w. cost_sum_cancel_right a d b (IsLeast-IsAtMost g s t (cost_sum a b) (cost_sum d b) l (IsWalkCost-cost_sum g s m t d b w q)))
+    IsLeast-from g s m a p (λ d w. cost_sum_cancel_right a d b
+    (IsLeast-IsAtMost g s t (cost_sum a b) (cost_sum d b) l (IsWalkCost-cost_sum g s m t d b w q)))
 
 -- the last part of a least walk has the least cost
 pub IsLeast-back : (g : Network) (s m t : ℕ) (a b : Cost) → IsLeast g s t (cost_sum a b) → IsWalkCost g s m a → IsWalkCost g m t b →
     IsLeast g m t b
 IsLeast-back g s m t a b l p q =
-    IsLeast-from g m t b q (λ d w. cost_sum_cancel_left b d a (IsLeast-IsAtMost g s t (cost_sum a b) (cost_sum a d) l (IsWalkCost-cost_sum g s m t a d p w)))
+    IsLeast-from g m t b q (λ d w. cost_sum_cancel_left b d a
+    (IsLeast-IsAtMost g s t (cost_sum a b) (cost_sum a d) l (IsWalkCost-cost_sum g s m t a d p w)))

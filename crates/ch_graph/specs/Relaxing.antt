@@ -1,5 +1,6 @@
 -- The weights that the plain distance has found for each node while it relaxes arcs.
-use Rattle.std.specs.Prelude.{◌≡◌, ℕ, ◌+◌, ◌*◌, ◌<◌, ◌≤◌, Bool, true, false, List, All, length, slice_index_or, slice_set, unwrap_or, is_some, Option, Some, None}
+use Rattle.std.specs.Prelude.{◌≡◌, ℕ, ◌+◌, ◌*◌, ◌<◌, ◌≤◌, Bool, true, false, List, All, length, slice_index_or, slice_set}
+use Rattle.std.specs.Prelude.{unwrap_or, is_some, Option, Some, None}
 use Rattle.std.specs.List.{sum_by, count_by}
 use Rattle.ch_graph.specs.declared.limits.TheConstants.{MOST_WEIGHT, MOST_SUM}
 use Rattle.ch_graph.specs.declared.arc.InArc.{InArc}

@@ -10,4 +10,5 @@ pub record IsLessened (D : ℕ → Type 0) (known result : Option ℕ) : Type 0 
 
 -- the entry of place p has the same two nodes as an entry of lesser place
 abbrev pub IsTwin : List Placed → ℕ → Type 0
-IsTwin entries p = (a b : Placed) × Contains entries a × Contains entries b × (a.lower ≡ b.lower) × (a.higher ≡ b.higher) × (a.place < b.place) × (b.place ≡ p)
+IsTwin entries p = (a b : Placed) × Contains entries a × Contains entries b × (a.lower ≡ b.lower) × (a.higher ≡ b.higher)
+    × (a.place < b.place) × (b.place ≡ p)

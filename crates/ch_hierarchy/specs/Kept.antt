@@ -31,7 +31,8 @@ MeetsWithin H s t most = (m : ℕ) × (c : Cost) × IsMeeting H s t m c × IsAtM
 
 -- for each two legs through v between different nodes, some way up and then down costs no more
 abbrev pub IsCovered : LevelsAndLegs → ℕ → Type 0
-IsCovered H v = (a b : Leg) → Contains (row H.down v) a → Contains (row H.up v) b → a.node ≢ b.node → MeetsWithin H a.node b.node (cost_sum a.cost b.cost)
+IsCovered H v = (a b : Leg) → Contains (row H.down v) a → Contains (row H.up v) b → a.node ≢ b.node →
+    MeetsWithin H a.node b.node (cost_sum a.cost b.cost)
 
 pub record IsKept (g : Network) (H : LevelsAndLegs) : Type 0 where
   pub nodes : nodes_of H ≡ g.nodes

@@ -16,7 +16,8 @@ pub record HasWalks (g : Network) (H : LevelsAndLegs) : Type 0 where
   pub rises : (a b : ℕ) (legs : List Leg) → IsUpwardPath H.up a b legs → IsWalkCost g a b (path_cost legs)
   pub falls : (a b : ℕ) (legs : List Leg) → IsUpwardPath H.down a b legs → IsWalkCost g b a (path_cost legs)
   pub meets : (s t : ℕ) (c : Cost) → IsLeast g s t c →
-      (m : ℕ) × (ups downs : List Leg) × IsUpwardPath H.up s m ups × IsUpwardPath H.down t m downs × IsAtMost (cost_sum (path_cost ups) (path_cost downs)) c × (c.weight ≤ MOST_WEIGHT)
+      (m : ℕ) × (ups downs : List Leg) × IsUpwardPath H.up s m ups × IsUpwardPath H.down t m downs
+      × IsAtMost (cost_sum (path_cost ups) (path_cost downs)) c × (c.weight ≤ MOST_WEIGHT)
   pub decided : (s t : ℕ) → ((c : Cost) × IsLeast g s t c) ⊎ IsUnreachable g s t
 
 -- each kept hierarchy of a graph within the limits has this

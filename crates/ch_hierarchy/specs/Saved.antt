@@ -1,5 +1,6 @@
 -- The hierarchy that a saved one names, and the faults of a saved one.
-use Rattle.std.specs.Prelude.{◌≡◌, ◌≢◌, ℕ, ◌+◌, ◌<◌, ◌≤◌, ◌↔◌, ◌⊎◌, List, length, slice_index, slice_get, AllPairs, Contains, Option, Some, None, Result, Err}
+use Rattle.std.specs.Prelude.{◌≡◌, ◌≢◌, ℕ, ◌+◌, ◌<◌, ◌≤◌, ◌↔◌, ◌⊎◌, List, length, slice_index, slice_get, AllPairs, Contains}
+use Rattle.std.specs.Prelude.{Option, Some, None, Result, Err}
 use Rattle.ch_graph.specs.declared.limits.TheConstants.{MOST_WEIGHT}
 use Rattle.ch_graph.specs.declared.arc.InArc.{InArc}
 use Rattle.ch_graph.specs.declared.cost.Cost.{Cost}

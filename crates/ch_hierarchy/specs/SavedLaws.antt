@@ -40,4 +40,5 @@ WrittenHierarchiesAreNamed = (H : LevelsAndLegs) (order : List ℕ) → IsLevell
 
 -- if it is right for the graph, what is written has no fault
 abbrev pub WrittenHierarchiesHaveNoFault : Type 0
-WrittenHierarchiesHaveNoFault = (g : Network) (H : LevelsAndLegs) (order : List ℕ) → IsKept g H → IsByLevel H order → NamesKept g (written H order) H × IsFaultless g (written H order)
+WrittenHierarchiesHaveNoFault = (g : Network) (H : LevelsAndLegs) (order : List ℕ) → IsKept g H → IsByLevel H order →
+    NamesKept g (written H order) H × IsFaultless g (written H order)

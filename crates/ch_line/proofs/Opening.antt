@@ -5,7 +5,8 @@ use Rattle.ch_run.specs.declared.fault.RunFault.{RunFault}
 use Rattle.ch_run.specs.declared.fault.Which.{Which}
 use Rattle.ch_line.specs.declared.files.OpenFault.{OpenFault}
 use Rattle.ch_line.specs.Files.{FileState, Opens}
-use Rattle.ch_line.specs.Line.{AreOpened, AtMissing, EndsAtMissing, File, HaveBytes, IsNotOpened, IsUnopened, MayAllBeThere, MayBeRefused, MayBeThere, StopsOpening, open_fault}
+use Rattle.ch_line.specs.Line.{AreOpened, AtMissing, EndsAtMissing, File, HaveBytes, IsNotOpened, IsUnopened, MayAllBeThere}
+use Rattle.ch_line.specs.Line.{MayBeRefused, MayBeThere, StopsOpening, open_fault}
 
 -- a file that may exist doesn't end the run
 past : {T : Type 0} (state : FileState) (which : Which) (rest : Type 0) (r : Result T RunFault) → MayBeThere state → rest →
@@ -49,7 +50,8 @@ pub not-opened : {T : Type 0} (known : List ℕ → FileState) (file : File) (fi
     IsErrAnd r (λ fault. fault ≡ e) → IsNotOpened (known file.1) file.0 e → EndsAtMissing known (file ∷ files) r
 not-opened known file files r e is (inl memory) =
     memory-ends known (file ∷ files) r (subst (λ (f : RunFault). IsErrAnd r (λ fault. fault ≡ f)) memory is)
-not-opened known file files r e is (inr refused) = at-refused (known file.1) file.0 (EndsAtMissing known files r) r (subst (λ (f : RunFault). IsErrAnd r (λ fault. fault ≡ f)) refused.0 is) refused.1
+not-opened known file files r e is (inr refused) = at-refused (known file.1) file.0 (EndsAtMissing known files r) r
+    (subst (λ (f : RunFault). IsErrAnd r (λ fault. fault ≡ f)) refused.0 is) refused.1
 
 module _ {F I : Type 0} (opens : F → List ℕ → Result I OpenFault → F → Type 0) where
   -- files are opened, and then more files: together they are opened as one list
@@ -79,7 +81,8 @@ module _ {F I : Type 0} (opens : F → List ℕ → Result I OpenFault → F →
 
 -- what is known of a name tells of its opening
 module _ {F I : Type 0} (opens : F → List ℕ → Result I OpenFault → F → Type 0) (left : I → Option (List ℕ)) (known : F → List ℕ → FileState)
-    (tells : (old : F) (name : List ℕ) (answer : Result I OpenFault) (new : F) → opens old name answer new → Opens left (known old name) answer × (known new ≡ known old)) where
+    (tells : (old : F) (name : List ℕ) (answer : Result I OpenFault) (new : F) → opens old name answer new →
+    Opens left (known old name) answer × (known new ≡ known old)) where
   -- files that were opened have the bytes that are known of their names
   pub have-bytes : (files : List File) (inputs : List (Which × I)) (old new : F) → AreOpened opens files inputs old new →
       HaveBytes left (known old) files inputs
@@ -101,8 +104,10 @@ module _ {F I : Type 0} (opens : F → List ℕ → Result I OpenFault → F →
   all-there [] inputs old new are = tt
   all-there (file ∷ files) [] old new are = absurd are
   all-there (file ∷ files) (x ∷ xs) old new are =
-      let law = tells old file.1 (Ok x.1) are.1 are.2 in
-      (is-there (known old file.1) x.1 law.0, subst (λ (k : List ℕ → FileState). MayAllBeThere k files) law.1 (all-there files xs are.1 new are.3))
+      let law = tells old file.1 (Ok x.1) are.1 are.2 in (
+        is-there (known old file.1) x.1 law.0,
+        subst (λ (k : List ℕ → FileState). MayAllBeThere k files) law.1 (all-there files xs are.1 new are.3),
+      )
 
   may-refuse : (state : FileState) → Opens {I = I} left state (Err OpenFault.Refused) → MayBeRefused state
   may-refuse FileState.Untold refused = tt

@@ -3,19 +3,21 @@ use Rattle.std.proofs.Common.{◌≡◌, ℕ, List, ◌++◌, refl}
 use Rattle.std.specs.Prelude.{Result}
 use Rattle.ch_read.specs.declared.fault.ReadFault.{ReadFault}
 use Rattle.ch_text.specs.declared.device.DeviceFault.{DeviceFault}
+use Rattle.ch_job.specs.Job.{source_map, sources_map}
 use Rattle.ch_run.specs.declared.fault.RunFault.{RunFault}
 use Rattle.ch_run.specs.declared.fault.Which.{Which}
-use Rattle.ch_run.specs.declared.source.Source.{Source}
-use Rattle.ch_run.specs.declared.sources.Sources.{Sources}
-use Rattle.ch_run.specs.NearRun.{ReadsSources, listed_in, sources_origin}
+use Rattle.ch_job.specs.declared.source.Source.{Source}
+use Rattle.ch_job.specs.declared.sources.Sources.{Sources}
+use Rattle.ch_run.specs.NearRun.{ReadsSources, listed_in}
 use Rattle.ch_run.specs.Run.{Reading}
-use Rattle.ch_run.specs.Source.{ReadsSource, source_origin}
-use Rattle.ch_run.proofs.Inputs.{same_number}
+use Rattle.ch_run.specs.Source.{ReadsSource}
 use Rattle.ch_line.specs.Inputs.{AreRead, input_if, source_inputs}
 
-module _ {I : Type 0} (gives : I → List ℕ → Result ℕ DeviceFault → I → Type 0) (origin failed : I → ℕ) (r : Result Unit RunFault) (olds news : List (Which × I)) (more : AreRead origin failed r olds news) where
+module _ {I : Type 0} (gives : I → List ℕ → Result ℕ DeviceFault → I → Type 0) (origin failed : I → ℕ) (r : Result Unit RunFault)
+    (olds news : List (Which × I)) (more : AreRead origin failed r olds news) where
   -- a saved hierarchy or an order is read, if there is one, and then the other inputs
-  pub source-read : (graph : Reading) (old new : Source I) → ReadsSource graph r gives failed old new → source_origin origin new ≡ source_origin origin old →
+  pub source-read : (graph : Reading) (old new : Source I) → ReadsSource graph r gives failed old new →
+      source_map origin new ≡ source_map origin old →
       AreRead origin failed r (source_inputs old ++ olds) (source_inputs new ++ news)
   source-read graph Source.Built Source.Built reads same = more
   source-read graph Source.Built (Source.Saved new) reads same = absurd (let none : ⊥ = cc in none)
@@ -23,14 +25,15 @@ module _ {I : Type 0} (gives : I → List ℕ → Result ℕ DeviceFault → I �
   source-read graph (Source.Saved old) Source.Built reads same = absurd reads
   source-read graph (Source.Saved old) (Source.Like new fresh hops) reads same = absurd reads
   source-read graph (Source.Saved old) (Source.Saved new) reads same =
-      (refl, record { same = same_number (Which.Saved, origin new) (Which.Saved, origin old) same; once = reads.lines.reads.once }, more)
+      (refl, record { same = cc; once = reads.lines.reads.once }, more)
   source-read graph (Source.Like old fresh hops) Source.Built reads same = absurd reads
   source-read graph (Source.Like old fresh hops) (Source.Saved new) reads same = absurd reads
   source-read graph (Source.Like old fresh hops) (Source.Like new fresh' hops') reads same =
-      (refl, record { same = same_number (Which.Order, origin new) (Which.Order, origin old) same; once = reads.lines.reads.once }, more)
+      (refl, record { same = cc; once = reads.lines.reads.once }, more)
 
   -- a list of sources is read, if there is one, and then the other inputs
-  pub sources-read : (earlier : List Which) (accepted : Type 0) (P : Reading → ReadFault → Type 0) (old new : Sources I) → ReadsSources earlier accepted r gives failed old new P → sources_origin origin new ≡ sources_origin origin old →
+  pub sources-read : (earlier : List Which) (accepted : Type 0) (P : Reading → ReadFault → Type 0) (old new : Sources I) →
+      ReadsSources earlier accepted r gives failed old new P → sources_map origin new ≡ sources_map origin old →
       AreRead origin failed r (input_if Which.Sources (listed_in old) ++ olds) (input_if Which.Sources (listed_in new) ++ news)
   sources-read earlier accepted P Sources.All Sources.All reads same = more
   sources-read earlier accepted P Sources.All (Sources.Listed new) reads same = absurd (let none : ⊥ = cc in none)

@@ -1,33 +1,23 @@
 -- Which files a run refuses.
-use Rattle.std.proofs.Common.{◌≡◌, ◌≤◌, ℕ, List, inl, inr, sym, subst}
+use Rattle.std.proofs.Common.{◌≡◌, ℕ, List, inl, inr}
 use Rattle.std.specs.Prelude.{Result, IsErrAnd, [], ◌∷◌}
-use Rattle.ch_graph.specs.declared.limits.TheConstants.{MOST_HOPS}
 use Rattle.ch_text.specs.declared.device.DeviceFault.{DeviceFault}
 use Rattle.ch_run.specs.declared.fault.RunFault.{RunFault}
 use Rattle.ch_run.specs.declared.fault.Which.{Which}
-use Rattle.ch_run.specs.declared.source.Source.{Source}
-use Rattle.ch_run.specs.declared.sources.Sources.{Sources}
+use Rattle.ch_job.specs.declared.source.Source.{Source}
+use Rattle.ch_job.specs.declared.sources.Sources.{Sources}
 use Rattle.ch_run.specs.NearRun.{ReadsSources, sources_reading}
 use Rattle.ch_run.specs.Run.{IsWrite, Reading, SourceReading, WritesOnce}
-use Rattle.ch_run.specs.Source.{IsSourceAllowed, ReadsSource, source_reading}
+use Rattle.ch_run.specs.Source.{ReadsSource, source_reading}
 use Rattle.ch_run.specs.TableRun.{HasSourcesRefused}
-use Rattle.ch_words.specs.declared.line.Line.{Line}
-use Rattle.ch_words.specs.Line.{IsAllowed}
 use Rattle.ch_line.specs.Inputs.{RefusesSource, RefusesSources}
 use Rattle.ch_run.proofs.Owed.{unwritten_once}
 use Rattle.ch_line.specs.declared.files.OpenFault.{OpenFault}
-use Rattle.ch_line.specs.Line.{File, IsUsedWith, StopsOpening, open_fault}
-
--- an order that is used with the numbers of a line is within the limits
-pub source-allowed : {I : Type 0} (line : Line) (source : Source I) → IsAllowed line → IsUsedWith line.choices source →
-    IsSourceAllowed source
-source-allowed line Source.Built allowed used = tt
-source-allowed line (Source.Saved input) allowed used = tt
-source-allowed line (Source.Like order fresh hops) allowed used =
-    (subst (λ p. p ≤ 100) (sym used.0) allowed.fresh, (subst (λ h. 1 ≤ h) (sym used.1) allowed.some_hops, subst (λ h. h ≤ MOST_HOPS) (sym used.1) allowed.few_hops))
+use Rattle.ch_line.specs.Line.{File, StopsOpening, open_fault}
 
 -- a refused saved hierarchy or order, if there is one
-pub source-refused : {I : Type 0} (graph : Reading) (r : Result Unit RunFault) (gives : I → List ℕ → Result ℕ DeviceFault → I → Type 0) (failed : I → ℕ) (old new : Source I) → ReadsSource graph r gives failed old new →
+pub source-refused : {I : Type 0} (graph : Reading) (r : Result Unit RunFault) (gives : I → List ℕ → Result ℕ DeviceFault → I →
+    Type 0) (failed : I → ℕ) (old new : Source I) → ReadsSource graph r gives failed old new →
     RefusesSource graph (source_reading gives old new) r
 source-refused graph r gives failed Source.Built new reads = tt
 source-refused graph r gives failed (Source.Saved old) Source.Built reads = absurd reads
@@ -40,8 +30,10 @@ source-refused graph r gives failed (Source.Like old fresh hops) (Source.Like ne
     record { lines = reads.lines.reads.refused; nodes = reads.order }
 
 -- a refused list of sources, if there is one
-pub list-refused : {I : Type 0} (graph : Reading) (source : SourceReading) (earlier : List Which) (accepted : Type 0) (r : Result Unit RunFault) (gives : I → List ℕ → Result ℕ DeviceFault → I → Type 0) (failed : I → ℕ) (old new : Sources I) →
-    ReadsSources earlier accepted r gives failed old new (HasSourcesRefused graph source) → RefusesSources graph source (sources_reading gives old new) r
+pub list-refused : {I : Type 0} (graph : Reading) (source : SourceReading) (earlier : List Which) (accepted : Type 0)
+    (r : Result Unit RunFault) (gives : I → List ℕ → Result ℕ DeviceFault → I → Type 0) (failed : I → ℕ) (old new : Sources I) →
+    ReadsSources earlier accepted r gives failed old new (HasSourcesRefused graph source) →
+    RefusesSources graph source (sources_reading gives old new) r
 list-refused graph source earlier accepted r gives failed Sources.All new reads = tt
 list-refused graph source earlier accepted r gives failed (Sources.Listed old) Sources.All reads = absurd reads
 list-refused graph source earlier accepted r gives failed (Sources.Listed old) (Sources.Listed new) reads = reads.reads.refused
@@ -51,7 +43,8 @@ open_no_write : (which : Which) (refusal : OpenFault) → IsWrite (open_fault wh
 open_no_write which OpenFault.Refused write = write
 open_no_write which OpenFault.Memory write = write
 
-pub stops_no_write : {F I : Type 0} (opens : F → List ℕ → Result I OpenFault → F → Type 0) (files : List File) (old new : F) (fault : RunFault) →
+pub stops_no_write : {F I : Type 0} (opens : F → List ℕ → Result I OpenFault → F → Type 0) (files : List File) (old new : F)
+    (fault : RunFault) →
     StopsOpening opens files old new fault → IsWrite fault → ⊥
 stops_no_write opens [] old new fault stops write = stops
 stops_no_write opens (file ∷ files) old new fault (inl refused) write = open_no_write file.0 refused.0 (rw refused.2 at write)

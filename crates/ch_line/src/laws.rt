@@ -2,9 +2,9 @@
 ghost use Rattle.std.specs.Prelude.{◌≡◌, Err, List, Result};
 ghost use Rattle.ch_run.specs.declared.fault.RunFault.{RunFault as FaultOf};
 ghost use Rattle.ch_run.specs.declared.fault.Which.{Which as WhichOf};
-ghost use Rattle.ch_run.specs.declared.options.Options.{Options as OptionsOf};
-ghost use Rattle.ch_line.specs.declared.inputs.Inputs.{Inputs as InputsOf};
-ghost use Rattle.ch_line.specs.Inputs.{AreSame, RunsOver, TellsOver};
+ghost use Rattle.ch_job.specs.Job.{job_map};
+ghost use Rattle.ch_job.specs.declared.job.Job.{Job as JobOf};
+ghost use Rattle.ch_line.specs.Inputs.{RunsOver, TellsOver};
 ghost use Rattle.ch_line.specs.Line.{AreOpened, EndsAtMissing, File, HaveBytes, IsUnopened, MayAllBeThere, StopsOpening};
 
 use crate::files::Files;
@@ -20,12 +20,12 @@ pub fn openings_tell<F: Files>()
     ensures all { (files : List File) → (inputs : List (WhichOf × F.Input)) → (old new : F) → (result : Result Unit FaultOf) → AreOpened F.opens files inputs old new → EndsAtMissing (F.known old) files result }
 {}
 
-/// Proves what the story of a run over inputs tells. The output takes the text of the question, whole or its first
-/// bytes, or the answers to requests, and nothing else. A file is refused only for its content. A failed read of a
-/// file is reported exactly if there was one. A read or a write that failed is not tried again, and a failed write is
-/// reported.
+/// Proves what the story of a run over the inputs of a job tells. The output takes the text of the question, whole or
+/// its first bytes, or the answers to requests, and nothing else. A file is refused only for its content. A failed read
+/// of a file is reported exactly if there was one. A read or a write that failed is not tried again, and a failed write
+/// is reported.
 pub fn run_tells<I: Input, J: Input, O: Output>()
-    ensures { (options : OptionsOf) → (old new : InputsOf I) → (requests requests' : J) → (output output' : O) → (result : Result Unit FaultOf) → AreSame I.origin old new →
-        RunsOver options I.read_gives old new J.read_gives requests requests' O.write_gives output output' result →
-        TellsOver I.read_gives I.origin I.failed J.read_gives J.failed O.write_gives O.failed O.idle options old new requests requests' output output' result }
+    ensures { (old new : JobOf I) → (requests requests' : J) → (output output' : O) → (result : Result Unit FaultOf) → job_map I.origin new ≡ job_map I.origin old →
+        RunsOver I.read_gives old new J.read_gives requests requests' O.write_gives output output' result →
+        TellsOver I.read_gives I.origin I.failed J.read_gives J.failed O.write_gives O.failed O.idle old new requests requests' output output' result }
 {}

@@ -1,25 +1,25 @@
 //! The run that a line asks for, over files that are opened by their names.
 
-ghost use Rattle.std.specs.Prelude.{◌≡◌, ◌∷◌, [], Ok, IfErr, IfOk, option_map};
+ghost use Rattle.std.specs.Prelude.{◌≡◌, ◌∷◌, [], Ok, IfErr, IfOk};
+ghost use Rattle.std.specs.String.{string_bytes};
 ghost use Rattle.ch_text.specs.Device.{CountsAtMostOne};
+ghost use Rattle.ch_job.specs.Job.{question_map, source_map};
 ghost use Rattle.ch_run.specs.NearRun.{listed_in};
 ghost use Rattle.ch_run.specs.Run.{WritesOnce};
-ghost use Rattle.ch_run.specs.Source.{source_failures};
 ghost use Rattle.ch_words.specs.Line.{IsAllowed};
-ghost use Rattle.ch_line.specs.Inputs.{AreFresh, AreFreshAsked, asked_inputs, input_if, inputs_in, source_inputs};
-ghost use Rattle.ch_line.specs.Line.{AreClosed, AreOpened, Asks, IsRefused, IsUsedWith, RunsLine, StopsOpening, asked_files, graph_name, line_files, list_files, options_for, order_for, order_name, saved_for, saved_name, source_files};
+ghost use Rattle.ch_line.specs.Inputs.{input_if, inputs_in, question_inputs, source_inputs};
+ghost use Rattle.ch_line.specs.Line.{AreClosed, AreFresh, AreOpened, IsOpenedFor, IsRefused, RunsLine, StopsOpening, list_files, named_in, question_files, source_files, zero_of};
 
 use crate::files::{Files, OpenFault};
-use crate::inputs::{Asked, Inputs, run_inputs};
-use ch_run::{
-    Crew, Direction, Gate, Input, Options, OrderBy, Output, RunFault, Source, Sources, Which,
-};
-use ch_words::{Choices, Line, Order, Tool};
+use crate::job::run_job;
+use ch_job::{Job, Question, Source, Sources};
+use ch_run::{Crew, Gate, Input, Output, RunFault, Which};
+use ch_words::Line;
 use std::alloc::Global;
 use std::thread::Threads;
 
 /// Makes the run that a line asks for. It opens all files of the line before it reads one, in the order of
-/// [`open_inputs`], and opens no other file. It reads the requests only if it answers them, and otherwise leaves
+/// [`open_job`], and opens no other file. It reads the requests only if it answers them, and otherwise leaves
 /// them alone.
 ///
 /// # Errors
@@ -43,166 +43,102 @@ pub fn run_line<R: Threads + Sync, F: Files, J: Input, O: Output, G: Gate>(
     ensures requests_once { CountsAtMostOne (J.failed requests.old) (J.failed requests.new) }
     ensures output { WritesOnce result O.failed O.idle output.old output.new }
 {
-    let mut inputs = open_inputs(files, line)?;
+    let mut job = open_job(files, &line.job)?;
     let crew = Crew {
         rt,
         alloc,
-        plan: line.plan,
+        plan: job.plan,
         gate,
     };
-    let result = run_inputs(&crew, &mut inputs, requests, output, line);
-    close_inputs(files, inputs);
+    let result = run_job(&crew, &mut job, requests, output);
+    close_job(files, job);
     result
 }
 
-/// Returns the options of a run, as the words choose them.
-pub fn options_of(choices: &Choices) -> Options
-    ensures { result ≡ options_for choices.now }
-{
-    Options {
-        plain: choices.plain,
-        routes: choices.routes,
-        hops: choices.hops,
-        order: order_by(choices.order),
-        within: choices.within,
-        count: choices.count,
-        direction: if choices.from {
-            Direction::From
-        } else {
-            Direction::To
-        },
-    }
-}
-
-/// Returns the order of contraction that the words choose.
-fn order_by(order: Order) -> OrderBy
-    ensures { result ≡ order_for order }
-{
-    match order {
-        Order::Difference => OrderBy::Difference,
-        Order::Depth => OrderBy::Depth,
-        Order::Rounds => OrderBy::Rounds,
-    }
-}
-
-/// Opens the files of a line. The graph comes first, then the saved hierarchy or the order if there is one, and then
+/// Opens the files of a job. The graph comes first, then the saved hierarchy or the order if there is one, and then
 /// the other files in the order of the arguments.
 ///
 /// # Errors
 /// `Device` of the first file that can't be opened, or `Memory`.
-pub fn open_inputs<F: Files>(files: &mut F, line: &Line) -> Result<Inputs<F::Input>, RunFault>
+pub fn open_job<F: Files>(files: &mut F, job: &Job<String>) -> Result<Job<F::Input>, RunFault>
+    ensures same { IfOk result (IsOpenedFor job.now) }
     ensures fresh { IfOk result (AreFresh F.Input.failed) }
-    ensures asks { IfOk result (λ inputs. Asks line.now.tool inputs.asked) }
-    ensures source { IfOk result (λ inputs. IsUsedWith line.now.choices inputs.source) }
-    ensures opened { IfOk result (λ inputs. AreOpened F.opens (line_files line.now) (inputs_in inputs) files.old files.new) }
-    ensures stopped { IfErr result (StopsOpening F.opens (line_files line.now) files.old files.new) }
+    ensures opened { IfOk result (λ opened. AreOpened F.opens (named_in job.now) (inputs_in opened) files.old files.new) }
+    ensures stopped { IfErr result (StopsOpening F.opens (named_in job.now) files.old files.new) }
 {
-    let graph = open_input(files, graph_of(&line.tool), Which::Graph)?;
-    let source = open_source(files, saved_of(line), order_of(line), &line.choices)?;
-    let asked = open_asked(files, &line.tool)?;
-    Ok(Inputs {
+    let graph = open_input(files, &job.graph, Which::Graph)?;
+    let source = open_source(files, &job.source)?;
+    let question = open_question(files, &job.question)?;
+    let options = job.options;
+    let plan = job.plan;
+    Ok(Job {
         graph,
         source,
-        asked,
+        question,
+        options,
+        plan,
     })
 }
 
-/// Returns the name of the graph of a tool.
-fn graph_of(tool: &Tool) -> &str
-    ensures { result.now ≡ graph_name tool.now }
-{
-    match tool {
-        Tool::Dist { graph, .. }
-        | Tool::Table { graph, .. }
-        | Tool::Near { graph, .. }
-        | Tool::NearAll { graph, .. }
-        | Tool::Save { graph }
-        | Tool::Ask { graph } => graph.as_str(),
-    }
-}
-
-/// Returns the name of the saved hierarchy that the run of a line reads, if it reads one.
-fn saved_of(line: &Line) -> Option<&str>
-    ensures { option_map (λ name. name.now) result ≡ saved_for line.now.tool (saved_name line.now) }
-{
-    match (&line.tool, &line.saved) {
-        (Tool::Save { .. }, _) | (_, None) => None,
-        (_, Some(name)) => Some(name.as_str()),
-    }
-}
-
-/// Returns the name of the order like which the run of a line builds its hierarchy, if it names one.
-fn order_of(line: &Line) -> Option<&str>
-    ensures { option_map (λ name. name.now) result ≡ order_name line.now }
-{
-    match &line.like {
-        Some(name) => Some(name.as_str()),
-        None => None,
-    }
-}
-
-/// Opens a saved hierarchy if one is named, or else an order if one is named.
+/// Opens a saved hierarchy or an order, if one is named.
 fn open_source<F: Files>(
     files: &mut F,
-    saved: Option<&str>,
-    order: Option<&str>,
-    choices: &Choices,
+    source: &Source<String>,
 ) -> Result<Source<F::Input>, RunFault>
-    ensures fresh { IfOk result (λ source. source_failures F.Input.failed source ≡ 0) }
-    ensures used { IfOk result (IsUsedWith choices.now) }
-    ensures opened { IfOk result (λ source. AreOpened F.opens (source_files (option_map (λ name. name.now) saved.entry) (option_map (λ name. name.now) order.entry)) (source_inputs source) files.old files.new) }
-    ensures stopped { IfErr result (StopsOpening F.opens (source_files (option_map (λ name. name.now) saved.entry) (option_map (λ name. name.now) order.entry)) files.old files.new) }
+    ensures same { IfOk result (λ opened. source_map zero_of opened ≡ source_map zero_of source.now) }
+    ensures fresh { IfOk result (λ opened. source_map F.Input.failed opened ≡ source_map zero_of opened) }
+    ensures opened { IfOk result (λ opened. AreOpened F.opens (source_files source.now) (source_inputs opened) files.old files.new) }
+    ensures stopped { IfErr result (StopsOpening F.opens (source_files source.now) files.old files.new) }
 {
-    if let Some(name) = saved {
-        return Ok(Source::Saved(open_input(files, name, Which::Saved)?));
+    match source {
+        Source::Built => Ok(Source::Built),
+        Source::Saved(saved) => Ok(Source::Saved(open_input(files, saved, Which::Saved)?)),
+        Source::Like { order, fresh, hops } => Ok(Source::Like {
+            order: open_input(files, order, Which::Order)?,
+            fresh: *fresh,
+            hops: *hops,
+        }),
     }
-    let Some(name) = order else {
-        return Ok(Source::Built);
-    };
-    Ok(Source::Like {
-        order: open_input(files, name, Which::Order)?,
-        fresh: choices.fresh,
-        hops: choices.hops,
-    })
 }
 
-/// Opens the files of a tool's question, in the order of the arguments.
-fn open_asked<F: Files>(files: &mut F, tool: &Tool) -> Result<Asked<F::Input>, RunFault>
-    ensures fresh { IfOk result (AreFreshAsked F.Input.failed) }
-    ensures asks { IfOk result (Asks tool.now) }
-    ensures opened { IfOk result (λ asked. AreOpened F.opens (asked_files tool.now) (asked_inputs asked) files.old files.new) }
-    ensures stopped { IfErr result (StopsOpening F.opens (asked_files tool.now) files.old files.new) }
+/// Opens the files of a question, in the order of the arguments.
+fn open_question<F: Files>(
+    files: &mut F,
+    question: &Question<String>,
+) -> Result<Question<F::Input>, RunFault>
+    ensures same { IfOk result (λ opened. question_map zero_of opened ≡ question_map zero_of question.now) }
+    ensures fresh { IfOk result (λ opened. question_map F.Input.failed opened ≡ question_map zero_of opened) }
+    ensures opened { IfOk result (λ opened. AreOpened F.opens (question_files question.now) (question_inputs opened) files.old files.new) }
+    ensures stopped { IfErr result (StopsOpening F.opens (question_files question.now) files.old files.new) }
 {
-    match tool {
-        Tool::Dist { queries, .. } => Ok(Asked::Queries(open_input(
+    match question {
+        Question::Queries(queries) => Ok(Question::Queries(open_input(
             files,
-            queries.as_str(),
+            queries,
             Which::Queries,
         )?)),
-        Tool::Table {
-            sources,
-            targets,
-            ..
-        } => {
-            let Lists { sources, targets } = open_lists(files, sources.as_str(), targets.as_str())?;
-            Ok(Asked::Table { sources, targets })
+        Question::Table { sources, targets } => {
+            let Lists { sources, targets } = open_lists(files, sources, targets)?;
+            Ok(Question::Table { sources, targets })
         }
-        Tool::Near {
-            sources,
+        Question::Near {
+            sources: Sources::Listed(sources),
             targets,
-            ..
         } => {
-            let Lists { sources, targets } = open_lists(files, sources.as_str(), targets.as_str())?;
+            let Lists { sources, targets } = open_lists(files, sources, targets)?;
             let sources = Sources::Listed(sources);
-            Ok(Asked::Near { sources, targets })
+            Ok(Question::Near { sources, targets })
         }
-        Tool::NearAll { targets, .. } => {
+        Question::Near {
+            sources: Sources::All,
+            targets,
+        } => {
             let sources = Sources::All;
-            let targets = open_input(files, targets.as_str(), Which::Targets)?;
-            Ok(Asked::Near { sources, targets })
+            let targets = open_input(files, targets, Which::Targets)?;
+            Ok(Question::Near { sources, targets })
         }
-        Tool::Save { .. } => Ok(Asked::Hierarchy),
-        Tool::Ask { .. } => Ok(Asked::Requests),
+        Question::Hierarchy => Ok(Question::Hierarchy),
+        Question::Requests => Ok(Question::Requests),
     }
 }
 
@@ -216,13 +152,13 @@ struct Lists<I: Drop> {
 /// Opens a list of sources, and then a list of targets.
 fn open_lists<F: Files>(
     files: &mut F,
-    sources: &str,
-    targets: &str,
+    sources: &String,
+    targets: &String,
 ) -> Result<Lists<F::Input>, RunFault>
     ensures fresh { IfOk result (λ lists. (F.Input.failed lists.sources ≡ 0) × (F.Input.failed lists.targets ≡ 0)) }
-    ensures opened { IfOk result (λ lists. AreOpened F.opens (list_files sources.now targets.now)
+    ensures opened { IfOk result (λ lists. AreOpened F.opens (list_files (string_bytes sources.now) (string_bytes targets.now))
         ((Which.Sources, lists.sources) ∷ (Which.Targets, lists.targets) ∷ []) files.old files.new) }
-    ensures stopped { IfErr result (StopsOpening F.opens (list_files sources.now targets.now) files.old files.new) }
+    ensures stopped { IfErr result (StopsOpening F.opens (list_files (string_bytes sources.now) (string_bytes targets.now)) files.old files.new) }
 {
     let sources = open_input(files, sources, Which::Sources)?;
     let targets = open_input(files, targets, Which::Targets)?;
@@ -230,30 +166,32 @@ fn open_lists<F: Files>(
 }
 
 /// Opens the file of an input.
-fn open_input<F: Files>(files: &mut F, name: &str, which: Which) -> Result<F::Input, RunFault>
+fn open_input<F: Files>(files: &mut F, name: &String, which: Which) -> Result<F::Input, RunFault>
     ensures fresh { IfOk result (λ input. F.Input.failed input ≡ 0) }
-    ensures opened { IfOk result (λ input. F.opens files.old name.now (Ok input) files.new) }
-    ensures stopped { IfErr result (IsRefused F.opens (which, name.now) files.old files.new) }
+    ensures opened { IfOk result (λ input. F.opens files.old (string_bytes name.now) (Ok input) files.new) }
+    ensures stopped { IfErr result (IsRefused F.opens (which, string_bytes name.now) files.old files.new) }
 {
-    match files.open(name) {
+    match files.open(name.as_str()) {
         Ok(input) => Ok(input),
         Err(OpenFault::Refused) => Err(RunFault::Device(which)),
         Err(OpenFault::Memory) => Err(RunFault::Memory),
     }
 }
 
-/// Closes the files of a line, in the order in which they were opened.
-fn close_inputs<F: Files>(files: &mut F, inputs: Inputs<F::Input>)
-    ensures { AreClosed F.closes (inputs_in inputs) files.old files.new }
+/// Closes the files of a job, in the order in which they were opened.
+fn close_job<F: Files>(files: &mut F, job: Job<F::Input>)
+    ensures { AreClosed F.closes (inputs_in job) files.old files.new }
 {
-    let Inputs {
+    let Job {
         graph,
         source,
-        asked,
-    } = inputs;
+        question,
+        options: _,
+        plan: _,
+    } = job;
     files.close(graph);
     close_source(files, source);
-    close_asked(files, asked);
+    close_question(files, question);
 }
 
 /// Closes a saved hierarchy or an order, if there is one.
@@ -268,20 +206,20 @@ fn close_source<F: Files>(files: &mut F, source: Source<F::Input>)
 }
 
 /// Closes the files of a question.
-fn close_asked<F: Files>(files: &mut F, asked: Asked<F::Input>)
-    ensures { AreClosed F.closes (asked_inputs asked) files.old files.new }
+fn close_question<F: Files>(files: &mut F, question: Question<F::Input>)
+    ensures { AreClosed F.closes (question_inputs question) files.old files.new }
 {
-    match asked {
-        Asked::Queries(queries) => files.close(queries),
-        Asked::Table { sources, targets } => {
+    match question {
+        Question::Queries(queries) => files.close(queries),
+        Question::Table { sources, targets } => {
             files.close(sources);
             files.close(targets);
         }
-        Asked::Near { sources, targets } => {
+        Question::Near { sources, targets } => {
             close_sources(files, sources);
             files.close(targets);
         }
-        Asked::Hierarchy | Asked::Requests => {}
+        Question::Hierarchy | Question::Requests => {}
     }
 }
 

@@ -3,7 +3,8 @@ use Rattle.std.proofs.Common.{◌≡◌, ℕ, ◌+◌, ◌-◌, ◌^◌, ◌<◌
 use Rattle.std.specs.List.{insert, remove}
 use Rattle.std.proofs.lemmas.Bool.{cases_lt}
 use Rattle.std.proofs.lemmas.List.{same_lists}
-use Rattle.std.proofs.lemmas.List.Edits.{length-insert, length-remove, get_or-insert_below, get_or-insert_at, get_or-insert_above, get_or-remove_below, get_or-remove_above}
+use Rattle.std.proofs.lemmas.List.Edits.{length-insert, length-remove, get_or-insert_below, get_or-insert_at, get_or-insert_above}
+use Rattle.std.proofs.lemmas.List.Edits.{get_or-remove_below, get_or-remove_above}
 use Rattle.std.proofs.Math.Logic.{⊎_elim}
 use Rattle.ch_lists.specs.declared.place.Place.{Place}
 use Rattle.ch_lists.specs.Places.{values_at, HasInserted, HasRemoved, HasRoom, HasEdited}
@@ -15,7 +16,8 @@ module _ {X : Type 0} where
   next values start k d = ap (λ i. get_or values i d) (omega arith)
 
   -- the values that remain after a removal
-  left : (old new : List X) (was now : Place) (index : ℕ) → index < was.len → now.start ≡ was.start → now.len + 1 ≡ was.len → was.start + was.len ≤ length old
+  left : (old new : List X) (was now : Place) (index : ℕ) → index < was.len → now.start ≡ was.start → now.len + 1 ≡ was.len →
+      was.start + was.len ≤ length old
       → HasRemoved old new (was.start + index) (was.start + was.len) → values_at new now ≡ remove (values_at old was) index
   left old new was now index low start len within edit =
       let n = length-values_at new now (omega (arith, edit.size)) in
@@ -40,22 +42,27 @@ module _ {X : Type 0} where
       (cases_lt k index))
 
   -- a removal is an edit in the same room
-  pub removed : (old new : List X) (was : Place) (index : ℕ) → index < was.len → was.len ≤ was.room → was.start + was.room ≤ length old → length old < 2 ^ 32
-      → HasRemoved old new (was.start + index) (was.start + was.len) → HasEdited old new was (record { start = was.start; len = was.len - 1; room = was.room }) (remove (values_at old was) index)
+  pub removed : (old new : List X) (was : Place) (index : ℕ) → index < was.len → was.len ≤ was.room →
+      was.start + was.room ≤ length old → length old < 2 ^ 32
+      → HasRemoved old new (was.start + index) (was.start + was.len) → HasEdited old new was
+      (record { start = was.start; len = was.len - 1; room = was.room }) (remove (values_at old was) index)
   removed old new was index low fits within small edit = record {
     size = omega (arith, edit.size);
     small = omega (arith, edit.size);
     fits = omega arith;
     within = omega (arith, edit.size);
     room = inl (refl, refl);
-    edited = left old new was (record { start = was.start; len = was.len - 1; room = was.room }) index low refl (omega arith) (omega arith) edit;
+    edited = left old new was (record { start = was.start; len = was.len - 1; room = was.room }) index low refl (omega arith)
+        (omega arith) edit;
     below = λ k d before. edit.below k d (omega arith);
     above = λ k d behind inside. edit.above k d (omega arith);
   }
 
   -- the values of the list after an insert
-  joined : (old middle new : List X) (was room now : Place) (index : ℕ) (value : X) → index ≤ was.len → was.start + was.len ≤ length old → HasRoom old middle was room
-      → now.start ≡ room.start → now.len ≡ was.len + 1 → HasInserted middle new (room.start + index) (room.start + room.len) value → values_at new now ≡ insert (values_at old was) index value
+  joined : (old middle new : List X) (was room now : Place) (index : ℕ) (value : X) → index ≤ was.len →
+      was.start + was.len ≤ length old → HasRoom old middle was room
+      → now.start ≡ room.start → now.len ≡ was.len + 1 → HasInserted middle new (room.start + index) (room.start + room.len) value →
+      values_at new now ≡ insert (values_at old was) index value
   joined old middle new was room now index value low within has start len edit =
       let n = length-values_at new now (omega (arith, edit.size, has.counted, has.spare, has.within)) in
       let o = length-values_at old was within in
@@ -94,15 +101,18 @@ module _ {X : Type 0} where
           ∙ ap (λ i. get_or (insert (values_at old was) index value) i d) (sym back)
 
   -- an insert is an edit in the room with space for it
-  pub inserted : (old middle new : List X) (was room : Place) (index : ℕ) (value : X) → index ≤ was.len → was.len ≤ was.room → was.start + was.room ≤ length old → HasRoom old middle was room
-      → HasInserted middle new (room.start + index) (room.start + room.len) value → HasEdited old new was (record { start = room.start; len = room.len + 1; room = room.room }) (insert (values_at old was) index value)
+  pub inserted : (old middle new : List X) (was room : Place) (index : ℕ) (value : X) → index ≤ was.len → was.len ≤ was.room →
+      was.start + was.room ≤ length old → HasRoom old middle was room
+      → HasInserted middle new (room.start + index) (room.start + room.len) value → HasEdited old new was
+      (record { start = room.start; len = room.len + 1; room = room.room }) (insert (values_at old was) index value)
   inserted old middle new was room index value low fits within has edit = record {
     size = omega (arith, has.size, edit.size);
     small = omega (arith, has.small, edit.size);
     fits = omega (arith, has.spare);
     within = omega (arith, has.within, edit.size);
     room = has.room;
-    edited = joined old middle new was room (record { start = room.start; len = room.len + 1; room = room.room }) index value low (omega arith) has refl (omega (arith, has.counted)) edit;
+    edited = joined old middle new was room (record { start = room.start; len = room.len + 1; room = room.room }) index value low
+        (omega arith) has refl (omega (arith, has.counted)) edit;
     below = λ k d before. below k d before;
     above = λ k d behind inside. above k d behind inside;
   }

@@ -1,5 +1,6 @@
 -- Empty lists that are given the place without room.
-use Rattle.std.proofs.Common.{◌≡◌, ◌⊎◌, ℕ, option_map, ◌+◌, ◌<◌, ◌≤◌, inl, inr, ⊎_elim, List, [], ◌∷◌, map, get_or, Some, refl, ap, ap₂, arith, sym, ◌∙◌, subst}
+use Rattle.std.proofs.Common.{◌≡◌, ◌⊎◌, ℕ, option_map, ◌+◌, ◌<◌, ◌≤◌, inl, inr, ⊎_elim, List, [], ◌∷◌, map, get_or, Some, refl, ap}
+use Rattle.std.proofs.Common.{ap₂, arith, sym, ◌∙◌, subst}
 use Rattle.std.specs.List.{slice_get}
 use Rattle.std.specs.Prelude.{Contains}
 use Rattle.std.proofs.lemmas.Bool.{ne_eqb}
@@ -36,7 +37,8 @@ module _ (places : List Place) where
   -- the place of a list that is not empty stays the same
   closed_found : (i : ℕ) (p : Place) → slice_get places i ≡ Some p → 0 < p.len → slice_get (map closed places) i ≡ Some p
   closed_found i p at full =
-      slice_get-map closed places i ∙ ap (option_map closed) at ∙ ap Some (⊎_elim (λ w. w.1) (λ w. absurd (omega (arith, w.0))) (closed_is p))
+      slice_get-map closed places i ∙ ap (option_map closed) at
+      ∙ ap Some (⊎_elim (λ w. w.1) (λ w. absurd (omega (arith, w.0))) (closed_is p))
 
   -- these places are places of lists in the same array
   closed_places : (size : ℕ) → ArePlaces places size → ArePlaces (map closed places) size
@@ -46,7 +48,8 @@ module _ (places : List Place) where
     fits = λ i q is. closed_from (λ s. s.len ≤ s.room) i q is (omega arith) (λ p at full. are.fits i p at);
     within = λ i q is. closed_from (λ s. s.start + s.room ≤ size) i q is (omega arith) (λ p at full. are.within i p at);
     apart = λ i j p q at_i at_j differ. closed_from (λ s. AreApart s q) i p at_i (apart_nowhere q)
-        (λ r at_r _. closed_from (λ s. AreApart r s) j q at_j (apart_back nowhere r (apart_nowhere r)) (λ s at_s _. are.apart i j r s at_r at_s differ));
+        (λ r at_r _. closed_from (λ s. AreApart r s) j q at_j (apart_back nowhere r (apart_nowhere r))
+        (λ s at_s _. are.apart i j r s at_r at_s differ));
   }
 
   -- with these places the lists can be moved together
@@ -56,8 +59,10 @@ module _ (places : List Place) where
     placed = closed_places size are;
     order = record {
       listed = record {
-        entry = λ e has. let w = order.listed.entry e has in ((w.0.0, closed_found e.1 w.0.0 w.0.1 w.0.3, w.0.2, w.0.3), omega (arith, length-map places closed, w.1));
-        each = λ i q low is. closed_from (λ s. 0 < s.len → Contains entries (s.start, i)) i q is (λ none. absurd (omega arith)) (λ p at full _. order.listed.each i p (omega (arith, length-map places closed)) at full);
+        entry = λ e has. let w = order.listed.entry e has in
+            ((w.0.0, closed_found e.1 w.0.0 w.0.1 w.0.3, w.0.2, w.0.3), omega (arith, length-map places closed, w.1));
+        each = λ i q low is. closed_from (λ s. 0 < s.len → Contains entries (s.start, i)) i q is (λ none. absurd (omega arith))
+            (λ p at full _. order.listed.each i p (omega (arith, length-map places closed)) at full);
         once = order.listed.once;
       };
       rising = order.rising;

@@ -9,7 +9,8 @@ use Rattle.ch_lists.specs.Places.{values_at, lists_at, AreApart, ArePlaces, HasE
 use Rattle.ch_lists.proofs.Found.{cases, same_values}
 use Rattle.ch_lists.proofs.Placed.{set_places}
 
-module _ {X : Type 0} (old new : List X) (places : List Place) (i : ℕ) (was now : Place) (values : List X) (at : slice_get places i ≡ Some was) (are : ArePlaces places (length old)) (edit : HasEdited old new was now values) where
+module _ {X : Type 0} (old new : List X) (places : List Place) (i : ℕ) (was now : Place) (values : List X)
+    (at : slice_get places i ≡ Some was) (are : ArePlaces places (length old)) (edit : HasEdited old new was now values) where
   -- the list at another place stays the same
   same_other : (k : ℕ) (p : Place) → slice_get places k ≡ Some p → k ≢ i → values_at new p ≡ values_at old p
   same_other k p is differ =
@@ -25,7 +26,8 @@ module _ {X : Type 0} (old new : List X) (places : List Place) (i : ℕ) (was no
   free k p is differ =
       let within = are.within k p is in
       ⊎_elim
-      (λ (w : (now.start ≡ was.start) × (now.room ≡ was.room)). ⊎_elim (λ v. inl (omega arith)) (λ v. inr (omega arith)) (are.apart i k was p at is (λ e. differ (sym e))))
+      (λ (w : (now.start ≡ was.start) × (now.room ≡ was.room)).
+      ⊎_elim (λ v. inl (omega arith)) (λ v. inr (omega arith)) (are.apart i k was p at is (λ e. differ (sym e))))
       (λ w. inr (omega arith))
       edit.room
 
@@ -47,7 +49,8 @@ module _ {X : Type 0} (old new : List X) (places : List Place) (i : ℕ) (was no
       let wide = length-set (lists_at new places) i values in
       let within : k < length places = omega arith in
       cases k i
-      (λ e. rw e (get_or-set_same (lists_at new places) i values d (omega arith) ∙ sym (get_or-set_same (lists_at old places) i values d (omega arith))))
+      (λ e. rw e (get_or-set_same (lists_at new places) i values d (omega arith)
+      ∙ sym (get_or-set_same (lists_at old places) i values d (omega arith))))
       (λ differ. get_or-set_other (lists_at new places) i k values d differ
       ∙ get_or-map (values_at new) places k was d within
       ∙ same_other k (get_or places k was) (slice_get-get_or places k was within) differ

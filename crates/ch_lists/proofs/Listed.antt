@@ -1,5 +1,6 @@
 -- The entries of the lists that are not empty, and their order.
-use Rattle.std.proofs.Common.{◌≡◌, ◌≢◌, ℕ, ◌+◌, ◌<◌, ◌≤◌, true, false, Bool, is_lt, true≢false, ⊎_elim, List, [], ◌∷◌, ◌++◌, length, map, get_or, Some, Contains, refl, ap, arith, sym, ◌∙◌, subst, nat_cmp}
+use Rattle.std.proofs.Common.{◌≡◌, ◌≢◌, ℕ, ◌+◌, ◌<◌, ◌≤◌, true, false, Bool, is_lt, true≢false, ⊎_elim, List, [], ◌∷◌, ◌++◌, length}
+use Rattle.std.proofs.Common.{map, get_or, Some, Contains, refl, ap, arith, sym, ◌∙◌, subst, nat_cmp}
 use Rattle.std.specs.Prelude.{AllPairs, eqb, nat_lt}
 use Rattle.std.specs.List.{slice_get}
 use Rattle.std.specs.List.Sorted.{IsPermutation, IsSorted}
@@ -27,7 +28,8 @@ listed_empty places n entries p are at empty = record {
 }
 
 -- one more list that is not empty has an entry
-pub listed_more : (places : List Place) (n : ℕ) (entries : List (ℕ × ℕ)) (p : Place) → AreListed places n entries → slice_get places n ≡ Some p → 0 < p.len
+pub listed_more : (places : List Place) (n : ℕ) (entries : List (ℕ × ℕ)) (p : Place) → AreListed places n entries →
+    slice_get places n ≡ Some p → 0 < p.len
     → AreListed places (n + 1) (entries ++ (p.start, n) ∷ [])
 listed_more places n entries p are at full = record {
   entry = λ e has. ⊎_elim
@@ -67,14 +69,16 @@ once_more entries sorted once turn i j d before within =
     let a = get_or-map numbers entries k d n (omega arith) in
     let b = get_or-map numbers entries m d n (omega arith) in
     ne_eqb _ _ (λ same. once k m d low (omega arith) (sym a ∙ same ∙ b))) in
-    let turned = IsDistinct-IsPermutation eqb eqb_flips (map numbers entries) (map numbers sorted) (IsPermutation-map numbers entries sorted turn) distinct in
+    let turned = IsDistinct-IsPermutation eqb eqb_flips (map numbers entries) (map numbers sorted)
+    (IsPermutation-map numbers entries sorted turn) distinct in
     let long = length-map sorted numbers in
     let a = get_or-map numbers sorted i d 0 (omega arith) in
     let b = get_or-map numbers sorted j d 0 (omega arith) in
     λ same. eqb-false _ _ (apart_from_distinct eqb (map numbers sorted) i j 0 turned before (omega arith)) (a ∙ same ∙ sym b)
 
 -- the entries, sorted by the starts of their lists
-pub sorted_entries : (places : List Place) (entries sorted : List (ℕ × ℕ)) → AreListed places (length places) entries → IsPermutation entries sorted
+pub sorted_entries : (places : List Place) (entries sorted : List (ℕ × ℕ)) → AreListed places (length places) entries →
+    IsPermutation entries sorted
     → IsSorted (λ a b. ordering_then (nat_cmp a.0 b.0) (nat_cmp a.1 b.1)) sorted → AreInOrder places sorted
 sorted_entries places entries sorted are turn rises = record {
   listed = record {
@@ -82,5 +86,6 @@ sorted_entries places entries sorted are turn rises = record {
     each = λ i p low is some. Contains-permutation entries sorted (p.start, i) turn (are.each i p low is some);
     once = once_more entries sorted are.once turn;
   };
-  rising = IsNonDecreasingBy-from_all_adjacent (λ e. e.0) sorted (λ k d low. start_rises (get_or sorted k d) (get_or sorted (k + 1) d) (rises k d (omega arith) low));
+  rising = IsNonDecreasingBy-from_all_adjacent (λ e. e.0) sorted
+      (λ k d low. start_rises (get_or sorted k d) (get_or sorted (k + 1) d) (rises k d (omega arith) low));
 }

@@ -1,5 +1,6 @@
 -- Lists moved to the front of their array, one after the other.
-use Rattle.std.proofs.Common.{◌≡◌, ◌≢◌, ◌⊎◌, ℕ, ◌+◌, ◌-◌, ◌<◌, ◌≤◌, inl, inr, ⊎_elim, List, length, take, set, get_or, Some, refl, ap, arith, sym, ◌∙◌, subst}
+use Rattle.std.proofs.Common.{◌≡◌, ◌≢◌, ◌⊎◌, ℕ, ◌+◌, ◌-◌, ◌<◌, ◌≤◌, inl, inr, ⊎_elim, List, length, take, set, get_or, Some, refl}
+use Rattle.std.proofs.Common.{ap, arith, sym, ◌∙◌, subst}
 use Rattle.std.specs.Prelude.{AllPairs}
 use Rattle.std.specs.List.{slice_get, SameBelow, SameFrom, CopiedTo}
 use Rattle.std.specs.List.Sorted.{IsNonDecreasingBy}
@@ -35,7 +36,8 @@ none_moved places size entries ready = record {
   filled = λ x low. absurd (omega arith);
 }
 
-module _ (places : List Place) (entries : List (ℕ × ℕ)) (k end : ℕ) (moved : IsMovedUpTo places entries k end) (low : k < length entries) where
+module _ (places : List Place) (entries : List (ℕ × ℕ)) (k end : ℕ) (moved : IsMovedUpTo places entries k end)
+    (low : k < length entries) where
   -- the list that moves next
   abbrev pub next : ℕ × ℕ
   next = get_or entries k (0, 0)
@@ -69,7 +71,8 @@ module _ (places : List Place) (entries : List (ℕ × ℕ)) (k end : ℕ) (move
 
 -- the lists are the same if each list is
 lists_same : {X : Type 0} (old new : List X) (was now : List Place) → length now ≡ length was
-    → ((i : ℕ) (p q : Place) → slice_get was i ≡ Some p → slice_get now i ≡ Some q → values_at new q ≡ values_at old p) → lists_at new now ≡ lists_at old was
+    → ((i : ℕ) (p q : Place) → slice_get was i ≡ Some p → slice_get now i ≡ Some q → values_at new q ≡ values_at old p) →
+    lists_at new now ≡ lists_at old was
 lists_same old new was now long same =
     let m = length-map now (values_at new) in
     let n = length-map was (values_at old) in
@@ -81,7 +84,8 @@ lists_same old new was now long same =
     ∙ sym (get_or-map (values_at old) was k nowhere d within))
 
 module _ {X : Type 0} (old new : List X) (places : List Place) (entries : List (ℕ × ℕ)) (k end : ℕ) (e : ℕ × ℕ) (p : Place)
-    (are : ArePlaces places (length old)) (moved : IsMovedUpTo places entries k end) (once : AllPairs (λ a b. a.1 ≢ b.1) entries) (rising : IsNonDecreasingBy (λ f. f.0) entries)
+    (are : ArePlaces places (length old)) (moved : IsMovedUpTo places entries k end) (once : AllPairs (λ a b. a.1 ≢ b.1) entries)
+    (rising : IsNonDecreasingBy (λ f. f.0) entries)
     (here : slice_get entries k ≡ Some e) (at : slice_get places e.1 ≡ Some p) where
   -- the new place of the list
   abbrev pub moved_to : Place
@@ -124,7 +128,8 @@ module _ {X : Type 0} (old new : List X) (places : List Place) (entries : List (
       let s = stands.2 in
       ⊎_elim inr (λ w. inl (omega arith)) (others i q is differ)
 
-  module _ (long : length new ≡ length old) (copied : CopiedTo old new p.start end p.len) (below : SameBelow old new end) (above : SameFrom old new (end + p.len)) where
+  module _ (long : length new ≡ length old) (copied : CopiedTo old new p.start end p.len) (below : SameBelow old new end)
+      (above : SameFrom old new (end + p.len)) where
     -- the new place is within the array
     pub within_after : end + p.len ≤ length new
     within_after =
@@ -135,7 +140,8 @@ module _ {X : Type 0} (old new : List X) (places : List Place) (entries : List (
 
     -- the places after the list has moved are places of lists
     pub places_after : ArePlaces (set places e.1 moved_to) (length new)
-    places_after = set_places places e.1 (length old) (length new) moved_to are (omega arith) (omega (arith, are.small)) (omega arith) within_after free
+    places_after = set_places places e.1 (length old) (length new) moved_to are (omega arith) (omega (arith, are.small))
+        (omega arith) within_after free
 
     -- the list has the same values at its new place
     same_here : values_at new moved_to ≡ values_at old p
@@ -221,7 +227,8 @@ module _ {X : Type 0} (old new : List X) (places : List Place) (entries : List (
     }
 
 -- after the last move, all lists are at the front of the array
-pub all_moved : {X : Type 0} (old new : List X) (was now : List Place) (entries : List (ℕ × ℕ)) (end : ℕ) → ArePlaces now (length new) → lists_at new now ≡ lists_at old was
+pub all_moved : {X : Type 0} (old new : List X) (was now : List Place) (entries : List (ℕ × ℕ)) (end : ℕ) →
+    ArePlaces now (length new) → lists_at new now ≡ lists_at old was
     → IsMovedUpTo now entries (length entries) end → end ≤ length new → ArePacked old (take end new) was now
 all_moved old new was now entries end are same moved within =
     let long = length-take-le end new within in
@@ -243,4 +250,5 @@ all_moved old new was now entries end are same moved within =
     }
   where
     below : (i : ℕ) (p : Place) → slice_get now i ≡ Some p → p.start + p.room ≤ end
-    below i p is = ⊎_elim (λ w. w) (λ w. let a = slice_get_within entries w.0 w.1 w.3 in let b = w.2 in absurd (omega arith)) (moved.each i p is)
+    below i p is = ⊎_elim (λ w. w) (λ w. let a = slice_get_within entries w.0 w.1 w.3 in let b = w.2 in absurd (omega arith))
+        (moved.each i p is)

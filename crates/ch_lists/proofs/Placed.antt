@@ -1,5 +1,6 @@
 -- Places whose rooms do not overlap.
-use Rattle.std.proofs.Common.{◌≡◌, ◌≢◌, ℕ, ◌+◌, ◌^◌, ◌<◌, ◌≤◌, inl, inr, List, [], ◌∷◌, ◌++◌, length, set, get_or, Some, refl, ap, arith, sym, ◌∙◌, subst, replicate}
+use Rattle.std.proofs.Common.{◌≡◌, ◌≢◌, ℕ, ◌+◌, ◌^◌, ◌<◌, ◌≤◌, inl, inr, List, [], ◌∷◌, ◌++◌, length, set, get_or, Some, refl, ap}
+use Rattle.std.proofs.Common.{arith, sym, ◌∙◌, subst, replicate}
 use Rattle.std.specs.List.{slice_get}
 use Rattle.std.proofs.lemmas.List.{length-set, length-map, length-replicate, get_or-map, get_or-replicate, same_lists, length_push}
 use Rattle.std.proofs.lemmas.Option.{slice_get-get_or}
@@ -22,7 +23,8 @@ pub apart_nowhere : (p : Place) → AreApart nowhere p
 apart_nowhere p = inl (omega arith)
 
 -- one place is replaced by another that does not overlap the others
-pub set_places : (places : List Place) (i size larger : ℕ) (now : Place) → ArePlaces places size → size ≤ larger → larger < 2 ^ 32 → now.len ≤ now.room → now.start + now.room ≤ larger
+pub set_places : (places : List Place) (i size larger : ℕ) (now : Place) → ArePlaces places size → size ≤ larger → larger < 2 ^ 32 →
+    now.len ≤ now.room → now.start + now.room ≤ larger
     → ((k : ℕ) (p : Place) → slice_get places k ≡ Some p → k ≢ i → AreApart now p) → ArePlaces (set places i now) larger
 set_places places i size larger now are more small fits within free = record {
   few = omega (arith, length-set places i now, are.few);
@@ -48,7 +50,8 @@ set_places places i size larger now are more small fits within free = record {
 }
 
 -- one more empty place behind the others
-pub push_places : (places : List Place) (count size : ℕ) (p : Place) → AreEmptyPlaces count size places → p.start ≡ size → p.len ≡ 0 → size + p.room < 2 ^ 32 → count + 1 < 2 ^ 32
+pub push_places : (places : List Place) (count size : ℕ) (p : Place) → AreEmptyPlaces count size places → p.start ≡ size →
+    p.len ≡ 0 → size + p.room < 2 ^ 32 → count + 1 < 2 ^ 32
     → AreEmptyPlaces (count + 1) (size + p.room) (places ++ p ∷ [])
 push_places places count size p are start empty small few = record {
   counted = omega (arith, length_push places p, are.counted);

@@ -7,7 +7,8 @@ use Rattle.ch_lists.specs.declared.place.Place.{Place}
 use Rattle.ch_lists.specs.Places.{values_at, lists_at, ArePlaces, HasEdited}
 use Rattle.ch_lists.proofs.Edited.{places_after, lists_after}
 
-module _ {X : Type 0} (values : List X) (places : List Place) (lists : List (List X)) (i : ℕ) (p : Place) (are : lists_at values places ≡ lists) (low : i < length lists) (is : p ≡ get_or places i p) where
+module _ {X : Type 0} (values : List X) (places : List Place) (lists : List (List X)) (i : ℕ) (p : Place)
+    (are : lists_at values places ≡ lists) (low : i < length lists) (is : p ≡ get_or places i p) where
   -- each list has a place
   within : i < length places
   within = omega (arith, ap length are, length-map places (values_at values))
@@ -22,7 +23,8 @@ module _ {X : Type 0} (values : List X) (places : List Place) (lists : List (Lis
       ap (λ (ls : List (List X)). get_or ls i []) (sym are) ∙ get_or-map (values_at values) places i p [] within
       ∙ ap (values_at values) (sym is)
 
-  module _ (placed : ArePlaces places (length values)) (new : List X) (now : Place) (change : List X → List X) (edit : HasEdited values new p now (change (values_at values p))) where
+  module _ (placed : ArePlaces places (length values)) (new : List X) (now : Place) (change : List X → List X)
+      (edit : HasEdited values new p now (change (values_at values p))) where
     -- the places after an edit of the list are places of lists
     pub edited_places : ArePlaces (set places i now) (length new)
     edited_places = places_after values new places i p now (change (values_at values p)) place_read placed edit

@@ -24,7 +24,8 @@ skipped_places places n size are = record {
   small = are.small;
   fits = λ i p at. are.fits (n + i) p (sym (get-drop n places i) ∙ at);
   within = λ i p at. are.within (n + i) p (sym (get-drop n places i) ∙ at);
-  apart = λ i j p q at_i at_j differ. are.apart (n + i) (n + j) p q (sym (get-drop n places i) ∙ at_i) (sym (get-drop n places j) ∙ at_j) (λ e. differ (omega arith));
+  apart = λ i j p q at_i at_j differ. are.apart (n + i) (n + j) p q (sym (get-drop n places i) ∙ at_i)
+      (sym (get-drop n places j) ∙ at_j) (λ e. differ (omega arith));
 }
 
 -- the remaining lists, at the remaining places
@@ -37,4 +38,5 @@ pub moved_to_front : {X : Type 0} (xs : List X) (n size : ℕ) → size ≡ leng
 moved_to_front xs n size is =
     let rest = length-drop n xs in
     let whole : take (size - n) (drop n xs) ≡ drop n xs = take_all (size - n) (drop n xs) (omega arith) in
-    take-append-le (size - n) (take (size - n) (drop n xs)) (drop (0 + (size - n)) xs) (omega (arith, ap length whole)) ∙ ap (take (size - n)) whole ∙ whole
+    take-append-le (size - n) (take (size - n) (drop n xs)) (drop (0 + (size - n)) xs) (omega (arith, ap length whole))
+    ∙ ap (take (size - n)) whole ∙ whole

@@ -1,5 +1,6 @@
 -- Lists whose rooms do not overlap have at most as many values as the array.
-use Rattle.std.proofs.Common.{◌≡◌, ◌≢◌, ℕ, zero, suc, pred, ◌+◌, ◌-◌, ◌<◌, ◌≤◌, ⊎_elim, List, [], ◌∷◌, length, Some, refl, ap, arith, sym, subst}
+use Rattle.std.proofs.Common.{◌≡◌, ◌≢◌, ℕ, zero, suc, pred, ◌+◌, ◌-◌, ◌<◌, ◌≤◌, ⊎_elim, List, [], ◌∷◌, length, Some, refl, ap}
+use Rattle.std.proofs.Common.{arith, sym, subst}
 use Rattle.std.specs.Prelude.{sum_by}
 use Rattle.std.specs.List.{slice_get}
 use Rattle.std.proofs.lemmas.Bool.{cases_lt}
@@ -39,7 +40,8 @@ none_more n (p ∷ ps) none =
 
 -- the value at n belongs to at most one list
 one_more : (n : ℕ) (ps : List Place) → ((i : ℕ) (p : Place) → slice_get ps i ≡ Some p → p.len ≤ p.room)
-    → ((i j : ℕ) (p q : Place) → slice_get ps i ≡ Some p → slice_get ps j ≡ Some q → i ≢ j → AreApart p q) → sum_by (part (n + 1)) ps ≤ sum_by (part n) ps + 1
+    → ((i j : ℕ) (p q : Place) → slice_get ps i ≡ Some p → slice_get ps j ≡ Some q → i ≢ j → AreApart p q) →
+    sum_by (part (n + 1)) ps ≤ sum_by (part n) ps + 1
 one_more n [] fits apart = omega arith
 one_more n (p ∷ ps) fits apart = part_more n p
     (λ has more.
@@ -54,7 +56,8 @@ one_more n (p ∷ ps) fits apart = part_more n p
     ⊎_elim (λ w. absurd (omega arith)) (λ w. absurd (omega arith)) (apart 0 (suc i) p q refl is differ)) in
     omega (arith, sum_by-cons (part n) p ps, sum_by-cons (part (n + 1)) p ps))
     (λ _ same.
-    let rest = one_more n ps (λ i q is. fits (suc i) q is) (λ i j q r at_i at_j differ. apart (suc i) (suc j) q r at_i at_j (λ e. differ (ap pred e))) in
+    let rest = one_more n ps (λ i q is. fits (suc i) q is)
+    (λ i j q r at_i at_j differ. apart (suc i) (suc j) q r at_i at_j (λ e. differ (ap pred e))) in
     omega (arith, sum_by-cons (part n) p ps, sum_by-cons (part (n + 1)) p ps))
 
 -- none of the first 0 values belongs to a list
@@ -79,7 +82,12 @@ whole values [] within = refl
 whole values (p ∷ ps) within =
     let rest = whole values ps (λ i q is. within (suc i) q is) in
     let here = within 0 p refl in
-    omega (arith, sum_by-cons length (values_at values p) (lists_at values ps), sum_by-cons (part (length values)) p ps, length-values_at values p here)
+    omega (
+      arith,
+      sum_by-cons length (values_at values p) (lists_at values ps),
+      sum_by-cons (part (length values)) p ps,
+      length-values_at values p here,
+    )
 
 -- the lengths of the lists add up to at most the length of the array
 pub values_fit : {X : Type 0} (values : List X) (places : List Place) (lists : List (List X)) → ArePlaces places (length values) →

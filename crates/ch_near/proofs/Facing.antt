@@ -42,13 +42,15 @@ space_up_turned H limit s list space = record {
 }
 
 -- the space of a source is a space up
-pub source_space : (direction : Direction) (H : LevelsAndLegs) (limit : Option ℕ) (s : ℕ) (list : List (ℕ × ℕ)) → IsRankedSpace H (source_side direction) limit s list →
+pub source_space : (direction : Direction) (H : LevelsAndLegs) (limit : Option ℕ) (s : ℕ) (list : List (ℕ × ℕ)) →
+    IsRankedSpace H (source_side direction) limit s list →
     IsRankedSpace (facing direction H) Up limit s list
 source_space To H limit s list space = space
 source_space From H limit s list space = space_down_turned H limit s list space
 
 -- the space of a target is a space down
-pub target_space : (direction : Direction) (H : LevelsAndLegs) (limit : Option ℕ) (s : ℕ) (list : List (ℕ × ℕ)) → IsRankedSpace H (target_side direction) limit s list →
+target_space : (direction : Direction) (H : LevelsAndLegs) (limit : Option ℕ) (s : ℕ) (list : List (ℕ × ℕ)) →
+    IsRankedSpace H (target_side direction) limit s list →
     IsRankedSpace (facing direction H) Down limit s list
 target_space To H limit s list space = space
 target_space From H limit s list space = space_up_turned H limit s list space

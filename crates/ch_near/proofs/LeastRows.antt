@@ -1,6 +1,7 @@
 -- The row that the least offers make, once it is put in order and cut. A pair that is not offered has enough offers
 -- before it.
-use Rattle.std.proofs.Common.{◌≡◌, ℕ, ◌+◌, ◌<◌, ◌≤◌, ◌⊎◌, List, length, map, Contains, Option, Some, get_or, sym, ◌∙◌, ap, subst, arith, inl, inr}
+use Rattle.std.proofs.Common.{◌≡◌, ℕ, ◌+◌, ◌<◌, ◌≤◌, ◌⊎◌, List, length, map, Contains, Option, Some, get_or, sym, ◌∙◌, ap, subst}
+use Rattle.std.proofs.Common.{arith, inl, inr}
 use Rattle.std.specs.Prelude.{◌≢◌, AllPairs, slice_index}
 use Rattle.std.proofs.lemmas.Bool.{cases_lt}
 use Rattle.std.proofs.lemmas.List.{length-map}
@@ -34,7 +35,8 @@ places_apart D list order all one i k d less within same =
     nearer_never b (subst (λ q. IsNearer q b) is near)
 
 -- a pair that a full list leaves out is outdone, even if a weight is added to all pairs
-pub outdone_by : (count : Option ℕ) (S : ℕ × ℕ → Type 0) (list : List (ℕ × ℕ)) (weight x j : ℕ) → AllPairs (λ a b. a.1 ≢ b.1) list → AreFullOfNearer count list (x, j) →
+pub outdone_by : (count : Option ℕ) (S : ℕ × ℕ → Type 0) (list : List (ℕ × ℕ)) (weight x j : ℕ) → AllPairs (λ a b. a.1 ≢ b.1) list →
+    AreFullOfNearer count list (x, j) →
     ((f : ℕ × ℕ) → Contains list f → weight + f.0 ≤ weight + x → S (weight + f.0, f.1)) → IsOutdone count S (weight + x, j)
 outdone_by count S list weight x j apart full sums = record {
   places = map (λ (e : ℕ × ℕ). e.1) list;
@@ -86,8 +88,11 @@ module _ (places : ℕ) (count : Option ℕ) (S D : ℕ × ℕ → Type 0) (amon
       let most = r.1 in
       let size = offered.size in
       let size' = none.size in
-      let some : slice_index least e.1 ≢ UNOFFERED = λ q. omega arith in
-      (slice_index least e.1, le, Contains-permutation row xs (slice_index least e.1, e.1) cut.permutation (taken.whole e.1 (omega arith) some))
+      let some : slice_index least e.1 ≢ UNOFFERED = λ q. omega arith in (
+        slice_index least e.1,
+        le,
+        Contains-permutation row xs (slice_index least e.1, e.1) cut.permutation (taken.whole e.1 (omega arith) some),
+      )
 
   -- a pair that is outdone by offers is beaten in the row
   outdone_beaten : (e : ℕ × ℕ) → IsOutdone count S e → IsBeaten count xs e
@@ -110,7 +115,8 @@ module _ (places : ℕ) (count : Option ℕ) (S D : ℕ × ℕ → Type 0) (amon
 
   pub row_of_offers : AreFirst count D result
   row_of_offers = subst (AreFirst count D) (sym cut.cut)
-      (first_of xs (nearer_in_order row xs taken.apart cut.permutation cut.order) count D (apart_in_order row xs taken.apart cut.permutation) one
+      (first_of xs (nearer_in_order row xs taken.apart cut.permutation cut.order) count D
+      (apart_in_order row xs taken.apart cut.permutation) one
       (λ e c. below e (listed e c))
       (λ e d. elim (reached e d) [
         | inl offer ↦ inl (unlisted e offer)

@@ -1,5 +1,6 @@
 -- The row of a source: the least sums of its search space and the buckets, put in order and cut.
-use Rattle.std.proofs.Common.{◌≡◌, ℕ, zero, suc, ◌+◌, ◌<◌, ◌≤◌, List, [], ◌∷◌, length, map, Vec, get_or, Contains, Option, Some, refl, sym, ◌∙◌, ap, subst, arith, inl, inr}
+use Rattle.std.proofs.Common.{◌≡◌, ℕ, zero, suc, ◌+◌, ◌<◌, ◌≤◌, List, [], ◌∷◌, length, map, Vec, get_or, Contains, Option, Some}
+use Rattle.std.proofs.Common.{refl, sym, ◌∙◌, ap, subst, arith, inl, inr}
 use Rattle.std.specs.Prelude.{◌≢◌, All, AllPairs, slice_index, slice_index_or}
 use Rattle.std.specs.List.{AllZip}
 use Rattle.std.proofs.lemmas.Bool.{cases_lt, cases_order}
@@ -48,13 +49,16 @@ module _ (H : LevelsAndLegs) (side : Side) (limit : Option ℕ) (s : ℕ) (space
       elim (cases_order h.0 h'.0) [
         | inl same ↦ ap (λ (q : ℕ × ℕ). q.1) (sym h.2 ∙ ap (λ q. get_or space q (rank, x)) same ∙ there)
         | inr other ↦ elim other [
-          | inl less ↦ absurd (is.distinct h.0 h'.0 (rank, x) less h'.1 (ap (λ (q : ℕ × ℕ). q.0) (h.2) ∙ sym (ap (λ (q : ℕ × ℕ). q.0) there)))
-          | inr more ↦ absurd (is.distinct h'.0 h.0 (rank, x) more h.1 (ap (λ (q : ℕ × ℕ). q.0) there ∙ sym (ap (λ (q : ℕ × ℕ). q.0) (h.2))))
+          | inl less ↦ absurd (is.distinct h.0 h'.0 (rank, x) less h'.1
+              (ap (λ (q : ℕ × ℕ). q.0) (h.2) ∙ sym (ap (λ (q : ℕ × ℕ). q.0) there)))
+          | inr more ↦ absurd (is.distinct h'.0 h.0 (rank, x) more h.1
+              (ap (λ (q : ℕ × ℕ). q.0) there ∙ sym (ap (λ (q : ℕ × ℕ). q.0) (h.2))))
         ]
       ]
 
 -- the buckets of targets
-module _ (H : LevelsAndLegs) (limit count : Option ℕ) (targets : List ℕ) (buckets : List (List (ℕ × ℕ))) (hold : HoldNearest H limit count targets buckets) where
+module _ (H : LevelsAndLegs) (limit count : Option ℕ) (targets : List ℕ) (buckets : List (List (ℕ × ℕ)))
+    (hold : HoldNearest H limit count targets buckets) where
   pub spaces_count : length hold.spaces ≡ length targets
   spaces_count = zipped_length (IsRankedSpace H Down limit) targets hold.spaces hold.each
 
@@ -77,14 +81,16 @@ module _ (H : LevelsAndLegs) (limit count : Option ℕ) (targets : List ℕ) (bu
   rank_held : (rank : ℕ) (e : ℕ × ℕ) → Contains (slice_index_or buckets rank []) e → rank < nodes_of H
   rank_held rank e c = elim (cases_lt rank (nodes_of H)) [
     | inl lt ↦ lt
-    | inr past ↦ absurd (let size = hold.held.size in contains_none e (subst (λ l. Contains l e) (get_or_past buckets rank [] (omega arith)) c))
+    | inr past ↦ absurd (let size = hold.held.size in
+        contains_none e (subst (λ l. Contains l e) (get_or_past buckets rank [] (omega arith)) c))
   ]
 
   pub bucket_among : (rank : ℕ) → IsBucketAmong (length targets) (slice_index_or buckets rank [])
   bucket_among rank = record {
     order = elim (cases_lt rank (nodes_of H)) [
       | inl lt ↦ (hold.held.each rank lt).order
-      | inr past ↦ (let size = hold.held.size in subst (AllPairs IsNearer) (sym (get_or_past buckets rank [] (omega arith))) (λ i j d less within. absurd (omega arith)))
+      | inr past ↦ (let size = hold.held.size in subst (AllPairs IsNearer) (sym (get_or_past buckets rank [] (omega arith)))
+          (λ i j d less within. absurd (omega arith)))
     ];
     entries = λ k d lt.
         let bucket = slice_index_or buckets rank [] in
@@ -95,7 +101,8 @@ module _ (H : LevelsAndLegs) (limit count : Option ℕ) (targets : List ℕ) (bu
   }
 
   -- a source, and its space within a bound that is at most the limit
-  module _ (bound : Option ℕ) (lesser : (x : ℕ) → IsWithin bound x → IsWithin limit x) (s : ℕ) (ups : List (ℕ × ℕ)) (up : IsRankedSpace H Up bound s ups) where
+  module _ (bound : Option ℕ) (lesser : (x : ℕ) → IsWithin bound x → IsWithin limit x) (s : ℕ) (ups : List (ℕ × ℕ))
+      (up : IsRankedSpace H Up bound s ups) where
     pub space_among : All (λ entry. (entry.0 < length buckets) × (entry.1 ≤ MOST_WEIGHT)) ups
     space_among k d lt =
         let e = get_or ups k d in
@@ -120,7 +127,8 @@ module _ (H : LevelsAndLegs) (limit count : Option ℕ) (targets : List ℕ) (bu
         omega arith
 
     -- the least sums, moved into a row that is put in order and cut
-    module _ (fresh least : List ℕ) (row result : List (ℕ × ℕ)) (none : AreUnoffered (length targets) fresh) (offered : AreOffered (IsSumOf bound ups buckets) fresh least)
+    module _ (fresh least : List ℕ) (row result : List (ℕ × ℕ)) (none : AreUnoffered (length targets) fresh)
+        (offered : AreOffered (IsSumOf bound ups buckets) fresh least)
         (taken : AreTaken least row) (cut : IsSortedAndCut count row result) where
       abbrev xs : List (ℕ × ℕ)
       xs = cut.sorted
@@ -145,11 +153,16 @@ module _ (H : LevelsAndLegs) (limit count : Option ℕ) (targets : List ℕ) (bu
           let low = (sum_shared e sum).0 in
           let size = offered.size in
           let size' = none.size in
-          let some : slice_index least e.1 ≢ UNOFFERED = λ q. omega arith in
-          (slice_index least e.1, le, Contains-permutation row xs (slice_index least e.1, e.1) cut.permutation (taken.whole e.1 (omega arith) some))
+          let some : slice_index least e.1 ≢ UNOFFERED = λ q. omega arith in (
+            slice_index least e.1,
+            le,
+            Contains-permutation row xs (slice_index least e.1, e.1) cut.permutation
+                (taken.whole e.1 (omega arith) some),
+          )
 
       -- the places of a full bucket beat each pair that it leaves out
-      beaten : (rank weight x j : ℕ) → rank < nodes_of H → Contains ups (rank, weight) → IsWithin bound (weight + x) → AreFullOfNearer count (slice_index_or buckets rank []) (x, j) →
+      beaten : (rank weight x j : ℕ) → rank < nodes_of H → Contains ups (rank, weight) → IsWithin bound (weight + x) →
+          AreFullOfNearer count (slice_index_or buckets rank []) (x, j) →
           IsBeaten count xs (weight + x, j)
       beaten rank weight x j lt c low full =
           let bucket = slice_index_or buckets rank [] in
@@ -173,7 +186,8 @@ module _ (H : LevelsAndLegs) (limit count : Option ℕ) (targets : List ℕ) (bu
                 let k = r.1.0 in
                 let at = r.1.2 in
                 let near = subst (λ q. IsNearer q (x, j)) at (full.1 k f r.1.1) in
-                let sum : IsSumOf bound ups buckets (weight + f.0, f.1) = (rank, weight, c, (f.0, r.1, refl, within_less bound (weight + f.0) (weight + x) (weighs f near) low)) in
+                let sum : IsSumOf bound ups buckets (weight + f.0, f.1) =
+                (rank, weight, c, (f.0, r.1, refl, within_less bound (weight + f.0) (weight + x) (weighs f near) low)) in
                 let found = unlisted (weight + f.0, f.1) sum in
                 (found.0, subst (λ q. Contains xs (found.0, q)) r.2 found.2, nearer_still found.0 f near i r.2 found.1);
           }
@@ -191,11 +205,13 @@ module _ (H : LevelsAndLegs) (limit count : Option ℕ) (targets : List ℕ) (bu
 
       pub near_row : IsNearRow H bound count targets s result
       near_row = subst (IsNearRow H bound count targets s) (sym cut.cut)
-          (first_of xs (nearer_in_order row xs taken.apart cut.permutation cut.order) count (IsDistanceTo H bound targets s) (apart_in_order row xs taken.apart cut.permutation)
+          (first_of xs (nearer_in_order row xs taken.apart cut.permutation cut.order) count (IsDistanceTo H bound targets s)
+          (apart_in_order row xs taken.apart cut.permutation)
           (λ x y j a b. one_distance H bound s (slice_index targets j) x y a.1 b.1)
           (λ e c.
           let sum = sum_shared e (listed e c) in
-          let r = shared_distance H hold.kept bound limit lesser s (slice_index targets e.1) ups (down e.1) up (down_at e.1 sum.0) e.0 sum.1 sum.2 in
+          let r = shared_distance H hold.kept bound limit lesser s (slice_index targets e.1) ups (down e.1) up (down_at e.1 sum.0)
+          e.0 sum.1 sum.2 in
           (r.0, (sum.0, r.1), r.2))
           (λ e d.
           let lt = d.0 in
@@ -206,7 +222,8 @@ module _ (H : LevelsAndLegs) (limit count : Option ℕ) (targets : List ℕ) (bu
           let size = spaces_count in
           elim ((hold.held.each sum.0 rank).whole (sum.2, e.1) (omega arith, sum.4)) [
             | inl has ↦ inl (unlisted e (sum.0, sum.1, sum.3, (sum.2, has, sym sum.5, r.1)))
-            | inr full ↦ inr (subst (λ q. IsBeaten count xs (q, e.1)) sum.5 (beaten sum.0 sum.1 sum.2 e.1 rank sum.3 (subst (IsWithin bound) (sym sum.5) r.1) full))
+            | inr full ↦ inr (subst (λ q. IsBeaten count xs (q, e.1)) sum.5
+                (beaten sum.0 sum.1 sum.2 e.1 rank sum.3 (subst (IsWithin bound) (sym sum.5) r.1) full))
           ]))
 
 -- the spaces that were found, as vectors
@@ -215,7 +232,8 @@ module _ (H : LevelsAndLegs) (limit : Option ℕ) (targets : List ℕ) (spaces :
   pub found_count : length spaces ≡ length targets
   found_count = zipped_length (λ node (space : Vec (ℕ × ℕ) Global). IsRankedSpace H Down limit node space.items) targets spaces each
 
-  found_at : (k : ℕ) (d : Vec (ℕ × ℕ) Global) → k < length spaces → IsRankedSpace H Down limit (get_or targets k 0) (get_or spaces k d).items
+  found_at : (k : ℕ) (d : Vec (ℕ × ℕ) Global) → k < length spaces →
+      IsRankedSpace H Down limit (get_or targets k 0) (get_or spaces k d).items
   found_at k d lt =
       let size = found_count in
       zip_at (λ node (list : Vec (ℕ × ℕ) Global). IsRankedSpace H Down limit node list.items) 0 d targets spaces each k (omega arith)

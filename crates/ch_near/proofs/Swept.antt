@@ -1,5 +1,6 @@
 -- The rows of all nodes. The row of a node is made of its bucket and the rows of higher nodes.
-use Rattle.std.proofs.Common.{◌≡◌, ℕ, ◌+◌, ◌<◌, ◌≤◌, ◌⊎◌, List, [], ◌∷◌, ◌++◌, length, map, Contains, Option, Some, get_or, refl, sym, ◌∙◌, ap, subst, arith, inl, inr}
+use Rattle.std.proofs.Common.{◌≡◌, ℕ, ◌+◌, ◌<◌, ◌≤◌, ◌⊎◌, List, [], ◌∷◌, ◌++◌, length, map, Contains, Option, Some, get_or, refl}
+use Rattle.std.proofs.Common.{sym, ◌∙◌, ap, subst, arith, inl, inr}
 use Rattle.std.specs.Prelude.{◌≢◌, All, AllPairs, slice_index, slice_index_or}
 use Rattle.std.proofs.lemmas.Bool.{cases_lt}
 use Rattle.std.proofs.lemmas.List.{get_or_past, get_or_push, get_or_append_left, length_push}
@@ -45,7 +46,8 @@ rows_none wanted = record { size = refl; each = λ v lt low. absurd (omega arith
 
 -- one more row
 pub rows_more : (wanted : Wanted) (k : ℕ) (rows : List (List (ℕ × ℕ))) (list : List (ℕ × ℕ)) → AreRowsTo wanted k rows →
-    ((v : ℕ) → v < nodes_of wanted.hierarchy → rank_of wanted.hierarchy v ≡ k → IsNearRow wanted.hierarchy wanted.limit wanted.count wanted.targets v list) →
+    ((v : ℕ) → v < nodes_of wanted.hierarchy → rank_of wanted.hierarchy v ≡ k →
+    IsNearRow wanted.hierarchy wanted.limit wanted.count wanted.targets v list) →
     AreRowsTo wanted (k + 1) (rows ++ list ∷ [])
 rows_more wanted k rows list done is = record {
   size = let size = done.size in let one = length_push rows list in omega arith;
@@ -82,7 +84,8 @@ module _ (H : LevelsAndLegs) (kept : IsKeptForSome H) where
   ]
 
   -- a distance is the weight of a least walk
-  distance_walk : (limit : Option ℕ) (s t x : ℕ) → IsDistanceWithin H limit s t (Some x) → (c : Cost) × IsLeast kept.0 s t c × (c.weight ≡ x)
+  distance_walk : (limit : Option ℕ) (s t x : ℕ) → IsDistanceWithin H limit s t (Some x) →
+      (c : Cost) × IsLeast kept.0 s t c × (c.weight ≡ x)
   distance_walk limit s t x d =
       let m = least_of H limit s t x d in (m.0, ((meetings_are_distances kept.0 H kept.1 kept.2).least s t m.0).1 m.1, m.2)
 
@@ -121,7 +124,8 @@ module _ (H : LevelsAndLegs) (kept : IsKeptForSome H) where
     distance : IsDistanceWithin H limit leg.node t (Some rest)
     sum : leg.cost.weight + rest ≡ x
 
-  goes_on : (limit : Option ℕ) (v t x : ℕ) (c : Cost) → IsLeastMeeting H v t c → c.weight ≡ x → IsWithin limit x → (m : ℕ) (a b : Cost) → IsUpwardCost H.up v m a →
+  goes_on : (limit : Option ℕ) (v t x : ℕ) (c : Cost) → IsLeastMeeting H v t c → c.weight ≡ x → IsWithin limit x →
+      (m : ℕ) (a b : Cost) → IsUpwardCost H.up v m a →
       IsUpwardCost H.down t m b → cost_sum a b ≡ c → ((v ≡ m) × (b.weight ≡ x)) ⊎ BeginsWithLeg limit v t x
   goes_on limit v t x c least is low m a b up down sum = at up.path.0 up.path.1 up.path.2
     where
@@ -141,7 +145,8 @@ module _ (H : LevelsAndLegs) (kept : IsKeptForSome H) where
           let first = (kept_has_walks kept.0 H kept.1 kept.2).rises v l.node leg.path.0 leg.path.1 in
           let walk = subst (IsWalkCost kept.0 v l.node) leg.path.2 first in
           let onward = sum_walk H kept l.node t m r b on down in
-          let same : c ≡ cost_sum l.cost rest = sym sum ∙ ap (λ q. cost_sum q b) (sym cost ∙ path_cost-cons l legs) ∙ cost_sum_assoc l.cost r b in
+          let same : c ≡ cost_sum l.cost rest = sym sum ∙ ap (λ q. cost_sum q b) (sym cost ∙ path_cost-cons l legs)
+          ∙ cost_sum_assoc l.cost r b in
           let whole = subst (IsLeast kept.0 v t) same (((meetings_are_distances kept.0 H kept.1 kept.2).least v t c).1 least) in
           let back = IsLeast-back kept.0 v l.node t l.cost rest whole walk onward in
           let meeting = ((meetings_are_distances kept.0 H kept.1 kept.2).least l.node t rest).0 back in
@@ -155,8 +160,10 @@ module _ (H : LevelsAndLegs) (kept : IsKeptForSome H) where
 
   -- the targets' buckets, and the rows of the higher nodes
   module _ (limit count : Option ℕ) (targets : List ℕ) (buckets : List (List (ℕ × ℕ))) (hold : HoldNearest H limit count targets buckets)
-      (k : ℕ) (rows : List (List (ℕ × ℕ))) (done : AreRowsTo (record { hierarchy = H; targets = targets; limit = limit; count = count }) k rows)
-      (v : ℕ) (below_n : v < nodes_of H) (here : rank_of H v ≡ k) (legs : List RankedLeg) (ranked : legs ≡ map (ranked_leg H) (row H.up v)) where
+      (k : ℕ) (rows : List (List (ℕ × ℕ)))
+      (done : AreRowsTo (record { hierarchy = H; targets = targets; limit = limit; count = count }) k rows)
+      (v : ℕ) (below_n : v < nodes_of H) (here : rank_of H v ≡ k) (legs : List RankedLeg)
+      (ranked : legs ≡ map (ranked_leg H) (row H.up v)) where
     abbrev D : ℕ × ℕ → Type 0
     D = IsDistanceTo H limit targets v
 
@@ -186,11 +193,17 @@ module _ (H : LevelsAndLegs) (kept : IsKeptForSome H) where
         (l : Leg) × Contains (row H.up v) l × (rank_of H l.node ≡ rank) × (l.cost.weight ≡ weight)
     leg_of rank weight c =
         let r = contains_map_of entry_of_leg legs (rank, weight) c in
-        let l = contains_map_of (ranked_leg H) (row H.up v) r.0 (subst (λ q. Contains q r.0) ranked r.1) in
-        (l.0, l.1, ap (λ (q : RankedLeg). q.rank) l.2 ∙ ap (λ (q : ℕ × ℕ). q.0) r.2, ap (λ (q : RankedLeg). q.weight) l.2 ∙ ap (λ (q : ℕ × ℕ). q.1) r.2)
+        let l = contains_map_of (ranked_leg H) (row H.up v) r.0 (subst (λ q. Contains q r.0) ranked r.1) in (
+          l.0,
+          l.1,
+          ap (λ (q : RankedLeg). q.rank) l.2 ∙ ap (λ (q : ℕ × ℕ). q.0) r.2,
+          ap (λ (q : RankedLeg). q.weight) l.2
+              ∙ ap (λ (q : ℕ × ℕ). q.1) r.2,
+        )
 
     entry_has : (l : Leg) → Contains (row H.up v) l → Contains (map entry_of_leg legs) (rank_of H l.node, l.cost.weight)
-    entry_has l has = contains_map entry_of_leg legs (ranked_leg H l) (subst (λ q. Contains q (ranked_leg H l)) (sym ranked) (contains_map (ranked_leg H) (row H.up v) l has))
+    entry_has l has = contains_map entry_of_leg legs (ranked_leg H l)
+        (subst (λ q. Contains q (ranked_leg H l)) (sym ranked) (contains_map (ranked_leg H) (row H.up v) l has))
 
     -- each offer is at least a distance
     pub owed_below : (e : ℕ × ℕ) → S e → (x : ℕ) × D (x, e.1) × (x ≤ e.0)
@@ -199,7 +212,8 @@ module _ (H : LevelsAndLegs) (kept : IsKeptForSome H) where
         let at = (down_at H limit count targets buckets hold e.1 r.0).sound k own.0 r.1 in
         let one : at.0 ≡ v = rank_one H kept.2.levelled at.0 v at.1 below_n (at.2 ∙ sym here) in
         let path = at.3 in
-        let walk = fall_walk v (slice_index targets e.1) path.0 (subst (λ q. IsUpwardCost H.down (slice_index targets e.1) q path.0) one path.1) in
+        let walk = fall_walk v (slice_index targets e.1) path.0
+        (subst (λ q. IsUpwardCost H.down (slice_index targets e.1) q path.0) one path.1) in
         let is = walk.2 in
         let is' = path.2 in
         let sum = own.2 in
@@ -233,7 +247,8 @@ module _ (H : LevelsAndLegs) (kept : IsKeptForSome H) where
         of_node rank less =
             let low = rank_low in
             let u = node_of_rank H kept.2.levelled rank (omega arith) in
-            let near = subst (λ q. IsNearRow H limit count targets u.0 (slice_index_or rows q [])) u.2 (done.each u.0 u.1 (subst (λ q. q < k) (sym u.2) less)) in
+            let near = subst (λ q. IsNearRow H limit count targets u.0 (slice_index_or rows q [])) u.2
+            (done.each u.0 u.1 (subst (λ q. q < k) (sym u.2) less)) in
             let list = slice_index_or rows rank [] in
             record {
               order = near.order;
@@ -264,9 +279,11 @@ module _ (H : LevelsAndLegs) (kept : IsKeptForSome H) where
 
     -- a place occurs once in the bucket
     bucket_apart : AllPairs (λ a b. a.1 ≢ b.1) bucket
-    bucket_apart = places_apart (λ f. (f.1 < length targets) × Contains (down H limit count targets buckets hold f.1) (k, f.0)) bucket (hold.held.each k rank_low).order
+    bucket_apart = places_apart (λ f. (f.1 < length targets) × Contains (down H limit count targets buckets hold f.1) (k, f.0))
+        bucket (hold.held.each k rank_low).order
         (λ f c. entry_at H limit count targets buckets hold k f rank_low c)
-        (λ x y j p q. rank_once H Down limit (slice_index targets j) (down H limit count targets buckets hold j) (down_at H limit count targets buckets hold j p.0) k x y p.1 q.1)
+        (λ x y j p q. rank_once H Down limit (slice_index targets j) (down H limit count targets buckets hold j)
+        (down_at H limit count targets buckets hold j p.0) k x y p.1 q.1)
 
     -- a distance is offered, or is outdone by offers
     pub owed_reached : (e : ℕ × ℕ) → D e → S e ⊎ IsOutdone count S e
@@ -290,7 +307,8 @@ module _ (H : LevelsAndLegs) (kept : IsKeptForSome H) where
               let lt = d.0 in
               elim ((hold.held.each k rank_low).whole (b.weight, e.1) (omega arith, there)) [
                 | inl in_bucket ↦ inl (inl (b.weight, in_bucket, let is = own.1 in omega arith, low))
-                | inr full ↦ inr (subst (λ q. IsOutdone count S (q, e.1)) (from_none b.weight e.0 own.1) (outdone_by count S bucket 0 b.weight e.1
+                | inr full ↦ inr (subst (λ q. IsOutdone count S (q, e.1)) (from_none b.weight e.0 own.1)
+                    (outdone_by count S bucket 0 b.weight e.1
                     bucket_apart
                     full
                     (λ f h le. inl (f.0, h, refl, within_less limit (0 + f.0) e.0 (let is = own.1 in omega arith) low))))
@@ -304,7 +322,8 @@ module _ (H : LevelsAndLegs) (kept : IsKeptForSome H) where
               elim (near.whole (first.rest, e.1) (d.0, first.distance)) [
                 | inl in_row ↦ inl (inr (rank_of H u, l.cost.weight, entry_has l first.has, (first.rest, in_row, sym first.sum, low)))
                 | inr full ↦ inr (subst (λ q. IsOutdone count S (q, e.1)) first.sum (outdone_by count S list l.cost.weight first.rest e.1
-                    (places_apart (IsDistanceTo H limit targets u) list near.order near.sound (λ x y j p q. one_distance H limit u (slice_index targets j) x y p.1 q.1))
+                    (places_apart (IsDistanceTo H limit targets u) list near.order near.sound
+                    (λ x y j p q. one_distance H limit u (slice_index targets j) x y p.1 q.1))
                     full
                     (λ f h le. inr (
                       rank_of H u,
@@ -318,7 +337,8 @@ module _ (H : LevelsAndLegs) (kept : IsKeptForSome H) where
     -- the legs lead to ranks that have their rows already
     pub legs_among : All (λ (l : RankedLeg). (l.rank < length rows) × (l.weight ≤ MOST_WEIGHT)) legs
     legs_among i d lt =
-        let c = contains_map_of (ranked_leg H) (row H.up v) (get_or legs i d) (subst (λ q. Contains q (get_or legs i d)) ranked (Contains-get_or legs i d lt)) in
+        let c = contains_map_of (ranked_leg H) (row H.up v) (get_or legs i d)
+        (subst (λ q. Contains q (get_or legs i d)) ranked (Contains-get_or legs i d lt)) in
         let r = leg_row c.0 c.1 in
         let low = r.1 in
         let light = r.2 in
@@ -328,7 +348,8 @@ module _ (H : LevelsAndLegs) (kept : IsKeptForSome H) where
         (omega arith, omega arith)
 
     -- the least offers make the row
-    pub row_made : (fresh least : List ℕ) (taken result : List (ℕ × ℕ)) → AreUnoffered (length targets) fresh → AreOffered S fresh least → AreTaken least taken →
+    pub row_made : (fresh least : List ℕ) (taken result : List (ℕ × ℕ)) → AreUnoffered (length targets) fresh →
+        AreOffered S fresh least → AreTaken least taken →
         IsSortedAndCut count taken result → IsNearRow H limit count targets v result
     row_made fresh least taken result none offered out cut =
         row_of_offers (length targets) count S D

@@ -9,7 +9,8 @@ use Rattle.ch_near.specs.Near.{IsNearRow, IsNearestRow}
 
 -- a near row of a hierarchy is a near row of each graph that the hierarchy is right for
 abbrev pub NearRowsAreNearest : Type 0
-NearRowsAreNearest = (g : Network) (H : LevelsAndLegs) (direction : Direction) (limit count : Option ℕ) (targets : List ℕ) (s : ℕ) (row : List (ℕ × ℕ)) → IsWithinLimits g → IsKept g H →
+NearRowsAreNearest = (g : Network) (H : LevelsAndLegs) (direction : Direction) (limit count : Option ℕ) (targets : List ℕ) (s : ℕ)
+    (row : List (ℕ × ℕ)) → IsWithinLimits g → IsKept g H →
     IsNearRow (facing direction H) limit count targets s row → IsNearestRow g direction limit count targets s row
 
 -- a source has at most one near row

@@ -1,5 +1,6 @@
 -- The opening of a construction, one step and the end, from the clauses of their calls.
-use Rattle.std.proofs.Common.{◌≡◌, ℕ, Bool, false, not, map, refl, ◌+◌, ◌*◌, ◌<◌, ◌≤◌, List, length, Option, Some, None, sym, ◌∙◌, ap, subst, arith, inl, inr, replicate, length-append, length-set, get_or-set_same, get_or-set_other}
+use Rattle.std.proofs.Common.{◌≡◌, ℕ, Bool, false, not, map, refl, ◌+◌, ◌*◌, ◌<◌, ◌≤◌, List, length, Option, Some, None, sym, ◌∙◌}
+use Rattle.std.proofs.Common.{ap, subst, arith, inl, inr, replicate, length-append, length-set, get_or-set_same, get_or-set_other}
 use Rattle.std.specs.Prelude.{filter, is_some, ◌||◌, slice_index, ℤ, ◌<ℤ◌}
 use Rattle.std.specs.Ordering.{is_gt, int_cmp, MatchOrdering}
 use Rattle.std.specs.declared.cmp.Ordering.{Ordering}
@@ -52,8 +53,19 @@ none_at n x = elim (cases_lt x n) [
 ]
 
 -- a construction in which no node is contracted
-pub opened : (g : Network) (r : RemainingLegs) (waiting : List (Option ℤ)) (depths levels : List ℕ) → SameLegs (legs_of r) (opening g) → r.nodes ≡ g.nodes → AreLegsWithin r.nodes (legs_of r) → waiting ≡ replicate r.nodes None → depths ≡ replicate r.nodes 0 → length levels ≡ r.nodes →
-    IsOpen g (record { legs = legs_of r; keys = waiting; depth = λ x. slice_index depths x; levels = levels; up = λ x. row r.ups x; down = λ x. row r.downs x; contracted = 0 })
+pub opened : (g : Network) (r : RemainingLegs) (waiting : List (Option ℤ)) (depths levels : List ℕ) →
+    SameLegs (legs_of r) (opening g) → r.nodes ≡ g.nodes → AreLegsWithin r.nodes (legs_of r) → waiting ≡ replicate r.nodes None →
+    depths ≡ replicate r.nodes 0 → length levels ≡ r.nodes →
+    IsOpen g (record {
+      legs = legs_of r;
+      keys = waiting;
+      depth = λ x. slice_index depths x;
+      levels = levels;
+      up =
+          λ x. row r.ups x;
+      down = λ x. row r.downs x;
+      contracted = 0;
+    })
 opened g r waiting depths levels same nodes limits keys zero size = record {
   legs = same;
   limits = subst (λ n. AreLegsWithin n (opening g)) nodes (subst (AreLegsWithin r.nodes) (one_map (legs_of r) (opening g) same) limits);
@@ -64,7 +76,8 @@ opened g r waiting depths levels same nodes limits keys zero size = record {
 }
 
 -- a construction keeps its sizes when a node is taken
-pub sized_taken : (h : ℕ) (before : Construction) (v : ℕ) (list : List ℕ) (after : Construction) → IsSized before → IsTaken h before v list after → IsSized after
+pub sized_taken : (h : ℕ) (before : Construction) (v : ℕ) (list : List ℕ) (after : Construction) → IsSized before →
+    IsTaken h before v list after → IsSized after
 sized_taken h before v list after sizes t =
     let nodes = t.nodes in
     record {
@@ -77,8 +90,10 @@ sized_taken h before v list after sizes t =
     }
 
 -- a refreshed queue stays one if lists are replaced by equal lists
-pub lent_refreshed : (IsOf : List ℕ → ℕ → ℤ → Type 0) (depths deep nodes lent : List ℕ) (old after : List (Option ℤ)) → deep ≡ depths → lent ≡ nodes → AreRefreshed (IsOf deep) lent old after → AreRefreshed (IsOf depths) nodes old after
-lent_refreshed IsOf depths deep nodes lent old after d a r = subst (λ l. AreRefreshed (IsOf depths) l old after) a (subst (λ e. AreRefreshed (IsOf e) lent old after) d r)
+pub lent_refreshed : (IsOf : List ℕ → ℕ → ℤ → Type 0) (depths deep nodes lent : List ℕ) (old after : List (Option ℤ)) →
+    deep ≡ depths → lent ≡ nodes → AreRefreshed (IsOf deep) lent old after → AreRefreshed (IsOf depths) nodes old after
+lent_refreshed IsOf depths deep nodes lent old after d a r =
+    subst (λ l. AreRefreshed (IsOf depths) l old after) a (subst (λ e. AreRefreshed (IsOf e) lent old after) d r)
 
 -- a node is no neighbour of itself
 not_own : (n : ℕ) (L : Legs) (v : ℕ) → AreLegsWithin n L → are_neighbours L v v ≡ false
@@ -89,7 +104,9 @@ not_own n L v within = at (L v v) refl
     at (Some l) e = absurd ((within v v l e).ends.2 refl)
 
 -- a node is contracted if it is taken, whatever keys the queue has then
-pub taken_step : (h : ℕ) (before : Construction) (v : ℕ) (list : List ℕ) (taken : Construction) (keys : List (Option ℤ)) → IsTaken h before v list taken → IsContraction before.remaining.nodes h (progress_of before) v (record (progress_of taken) { keys = keys })
+pub taken_step : (h : ℕ) (before : Construction) (v : ℕ) (list : List ℕ) (taken : Construction) (keys : List (Option ℤ)) →
+    IsTaken h before v list taken →
+    IsContraction before.remaining.nodes h (progress_of before) v (record (progress_of taken) { keys = keys })
 taken_step h before v list taken keys t = record {
   legs = t.legs;
   contracted = t.contracted;
@@ -97,31 +114,38 @@ taken_step h before v list taken keys t = record {
   up = t.up.legs;
   down = t.down.legs;
   rows = λ x ne. (t.up.kept x ne, t.down.kept x ne);
-  depths = deeper_by (legs_of before.remaining) v _ _ before.depths.items taken.depths.items t.up.legs t.down.legs (subst (λ l. AreDeepened l (slice_index before.depths.items v + 1) before.depths.items taken.depths.items) t.listed t.deeper);
+  depths = deeper_by (legs_of before.remaining) v _ _ before.depths.items taken.depths.items t.up.legs t.down.legs
+      (subst (λ l. AreDeepened l (slice_index before.depths.items v + 1) before.depths.items taken.depths.items) t.listed t.deeper);
 }
 
 -- a step is made if a node is taken and its neighbours get their present priorities
-pub stepped : (by : OrderBy) (h : ℕ) (before : Construction) (v : ℕ) (list : List ℕ) (taken : Construction) (keys : List (Option ℤ)) → v < before.remaining.nodes → AreLegsWithin before.remaining.nodes (legs_of before.remaining) → IsSized before → IsTaken h before v list taken →
-    AreRefreshed (IsPriorityIn by taken.remaining h taken.depths.items) list taken.waiting keys → IsStep by before.remaining.nodes h (progress_of before) v (record (progress_of taken) { keys = keys })
+pub stepped : (by : OrderBy) (h : ℕ) (before : Construction) (v : ℕ) (list : List ℕ) (taken : Construction)
+    (keys : List (Option ℤ)) → v < before.remaining.nodes → AreLegsWithin before.remaining.nodes (legs_of before.remaining) →
+    IsSized before → IsTaken h before v list taken →
+    AreRefreshed (IsPriorityIn by taken.remaining h taken.depths.items) list taken.waiting keys →
+    IsStep by before.remaining.nodes h (progress_of before) v (record (progress_of taken) { keys = keys })
 stepped by h before v list taken keys node within sizes t refreshed =
     let L = legs_of before.remaining in
     let up = row taken.remaining.ups v in
     let down = row taken.remaining.downs v in
     let deep : ℕ → ℕ = λ x. slice_index taken.depths.items x in
-    let Refreshed : ℕ → List ℕ → List (Option ℤ) → Type 0 = λ n l old. AreRefreshed (IsPriorityBy by n h (legs_of taken.remaining) deep) l old keys in
+    let Refreshed : ℕ → List ℕ → List (Option ℤ) →
+    Type 0 = λ n l old. AreRefreshed (IsPriorityBy by n h (legs_of taken.remaining) deep) l old keys in
     let one = subst (λ n. Refreshed n list taken.waiting) t.nodes refreshed in
     let two = subst (λ l. Refreshed before.remaining.nodes l taken.waiting) t.listed one in
     let anew = subst (Refreshed before.remaining.nodes (neighbours_in up down)) t.waiting two in
     record {
       contraction = taken_step h before v list taken keys t;
       size = anew.size ∙ length-set before.waiting v None;
-      taken = anew.kept v (not_listed L v up down t.up.legs t.down.legs v (not_own before.remaining.nodes L v within)) ∙ get_or-set_same before.waiting v None None (let size = sizes.keys in omega arith);
+      taken = anew.kept v (not_listed L v up down t.up.legs t.down.legs v (not_own before.remaining.nodes L v within))
+          ∙ get_or-set_same before.waiting v None None (let size = sizes.keys in omega arith);
       anew = λ x e. anew.anew x (neighbour_listed L v up down t.up.legs t.down.legs x e);
       kept = λ x ne e. anew.kept x (not_listed L v up down t.up.legs t.down.legs x e) ∙ get_or-set_other before.waiting v x None None ne;
     }
 
 -- at the end the hierarchy has the levels and the rows of all nodes
-pub all_rows : (c : Construction) (H : LevelsAndLegs) → IsSized c → H.level ≡ c.levels.items → H.up ≡ c.remaining.ups → H.down ≡ c.remaining.downs → AreAll c.remaining.nodes (progress_of c) H
+pub all_rows : (c : Construction) (H : LevelsAndLegs) → IsSized c → H.level ≡ c.levels.items → H.up ≡ c.remaining.ups →
+    H.down ≡ c.remaining.downs → AreAll c.remaining.nodes (progress_of c) H
 all_rows c H sizes level up down = record {
   level = level;
   sizes = (sizes.levels, ap length up ∙ sizes.ups, ap length down ∙ sizes.downs);

@@ -1,5 +1,6 @@
 -- The priorities of the remaining nodes, as an order of contraction grows.
-use Rattle.std.proofs.Common.{◌≡◌, ℕ, ◌+◌, ◌<◌, ◌≤◌, max, Bool, true, false, List, [], ◌∷◌, ◌++◌, length, Option, Some, None, refl, sym, ◌∙◌, subst, arith, inl, inr, Contains}
+use Rattle.std.proofs.Common.{◌≡◌, ℕ, ◌+◌, ◌<◌, ◌≤◌, max, Bool, true, false, List, [], ◌∷◌, ◌++◌, length, Option, Some, None, refl}
+use Rattle.std.proofs.Common.{sym, ◌∙◌, subst, arith, inl, inr, Contains}
 use Rattle.std.specs.Prelude.{◌≢◌, slice_index, ℤ}
 use Rattle.std.proofs.lemmas.Bool.{cases_lt}
 use Rattle.std.proofs.lemmas.List.{get_or_past, length_push}
@@ -15,7 +16,8 @@ use Rattle.ch_order.specs.Progress.{HasPriority, IsNext}
 use Rattle.ch_order.specs.Priorities.{AreRefreshed}
 use Rattle.ch_hierarchy.proofs.theory.Ordered.{contains_or_not}
 use Rattle.ch_contract.proofs.theory.OneInTurn.{from_along}
-use Rattle.ch_contract.proofs.theory.OrderSteps.{ComesBefore, then_legs, last_touch, untouched_more, touched_more, more, legs_more, here, agree, now, next}
+use Rattle.ch_contract.proofs.theory.OrderSteps.{ComesBefore, then_legs, last_touch, untouched_more, touched_more, more, legs_more}
+use Rattle.ch_contract.proofs.theory.OrderSteps.{here, agree, now, next}
 
 -- the key of each remaining node is its priority after these steps, and no contracted node has a key
 pub record AreKept (k : ℕ) (by : OrderBy) (n h : ℕ) (order : List ℕ) (L : ℕ → Legs) (keys : List (Option ℤ)) : Type 0 where
@@ -32,8 +34,10 @@ key_within keys x p e = elim (cases_lt x (length keys)) [
 ]
 
 -- when the nodes that remain are judged after the given ones, the key of each is its priority
-pub kept_ranked : (by : OrderBy) (n h : ℕ) (given : List ℕ) (L : ℕ → Legs) (depth : ℕ → ℕ) (others : List ℕ) (before after : List (Option ℤ)) → length before ≡ n → HasNone before → ((x : ℕ) → depth x ≡ depth_after given L (length given) x) →
-    ((x : ℕ) → x < n → (Contains given x → ⊥) → Contains others x) → ((x : ℕ) → Contains given x → Contains others x → ⊥) → AreRefreshed (IsPriorityBy by n h (L (length given)) depth) others before after → AreKept (length given) by n h given L after
+pub kept_ranked : (by : OrderBy) (n h : ℕ) (given : List ℕ) (L : ℕ → Legs) (depth : ℕ → ℕ) (others : List ℕ)
+    (before after : List (Option ℤ)) → length before ≡ n → HasNone before → ((x : ℕ) → depth x ≡ depth_after given L (length given) x) →
+    ((x : ℕ) → x < n → (Contains given x → ⊥) → Contains others x) → ((x : ℕ) → Contains given x → Contains others x → ⊥) →
+    AreRefreshed (IsPriorityBy by n h (L (length given)) depth) others before after → AreKept (length given) by n h given L after
 kept_ranked by n h given L depth others before after size none deep whole apart r = record {
   size = r.size ∙ size;
   left = λ x lt away.
@@ -55,7 +59,8 @@ module _ (k : ℕ) (by : OrderBy) (n h : ℕ) (order : List ℕ) (L : ℕ → Le
     | inr away ↦ let r = a.left x lt away in absurd (none-some r.0 (sym (none x) ∙ r.1))
   ]
 
-module _ (k : ℕ) (by : OrderBy) (n h : ℕ) (order : List ℕ) (L : ℕ → Legs) (keys : List (Option ℤ)) (a : AreKept k by n h order L keys) (v : ℕ) (f : IsNext keys v) where
+module _ (k : ℕ) (by : OrderBy) (n h : ℕ) (order : List ℕ) (L : ℕ → Legs) (keys : List (Option ℤ))
+    (a : AreKept k by n h order L keys) (v : ℕ) (f : IsNext keys v) where
   -- the next node is below the number of nodes
   pub next_within : v < n
   next_within = let lt = key_within keys v f.priority f.has in let size = a.size in omega arith
@@ -72,13 +77,20 @@ module _ (k : ℕ) (by : OrderBy) (n h : ℕ) (order : List ℕ) (L : ℕ → Le
       let other = a.left x lt away in
       (f.priority, other.0, subst (λ p. IsPriorityFrom k by n h order L (length order) v p) same mine.2, other.2, f.first x other.0 other.1)
 
-module _ (k : ℕ) (by : OrderBy) (n h : ℕ) (order : List ℕ) (L : ℕ → Legs) (keys : List (Option ℤ)) (a : AreKept k by n h order L keys) (from : k ≤ length order) (v : ℕ) (M : Legs) (after : List (Option ℤ)) (size : length after ≡ length keys) (taken : key_of after v ≡ None) (v_left : Contains order v → ⊥) (depth : ℕ → ℕ) (deep : (x : ℕ) → depth x ≡ depth_after (more order L v M) (legs_more order L v M) (length order + 1) x) (anew : (x : ℕ) → are_neighbours (L (length order)) v x ≡ true → HasPriority (IsPriorityBy by n h M depth) after x) (kept : (x : ℕ) → x ≢ v → are_neighbours (L (length order)) v x ≡ false → key_of after x ≡ key_of keys x) (gone : (x : ℕ) → Contains order x → are_neighbours (L (length order)) v x ≡ false) where
+module _ (k : ℕ) (by : OrderBy) (n h : ℕ) (order : List ℕ) (L : ℕ → Legs) (keys : List (Option ℤ))
+    (a : AreKept k by n h order L keys) (from : k ≤ length order) (v : ℕ) (M : Legs) (after : List (Option ℤ))
+    (size : length after ≡ length keys) (taken : key_of after v ≡ None) (v_left : Contains order v → ⊥) (depth : ℕ → ℕ)
+    (deep : (x : ℕ) → depth x ≡ depth_after (more order L v M) (legs_more order L v M) (length order + 1) x)
+    (anew : (x : ℕ) → are_neighbours (L (length order)) v x ≡ true → HasPriority (IsPriorityBy by n h M depth) after x)
+    (kept : (x : ℕ) → x ≢ v → are_neighbours (L (length order)) v x ≡ false → key_of after x ≡ key_of keys x)
+    (gone : (x : ℕ) → Contains order x → are_neighbours (L (length order)) v x ≡ false) where
   -- a neighbour gets its priority with the legs after the step, and the others keep theirs
   priority_of : (b : Bool) (x : ℕ) → are_neighbours (L (length order)) v x ≡ b → x < n → x ≢ v → (Contains order x → ⊥) →
       (p : ℤ) × (key_of after x ≡ Some p) × IsPriorityFrom k by n h (more order L v M) (legs_more order L v M) (length order + 1) x p
   priority_of b x e lt ne away = at b e
     where
-      same : are_neighbours (legs_more order L v M (length order)) (slice_index (more order L v M) (length order)) x ≡ are_neighbours (L (length order)) v x
+      same : are_neighbours (legs_more order L v M (length order)) (slice_index (more order L v M) (length order)) x
+          ≡ are_neighbours (L (length order)) v x
       same = λ i. are_neighbours (now order L v M i) (here order L v M i) x
 
       at : (b : Bool) → are_neighbours (L (length order)) v x ≡ b →
@@ -88,12 +100,24 @@ module _ (k : ℕ) (by : OrderBy) (n h : ℕ) (order : List ℕ) (L : ℕ → Le
           let deeper = subst (λ (f : ℕ → ℕ). IsPriorityBy by n h M f x r.0) (λ t y. deep y t) r.2 in
           let depths = depth_after (more order L v M) (legs_more order L v M) (length order + 1) in
           let last : length order + 1 ≡ max k (length order + 1) = omega arith in
-          let is = subst (λ (N : Legs). IsPriorityBy by n h N depths x r.0) (sym (next order L v M)) deeper in
-          (r.0, r.1, (length order + 1, touched_more (more order L v M) (legs_more order L v M) (length order) x (same ∙ e), subst (λ z. IsPriorityBy by n h (legs_more order L v M z) (depth_after (more order L v M) (legs_more order L v M) z) x r.0) last is))
+          let is = subst (λ (N : Legs). IsPriorityBy by n h N depths x r.0) (sym (next order L v M)) deeper in (
+            r.0,
+            r.1,
+            (
+              length order + 1,
+              touched_more (more order L v M) (legs_more order L v M) (length order) x (same ∙ e),
+              subst (λ z. IsPriorityBy by n h (legs_more order L v M z) (depth_after (more order L v M) (legs_more order L v M) z) x
+                  r.0) last is,
+            ),
+          )
       at false e =
           let r = a.left x lt away in
-          let along = from_along k by n h (length order) order L (more order L v M) (legs_more order L v M) x r.0 from (agree order L v M) r.2 in
-          (r.0, kept x ne e ∙ r.1, (along.0, untouched_more (more order L v M) (legs_more order L v M) (length order) x along.0 (same ∙ e) along.1, along.2))
+          let along = from_along k by n h (length order) order L (more order L v M) (legs_more order L v M) x r.0 from
+          (agree order L v M) r.2 in (
+            r.0,
+            kept x ne e ∙ r.1,
+            (along.0, untouched_more (more order L v M) (legs_more order L v M) (length order) x along.0 (same ∙ e) along.1, along.2),
+          )
 
   -- the new keys are the priorities for the longer order
   pub kept_more : AreKept k by n h (order ++ v ∷ []) (then_legs (length order) L M) after
@@ -101,7 +125,8 @@ module _ (k : ℕ) (by : OrderBy) (n h : ℕ) (order : List ℕ) (L : ℕ → Le
     size = size ∙ a.size;
     left = λ x lt away.
         let ne : x ≢ v = λ e. away (subst (Contains (order ++ v ∷ [])) (sym e) (Contains-push order v)) in
-        let r = priority_of (are_neighbours (L (length order)) v x) x refl lt ne (λ has. away (Contains-append_left order (v ∷ []) x has)) in
+        let r = priority_of (are_neighbours (L (length order)) v x) x refl lt ne
+        (λ has. away (Contains-append_left order (v ∷ []) x has)) in
         (r.0, r.1, subst (λ z. IsPriorityFrom k by n h (more order L v M) (legs_more order L v M) z x r.0) (sym (length_push order v)) r.2);
     taken = λ x has. elim (Contains-push_cases order v x has) [
       | inl earlier ↦ kept x (λ e. v_left (subst (Contains order) e earlier)) (gone x earlier) ∙ a.taken x earlier

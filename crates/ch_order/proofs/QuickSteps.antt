@@ -1,5 +1,6 @@
 -- The state of a construction whose first nodes are given, and whose others come in any order.
-use Rattle.std.proofs.Common.{◌≡◌, ℕ, ◌<◌, ◌≤◌, true, false, List, [], ◌∷◌, ◌++◌, length, refl, sym, ◌∙◌, ap, subst, arith, inl, inr, Contains, Option, Some, None, take, length-set, get_or-set_same, get_or-set_other}
+use Rattle.std.proofs.Common.{◌≡◌, ℕ, ◌<◌, ◌≤◌, true, false, List, [], ◌∷◌, ◌++◌, length, refl, sym, ◌∙◌, ap, subst, arith, inl}
+use Rattle.std.proofs.Common.{inr, Contains, Option, Some, None, take, length-set, get_or-set_same, get_or-set_other}
 use Rattle.std.specs.Prelude.{◌≢◌, filter, is_some, slice_set, ℤ}
 use Rattle.std.proofs.lemmas.Bool.{true≢false, cases_eq}
 use Rattle.std.proofs.lemmas.List.{length_push, take_all, take-append-le}
@@ -42,8 +43,10 @@ pub record IsAfterAny (g : Network) (h : ℕ) (given : List ℕ) (p : Progress) 
   pub waiting : IsWaiting g.nodes order p.keys
 
 -- a hierarchy that begins with given nodes is kept
-pub after_kept : (g : Network) (h : ℕ) (given : List ℕ) (H : LevelsAndLegs) → IsWithinLimits g → IsHopBound h → IsHierarchyAfter g h given H → IsKept g H
-after_kept g h given H limits hops is = hierarchies_with_enough_kept g h H is.0 is.1 limits (hierarchy_with_enough g h H is.0 is.1 limits hops is.2)
+pub after_kept : (g : Network) (h : ℕ) (given : List ℕ) (H : LevelsAndLegs) → IsWithinLimits g → IsHopBound h →
+    IsHierarchyAfter g h given H → IsKept g H
+after_kept g h given H limits hops is =
+    hierarchies_with_enough_kept g h H is.0 is.1 limits (hierarchy_with_enough g h H is.0 is.1 limits hops is.2)
 
 -- an option with a value has one
 value_of : (o : Option ℤ) → is_some o ≡ true → (p : ℤ) × (o ≡ Some p)
@@ -59,10 +62,6 @@ none_of (Some p) e = absurd (true≢false e)
 pub key_stays : (before after : Progress) (x : ℕ) → IsRekeyed before after → HasKey before.keys x → HasKey after.keys x
 key_stays before after x r k = value_of (key_of after.keys x) (r.same x ∙ ap is_some k.1)
 
--- nothing has changed
-pub rekeyed_none : (p : Progress) → IsRekeyed p p
-rekeyed_none p = record { rest = refl; size = refl; same = λ x. refl }
-
 -- one change of keys after another is one
 pub rekeyed_then : (p q r : Progress) → IsRekeyed p q → IsRekeyed q r → IsRekeyed p r
 rekeyed_then p q r a b = record {
@@ -72,7 +71,8 @@ rekeyed_then p q r a b = record {
 }
 
 -- a node with a key gets another one
-pub rekeyed_set : (p : Progress) (keys : List (Option ℤ)) (v : ℕ) (k : ℤ) → HasKey p.keys v → keys ≡ slice_set p.keys v (Some k) → IsRekeyed p (record p { keys = keys })
+pub rekeyed_set : (p : Progress) (keys : List (Option ℤ)) (v : ℕ) (k : ℤ) → HasKey p.keys v → keys ≡ slice_set p.keys v (Some k) →
+    IsRekeyed p (record p { keys = keys })
 rekeyed_set p keys v k has e = record {
   rest = refl;
   size = ap length e ∙ length-set p.keys v (Some k);
@@ -84,7 +84,8 @@ rekeyed_set p keys v k has e = record {
 }
 
 -- if nodes with keys are judged, the queue keeps its nodes
-pub rekeyed_ranked : (by : OrderBy) (n h : ℕ) (nodes : List ℕ) (p q : Progress) → ((x : ℕ) → Contains nodes x → HasKey p.keys x) → IsRanked by n h nodes p q → IsRekeyed p q
+pub rekeyed_ranked : (by : OrderBy) (n h : ℕ) (nodes : List ℕ) (p q : Progress) → ((x : ℕ) → Contains nodes x → HasKey p.keys x) →
+    IsRanked by n h nodes p q → IsRekeyed p q
 rekeyed_ranked by n h nodes p q have r = record {
   rest = r.rest;
   size = r.keys.size;
@@ -95,7 +96,8 @@ rekeyed_ranked by n h nodes p q have r = record {
 }
 
 -- those of some nodes that pass the test of a key have one
-pub keys_among : (keys : List (Option ℤ)) (nodes list : List ℕ) (x : ℕ) → list ≡ filter (λ y. is_some (key_of keys y)) nodes → Contains list x → HasKey keys x
+pub keys_among : (keys : List (Option ℤ)) (nodes list : List ℕ) (x : ℕ) → list ≡ filter (λ y. is_some (key_of keys y)) nodes →
+    Contains list x → HasKey keys x
 keys_among keys nodes list x e has =
     value_of (key_of keys x) (contains_filter_of (λ y. is_some (key_of keys y)) nodes x (subst (λ l. Contains l x) e has)).1
 
@@ -104,7 +106,8 @@ pub next_key : (keys : List (Option ℤ)) (v : ℕ) → IsNext keys v → HasKey
 next_key keys v n = (n.priority, n.has)
 
 -- the nodes that remain are judged after the given ones
-pub any_at_start : (by : OrderBy) (g : Network) (h : ℕ) (given others : List ℕ) (p q : Progress) → IsOrderOf g.nodes (given ++ others) → IsAfterGiven g h given p → IsRanked by g.nodes h others p q → IsAfterAny g h given q
+pub any_at_start : (by : OrderBy) (g : Network) (h : ℕ) (given others : List ℕ) (p q : Progress) →
+    IsOrderOf g.nodes (given ++ others) → IsAfterGiven g h given p → IsRanked by g.nodes h others p q → IsAfterAny g h given q
 any_at_start by g h given others p q is u r = record {
   order = given;
   L = u.L;
@@ -170,8 +173,10 @@ module _ (g : Network) (h : ℕ) (given : List ℕ) (p : Progress) (u : IsAfterA
             let had = u.waiting.left x lt (λ has. away (Contains-append_left u.order (v ∷ []) x has)) in
             (had.0, ap (λ l. key_of l x) e ∙ get_or-set_other p.keys v x None None ne ∙ had.1);
         taken = λ x has. ap (λ l. key_of l x) e ∙ elim (Contains-push_cases u.order v x has) [
-          | inl earlier ↦ get_or-set_other p.keys v x None None (λ same. left (subst (Contains u.order) same earlier)) ∙ u.waiting.taken x earlier
-          | inr same ↦ subst (λ z. key_of (slice_set p.keys v None) z ≡ None) same (get_or-set_same p.keys v None None (key_within p.keys v k.0 k.1))
+          | inl earlier ↦ get_or-set_other p.keys v x None None (λ same. left (subst (Contains u.order) same earlier))
+              ∙ u.waiting.taken x earlier
+          | inr same ↦ subst (λ z. key_of (slice_set p.keys v None) z ≡ None) same
+              (get_or-set_same p.keys v None None (key_within p.keys v k.0 k.1))
         ];
       };
     }

@@ -1,5 +1,6 @@
 -- The state that the contraction of one node after the other keeps, from the first node to the last.
-use Rattle.std.proofs.Common.{◌≡◌, ℕ, ◌+◌, ◌<◌, ◌≤◌, true, false, List, [], ◌∷◌, ◌++◌, length, sym, ◌∙◌, ap, subst, arith, inl, inr, Contains, Option, None, take, length-set, get_or-set_same, get_or-set_other}
+use Rattle.std.proofs.Common.{◌≡◌, ℕ, ◌+◌, ◌<◌, ◌≤◌, true, false, List, [], ◌∷◌, ◌++◌, length, sym, ◌∙◌, ap, subst, arith, inl, inr}
+use Rattle.std.proofs.Common.{Contains, Option, None, take, length-set, get_or-set_same, get_or-set_other}
 use Rattle.std.specs.Prelude.{◌≢◌, slice_index, slice_set, ◌||◌, is_some, ℤ}
 use Rattle.std.proofs.lemmas.Bool.{cases_eq, cases_lt}
 use Rattle.std.proofs.lemmas.List.{length_push, get_or_default, get_or_past, take_all, take-append-le}
@@ -74,7 +75,8 @@ module _ (g : Network) (h : ℕ) (order : List ℕ) (L : ℕ → Legs) (p : Prog
   legs_within =
       let n : ℕ = length order in
       let start = subst (AreLegsWithin g.nodes) (sym (one_map (L 0) (opening g) u.begun.start)) u.limits in
-      subst (AreLegsWithin g.nodes) (one_map (L n) p.legs u.legs) (within_steps g.nodes n order L start (λ i lt. pairs_by_needed g.nodes h _ _ _ (u.begun.step i lt)) n (omega arith))
+      subst (AreLegsWithin g.nodes) (one_map (L n) p.legs u.legs)
+      (within_steps g.nodes n order L start (λ i lt. pairs_by_needed g.nodes h _ _ _ (u.begun.step i lt)) n (omega arith))
 
   -- a depth is at most the number of contracted nodes
   pub depth_within : (x : ℕ) → p.depth x ≤ p.contracted
@@ -84,7 +86,8 @@ module _ (g : Network) (h : ℕ) (order : List ℕ) (L : ℕ → Legs) (p : Prog
       let count = u.contracted in
       omega arith
 
-module _ (g : Network) (h : ℕ) (order : List ℕ) (L : ℕ → Legs) (p : Progress) (u : IsAfterSteps g h order L p) (v : ℕ) (within : v < g.nodes) (left : Contains order v → ⊥) where
+module _ (g : Network) (h : ℕ) (order : List ℕ) (L : ℕ → Legs) (p : Progress) (u : IsAfterSteps g h order L p) (v : ℕ)
+    (within : v < g.nodes) (left : Contains order v → ⊥) where
   -- the number of contracted nodes is less than the number of nodes
   pub count_fewer : p.contracted < g.nodes
   count_fewer = omega (arith, begun_fewer g h order L u.begun v within left, u.contracted)
@@ -100,7 +103,8 @@ module _ (g : Network) (h : ℕ) (order : List ℕ) (L : ℕ → Legs) (p : Prog
 
     -- the depths after the step
     pub deep : (x : ℕ) → q.depth x ≡ depth_after (order ++ v ∷ []) (then_legs (length order) L q.legs) (length order + 1) x
-    deep = depth_more order L v q.legs p.depth q.depth u.depths (subst (λ (M : Legs). (x : ℕ) → q.depth x ≡ next_depth M v p.depth x) before s.depths)
+    deep = depth_more order L v q.legs p.depth q.depth u.depths
+        (subst (λ (M : Legs). (x : ℕ) → q.depth x ≡ next_depth M v p.depth x) before s.depths)
 
     -- the state after one more step
     pub steps_more : IsAfterSteps g h (order ++ v ∷ []) (then_legs (length order) L q.legs) q
@@ -113,17 +117,33 @@ module _ (g : Network) (h : ℕ) (order : List ℕ) (L : ℕ → Legs) (p : Prog
           contracted = count ∙ sym (length_push order v);
           legs = λ a b. ap (λ z. then_legs n L q.legs z a b) (length_push order v) ∙ ap (λ (M : Legs). M a b) (next order L v q.legs);
           size = ap length s.levels ∙ length-set p.levels v q.contracted ∙ u.size;
-          levels = levels_more order v left L q.legs p.levels q.levels (let size = u.size in omega (arith, within)) (s.levels ∙ ap (slice_set p.levels v) count) u.levels;
+          levels = levels_more order v left L q.legs p.levels q.levels (let size = u.size in omega (arith, within))
+              (s.levels ∙ ap (slice_set p.levels v) count) u.levels;
           depths = λ x. deep x ∙ ap (λ z. depth_after (order ++ v ∷ []) (then_legs n L q.legs) z x) (sym (length_push order v));
-          up = rows_more order v left AreLegsFrom L q.legs p.up q.up (subst (λ (M : Legs). AreLegsFrom M v (q.up v)) before s.up) (λ x ne. (s.rows x ne).0) u.up;
-          down = rows_more order v left AreLegsTo L q.legs p.down q.down (subst (λ (M : Legs). AreLegsTo M v (q.down v)) before s.down) (λ x ne. (s.rows x ne).1) u.down;
+          up = rows_more order v left AreLegsFrom L q.legs p.up q.up (subst (λ (M : Legs). AreLegsFrom M v (q.up v)) before s.up)
+              (λ x ne. (s.rows x ne).0) u.up;
+          down = rows_more order v left AreLegsTo L q.legs p.down q.down
+              (subst (λ (M : Legs). AreLegsTo M v (q.down v)) before s.down) (λ x ne. (s.rows x ne).1) u.down;
         }
 
 -- the steps do not depend on the keys
-pub steps_rekeyed : (g : Network) (h : ℕ) (order : List ℕ) (L : ℕ → Legs) (p : Progress) (keys : List (Option ℤ)) → IsAfterSteps g h order L p → IsAfterSteps g h order L (record p { keys = keys })
-steps_rekeyed g h order L p keys a = record { begun = a.begun; limits = a.limits; contracted = a.contracted; legs = a.legs; size = a.size; levels = a.levels; depths = a.depths; up = a.up; down = a.down }
+pub steps_rekeyed : (g : Network) (h : ℕ) (order : List ℕ) (L : ℕ → Legs) (p : Progress) (keys : List (Option ℤ)) →
+    IsAfterSteps g h order L p → IsAfterSteps g h order L (record p { keys = keys })
+steps_rekeyed g h order L p keys a = record {
+  begun = a.begun;
+  limits = a.limits;
+  contracted = a.contracted;
+  legs = a.legs;
+  size =
+      a.size;
+  levels = a.levels;
+  depths = a.depths;
+  up = a.up;
+  down = a.down;
+}
 
-module _ (g : Network) (h : ℕ) (order : List ℕ) (L : ℕ → Legs) (p : Progress) (u : IsAfterSteps g h order L p) (whole : (x : ℕ) → x < g.nodes → Contains order x) where
+module _ (g : Network) (h : ℕ) (order : List ℕ) (L : ℕ → Legs) (p : Progress) (u : IsAfterSteps g h order L p)
+    (whole : (x : ℕ) → x < g.nodes → Contains order x) where
   -- if the steps have all nodes, all are contracted
   pub all_contracted : AreContracted g h order L
   all_contracted = begun_all g h order L u.begun whole
@@ -137,8 +157,10 @@ module _ (g : Network) (h : ℕ) (order : List ℕ) (L : ℕ → Legs) (p : Prog
         contracted = all_contracted;
         sizes = (ap length all.level ∙ all.sizes.0, all.sizes.1, all.sizes.2);
         level = λ i lt. ap (λ l. slice_index l (slice_index order i)) all.level ∙ u.levels i (omega arith);
-        up = λ i lt. subst (AreLegsFrom (L i) (slice_index order i)) (sym (all.rows (slice_index order i) (node i lt)).0) (u.up i (omega arith));
-        down = λ i lt. subst (AreLegsTo (L i) (slice_index order i)) (sym (all.rows (slice_index order i) (node i lt)).1) (u.down i (omega arith));
+        up = λ i lt. subst (AreLegsFrom (L i) (slice_index order i)) (sym (all.rows (slice_index order i) (node i lt)).0)
+            (u.up i (omega arith));
+        down = λ i lt. subst (AreLegsTo (L i) (slice_index order i)) (sym (all.rows (slice_index order i) (node i lt)).1)
+            (u.down i (omega arith));
       }
 
   -- and that hierarchy is levelled
@@ -156,7 +178,9 @@ none_removed keys v none x = elim (cases_eq x v) [
 ]
 
 -- one more given node is contracted
-pub given_more : (g : Network) (h : ℕ) (given : List ℕ) (p : Progress) (v : ℕ) (q : Progress) → IsAfterGiven g h given p → v < g.nodes → (Contains given v → ⊥) → IsContraction g.nodes h p v q → q.keys ≡ slice_set p.keys v None → IsAfterGiven g h (given ++ v ∷ []) q
+pub given_more : (g : Network) (h : ℕ) (given : List ℕ) (p : Progress) (v : ℕ) (q : Progress) → IsAfterGiven g h given p →
+    v < g.nodes → (Contains given v → ⊥) → IsContraction g.nodes h p v q → q.keys ≡ slice_set p.keys v None →
+    IsAfterGiven g h (given ++ v ∷ []) q
 given_more g h given p v q u within left s keys = record {
   L = then_legs (length given) u.L q.legs;
   after = steps_more g h given u.L p u.after v within left q s;
@@ -164,7 +188,8 @@ given_more g h given p v q u within left s keys = record {
 }
 
 -- the nodes that remain are judged after the given ones
-pub steps_at_start : (by : OrderBy) (g : Network) (h : ℕ) (given others : List ℕ) (p q : Progress) → IsOrderOf g.nodes (given ++ others) → IsAfterGiven g h given p → IsRanked by g.nodes h others p q → IsAfterSomeSteps by g h given q
+pub steps_at_start : (by : OrderBy) (g : Network) (h : ℕ) (given others : List ℕ) (p q : Progress) → IsOrderOf g.nodes
+    (given ++ others) → IsAfterGiven g h given p → IsRanked by g.nodes h others p q → IsAfterSomeSteps by g h given q
 steps_at_start by g h given others p q is u r = record {
   order = given;
   L = u.L;
@@ -172,8 +197,10 @@ steps_at_start by g h given others p q is u r = record {
     steps = subst (IsAfterSteps g h given u.L) (sym r.rest) (steps_rekeyed g h given u.L p q.keys u.after);
     from = omega arith;
     least = λ i x ge lt inside away. absurd (omega arith);
-    priorities = kept_ranked by g.nodes h given u.L p.depth others p.keys q.keys u.keys.0 u.keys.1 u.after.depths (all_others given others g.nodes is) (no_other given others g.nodes is)
-        (subst (λ (M : Legs). AreRefreshed (IsPriorityBy by g.nodes h M p.depth) others p.keys q.keys) (sym (one_map (u.L (length given)) p.legs u.after.legs)) r.keys);
+    priorities = kept_ranked by g.nodes h given u.L p.depth others p.keys q.keys u.keys.0 u.keys.1 u.after.depths
+        (all_others given others g.nodes is) (no_other given others g.nodes is)
+        (subst (λ (M : Legs). AreRefreshed (IsPriorityBy by g.nodes h M p.depth) others p.keys q.keys)
+        (sym (one_map (u.L (length given)) p.legs u.after.legs)) r.keys);
   };
   first = take_all (length given) given (omega arith);
 }
@@ -215,8 +242,10 @@ module _ (by : OrderBy) (g : Network) (h : ℕ) (given : List ℕ) (p : Progress
             steps = steps_more g h u.order u.L p a.steps v steps_node left q c;
             from = let size = length_push u.order v in let le = a.from in omega arith;
             least = least_more k by g h u.order u.L v q.legs a.least a.from (next_first k by g.nodes h u.order u.L p.keys a.priorities v f);
-            priorities = kept_more k by g.nodes h u.order u.L p.keys a.priorities a.from v q.legs q.keys s.size s.taken left q.depth (deep g h u.order u.L p a.steps v steps_node left q c)
-                (subst (λ (M : Legs). (x : ℕ) → are_neighbours M v x ≡ true → HasPriority (IsPriorityBy by g.nodes h q.legs q.depth) q.keys x) same s.anew)
+            priorities = kept_more k by g.nodes h u.order u.L p.keys a.priorities a.from v q.legs q.keys s.size s.taken left q.depth
+                (deep g h u.order u.L p a.steps v steps_node left q c)
+                (subst (λ (M : Legs). (x : ℕ) → are_neighbours M v x ≡ true →
+                HasPriority (IsPriorityBy by g.nodes h q.legs q.depth) q.keys x) same s.anew)
                 (subst (λ (M : Legs). (x : ℕ) → x ≢ v → are_neighbours M v x ≡ false → key_of q.keys x ≡ key_of p.keys x) same s.kept)
                 (none_earlier g h u.order u.L p a.steps v);
           };
@@ -231,8 +260,14 @@ module _ (by : OrderBy) (g : Network) (h : ℕ) (given : List ℕ) (p : Progress
     pub steps_at_end : (H : LevelsAndLegs) → AreAll g.nodes p H → IsHierarchyFrom by g h given H
     steps_at_end H all =
         let a = u.after.steps in
-        let size = (all_contracted g h u.order u.L p a whole).nodes.0 in
-        (u.order, u.L, all_steps g h u.order u.L p a whole H all, u.first, λ i x ge lt inside away. u.after.least i x ge (omega arith) inside away)
+        let size = (all_contracted g h u.order u.L p a whole).nodes.0 in (
+          u.order,
+          u.L,
+          all_steps g h u.order u.L p a whole H all,
+          u.first,
+          λ i x ge lt inside away.
+              u.after.least i x ge (omega arith) inside away,
+        )
 
     -- the hierarchy is levelled
     pub steps_levelled : g.nodes ≤ MOST_NODES → (H : LevelsAndLegs) → AreAll g.nodes p H → IsLevelled H

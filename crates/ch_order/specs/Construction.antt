@@ -13,7 +13,16 @@ use Rattle.ch_contract.specs.Rooms.{IsIdleRoom, IsReady}
 
 -- the progress of the construction: the rows are the legs that were set aside
 abbrev pub progress_of : Construction → Progress
-progress_of c = record { legs = legs_of c.remaining; keys = c.waiting; depth = λ x. slice_index c.depths.items x; levels = c.levels.items; up = λ x. row c.remaining.ups x; down = λ x. row c.remaining.downs x; contracted = c.contracted }
+progress_of c = record {
+  legs = legs_of c.remaining;
+  keys = c.waiting;
+  depth = λ x. slice_index c.depths.items x;
+  levels =
+      c.levels.items;
+  up = λ x. row c.remaining.ups x;
+  down = λ x. row c.remaining.downs x;
+  contracted = c.contracted;
+}
 
 -- each node has a key, a depth, a level, an up row and a down row
 pub record IsSized (c : Construction) : Type 0 where

@@ -93,7 +93,7 @@ impl PriorityJob<'_> {
             return self.refresh_here(crew.alloc, nodes, room, waiting);
         }
         let piece = crew.plan.piece() as usize;
-        if crew.plan.workers() > 1 && nodes.len() > piece {
+        if crew.plan.shares(nodes.len(), piece + 1) {
             return self.set_by_all(crew, nodes, rooms, waiting);
         }
         let mut number = 0;

@@ -1,5 +1,6 @@
 -- A saved hierarchy and a graph.
-use Rattle.std.specs.Prelude.{◌≡◌, ◌≢◌, ℕ, ◌≤◌, ◌<◌, ◌⊎◌, ◌↔◌, List, [], length, slice_index_or, All, AllPairs, Contains, Option, Some, None, MatchOption, Result, Err, IsOk}
+use Rattle.std.specs.Prelude.{◌≡◌, ◌≢◌, ℕ, ◌≤◌, ◌<◌, ◌⊎◌, ◌↔◌, List, [], length, slice_index_or, All, AllPairs, Contains, Option}
+use Rattle.std.specs.Prelude.{Some, None, MatchOption, Result, Err, IsOk}
 use Rattle.ch_graph.specs.declared.arc.InArc.{InArc}
 use Rattle.ch_graph.specs.declared.cost.Cost.{Cost}
 use Rattle.ch_graph.specs.declared.saved.SavedLeg.{SavedLeg}
@@ -41,7 +42,8 @@ IsArcIfBase g l = l.middle ≡ None → (l.cost.arcs ≡ 1) × Contains g.arcs (
 
 -- the leg is the sum of the two legs that node v has
 abbrev pub IsSumOver : LevelsAndLegs → SavedLeg → ℕ → Type 0
-IsSumOver H l v = (a b : Leg) × Contains (row H.down v) a × (a.node ≡ l.from) × Contains (row H.up v) b × (b.node ≡ l.to) × (l.cost ≡ cost_sum a.cost b.cost)
+IsSumOver H l v = (a b : Leg) × Contains (row H.down v) a × (a.node ≡ l.from) × Contains (row H.up v) b × (b.node ≡ l.to)
+    × (l.cost ≡ cost_sum a.cost b.cost)
 
 -- if the leg has a middle, it is the sum of the two legs of that middle
 abbrev pub IsSumIfShortcut : LevelsAndLegs → SavedLeg → Type 0
@@ -55,7 +57,8 @@ IsRowCost legs x answer =
 -- the cost of the only leg from u to w, or none if there is no such leg
 abbrev pub IsLegCost : LevelsAndLegs → ℕ → ℕ → Option Cost → Type 0
 IsLegCost H u w answer =
-    MatchOption answer ((c : Cost) (m : Option ℕ) → IsLeg H u w c m → ⊥) (λ c. ((m : Option ℕ) × IsLeg H u w c m) × ((d : Cost) (m : Option ℕ) → IsLeg H u w d m → d ≡ c))
+    MatchOption answer ((c : Cost) (m : Option ℕ) → IsLeg H u w c m → ⊥)
+    (λ c. ((m : Option ℕ) × IsLeg H u w c m) × ((d : Cost) (m : Option ℕ) → IsLeg H u w d m → d ≡ c))
 
 -- some leg from u to w costs at most this
 abbrev pub HasLeg : LevelsAndLegs → ℕ → ℕ → Cost → Type 0

@@ -42,7 +42,8 @@ IsPastCost queue most = (v : ℕ) (d : Cost) → cost_at queue v ≡ Some d → 
 -- both searches reach some node, and the two costs add up to at most this
 abbrev pub AreConnected : LevelsAndLegs → Search → Search → Cost → Type 0
 AreConnected H x y most =
-    (v : ℕ) × (a b : Cost) × IsUpwardCost (rows_of H x.side) x.source v a × IsUpwardCost (rows_of H y.side) y.source v b × IsAtMost (cost_sum a b) most
+    (v : ℕ) × (a b : Cost) × IsUpwardCost (rows_of H x.side) x.source v a × IsUpwardCost (rows_of H y.side) y.source v b
+    × IsAtMost (cost_sum a b) most
 
 -- two searches for paths of at most this weight that stall nowhere; each node that both have settled costs more than
 -- this together

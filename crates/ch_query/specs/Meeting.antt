@@ -25,7 +25,8 @@ IsLeastAfter (Some d) v c least result = IsFirst least (cost_sum c d, v) result
 -- the least sum is the sum of the costs of two paths
 abbrev pub IsFoundBy : LevelsAndLegs → Search → Search → Option (Cost × ℕ) → Type 0
 IsFoundBy H x y least =
-    (e : Cost × ℕ) → least ≡ Some e → (a b : Cost) × IsUpwardCost (rows_of H x.side) x.source e.1 a × IsUpwardCost (rows_of H y.side) y.source e.1 b × (cost_sum a b ≡ e.0)
+    (e : Cost × ℕ) → least ≡ Some e → (a b : Cost) × IsUpwardCost (rows_of H x.side) x.source e.1 a
+    × IsUpwardCost (rows_of H y.side) y.source e.1 b × (cost_sum a b ≡ e.0)
 
 -- two searches that stall, for paths of any weight within the limits; the least sum covers all nodes that both have
 -- settled

@@ -22,7 +22,8 @@ IsNoEarlier most best parents u c l =
     c.weight + l.cost.weight ≤ most → cost_at best l.node ≡ Some (cost_sum c l.cost) → slice_index parents l.node ≤ u
 
 -- each reached node except the source has a parent, and no settled node of a lesser number gives it its cost
-pub record AreParents (most : ℕ) (rows : List (List Leg)) (s : ℕ) (Idle : ℕ → Cost → Type 0) (best queue : List (Option Cost)) (parents : List ℕ) : Type 0 where
+pub record AreParents (most : ℕ) (rows : List (List Leg)) (s : ℕ) (Idle : ℕ → Cost → Type 0) (best queue : List (Option Cost))
+    (parents : List ℕ) : Type 0 where
   pub size : length parents ≡ length best
   pub led : (x : ℕ) (e : Cost) → x ≢ s → cost_at best x ≡ Some e → IsParent rows best queue x e (slice_index parents x)
   pub first : (u : ℕ) (c : Cost) → IsSettled best queue u c →
@@ -30,7 +31,8 @@ pub record AreParents (most : ℕ) (rows : List (List Leg)) (s : ℕ) (Idle : �
 
 -- l leads up from u to x, and is the last leg of a least path from a
 abbrev pub IsLast : List (List Leg) → ℕ → ℕ → ℕ → Leg → Type 0
-IsLast rows a x u l = Contains (row rows u) l × (l.node ≡ x) × (before : Cost) × IsLeastUpwardPath rows a u before × IsLeastUpwardPath rows a x (cost_sum before l.cost)
+IsLast rows a x u l = Contains (row rows u) l × (l.node ≡ x) × (before : Cost) × IsLeastUpwardPath rows a u before
+    × IsLeastUpwardPath rows a x (cost_sum before l.cost)
 
 -- u is the least numbered node with such a leg
 pub record IsChosen (rows : List (List Leg)) (a x u : ℕ) (l : Leg) : Type 0 where

@@ -27,20 +27,23 @@ IsDescent rows a x (step ∷ steps) = (x ≢ a) × IsChosen rows a x step.low st
 -- the arcs that a leg from u to w stands for: an arc stands for itself, and a shortcut for the two legs of its middle
 pub data IsUnpacked (H : LevelsAndLegs) : ℕ → ℕ → ℕ → Option ℕ → List InArc → Type 0 where
   arc : {u w weight : ℕ} → IsUnpacked H u w weight None (record { from = u; to = w; weight = weight } ∷ [])
-  shortcut : {u w weight v : ℕ} {a b : Leg} {xs ys : List InArc} → Contains (row H.down v) a → a.node ≡ u → Contains (row H.up v) b → b.node ≡ w →
+  shortcut : {u w weight v : ℕ} {a b : Leg} {xs ys : List InArc} → Contains (row H.down v) a → a.node ≡ u →
+      Contains (row H.up v) b → b.node ≡ w →
       IsUnpacked H u v a.cost.weight a.middle xs → IsUnpacked H v w b.cost.weight b.middle ys → IsUnpacked H u w weight (Some v) (xs ++ ys)
 
 -- the arcs of the steps back down to the start, in the order of travel, so the last step comes first
 abbrev pub AreUpArcs : LevelsAndLegs → List DescentStep → List InArc → Type 0
 AreUpArcs H [] arcs = arcs ≡ []
 AreUpArcs H (step ∷ steps) arcs =
-    (before here : List InArc) × AreUpArcs H steps before × IsUnpacked H step.low step.leg.node step.leg.cost.weight step.leg.middle here × (arcs ≡ before ++ here)
+    (before here : List InArc) × AreUpArcs H steps before
+    × IsUnpacked H step.low step.leg.node step.leg.cost.weight step.leg.middle here × (arcs ≡ before ++ here)
 
 -- the arcs of the steps down to the end, in the order of travel
 abbrev pub AreDownArcs : LevelsAndLegs → List DescentStep → List InArc → Type 0
 AreDownArcs H [] arcs = arcs ≡ []
 AreDownArcs H (step ∷ steps) arcs =
-    (here after : List InArc) × IsUnpacked H step.leg.node step.low step.leg.cost.weight step.leg.middle here × AreDownArcs H steps after × (arcs ≡ here ++ after)
+    (here after : List InArc) × IsUnpacked H step.leg.node step.low step.leg.cost.weight step.leg.middle here
+    × AreDownArcs H steps after × (arcs ≡ here ++ after)
 
 -- the route from s to t: from s up to the meet, and from there down to t
 pub record IsRoute (H : LevelsAndLegs) (s t : ℕ) (route : Route) : Type 0 where

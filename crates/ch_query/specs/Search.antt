@@ -1,5 +1,6 @@
 -- One side of a query, as data: the cost of a path to each node, and the queue of the nodes that are not settled.
-use Rattle.std.specs.Prelude.{◌≡◌, ℕ, ◌+◌, ◌<◌, ◌≤◌, ◌⊎◌, Bool, true, false, List, length, slice_index, slice_set, Contains, Option, Some, None, is_some}
+use Rattle.std.specs.Prelude.{◌≡◌, ℕ, ◌+◌, ◌<◌, ◌≤◌, ◌⊎◌, Bool, true, false, List, length, slice_index, slice_set, Contains, Option}
+use Rattle.std.specs.Prelude.{Some, None, is_some}
 use Rattle.std.specs.List.{count_by}
 use Rattle.ch_graph.specs.declared.limits.TheConstants.{MOST_WEIGHT}
 use Rattle.ch_graph.specs.declared.cost.Cost.{Cost}
@@ -41,7 +42,8 @@ pub record IsLeastKey (queue : List (Option Cost)) (v : ℕ) (c : Cost) : Type 0
   pub least : (x : ℕ) (d : Cost) → cost_at queue x ≡ Some d → IsAtMost c d
 
 -- v was settled last, at cost c, and its legs are being taken
-pub record IsExpanding (most : ℕ) (rows : List (List Leg)) (s : ℕ) (Idle : ℕ → Cost → Type 0) (best queue : List (Option Cost)) (v : ℕ) (c : Cost) : Type 0 where
+pub record IsExpanding (most : ℕ) (rows : List (List Leg)) (s : ℕ) (Idle : ℕ → Cost → Type 0) (best queue : List (Option Cost))
+    (v : ℕ) (c : Cost) : Type 0 where
   pub search : IsSearch most rows s Idle best queue
   pub here : IsSettled best queue v c
   pub latest : (x : ℕ) (a : Cost) → IsSettled best queue x a → IsAtMost a c
@@ -86,7 +88,9 @@ abbrev pub Relaxes : ℕ → List (Option Cost) → List (Option Cost) → List 
     List ℕ → Type 0
 Relaxes most best queue parents v c l best' queue' parents' =
     ((best' ≡ best) × (queue' ≡ queue) × IsRelaxedFrom most best c l
-    × (((c.weight + l.cost.weight ≤ most → cost_at best l.node ≡ Some (cost_sum c l.cost) → slice_index parents l.node ≤ v) × (parents' ≡ parents))
+    × (((c.weight + l.cost.weight ≤ most → cost_at best l.node ≡ Some (cost_sum c l.cost) → slice_index parents l.node ≤ v)
+    × (parents' ≡ parents))
     ⊎ ((cost_at best l.node ≡ Some (cost_sum c l.cost)) × (v < slice_index parents l.node) × (parents' ≡ slice_set parents l.node v))))
-    ⊎ ((c.weight + l.cost.weight ≤ most) × WouldLower best l.node (cost_sum c l.cost) × (best' ≡ slice_set best l.node (Some (cost_sum c l.cost)))
+    ⊎ ((c.weight + l.cost.weight ≤ most) × WouldLower best l.node (cost_sum c l.cost)
+    × (best' ≡ slice_set best l.node (Some (cost_sum c l.cost)))
     × (queue' ≡ slice_set queue l.node (Some (cost_sum c l.cost))) × (parents' ≡ slice_set parents l.node v))

@@ -18,5 +18,7 @@ IsLeastSharedSum limit ups downs answer = MatchOption answer ((x : ℕ) → IsSh
 -- in a kept hierarchy, take search spaces up from s and down to t within one limit: their least shared sum within the
 -- limit is the distance within it
 abbrev pub SearchSpacesGiveDistances : Type 0
-SearchSpacesGiveDistances = (H : LevelsAndLegs) (limit : Option ℕ) (s t : ℕ) (ups downs : List (ℕ × ℕ)) (answer : Option ℕ) → IsKeptForSome H →
-    IsSearchSpace H Up limit s ups → IsSearchSpace H Down limit t downs → IsLeastSharedSum limit ups downs answer → IsDistanceWithin H limit s t answer
+SearchSpacesGiveDistances = (H : LevelsAndLegs) (limit : Option ℕ) (s t : ℕ) (ups downs : List (ℕ × ℕ)) (answer : Option ℕ) →
+    IsKeptForSome H →
+    IsSearchSpace H Up limit s ups → IsSearchSpace H Down limit t downs → IsLeastSharedSum limit ups downs answer →
+    IsDistanceWithin H limit s t answer

@@ -12,7 +12,8 @@ MeetsFirst a b = IsAtMost a.0 b.0 × (a.0 ≡ b.0 → a.1 ≤ b.1)
 -- the least sum is at most that of each node that both sides have settled
 abbrev pub IsSeen : (best_up queue_up best_down queue_down : List (Option Cost)) → Option (Cost × ℕ) → Type 0
 IsSeen best_up queue_up best_down queue_down least =
-    (v : ℕ) (a b : Cost) → IsSettled best_up queue_up v a → IsSettled best_down queue_down v b → (e : Cost × ℕ) × (least ≡ Some e) × MeetsFirst e (cost_sum a b, v)
+    (v : ℕ) (a b : Cost) → IsSettled best_up queue_up v a → IsSettled best_down queue_down v b →
+    (e : Cost × ℕ) × (least ≡ Some e) × MeetsFirst e (cost_sum a b, v)
 
 -- the least sum is the sum of the costs of two paths
 abbrev pub IsFound : LevelsAndLegs → ℕ → ℕ → Option (Cost × ℕ) → Type 0

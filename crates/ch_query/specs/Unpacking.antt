@@ -31,7 +31,8 @@ pub record HasRoomToUnpack (pending : Vec PendingLeg Global) (arcs : Vec InArc G
 abbrev pub ArePendingArcs : LevelsAndLegs → List PendingLeg → List InArc → Type 0
 ArePendingArcs H [] arcs = arcs ≡ []
 ArePendingArcs H (p ∷ pending) arcs =
-    (before here : List InArc) × ArePendingArcs H pending before × IsUnpacked H p.from p.to p.cost.weight p.middle here × (arcs ≡ before ++ here)
+    (before here : List InArc) × ArePendingArcs H pending before × IsUnpacked H p.from p.to p.cost.weight p.middle here
+    × (arcs ≡ before ++ here)
 
 -- the two legs through v that make a leg from u to w
 pub record AreHalves (H : LevelsAndLegs) (u v w : ℕ) (a b : Leg) : Type 0 where
@@ -43,4 +44,5 @@ pub record IsSplit (H : LevelsAndLegs) (u v w : ℕ) (old new : List PendingLeg)
   pub a : Leg
   pub b : Leg
   pub halves : AreHalves H u v w a b
-  pub pushed : new ≡ (old ++ record { from = v; to = w; cost = b.cost; middle = b.middle } ∷ []) ++ record { from = u; to = v; cost = a.cost; middle = a.middle } ∷ []
+  pub pushed : new ≡ (old ++ record { from = v; to = w; cost = b.cost; middle = b.middle } ∷ [])
+      ++ record { from = u; to = v; cost = a.cost; middle = a.middle } ∷ []

@@ -34,12 +34,14 @@ IsWeightSearch = IsWeightSearchTo MOST_WEIGHT
 -- the least weight is at most that of each node that both sides have settled
 abbrev pub IsWeightSeen : (best_up queue_up best_down queue_down : List (Option Cost)) → Option ℕ → Type 0
 IsWeightSeen best_up queue_up best_down queue_down least =
-    (v : ℕ) (a b : Cost) → IsSettled best_up queue_up v a → IsSettled best_down queue_down v b → (e : ℕ) × (least ≡ Some e) × (e ≤ a.weight + b.weight)
+    (v : ℕ) (a b : Cost) → IsSettled best_up queue_up v a → IsSettled best_down queue_down v b →
+    (e : ℕ) × (least ≡ Some e) × (e ≤ a.weight + b.weight)
 
 -- the least weight is the weight of two paths that meet
 abbrev pub IsWeightFound : LevelsAndLegs → ℕ → ℕ → Option ℕ → Type 0
 IsWeightFound H s t least = (e : ℕ) → least ≡ Some e →
-    (v : ℕ) × (a b : Cost) × IsUpwardCost (rows_of (weighed H) Up) s v a × IsUpwardCost (rows_of (weighed H) Down) t v b × (a.weight + b.weight ≡ e)
+    (v : ℕ) × (a b : Cost) × IsUpwardCost (rows_of (weighed H) Up) s v a × IsUpwardCost (rows_of (weighed H) Down) t v b
+    × (a.weight + b.weight ≡ e)
 
 -- each remaining key weighs at least the least weight
 abbrev pub IsPastWeight : List (Option Cost) → Option ℕ → Type 0
@@ -47,6 +49,8 @@ IsPastWeight queue least = (v : ℕ) (d : Cost) → cost_at queue v ≡ Some d �
 
 -- in a kept hierarchy, two searches by weights alone know the least weight once no remaining key is below it
 abbrev pub WeightsAreEnough : Type 0
-WeightsAreEnough = (H : LevelsAndLegs) (s t : ℕ) (least : Option ℕ) (best_up queue_up best_down queue_down : List (Option Cost)) → IsKeptForSome H →
-    IsWeightSearch H Up s best_up queue_up → IsWeightSearch H Down t best_down queue_down → IsWeightSeen best_up queue_up best_down queue_down least →
+WeightsAreEnough = (H : LevelsAndLegs) (s t : ℕ) (least : Option ℕ) (best_up queue_up best_down queue_down : List (Option Cost)) →
+    IsKeptForSome H →
+    IsWeightSearch H Up s best_up queue_up → IsWeightSearch H Down t best_down queue_down →
+    IsWeightSeen best_up queue_up best_down queue_down least →
     IsWeightFound H s t least → IsPastWeight queue_up least → IsPastWeight queue_down least → IsLeastWeight H s t least

@@ -1,5 +1,6 @@
 -- A search for distances as the program keeps it: by weights alone, and with both directions at once.
-use Rattle.std.specs.Prelude.{◌≡◌, ◌≢◌, ℕ, ◌+◌, ◌-◌, ◌*◌, ◌<◌, ◌≤◌, ◌⊎◌, if◌then◌else◌, nat_eq, List, length, map, slice_index, slice_index_or, slice_set, AllPairs, Contains, Option, Some, None, vec_len}
+use Rattle.std.specs.Prelude.{◌≡◌, ◌≢◌, ℕ, ◌+◌, ◌-◌, ◌*◌, ◌<◌, ◌≤◌, ◌⊎◌, if◌then◌else◌, nat_eq, List, length, map, slice_index}
+use Rattle.std.specs.Prelude.{slice_index_or, slice_set, AllPairs, Contains, Option, Some, None, vec_len}
 use Rattle.std.specs.Option.{option_map}
 use Rattle.ch_graph.specs.declared.limits.TheConstants.{MOST_WEIGHT}
 use Rattle.ch_graph.specs.declared.cost.Cost.{Cost}
@@ -66,7 +67,8 @@ pub record IsWeighingAt (H : LevelsAndLegs) (side : Side) (x : WeightSearch) (v 
   pub levelled : IsLevelled H
   pub sizes : IsSizedFor (nodes_of H) x
   pub within : v < nodes_of H
-  pub here : IsExpanding x.most (rows_of (weighed H) side) (source_of x side) (OrNode (is_idle_on H side (source_of x side)) v) (side_costs H side x) (side_keys H side x) v (weight_cost weight)
+  pub here : IsExpanding x.most (rows_of (weighed H) side) (source_of x side) (OrNode (is_idle_on H side (source_of x side)) v)
+      (side_costs H side x) (side_keys H side x) v (weight_cost weight)
 
 -- both searches have the same source, target and limit
 pub record IsSameWeighing (x y : WeightSearch) : Type 0 where
@@ -111,7 +113,8 @@ UnreachedStateIsUnkeyed x state = slice_index x.known.items state ≡ UNREACHED 
 abbrev pub ShowsWeight : WeightSearch → ℕ → ℕ → WeightSearch → Type 0
 ShowsWeight x state weight y =
     ((y.known.items ≡ x.known.items) × (y.queue ≡ x.queue) × (weight ≤ x.most → slice_index x.known.items state ≤ weight))
-    ⊎ ((weight ≤ x.most) × (weight < slice_index x.known.items state) × (y.known.items ≡ slice_set x.known.items state weight) × (y.queue ≡ slice_set x.queue state (Some weight)))
+    ⊎ ((weight ≤ x.most) × (weight < slice_index x.known.items state) × (y.known.items ≡ slice_set x.known.items state weight)
+    × (y.queue ≡ slice_set x.queue state (Some weight)))
 
 -- y is the search x after these legs of v were taken
 pub record IsPartlyWeighed (H : LevelsAndLegs) (side : Side) (x y : WeightSearch) (v weight : ℕ) (legs : List Leg) : Type 0 where
@@ -137,7 +140,8 @@ pub record IsLeastSoFar (H : LevelsAndLegs) (x : WeightSearch) (least : ℕ) : T
   pub seen : (v : ℕ) (a b : Cost) → IsSettled (side_costs H Up x) (side_keys H Up x) v a →
       IsSettled (side_costs H Down x) (side_keys H Down x) v b → least ≤ a.weight + b.weight
   pub found : least < UNREACHED →
-      (v : ℕ) × (a b : Cost) × IsUpwardCost (rows_of (weighed H) Up) x.start v a × IsUpwardCost (rows_of (weighed H) Down) x.end v b × (a.weight + b.weight ≡ least)
+      (v : ℕ) × (a b : Cost) × IsUpwardCost (rows_of (weighed H) Up) x.start v a × IsUpwardCost (rows_of (weighed H) Down) x.end v b
+      × (a.weight + b.weight ≡ least)
 
 -- each remaining key is at least this
 abbrev pub AreKeysFrom : List (Option ℕ) → ℕ → Type 0

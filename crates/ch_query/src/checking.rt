@@ -4,8 +4,8 @@ mod arcs;
 mod covering;
 mod finding;
 mod founding;
-mod founding_jobs;
 mod leg_costs;
+mod lists;
 mod lower;
 
 ghost use Rattle.std.specs.Prelude.{◌≡◌, ◌<◌, ◌^◌, ℕ, All, IfErr, IfOk, MatchOption, length};
@@ -22,8 +22,8 @@ ghost use Rattle.ch_query.specs.Covering.{IsFirstUncovered};
 use ch_graph::{Graph, Saved};
 use ch_hierarchy::{CheckError, CheckFault, Hierarchy, assemble};
 use ch_work::{Crew, Gate, Stage};
-use founding::{first_false_shortcut, first_unserved, first_without_arc};
-use founding_jobs::{first_false_shortcut_by, first_unserved_by, first_without_arc_by};
+use founding::{ServedCheck, SumCheck, first_without_arc, first_without_arc_by};
+use lists::{first_failing, first_failing_by};
 use lower::{first_uncovered, first_uncovered_alone};
 use std::alloc::{AllocError, Global};
 use std::thread::Threads;
@@ -144,10 +144,10 @@ fn first_unfounded(
         return Some(CheckFault::Base(place));
     }
     let legs = saved.legs.as_slice();
-    if let Some(place) = first_false_shortcut(hierarchy, legs) {
+    if let Some(place) = first_failing(&SumCheck { hierarchy }, legs) {
         return Some(CheckFault::Middle(place));
     }
-    if let Some(place) = first_unserved(hierarchy, graph.arcs()) {
+    if let Some(place) = first_failing(&ServedCheck { hierarchy }, graph.arcs()) {
         return Some(CheckFault::Arc(place));
     }
     None
@@ -170,10 +170,10 @@ fn first_unfounded_by<R: Threads + Sync, G: Gate>(
         return Ok(Some(CheckFault::Base(place)));
     }
     let legs = saved.legs.as_slice();
-    if let Some(place) = first_false_shortcut_by(crew, hierarchy, legs)? {
+    if let Some(place) = first_failing_by(crew, &SumCheck { hierarchy }, legs)? {
         return Ok(Some(CheckFault::Middle(place)));
     }
-    if let Some(place) = first_unserved_by(crew, hierarchy, graph.arcs())? {
+    if let Some(place) = first_failing_by(crew, &ServedCheck { hierarchy }, graph.arcs())? {
         return Ok(Some(CheckFault::Arc(place)));
     }
     Ok(None)

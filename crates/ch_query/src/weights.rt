@@ -2,8 +2,10 @@
 //! node.
 
 mod distances;
+mod lists;
 pub(crate) mod search;
 mod spaces;
 
 pub use distances::distance;
+pub use lists::{ranked_spaces, ranked_spaces_alone};
 pub use spaces::{ranked_space, search_space};

@@ -1,14 +1,16 @@
 -- Sections of a file: cutting at a line feed cuts no line, and the items of all sections are those of the file.
-use Rattle.std.proofs.Common.{suc, ◌≡◌, ℕ, ◌+◌, ◌-◌, ◌<◌, ◌≤◌, ◌⊎◌, inl, inr, Bool, true, false, cond, eqb, leb, ltb, List, [], ◌∷◌, ◌++◌, length, map, take, drop, get_or, Option, Some, None, refl, sym, ◌∙◌, ap, subst, arith, length-drop, append_assoc, Bor, Result, Ok, Err}
+use Rattle.std.proofs.Common.{suc, ◌≡◌, ℕ, ◌+◌, ◌-◌, ◌<◌, ◌≤◌, ◌⊎◌, inl, inr, Bool, true, false, cond, eqb, leb, ltb, List, [], ◌∷◌}
+use Rattle.std.proofs.Common.{◌++◌, length, map, take, drop, get_or, Option, Some, None, refl, sym, ◌∙◌, ap, subst, arith}
+use Rattle.std.proofs.Common.{length-drop, append_assoc, Bor, Result, Ok, Err}
 use Rattle.std.specs.Prelude.{slice_get, All, codes, is_some, Vec, IfOk, MatchOption}
 use Rattle.std.specs.List.{slice_split, onto_first, position, flat_map, AllZip, filter_map, cons_option}
 use Rattle.std.proofs.Math.Nat.{eq-or-lt_of_le}
 use Rattle.std.proofs.Math.Seq.{take-append-add}
 use Rattle.std.proofs.lemmas.Bool.{cases_lt, eqb-true}
 use Rattle.std.proofs.lemmas.Bool.Decides.{nat_tests}
-use Rattle.std.proofs.lemmas.List.{append-nil, take-append-drop, take-append-le, get_or_append_left, get_or-append-add, get_or-drop, length-append, drop_more, take_more, map-append, length-map}
+use Rattle.std.proofs.lemmas.List.{append-nil, take-append-drop, take-append-le, get_or_append_left, get_or-append-add, get_or-drop}
+use Rattle.std.proofs.lemmas.List.{length-append, drop_more, take_more, map-append, length-map}
 use Rattle.std.proofs.lemmas.List.Elements.{filter_map-append, All-append}
-use Rattle.std.proofs.lemmas.List.Concat.{flat_map-cons}
 use Rattle.std.proofs.lemmas.Grind.{flat_map-append}
 use Rattle.std.proofs.lemmas.List.Splits.{length-slice_split}
 use Rattle.std.proofs.lemmas.Option.{none-some}
@@ -21,7 +23,8 @@ use Rattle.ch_read.specs.declared.form.Item.{Item}
 use Rattle.ch_read.specs.declared.fault.FaultKind.TheVariants.{BadLine, TooMany, UnknownLine}
 use Rattle.ch_read.specs.Words.{lines, words, without_empty_last}
 use Rattle.ch_read.specs.Forms.{heading, item, heading_in, items_in, count_of, counts_in}
-use Rattle.ch_read.specs.Checks.{Check, is_skipped, begins_with, begins_item, first_failing, problem_checks, item_checks, line_checks, line_fault, fault_at, end_fault}
+use Rattle.ch_read.specs.Checks.{Check, is_skipped, begins_with, begins_item, first_failing, problem_checks, item_checks}
+use Rattle.ch_read.specs.Checks.{line_checks, line_fault, fault_at, end_fault}
 use Rattle.ch_read.specs.Reading.{item_from, IsItemWithin, IsWithin, IsFile, values_in}
 use Rattle.ch_read.specs.Sections.{PassesAfter, IsSection, IsHead, BeginsWith, AreListsOf, first_of, second_of}
 use Rattle.ch_read.proofs.OneAnswer.{at_end}
@@ -33,7 +36,8 @@ abbrev pub HasRoom : Form → Heading → Counts → List (List ℕ) → Type 0
 HasRoom form h counts ws = (part : Part) (ns : List ℕ) → item form part ws ≡ Some ns → count_of counts part < count_of h.items part
 
 -- an item that passes its checks after some items passes them after others, if there may be one more
-later_item : (form : Form) (part : Part) (h : Heading) (c d : ℕ) (numbers : Option (List ℕ)) → first_failing (item_checks form part (Some h) c numbers) ≡ None →
+later_item : (form : Form) (part : Part) (h : Heading) (c d : ℕ) (numbers : Option (List ℕ)) →
+    first_failing (item_checks form part (Some h) c numbers) ≡ None →
     ((ns : List ℕ) → numbers ≡ Some ns → d < count_of h.items part) → first_failing (item_checks form part (Some h) d numbers) ≡ None
 later_item form part h c d None passes room = absurd (none-some BadLine (sym passes))
 later_item form part h c d (Some ns) passes room = at (ltb c (count_of h.items part)) refl
@@ -77,7 +81,8 @@ module _ (form : Form) (h : Heading) (ws : List (List ℕ)) where
     line_later false e = problem_later (begins_with ws (codes "p")) e
 
 -- a line that passes its checks after some items passes them after others, if there may be one more of its part
-pub later_count : (form : Form) (h : Heading) (counts others : Counts) (ws : List (List ℕ)) → first_failing (line_checks form (Some h) counts ws) ≡ None → HasRoom form h others ws →
+pub later_count : (form : Form) (h : Heading) (counts others : Counts) (ws : List (List ℕ)) →
+    first_failing (line_checks form (Some h) counts ws) ≡ None → HasRoom form h others ws →
     first_failing (line_checks form (Some h) others ws) ≡ None
 later_count form h counts others ws passes room = line_later form h ws counts others room (is_skipped ws) passes
 
@@ -111,9 +116,11 @@ lines-append : (xs ys : List ℕ) → lines (xs ++ 10 ∷ ys) ≡ lines (xs ++ 1
 lines-append xs ys =
     let some : 0 < length (slice_split (λ b. eqb b 10) ys) = omega (arith, length-slice_split (λ b. eqb b 10) ys) in
     let whole : lines (xs ++ 10 ∷ ys) ≡ slice_split (λ b. eqb b 10) xs ++ lines ys =
-    ap without_empty_last (split-feed xs ys) ∙ without_empty_last-append (slice_split (λ b. eqb b 10) xs) (slice_split (λ b. eqb b 10) ys) some in
+    ap without_empty_last (split-feed xs ys)
+    ∙ without_empty_last-append (slice_split (λ b. eqb b 10) xs) (slice_split (λ b. eqb b 10) ys) some in
     let first : lines (xs ++ 10 ∷ []) ≡ slice_split (λ b. eqb b 10) xs =
-    ap without_empty_last (split-feed xs []) ∙ without_empty_last-append (slice_split (λ b. eqb b 10) xs) ([] ∷ []) (omega arith) ∙ append-nil (slice_split (λ b. eqb b 10) xs) in
+    ap without_empty_last (split-feed xs []) ∙ without_empty_last-append (slice_split (λ b. eqb b 10) xs) ([] ∷ []) (omega arith)
+    ∙ append-nil (slice_split (λ b. eqb b 10) xs) in
     whole ∙ ap (λ ls. ls ++ lines ys) (sym first)
 
 -- the lines of bytes that are cut after a line feed
@@ -122,7 +129,8 @@ pub lines_cut : (bytes : List ℕ) (at : ℕ) → at < length bytes → get_or b
 lines_cut bytes at within feed =
     let front : take (at + 1) bytes ≡ take at bytes ++ 10 ∷ [] = take_more bytes at 0 within ∙ ap (λ b. take at bytes ++ b ∷ []) feed in
     let back : drop at bytes ≡ 10 ∷ drop (at + 1) bytes = drop_more bytes at 0 within ∙ ap (λ b. b ∷ drop (at + 1) bytes) feed in
-    ap lines (sym (take-append-drop at bytes) ∙ ap (λ ds. take at bytes ++ ds) back) ∙ lines-append (take at bytes) (drop (at + 1) bytes) ∙ ap (λ ls. lines ls ++ lines (drop (at + 1) bytes)) (sym front)
+    ap lines (sym (take-append-drop at bytes) ∙ ap (λ ds. take at bytes ++ ds) back) ∙ lines-append (take at bytes)
+    (drop (at + 1) bytes) ∙ ap (λ ls. lines ls ++ lines (drop (at + 1) bytes)) (sym front)
 
 -- sections one after the other
 
@@ -142,19 +150,26 @@ items_in-append form part front back = filter_map-append (λ line. item form par
 values_in-append : {T : Type 0} (of : Item → T) (form : Form) (part : Part) (front back : List (List ℕ)) →
     values_in of form part (front ++ back) ≡ values_in of form part front ++ values_in of form part back
 values_in-append of form part front back =
-    ap (map (λ ns. of (item_from ns))) (items_in-append form part front back) ∙ map-append (λ ns. of (item_from ns)) (items_in form part front) (items_in form part back)
+    ap (map (λ ns. of (item_from ns))) (items_in-append form part front back)
+    ∙ map-append (λ ns. of (item_from ns)) (items_in form part front) (items_in form part back)
 
-within-append : (form : Form) (part : Part) (h : Heading) (front back : List (List ℕ)) → All (IsItemWithin form part h.nodes) (items_in form part front) → All (IsItemWithin form part h.nodes) (items_in form part back) →
+within-append : (form : Form) (part : Part) (h : Heading) (front back : List (List ℕ)) → All (IsItemWithin form part h.nodes)
+    (items_in form part front) → All (IsItemWithin form part h.nodes) (items_in form part back) →
     All (IsItemWithin form part h.nodes) (items_in form part (front ++ back))
 within-append form part h front back one other =
-    subst (All (IsItemWithin form part h.nodes)) (sym (items_in-append form part front back)) (All-append (IsItemWithin form part h.nodes) (items_in form part front) (items_in form part back) one other)
+    subst (All (IsItemWithin form part h.nodes)) (sym (items_in-append form part front back))
+    (All-append (IsItemWithin form part h.nodes) (items_in form part front) (items_in form part back) one other)
 
-pub sections_after : {A B : Type 0} (a : Item → A) (b : Item → B) (form : Form) (h : Heading) (front back : List (List ℕ)) (first first' : List A) (second second' : List B) →
-    IsSection a b form h front first second → IsSection a b form h back first' second' → IsSection a b form h (front ++ back) (first ++ first') (second ++ second')
+pub sections_after : {A B : Type 0} (a : Item → A) (b : Item → B) (form : Form) (h : Heading) (front back : List (List ℕ))
+    (first first' : List A) (second second' : List B) →
+    IsSection a b form h front first second → IsSection a b form h back first' second' →
+    IsSection a b form h (front ++ back) (first ++ first') (second ++ second')
 sections_after a b form h front back first first' second second' one other = record {
   passes = All-append (PassesAfter form h) front back one.passes other.passes;
-  first_is = ap (λ xs. xs ++ first') one.first_is ∙ ap (λ xs. values_in a form First front ++ xs) other.first_is ∙ sym (values_in-append a form First front back);
-  second_is = ap (λ xs. xs ++ second') one.second_is ∙ ap (λ xs. values_in b form Second front ++ xs) other.second_is ∙ sym (values_in-append b form Second front back);
+  first_is = ap (λ xs. xs ++ first') one.first_is ∙ ap (λ xs. values_in a form First front ++ xs) other.first_is
+      ∙ sym (values_in-append a form First front back);
+  second_is = ap (λ xs. xs ++ second') one.second_is ∙ ap (λ xs. values_in b form Second front ++ xs) other.second_is
+      ∙ sym (values_in-append b form Second front back);
   first_within = within-append form First h front back one.first_within other.first_within;
   second_within = within-append form Second h front back one.second_within other.second_within;
 }
@@ -175,14 +190,17 @@ heading_stays form front back h e =
 room_at : (form : Form) (part : Part) (ls : List (List ℕ)) (j : ℕ) (ns : List ℕ) → j < length ls →
     item form part (words (get_or ls j [])) ≡ Some ns → length (items_in form part (take j ls)) < length (items_in form part ls)
 room_at form part ls j ns lt is =
-    let whole : ls ≡ take j ls ++ get_or ls j [] ∷ drop (j + 1) ls = sym (take-append-drop j ls) ∙ ap (λ ds. take j ls ++ ds) (drop_more ls j [] lt) in
+    let whole : ls ≡ take j ls ++ get_or ls j [] ∷ drop (j + 1) ls =
+    sym (take-append-drop j ls) ∙ ap (λ ds. take j ls ++ ds) (drop_more ls j [] lt) in
     let cut : items_in form part ls ≡ items_in form part (take j ls) ++ ns ∷ items_in form part (drop (j + 1) ls) =
     ap (items_in form part) whole ∙ items_in-append form part (take j ls) (get_or ls j [] ∷ drop (j + 1) ls)
     ∙ ap (λ o. items_in form part (take j ls) ++ cons_option o (items_in form part (drop (j + 1) ls))) is in
     omega (arith, ap length cut, length-append (items_in form part (take j ls)) (ns ∷ items_in form part (drop (j + 1) ls)))
 
-module _ {A B : Type 0} (a : Item → A) (b : Item → B) (form : Form) (front ls : List (List ℕ)) (h : Heading) (first : List A) (second : List B)
-    (head : IsHead form front h) (section : IsSection a b form h ls first second) (firsts : length first ≡ h.items.first) (seconds : length second ≡ h.items.second) where
+module _ {A B : Type 0} (a : Item → A) (b : Item → B) (form : Form) (front ls : List (List ℕ)) (h : Heading) (first : List A)
+    (second : List B)
+    (head : IsHead form front h) (section : IsSection a b form h ls first second) (firsts : length first ≡ h.items.first)
+    (seconds : length second ≡ h.items.second) where
   abbrev file : List (List ℕ)
   file = front ++ ls
 
@@ -204,7 +222,8 @@ module _ {A B : Type 0} (a : Item → A) (b : Item → B) (form : Form) (front l
       let passes = section.passes j [] lt in
       let room : HasRoom form h (counts_in form (front ++ take j ls)) (words (get_or ls j [])) = (λ part ns is.
       omega (arith, count_is part (take j ls), as_declared part, room_at form part ls j ns lt is)) in
-      ap (λ s. first_failing (line_checks form s (counts_in form (front ++ take j ls)) (words (get_or ls j [])))) (heading_stays form front (take j ls) h head.heading_is)
+      ap (λ s. first_failing (line_checks form s (counts_in form (front ++ take j ls)) (words (get_or ls j []))))
+      (heading_stays form front (take j ls) h head.heading_is)
       ∙ later_count form h passes.0 (counts_in form (front ++ take j ls)) (words (get_or ls j [])) passes.1 room
 
   line_clear : (i : ℕ) → i < length file → line_fault form (take i file) (get_or file i []) ≡ None
@@ -218,12 +237,15 @@ module _ {A B : Type 0} (a : Item → A) (b : Item → B) (form : Form) (front l
           let whole : length file ≡ length front + length ls = length-append front ls in
           let place : length front + (i - length front) ≡ i = omega arith in
           subst (λ k. line_fault form (take k file) (get_or file k []) ≡ None) place
-          (rw (take-append-add front ls (i - length front), get_or-append-add front ls (i - length front) []) (section_clear (i - length front) (omega (arith, whole))))
+          (rw (take-append-add front ls (i - length front), get_or-append-add front ls (i - length front) [])
+          (section_clear (i - length front) (omega (arith, whole))))
 
   end_clear : end_fault form file ≡ None
   end_clear =
-      let first_all : leb h.items.first (counts_in form file).first ≡ true = (let e = count_is First ls in let d = as_declared First in grind (arith, nat_tests)) in
-      let second_all : leb h.items.second (counts_in form file).second ≡ true = (let e = count_is Second ls in let d = as_declared Second in grind (arith, nat_tests)) in
+      let first_all : leb h.items.first (counts_in form file).first ≡ true =
+      (let e = count_is First ls in let d = as_declared First in grind (arith, nat_tests)) in
+      let second_all : leb h.items.second (counts_in form file).second ≡ true =
+      (let e = count_is Second ls in let d = as_declared Second in grind (arith, nat_tests)) in
       rw (heading_stays form front ls h head.heading_is, first_all, second_all) refl
 
   clear : (i : ℕ) → i ≤ length file → fault_at form file i ≡ None
@@ -240,8 +262,16 @@ module _ {A B : Type 0} (a : Item → A) (b : Item → B) (form : Form) (front l
     heading_is = ap (heading_in form) is ∙ heading_stays form front ls h head.heading_is;
     within = subst (λ ls. IsWithin form (Some h) (items_in form First ls) (items_in form Second ls)) (sym is) (
       head.size,
-      record { few = omega (arith, ap length (behind_head First ls), as_declared First); each = subst (All (IsItemWithin form First h.nodes)) (sym (behind_head First ls)) section.first_within },
-      record { few = omega (arith, ap length (behind_head Second ls), as_declared Second); each = subst (All (IsItemWithin form Second h.nodes)) (sym (behind_head Second ls)) section.second_within },
+      record {
+        few = omega (arith, ap length (behind_head First ls), as_declared First);
+        each =
+            subst (All (IsItemWithin form First h.nodes)) (sym (behind_head First ls)) section.first_within;
+      },
+      record {
+        few = omega (arith, ap length (behind_head Second ls), as_declared Second);
+        each =
+            subst (All (IsItemWithin form Second h.nodes)) (sym (behind_head Second ls)) section.second_within;
+      },
     );
   }
 
@@ -262,16 +292,20 @@ feed_from bytes from at e =
     (omega (arith, length-drop from bytes, within), sym (get_or-drop from bytes at 0) ∙ eqb-true (get_or (drop from bytes) at 0) 10 found.1)
 
 -- the lines after one more section was cut
-pub more_sections : (bytes : List ℕ) (sections : List (Bor (List ℕ))) (section : Bor (List ℕ)) (rest after : List ℕ) → lines bytes ≡ flat_map (λ (s : Bor (List ℕ)). lines s.now) sections ++ lines rest →
-    lines rest ≡ lines section.now ++ lines after → lines bytes ≡ flat_map (λ (s : Bor (List ℕ)). lines s.now) (sections ++ section ∷ []) ++ lines after
+pub more_sections : (bytes : List ℕ) (sections : List (Bor (List ℕ))) (section : Bor (List ℕ)) (rest after : List ℕ) →
+    lines bytes ≡ flat_map (λ (s : Bor (List ℕ)). lines s.now) sections ++ lines rest →
+    lines rest ≡ lines section.now ++ lines after →
+    lines bytes ≡ flat_map (λ (s : Bor (List ℕ)). lines s.now) (sections ++ section ∷ []) ++ lines after
 more_sections bytes sections section rest after so_far split =
     so_far ∙ ap (λ ls. flat_map (λ (s : Bor (List ℕ)). lines s.now) sections ++ ls) split
     ∙ sym (append_assoc (flat_map (λ (s : Bor (List ℕ)). lines s.now) sections) (lines section.now) (lines after))
-    ∙ ap (λ ls. ls ++ lines after) (ap (λ ls. flat_map (λ (s : Bor (List ℕ)). lines s.now) sections ++ ls) (sym (append-nil (lines section.now)))
+    ∙ ap (λ ls. ls ++ lines after)
+    (ap (λ ls. flat_map (λ (s : Bor (List ℕ)). lines s.now) sections ++ ls) (sym (append-nil (lines section.now)))
     ∙ sym (flat_map-append (λ (s : Bor (List ℕ)). lines s.now) sections (section ∷ [])))
 
 -- the lists after one more section
-pub lists_more : {A B Y Z : Type 0} (sections : List (Option (Vec A Y × Vec B Z))) (firsts : List (Vec A Y)) (seconds : List (Vec B Z)) (x : Option (Vec A Y × Vec B Z)) (items : Vec A Y × Vec B Z) →
+pub lists_more : {A B Y Z : Type 0} (sections : List (Option (Vec A Y × Vec B Z))) (firsts : List (Vec A Y))
+    (seconds : List (Vec B Z)) (x : Option (Vec A Y × Vec B Z)) (items : Vec A Y × Vec B Z) →
     x ≡ Some items → AreListsOf sections firsts seconds → AreListsOf (sections ++ x ∷ []) (firsts ++ items.0 ∷ []) (seconds ++ items.1 ∷ [])
 lists_more {A} {B} {Y} {Z} sections firsts seconds x items is lists =
     let first : first_of x ≡ items.0.items = ap first_of is in
@@ -279,9 +313,11 @@ lists_more {A} {B} {Y} {Z} sections firsts seconds x items is lists =
     let here : is_some x ≡ true = ap is_some is in
     record {
       there = All-append (λ section. is_some section ≡ true) sections (x ∷ []) lists.there (one (λ section. is_some section ≡ true) x here);
-      first_is = flat_map-append (λ (list : Vec A Y). list.items) firsts (items.0 ∷ []) ∙ ap (λ xs. xs ++ flat_map (λ (list : Vec A Y). list.items) (items.0 ∷ [])) lists.first_is
+      first_is = flat_map-append (λ (list : Vec A Y). list.items) firsts (items.0 ∷ [])
+          ∙ ap (λ xs. xs ++ flat_map (λ (list : Vec A Y). list.items) (items.0 ∷ [])) lists.first_is
           ∙ ap (λ xs. flat_map first_of sections ++ (xs ++ [])) (sym first) ∙ sym (flat_map-append first_of sections (x ∷ []));
-      second_is = flat_map-append (λ (list : Vec B Z). list.items) seconds (items.1 ∷ []) ∙ ap (λ xs. xs ++ flat_map (λ (list : Vec B Z). list.items) (items.1 ∷ [])) lists.second_is
+      second_is = flat_map-append (λ (list : Vec B Z). list.items) seconds (items.1 ∷ [])
+          ∙ ap (λ xs. xs ++ flat_map (λ (list : Vec B Z). list.items) (items.1 ∷ [])) lists.second_is
           ∙ ap (λ xs. flat_map second_of sections ++ (xs ++ [])) (sym second) ∙ sym (flat_map-append second_of sections (x ∷ []));
     }
 
@@ -291,28 +327,37 @@ module _ {A B Y Z : Type 0} (a : Item → A) (b : Item → B) (form : Form) (h :
   IsReadOf section read =
       MatchOption read (Unit {0}) (λ (items : Vec A Y × Vec B Z). IsSection a b form h (lines section.now) items.0.items items.1.items)
 
-  gathered : (sections : List (Bor (List ℕ))) (read : List (Option (Vec A Y × Vec B Z))) → AllZip IsReadOf sections read → All (λ x. is_some x ≡ true) read →
+  gathered : (sections : List (Bor (List ℕ))) (read : List (Option (Vec A Y × Vec B Z))) → AllZip IsReadOf sections read →
+      All (λ x. is_some x ≡ true) read →
       IsSection a b form h (flat_map (λ (s : Bor (List ℕ)). lines s.now) sections) (flat_map first_of read) (flat_map second_of read)
   gathered [] [] zip there = no_lines a b form h
   gathered [] (x ∷ xs) zip there = absurd zip
   gathered (s ∷ ss) [] zip there = absurd zip
   gathered (s ∷ ss) (None ∷ xs) zip there = let no : false ≡ true = there 0 None (omega arith) in cc
   gathered (s ∷ ss) (Some items ∷ xs) zip there =
-      sections_after a b form h (lines s.now) (flat_map (λ (s : Bor (List ℕ)). lines s.now) ss) items.0.items (flat_map first_of xs) items.1.items (flat_map second_of xs) zip.0
+      sections_after a b form h (lines s.now) (flat_map (λ (s : Bor (List ℕ)). lines s.now) ss) items.0.items (flat_map first_of xs)
+      items.1.items (flat_map second_of xs) zip.0
       (gathered ss xs zip.1 (λ k d lt. there (suc k) d (omega arith)))
 
-  pub all_sections : {W V E : Type 0} (sections : List (Bor (List ℕ))) (read : List (Option (Vec A Y × Vec B Z))) → AllZip IsReadOf sections read → (result : Result (Option (Vec (Vec A Y) W × Vec (Vec B Z) V)) E) →
+  pub all_sections : {W V E : Type 0} (sections : List (Bor (List ℕ))) (read : List (Option (Vec A Y × Vec B Z))) →
+      AllZip IsReadOf sections read → (result : Result (Option (Vec (Vec A Y) W × Vec (Vec B Z) V)) E) →
       IfOk result (λ lists. MatchOption lists (Unit {0}) (λ x. AreListsOf read x.0.items x.1.items)) →
-      IfOk result (λ lists. MatchOption lists (Unit {0}) (λ x. IsSection a b form h (flat_map (λ (s : Bor (List ℕ)). lines s.now) sections) (flat_map (λ (list : Vec A Y). list.items) x.0.items) (flat_map (λ (list : Vec B Z). list.items) x.1.items)))
+      IfOk result (λ lists. MatchOption lists (Unit {0})
+      (λ x. IsSection a b form h (flat_map (λ (s : Bor (List ℕ)). lines s.now) sections)
+      (flat_map (λ (list : Vec A Y). list.items) x.0.items) (flat_map (λ (list : Vec B Z). list.items) x.1.items)))
   all_sections sections read zip (Err e) is = is
   all_sections sections read zip (Ok None) is = is
   all_sections sections read zip (Ok (Some x)) is =
-      subst (λ xs. IsSection a b form h (flat_map (λ (s : Bor (List ℕ)). lines s.now) sections) xs (flat_map (λ (list : Vec B Z). list.items) x.1.items)) (sym is.first_is)
-      (subst (λ xs. IsSection a b form h (flat_map (λ (s : Bor (List ℕ)). lines s.now) sections) (flat_map first_of read) xs) (sym is.second_is) (gathered sections read zip is.there))
+      subst (λ xs. IsSection a b form h (flat_map (λ (s : Bor (List ℕ)). lines s.now) sections) xs
+      (flat_map (λ (list : Vec B Z). list.items) x.1.items)) (sym is.first_is)
+      (subst (λ xs. IsSection a b form h (flat_map (λ (s : Bor (List ℕ)). lines s.now) sections) (flat_map first_of read) xs)
+      (sym is.second_is) (gathered sections read zip is.there))
 
 -- a file has this value if all its sections were read, and have as many items as declared
-pub whole_by_sections : {A B : Type 0} (a : Item → A) (b : Item → B) (form : Form) (bytes rest : List ℕ) (ls : List (List ℕ)) (h : Heading) (first : List A) (second : List B) → BeginsWith form bytes h rest → lines rest ≡ ls →
-    IsSection a b form h ls first second → length first ≡ h.items.first → length second ≡ h.items.second → IsFile form bytes h × (first ≡ values_in a form First (lines bytes)) × (second ≡ values_in b form Second (lines bytes))
+pub whole_by_sections : {A B : Type 0} (a : Item → A) (b : Item → B) (form : Form) (bytes rest : List ℕ) (ls : List (List ℕ))
+    (h : Heading) (first : List A) (second : List B) → BeginsWith form bytes h rest → lines rest ≡ ls →
+    IsSection a b form h ls first second → length first ≡ h.items.first → length second ≡ h.items.second → IsFile form bytes h
+    × (first ≡ values_in a form First (lines bytes)) × (second ≡ values_in b form Second (lines bytes))
 whole_by_sections a b form bytes rest ls h first second begins cut section firsts seconds =
     let split = begins.split ∙ ap (λ more. begins.front ++ more) cut in (
       sections_accepted a b form begins.front ls h first second begins.head section firsts seconds bytes split,

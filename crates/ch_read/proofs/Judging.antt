@@ -1,5 +1,7 @@
 -- The checks of one line: the words before the numbers, and the limits on capped numbers.
-use Rattle.std.proofs.Common.{Bor, ◌≡◌, ℕ, zero, suc, ◌-◌, ◌*◌, ◌<◌, ◌≤◌, ◌^◌, ◌⊎◌, inl, inr, ◌&&◌, Bool, true, false, cond, eqb, leb, ltb, List, [], ◌∷◌, ◌++◌, length, map, take, get_or, Option, Some, None, refl, sym, ◌∙◌, ap, arith, append_assoc, lit<, lit≤, zero-mul}
+use Rattle.std.proofs.Common.{Bor, ◌≡◌, ℕ, zero, suc, ◌-◌, ◌*◌, ◌<◌, ◌≤◌, ◌^◌, ◌⊎◌, inl, inr, ◌&&◌, Bool, true, false, cond, eqb}
+use Rattle.std.proofs.Common.{leb, ltb, List, [], ◌∷◌, ◌++◌, length, map, take, get_or, Option, Some, None, refl, sym, ◌∙◌, ap}
+use Rattle.std.proofs.Common.{arith, append_assoc, lit<, lit≤, zero-mul}
 use Rattle.std.specs.Prelude.{MatchOption, replicate}
 use Rattle.std.specs.List.{list_all}
 use Rattle.std.specs.Str.{bytes_eq}
@@ -26,7 +28,8 @@ use Rattle.ch_read.proofs.Numbers.{both, length-numbers}
 pub other_front : (front next ws : List (List ℕ)) → IsOther front ws → IsOther (front ++ next) ws
 other_front front next ws other more count = rw append_assoc (other (next ++ more) count)
 
-pub and_next : (front next ws rest : List (List ℕ)) (o : Option (Bor (List ℕ))) → IsAfter front ws rest → MatchOption o (IsOther next rest) (λ after. IsAfter next rest (words after.now)) →
+pub and_next : (front next ws rest : List (List ℕ)) (o : Option (Bor (List ℕ))) → IsAfter front ws rest →
+    MatchOption o (IsOther next rest) (λ after. IsAfter next rest (words after.now)) →
     MatchOption o (IsOther (front ++ next) ws) (λ after. IsAfter (front ++ next) ws (words after.now))
 and_next front next ws rest None begins other = λ more count. rw append_assoc (begins (next ++ more) count ∙ other more count)
 and_next front next ws rest (Some after) begins again = λ more count. rw append_assoc (begins (next ++ more) count ∙ again more count)
@@ -95,7 +98,8 @@ no_less nodes w some = grind arith
 weight-capped : (nodes w : ℕ) → leb (nodes * capped_number w) MOST_WEIGHT ≡ leb (nodes * w) MOST_WEIGHT
 weight-capped nodes w = at (cases_lt greatest w) (eq-zero-or-pos nodes)
   where
-    at : (greatest < w) ⊎ (w ≤ greatest) → (nodes ≡ 0) ⊎ (0 < nodes) → leb (nodes * capped_number w) MOST_WEIGHT ≡ leb (nodes * w) MOST_WEIGHT
+    at : (greatest < w) ⊎ (w ≤ greatest) → (nodes ≡ 0) ⊎ (0 < nodes) →
+        leb (nodes * capped_number w) MOST_WEIGHT ≡ leb (nodes * w) MOST_WEIGHT
     at (inr le) z = rw (capped_same w le) refl
     at (inl lt) (inl none) =
         let capped_none : nodes * capped_number w ≡ 0 = ap (λ n. n * capped_number w) none ∙ zero-mul (capped_number w) in
@@ -151,7 +155,16 @@ one_number nodes ns long ends =
     let no_weight : get_or ns 2 0 ≡ 0 = get_or_past ns 2 0 (omega arith) in
     let no_arcs : get_or ns 3 0 ≡ 0 = get_or_past ns 3 0 (omega arith) in
     let no_middle : get_or ns 4 0 ≡ 0 = get_or_past ns 4 0 (omega arith) in
-    record { first = a.1; first_below = omega arith; second = omega arith; second_below = omega arith; weight = omega arith; arcs = omega arith; middle = omega arith }
+    record {
+      first = a.1;
+      first_below = omega arith;
+      second = omega arith;
+      second_below = omega arith;
+      weight = omega arith;
+      arcs =
+          omega arith;
+      middle = omega arith;
+    }
 
 pub bounds : (form : Form) (part : Part) (nodes : ℕ) (ns : List ℕ) → IsItemWithin form part nodes ns → HasBounds nodes ns
 bounds Graph part nodes ns within =
@@ -177,7 +190,16 @@ bounds (Queries n) part nodes ns within =
     let no_weight : get_or ns 2 0 ≡ 0 = get_or_past ns 2 0 (omega arith) in
     let no_arcs : get_or ns 3 0 ≡ 0 = get_or_past ns 3 0 (omega arith) in
     let no_middle : get_or ns 4 0 ≡ 0 = get_or_past ns 4 0 (omega arith) in
-    record { first = a.1; first_below = omega arith; second = b.1; second_below = omega arith; weight = omega arith; arcs = omega arith; middle = omega arith }
+    record {
+      first = a.1;
+      first_below = omega arith;
+      second = b.1;
+      second_below = omega arith;
+      weight = omega arith;
+      arcs =
+          omega arith;
+      middle = omega arith;
+    }
 bounds (Nodes n) part nodes ns within = one_number nodes ns within.long (ends_are (Nodes n) part nodes ns within)
 bounds (Saved n) First nodes ns within = one_number nodes ns within.long (ends_are (Saved n) First nodes ns within)
 bounds (Saved n) Second nodes ns within =
@@ -216,7 +238,8 @@ module _ (ns : List ℕ) (m : ℕ) where
   pub are_nodes-capped : (form : Form) (part : Part) (nodes : ℕ) → nodes < 2 ^ 32 → length ns ≡ item_size form part →
       are_nodes form part nodes values ≡ are_nodes form part nodes ns
   are_nodes-capped form part nodes small long =
-      ap (λ (ends : Bool). ends && is_middle form part nodes values) (nodes-capped nodes small (node_count form part) ns m (omega (arith, long, fewer form part)))
+      ap (λ (ends : Bool). ends && is_middle form part nodes values)
+      (nodes-capped nodes small (node_count form part) ns m (omega (arith, long, fewer form part)))
       ∙ ap (λ (middle : Bool). list_all (is_node nodes) (take (node_count form part) ns) && middle) (is_middle-capped form part nodes small)
 
   pub is_weight-capped : (form : Form) (part : Part) (nodes : ℕ) → is_weight form part nodes values ≡ is_weight form part nodes ns
@@ -225,7 +248,12 @@ module _ (ns : List ℕ) (m : ℕ) where
   is_weight-capped (Nodes n) part nodes = refl
   is_weight-capped (Saved n) First nodes = refl
   is_weight-capped (Saved n) Second nodes =
-      rw (capped_at ns m 2, capped_at ns m 3, capped_le (get_or ns 2 0) MOST_WEIGHT (lit< tt), capped_le (get_or ns 3 0) MOST_NODES (lit< tt)) refl
+      rw (
+        capped_at ns m 2,
+        capped_at ns m 3,
+        capped_le (get_or ns 2 0) MOST_WEIGHT (lit< tt),
+        capped_le (get_or ns 3 0) MOST_NODES (lit< tt),
+      ) refl
 
   pub item-capped : (form : Form) (part : Part) (nodes : ℕ) → nodes < 2 ^ 32 → IsItemWithin form part nodes ns →
       item_from values ≡ item_from ns
@@ -234,18 +262,22 @@ module _ (ns : List ℕ) (m : ℕ) where
       rw (exact 0 (omega arith), exact 1 (omega arith), exact 2 (omega arith), exact 3 (omega arith), exact 4 (omega arith)) refl
 
 -- an item line with its numbers as they were read
-pub record HasNumbers (form : Form) (part : Part) (seen : Option Heading) (h : Heading) (count : ℕ) (ws : List (List ℕ)) (values : List ℕ) : Type 0 where
+pub record HasNumbers (form : Form) (part : Part) (seen : Option Heading) (h : Heading) (count : ℕ) (ws : List (List ℕ))
+    (values : List ℕ) : Type 0 where
   pub declared : seen ≡ Some h
   pub small : h.nodes < 2 ^ 32
   pub read : AreCapped (numbers_after [] (item_size form part) ws) values
   pub room : count < count_of h.items part
 
-pub read_item : (form : Form) (part : Part) (seen : Option Heading) (h : Heading) (count most size : ℕ) (ws : List (List ℕ)) (values : List ℕ) → seen ≡ Some h → h.nodes < 2 ^ 32 →
-    size ≡ item_size form part → AreCapped (numbers_after [] size ws) values → most ≡ count_of h.items part → count < most → HasNumbers form part seen h count ws values
+pub read_item : (form : Form) (part : Part) (seen : Option Heading) (h : Heading) (count most size : ℕ) (ws : List (List ℕ))
+    (values : List ℕ) → seen ≡ Some h → h.nodes < 2 ^ 32 →
+    size ≡ item_size form part → AreCapped (numbers_after [] size ws) values → most ≡ count_of h.items part → count < most →
+    HasNumbers form part seen h count ws values
 read_item form part seen h count most size ws values declared small size_is read most_is room =
     record { declared = declared; small = small; read = rw size_is at read; room = omega (arith, most_is, room) }
 
-module _ (form : Form) (part : Part) (seen : Option Heading) (h : Heading) (count : ℕ) (ws : List (List ℕ)) (values : List ℕ) (read : HasNumbers form part seen h count ws values) where
+module _ (form : Form) (part : Part) (seen : Option Heading) (h : Heading) (count : ℕ) (ws : List (List ℕ)) (values : List ℕ)
+    (read : HasNumbers form part seen h count ws values) where
   abbrev numbers_read : Option (List ℕ)
   numbers_read = numbers_after [] (item_size form part) ws
 
@@ -278,7 +310,8 @@ module _ (form : Form) (part : Part) (seen : Option Heading) (h : Heading) (coun
       let weight : is_weight form part h.nodes ns ≡ false = sym weight_is ∙ heavy in
       rw (read.declared, has, has_room, real, weight) refl
 
-  pub item_within : are_nodes form part h.nodes values ≡ true → is_weight form part h.nodes values ≡ true → IsItemWithin form part h.nodes ns
+  pub item_within : are_nodes form part h.nodes values ≡ true → is_weight form part h.nodes values ≡ true →
+      IsItemWithin form part h.nodes ns
   item_within within weight = record { long = long; nodes_are = sym nodes_are ∙ within; weight_is = sym weight_is ∙ weight }
 
   pub passes_as_item : are_nodes form part h.nodes values ≡ true → is_weight form part h.nodes values ≡ true →
@@ -298,7 +331,10 @@ module _ (form : Form) (part : Part) (seen : Option Heading) (h : Heading) (coun
   values_small within weight =
       let b = bounds form part h.nodes ns (item_within within weight) in
       let small = read.small in
-      let first : get_or values 0 0 ≡ capped_number (get_or ns 0 0) = ap (λ (v : List ℕ). get_or v 0 0) read.read.2 ∙ capped_at ns (5 - length ns) 0 in
-      let second : get_or values 1 0 ≡ capped_number (get_or ns 1 0) = ap (λ (v : List ℕ). get_or v 1 0) read.read.2 ∙ capped_at ns (5 - length ns) 1 in
-      let middle : get_or values 4 0 ≡ capped_number (get_or ns 4 0) = ap (λ (v : List ℕ). get_or v 4 0) read.read.2 ∙ capped_at ns (5 - length ns) 4 in
+      let first : get_or values 0 0 ≡ capped_number (get_or ns 0 0) =
+      ap (λ (v : List ℕ). get_or v 0 0) read.read.2 ∙ capped_at ns (5 - length ns) 0 in
+      let second : get_or values 1 0 ≡ capped_number (get_or ns 1 0) =
+      ap (λ (v : List ℕ). get_or v 1 0) read.read.2 ∙ capped_at ns (5 - length ns) 1 in
+      let middle : get_or values 4 0 ≡ capped_number (get_or ns 4 0) =
+      ap (λ (v : List ℕ). get_or v 4 0) read.read.2 ∙ capped_at ns (5 - length ns) 4 in
       (omega arith, omega arith, omega arith)

@@ -1,5 +1,6 @@
 -- The value of an accepted file is within the limits. An error is the fault of the bytes, in both directions.
-use Rattle.std.proofs.Common.{◌≡◌, ℕ, ◌-◌, ◌*◌, ◌<◌, ◌≤◌, inl, inr, leb, List, [], ◌∷◌, map, get_or, Option, Some, None, Result, Ok, Err, refl, sym, ◌∙◌, ap, subst, arith}
+use Rattle.std.proofs.Common.{◌≡◌, ℕ, ◌-◌, ◌*◌, ◌<◌, ◌≤◌, inl, inr, leb, List, [], ◌∷◌, map, get_or, Option, Some, None, Result, Ok}
+use Rattle.std.proofs.Common.{Err, refl, sym, ◌∙◌, ap, subst, arith}
 use Rattle.std.specs.Prelude.{All, IsErrAnd, Vec, codes, option_map, slice_get, slice_index}
 use Rattle.std.specs.List.{filter_map, cons_option}
 use Rattle.std.proofs.lemmas.Bool.{leb-true}
@@ -37,7 +38,8 @@ no_fault : (A : Type 0) (f : ReadFault) → error_of A NoMemory ≡ error_of A (
 no_fault A f e = cc
 
 -- if the result is this error, a fault is the result exactly if it is the fault of the bytes, unless memory runs out
-pub fault_both_ways : {A : Type 0} (form : Form) (bytes : List ℕ) (result : Result A ReadError) (e : ReadError) → IsErrAnd result (λ x. x ≡ e) → IsErrorOf form bytes e →
+pub fault_both_ways : {A : Type 0} (form : Form) (bytes : List ℕ) (result : Result A ReadError) (e : ReadError) →
+    IsErrAnd result (λ x. x ≡ e) → IsErrorOf form bytes e →
     (f : ReadFault) → AnswersWhere result (Err (Fault f)) (IsFault form bytes f.line f.kind)
 fault_both_ways form bytes (Ok x) e is of f = absurd is
 fault_both_ways {A} form bytes (Err x) e is of f = at e is of
@@ -61,9 +63,11 @@ error_of_items P (Err e) is = is
 heading_nodes : (form : Form) (n : ℕ) → ((ns : List ℕ) → (heading_from form ns).nodes ≡ n) → (all : List (List ℕ)) (h : Heading) →
     heading_in form all ≡ Some h → h.nodes ≡ n
 heading_nodes form n same [] h e = absurd (none-some h e)
-heading_nodes form n same (line ∷ all) h e = at (numbers_after (codes "p" ∷ problem_words form) (problem_size form) (words line)) e (heading_nodes form n same all h)
+heading_nodes form n same (line ∷ all) h e =
+    at (numbers_after (codes "p" ∷ problem_words form) (problem_size form) (words line)) e (heading_nodes form n same all h)
   where
-    at : (o : Option (List ℕ)) → slice_get (cons_option (option_map (heading_from form) o) (filter_map (λ line. heading form (words line)) all)) 0 ≡ Some h →
+    at : (o : Option (List ℕ)) → slice_get
+        (cons_option (option_map (heading_from form) o) (filter_map (λ line. heading form (words line)) all)) 0 ≡ Some h →
         (heading_in form all ≡ Some h → h.nodes ≡ n) → h.nodes ≡ n
     at None e more = more e
     at (Some ns) e more = ap (λ (h : Heading). h.nodes) (sym (same_Some (heading_from form ns) h e)) ∙ same ns
@@ -76,7 +80,8 @@ graph_within bytes h file =
     let few = file.within.1.few in
     record {
       size = (leb-true h.nodes MOST_NODES size.0, omega (arith, length-map (items_in Graph First (lines bytes)) arc_from));
-      each = All-map (IsArcWithin h.nodes) arc_from (items_in Graph First (lines bytes)) (λ k d lt. arc_within (get_or (items_in Graph First (lines bytes)) k d) (file.within.1.each k d lt));
+      each = All-map (IsArcWithin h.nodes) arc_from (items_in Graph First (lines bytes))
+          (λ k d lt. arc_within (get_or (items_in Graph First (lines bytes)) k d) (file.within.1.each k d lt));
     }
   where
     arc_within : (ns : List ℕ) → IsItemWithin Graph First h.nodes ns → IsArcWithin h.nodes (arc_from ns)
@@ -87,7 +92,8 @@ graph_within bytes h file =
 pub pairs_within : (n : ℕ) (bytes : List ℕ) (h : Heading) → IsFile (Queries n) bytes h →
     All (λ (p : ℕ × ℕ). (p.0 < n) × (p.1 < n)) (map pair_from (items_in (Queries n) First (lines bytes)))
 pairs_within n bytes h file =
-    All-map (λ (p : ℕ × ℕ). (p.0 < n) × (p.1 < n)) pair_from (items_in (Queries n) First (lines bytes)) (λ k d lt. pair_within (get_or (items_in (Queries n) First (lines bytes)) k d) (file.within.1.each k d lt))
+    All-map (λ (p : ℕ × ℕ). (p.0 < n) × (p.1 < n)) pair_from (items_in (Queries n) First (lines bytes))
+    (λ k d lt. pair_within (get_or (items_in (Queries n) First (lines bytes)) k d) (file.within.1.each k d lt))
   where
     pair_within : (ns : List ℕ) → IsItemWithin (Queries n) First h.nodes ns → (slice_index ns 0 - 1 < n) × (slice_index ns 1 - 1 < n)
     pair_within ns within =
@@ -98,7 +104,8 @@ pairs_within n bytes h file =
 pub nodes_within : (n : ℕ) (bytes : List ℕ) (h : Heading) → IsFile (Nodes n) bytes h →
     All (λ x. x < n) (map node_from (items_in (Nodes n) First (lines bytes)))
 nodes_within n bytes h file =
-    All-map (λ x. x < n) node_from (items_in (Nodes n) First (lines bytes)) (λ k d lt. node_within (get_or (items_in (Nodes n) First (lines bytes)) k d) (file.within.1.each k d lt))
+    All-map (λ x. x < n) node_from (items_in (Nodes n) First (lines bytes))
+    (λ k d lt. node_within (get_or (items_in (Nodes n) First (lines bytes)) k d) (file.within.1.each k d lt))
   where
     node_within : (ns : List ℕ) → IsItemWithin (Nodes n) First h.nodes ns → slice_index ns 0 - 1 < n
     node_within ns within =

@@ -1,5 +1,8 @@
 -- Words of digits, and the numbers of a line.
-use Rattle.std.proofs.Common.{set, ◌≡◌, ℕ, zero, suc, ◌+◌, ◌-◌, ◌*◌, ◌<◌, ◌≤◌, ◌&&◌, Bool, true, false, cond, eqb, min, List, [], ◌∷◌, ◌++◌, length, map, take, get_or, Option, Some, None, refl, sym, ◌∙◌, ap, arith, add-one, append_assoc}
+use Rattle.std.proofs.Common.{set, ◌≡◌, ℕ, zero, suc, ◌+◌, ◌-◌, ◌*◌, ◌<◌, ◌≤◌, ◌&&◌, Bool, true, false, cond, eqb, min, List, []}
+use Rattle.std.proofs.Common.{◌∷◌, ◌++◌, length, map, take, get_or, Option, Some, None, refl, sym, ◌∙◌, ap, arith, add-one}
+use Rattle.std.proofs.Common.{append_assoc, drop, ltb, length-take, ◌^◌, subst}
+use Rattle.std.specs.List.{position, position_or_len}
 use Rattle.std.specs.Prelude.{replicate, option_map}
 use Rattle.std.specs.Option.{option_and_then}
 use Rattle.std.specs.Char.{is_ascii_digit, digit_value}
@@ -11,9 +14,10 @@ use Rattle.std.proofs.lemmas.Option.{none-some, same_Some}
 use Rattle.std.proofs.lemmas.Str.{digit_value_digit}
 use Rattle.std.proofs.lemmas.Bool.Decides.{nat_tests}
 use Rattle.std.proofs.lemmas.Int.Digits.{digits_value_more}
-use Rattle.ch_read.specs.Words.{number, is_word}
+use Rattle.ch_read.specs.Words.{number, is_word, is_blank, words}
 use Rattle.ch_read.specs.Forms.{numbers, numbers_after}
-use Rattle.ch_read.specs.Reading.{greatest, capped_number, AreCapped}
+use Rattle.ch_read.specs.Reading.{greatest, capped_number, AreCapped, HasFirstNumber, HasNoFirstNumber}
+use Rattle.ch_read.proofs.Splits.{BeginsWithWord, word_to_blank, word_to_end}
 
 -- words of digits
 
@@ -75,7 +79,8 @@ pub all_digits : (word : List ℕ) (i value : ℕ) → 0 < length word → lengt
 all_digits word i value some past read =
     let all : take i word ≡ word = take_all i word past in
     let digits : all_ascii_digits word ≡ true = ap all_ascii_digits (sym all) ∙ read.digits in
-    ap Some (read.value_is ∙ ap (λ w. capped_number (digits_value 10 w)) all) ∙ ap (option_map capped_number) (sym (is_number word some digits))
+    ap Some (read.value_is ∙ ap (λ w. capped_number (digits_value 10 w)) all)
+    ∙ ap (option_map capped_number) (sym (is_number word some digits))
 
 -- the numbers of words
 
@@ -84,8 +89,10 @@ pub numbers_push : (taken : List (List ℕ)) (w : List ℕ) (ns : List ℕ) (n :
 numbers_push [] w ns n e f = let none : ns ≡ [] = sym (same_Some [] ns e) in rw (f, none) refl
 numbers_push (t ∷ taken) w ns n e f = at (number t) refl (numbers taken) refl e (λ ms k. numbers_push taken w ms n k f)
   where
-    at : (o : Option ℕ) → number t ≡ o → (os : Option (List ℕ)) → numbers taken ≡ os → option_and_then (λ m. option_map (λ ms. m ∷ ms) os) o ≡ Some ns →
-        ((ms : List ℕ) → numbers taken ≡ Some ms → numbers (taken ++ w ∷ []) ≡ Some (ms ++ n ∷ [])) → numbers (t ∷ taken ++ w ∷ []) ≡ Some (ns ++ n ∷ [])
+    at : (o : Option ℕ) → number t ≡ o → (os : Option (List ℕ)) → numbers taken ≡ os →
+        option_and_then (λ m. option_map (λ ms. m ∷ ms) os) o ≡ Some ns →
+        ((ms : List ℕ) → numbers taken ≡ Some ms → numbers (taken ++ w ∷ []) ≡ Some (ms ++ n ∷ [])) →
+        numbers (t ∷ taken ++ w ∷ []) ≡ Some (ns ++ n ∷ [])
     at None h os k e more = absurd (none-some ns e)
     at (Some m) h None k e more = absurd (none-some ns e)
     at (Some m) h (Some ms) k e more =
@@ -131,7 +138,7 @@ read_value w value e = at (number w) refl e
     at None h e = absurd (none-some value (sym e))
     at (Some n) h e = (n, h, same_Some value (capped_number n) e)
 
-no_value : (w : List ℕ) → None ≡ option_map capped_number (number w) → number w ≡ None
+pub no_value : (w : List ℕ) → None ≡ option_map capped_number (number w) → number w ≡ None
 no_value w e = at (number w) e
   where
     at : (o : Option ℕ) → None ≡ option_map capped_number o → o ≡ None
@@ -141,7 +148,8 @@ no_value w e = at (number w) e
 zeros_less : (i : ℕ) → i < 5 → replicate {A = ℕ} (5 - i) 0 ≡ 0 ∷ replicate (5 - (i + 1)) 0
 zeros_less i lt = let less : 5 - i ≡ suc (5 - (i + 1)) = omega arith in ap (λ k. replicate {A = ℕ} k 0) less
 
-pub take_one : (ws left more : List (List ℕ)) (w : List ℕ) (i value : ℕ) (values : List ℕ) → i < 5 → HasTaken ws left i values → left ≡ w ∷ more →
+pub take_one : (ws left more : List (List ℕ)) (w : List ℕ) (i value : ℕ) (values : List ℕ) → i < 5 → HasTaken ws left i values →
+    left ≡ w ∷ more →
     Some value ≡ option_map capped_number (number w) → HasTaken ws more (i + 1) (set values i value)
 take_one ws left more w i value values lt h next e =
     let n = read_value w value e in
@@ -162,7 +170,8 @@ take_one ws left more w i value values lt h next e =
 
 -- the ends of the loop
 
-pub no_number_next : (ws left more : List (List ℕ)) (w : List ℕ) (i count : ℕ) (values : List ℕ) → HasTaken ws left i values → left ≡ w ∷ more →
+pub no_number_next : (ws left more : List (List ℕ)) (w : List ℕ) (i count : ℕ) (values : List ℕ) → HasTaken ws left i values →
+    left ≡ w ∷ more →
     None ≡ option_map capped_number (number w) → numbers_after [] count ws ≡ None
 no_number_next ws left more w i count values h next e =
     let none : numbers ws ≡ None = ap numbers (h.split ∙ ap (λ r. h.taken ++ r) next) ∙ numbers_stop h.taken more w (no_value w e) in
@@ -181,3 +190,78 @@ all_taken ws left count values h e =
     let as_long : length h.ns ≡ count = length-numbers h.taken h.ns h.read ∙ h.long in
     let read : numbers ws ≡ Some h.ns = ap numbers whole ∙ h.read in
     (h.ns, rw counted read, h.values_are ∙ ap (λ k. map capped_number h.ns ++ replicate (5 - k) 0) (sym as_long))
+
+-- the first number of a text
+
+-- a digit is no blank
+digit_no_blank : (b : ℕ) → is_ascii_digit b ≡ true → is_blank b ≡ false
+digit_no_blank b e = grind (arith, nat_tests)
+
+-- after digits alone, the first blank is at the place where they end
+blank_after : (text : List ℕ) (i : ℕ) → i < length text → all_ascii_digits (take i text) ≡ true → is_blank (get_or text i 0) ≡ true →
+    position_or_len is_blank text ≡ i
+blank_after [] i within digits blank = absurd (omega arith)
+blank_after (x ∷ xs) zero within digits blank = rw blank refl
+blank_after (x ∷ xs) (suc i) within digits blank =
+    let b = both (is_ascii_digit x) (all_ascii_digits (take i xs)) digits in
+    rw (digit_no_blank x b.0) (omega (arith, blank_after xs i (omega arith) b.1 blank))
+
+-- digits alone have no blank
+no_blank : (text : List ℕ) → all_ascii_digits text ≡ true → position_or_len is_blank text ≡ length text
+no_blank [] digits = refl
+no_blank (x ∷ xs) digits =
+    let b = both (is_ascii_digit x) (all_ascii_digits xs) digits in
+    rw (digit_no_blank x b.0) (omega (arith, no_blank xs b.1))
+
+-- digits up to a blank are the first number
+pub number_to_blank : (text : List ℕ) (i value : ℕ) → BeginsWithWord text → i < length text → HasDigits text i value →
+    is_blank (get_or text i 0) ≡ true → HasFirstNumber (words text) value (words (take (length text - i) (drop i text)))
+number_to_blank text i value begins within read blank =
+    let at = blank_after text i within read.digits blank in
+    let inside : ltb (position_or_len is_blank text) (length text) ≡ true = grind (arith, nat_tests) in
+    let found : position is_blank text ≡ Some i = rw inside (ap Some at) in
+    let cut = word_to_blank text i begins found in
+    let short : length (take i text) ≤ i = omega (arith, length-take i text) in
+    let whole : take i (take i text) ≡ take i text = take_all i (take i text) short in (
+      take i text,
+      cut.0,
+      all_digits (take i text) i value cut.1 short (record {
+        value_is = read.value_is ∙ ap (λ w. capped_number (digits_value 10 w)) (sym whole);
+        digits = ap all_ascii_digits whole ∙ read.digits;
+      }),
+    )
+
+-- digits up to the end are the first number
+pub number_to_end : (text : List ℕ) (i value : ℕ) → BeginsWithWord text → length text ≤ i → HasDigits text i value →
+    HasFirstNumber (words text) value []
+number_to_end text i value begins past read =
+    let whole : take i text ≡ text = take_all i text past in
+    let digits : all_ascii_digits text ≡ true = ap all_ascii_digits (sym whole) ∙ read.digits in
+    let at = no_blank text digits in
+    let outside : ltb (position_or_len is_blank text) (length text) ≡ false = grind (arith, nat_tests) in
+    let none : position is_blank text ≡ None = rw outside refl in
+    (text, word_to_end text begins none, all_digits text i value begins.some past read)
+
+-- one more digit without a cap
+pub more_short : (word : List ℕ) (i value digit : ℕ) → i < length word → HasDigits word i value → value ≤ 2 ^ 60 →
+    IsInRange 48 57 (get_or word i 0) → is_ascii_digit (get_or word i 0) ≡ true → digit ≡ get_or word i 0 - 48 →
+    HasDigits word (i + 1) (value * 10 + digit)
+more_short word i value digit within read short range here is =
+    let small : digit ≤ 9 = omega (arith, range.1) in
+    more_digits word i value (value * 10 + digit) digit within read range here is (omega arith)
+
+-- if no word is left, or the next one is no number, there are not as many numbers
+pub no_first_number : (ws left : List (List ℕ)) (i count : ℕ) (values : List ℕ) → HasTaken ws left i values → i < count →
+    HasNoFirstNumber left → numbers_after [] count ws ≡ None
+no_first_number ws [] i count values h fewer none =
+    let whole : ws ≡ h.taken = h.split ∙ append-nil h.taken in
+    let long = ap length whole ∙ h.long in
+    let other : eqb (length ws) count ≡ false = grind (arith, nat_tests) in
+    rw other refl
+no_first_number ws (w ∷ more) i count values h fewer none =
+    no_number_next ws (w ∷ more) more w i count values h refl (rw none refl)
+
+-- if the first word is no number, there is no first number
+pub no_first : (ws rest : List (List ℕ)) (word : List ℕ) → ws ≡ word ∷ rest → None ≡ option_map capped_number (number word) →
+    HasNoFirstNumber ws
+no_first ws rest word is none = subst HasNoFirstNumber (sym is) (no_value word none)

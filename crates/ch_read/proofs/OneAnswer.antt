@@ -1,5 +1,6 @@
 -- Each list of bytes names one value or has one fault, and not both.
-use Rattle.std.proofs.Common.{◌≡◌, ℕ, zero, suc, ◌-◌, ◌<◌, ◌⊎◌, inl, inr, false, ltb, List, length, map, Option, Some, None, refl, sym, ◌∙◌, ap, arith}
+use Rattle.std.proofs.Common.{◌≡◌, ℕ, zero, suc, ◌-◌, ◌<◌, ◌⊎◌, inl, inr, false, ltb, List, length, map, Option, Some, None, refl}
+use Rattle.std.proofs.Common.{sym, ◌∙◌, ap, arith}
 use Rattle.std.specs.Prelude.{option_map}
 use Rattle.std.proofs.Math.Nat.{eq-or-lt_of_le}
 use Rattle.std.proofs.lemmas.Bool.{cases_order}
@@ -51,7 +52,8 @@ module _ {K : Type 0} (f : ℕ → Option K) where
 pub accepted_or_faulty : (form : Form) (bytes : List ℕ) → IsAccepted form bytes ⊎ ((f : ReadFault) × IsFault form bytes f.line f.kind)
 accepted_or_faulty form bytes = at (clear_or_first (fault_at form (lines bytes)) (suc (length (lines bytes))))
   where
-    at : AreClear (fault_at form (lines bytes)) (suc (length (lines bytes))) ⊎ HasFirst (fault_at form (lines bytes)) (suc (length (lines bytes))) →
+    at : AreClear (fault_at form (lines bytes)) (suc (length (lines bytes)))
+        ⊎ HasFirst (fault_at form (lines bytes)) (suc (length (lines bytes))) →
         IsAccepted form bytes ⊎ ((f : ReadFault) × IsFault form bytes f.line f.kind)
     at (inl clear) = inl (λ i le. clear i (omega arith))
     at (inr s) =
@@ -82,22 +84,26 @@ one_fault form bytes f g is other = at (cases_order f.line g.line)
 
     at : (f.line ≡ g.line) ⊎ ((f.line < g.line) ⊎ (g.line < f.line)) → f ≡ g
     at (inl e) =
-        let same : f.kind ≡ g.kind = same_Some f.kind g.kind (sym is.kind_is ∙ ap (λ n. fault_at form (lines bytes) (n - 1)) e ∙ other.kind_is) in
+        let same : f.kind ≡ g.kind = same_Some f.kind g.kind
+        (sym is.kind_is ∙ ap (λ n. fault_at form (lines bytes) (n - 1)) e ∙ other.kind_is) in
         λ i. record { line = e i; kind = same i }
     at (inr (inl lt)) = absurd (earlier f g is other lt)
     at (inr (inr lt)) = absurd (earlier g f other is lt)
 
 -- an accepted file has a problem line
 pub accepted_heading : (form : Form) (bytes : List ℕ) → IsAccepted form bytes → (h : Heading) × (heading_in form (lines bytes) ≡ Some h)
-accepted_heading form bytes a = at (heading_in form (lines bytes)) refl (sym (at_end form (lines bytes)) ∙ a (length (lines bytes)) (omega arith))
+accepted_heading form bytes a =
+    at (heading_in form (lines bytes)) refl (sym (at_end form (lines bytes)) ∙ a (length (lines bytes)) (omega arith))
   where
-    at : (seen : Option Heading) → heading_in form (lines bytes) ≡ seen → first_failing (end_checks seen (counts_in form (lines bytes))) ≡ None →
+    at : (seen : Option Heading) → heading_in form (lines bytes) ≡ seen →
+        first_failing (end_checks seen (counts_in form (lines bytes))) ≡ None →
         (h : Heading) × (heading_in form (lines bytes) ≡ Some h)
     at (Some h) e clear = (h, e)
     at None e clear = absurd (none-some NoProblem (sym clear))
 
 -- a form has one answer if each accepted file has exactly one value
-answers : {A : Type 0} (form : Form) (bytes : List ℕ) (Names : A → Type 0) → (IsAccepted form bytes → (x : A) × Names x) → ((x y : A) → Names x → Names y → x ≡ y) → ((x : A) → Names x → IsAccepted form bytes) →
+answers : {A : Type 0} (form : Form) (bytes : List ℕ) (Names : A → Type 0) → (IsAccepted form bytes → (x : A) × Names x) →
+    ((x y : A) → Names x → Names y → x ≡ y) → ((x : A) → Names x → IsAccepted form bytes) →
     HasOneAnswer Names form bytes
 answers form bytes Names value same accepted = record {
   some = elim (accepted_or_faulty form bytes) [ inl a ↦ inl (value a) | inr f ↦ inr f ];
@@ -111,8 +117,10 @@ graph_answer bytes = answers Graph bytes (NamesGraph bytes) value same (λ g nam
   where
     value : IsAccepted Graph bytes → (g : Network) × NamesGraph bytes g
     value a =
-        let h = accepted_heading Graph bytes a in
-        (record { nodes = h.0.nodes; arcs = map arc_from (items_in Graph First (lines bytes)) }, record { accepted = a; nodes = ap (option_map (λ (h : Heading). h.nodes)) h.1; arcs = refl })
+        let h = accepted_heading Graph bytes a in (
+          record { nodes = h.0.nodes; arcs = map arc_from (items_in Graph First (lines bytes)) },
+          record { accepted = a; nodes = ap (option_map (λ (h : Heading). h.nodes)) h.1; arcs = refl },
+        )
 
     same : (g h : Network) → NamesGraph bytes g → NamesGraph bytes h → g ≡ h
     same g h named other =
@@ -121,13 +129,16 @@ graph_answer bytes = answers Graph bytes (NamesGraph bytes) value same (λ g nam
         λ i. record { nodes = nodes i; arcs = arcs i }
 
 pub queries_answer : (bytes : List ℕ) (n : ℕ) → HasOneAnswer (NamesQueries bytes n) (Queries n) bytes
-queries_answer bytes n = answers (Queries n) bytes (NamesQueries bytes n) (λ a. (_, record { accepted = a; value = refl })) (λ x y named other. named.value ∙ sym other.value) (λ x named. named.accepted)
+queries_answer bytes n = answers (Queries n) bytes (NamesQueries bytes n) (λ a. (_, record { accepted = a; value = refl }))
+    (λ x y named other. named.value ∙ sym other.value) (λ x named. named.accepted)
 
 pub nodes_answer : (bytes : List ℕ) (n : ℕ) → HasOneAnswer (NamesNodes bytes n) (Nodes n) bytes
-nodes_answer bytes n = answers (Nodes n) bytes (NamesNodes bytes n) (λ a. (_, record { accepted = a; value = refl })) (λ x y named other. named.value ∙ sym other.value) (λ x named. named.accepted)
+nodes_answer bytes n = answers (Nodes n) bytes (NamesNodes bytes n) (λ a. (_, record { accepted = a; value = refl }))
+    (λ x y named other. named.value ∙ sym other.value) (λ x named. named.accepted)
 
 pub saved_answer : (bytes : List ℕ) (n : ℕ) → HasOneAnswer (NamesSaved bytes n) (Saved n) bytes
-saved_answer bytes n = answers (Saved n) bytes (NamesSaved bytes n) (λ a. (_, record { accepted = a; order = refl; legs = refl })) same (λ x named. named.accepted)
+saved_answer bytes n = answers (Saved n) bytes (NamesSaved bytes n) (λ a. (_, record { accepted = a; order = refl; legs = refl }))
+    same (λ x named. named.accepted)
   where
     same : (x y : OrderAndLegs) → NamesSaved bytes n x → NamesSaved bytes n y → x ≡ y
     same x y named other =

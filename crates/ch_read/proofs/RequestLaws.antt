@@ -1,5 +1,6 @@
 -- The requests of a stream that comes in parts.
-use Rattle.std.proofs.Common.{◌≡◌, ℕ, ◌<◌, Bool, true, false, eqb, if◌then◌else◌, List, [], ◌∷◌, ◌++◌, length, Option, Some, None, refl, sym, ◌∙◌, ap, subst, zero, suc, arith, length-append}
+use Rattle.std.proofs.Common.{◌≡◌, ℕ, ◌<◌, Bool, true, false, eqb, if◌then◌else◌, List, [], ◌∷◌, ◌++◌, length, Option, Some, None}
+use Rattle.std.proofs.Common.{refl, sym, ◌∙◌, ap, subst, zero, suc, arith, length-append}
 use Rattle.std.specs.Prelude.{All, is_none}
 use Rattle.std.specs.List.{slice_split, onto_first}
 use Rattle.std.proofs.lemmas.List.{append_assoc}
@@ -26,7 +27,8 @@ more_given n xs w more = at (is_none w.told.fault) refl
 
 pub told_append : (n line : ℕ) (begun : Begun) (xs ys : List (List ℕ)) → told n line begun (xs ++ ys) ≡ and_then n (went n line begun xs) ys
 told_append n line begun [] ys = refl
-told_append n line begun (text ∷ xs) ys = at (text_fault n (line_after line) begun text) refl (told_append n (line_after line) (made n begun (words text)).begun xs ys)
+told_append n line begun (text ∷ xs) ys = at (text_fault n (line_after line) begun text) refl
+    (told_append n (line_after line) (made n begun (words text)).begun xs ys)
   where
     rest : Told
     rest = told n (line_after line) (made n begun (words text)).begun (xs ++ ys)
@@ -118,7 +120,8 @@ last_is (part ∷ next ∷ ended) last = last_is (next ∷ ended) last
 all_before : (ended parts : List (List ℕ)) → 0 < length parts → without_empty_last (ended ++ parts) ≡ ended ++ without_empty_last parts
 all_before [] parts some = refl
 all_before (part ∷ ended) parts some =
-    line_before part (ended ++ parts) (omega (arith, length-append ended parts)) ∙ ap (λ (all : List (List ℕ)). part ∷ all) (all_before ended parts some)
+    line_before part (ended ++ parts) (omega (arith, length-append ended parts))
+    ∙ ap (λ (all : List (List ℕ)). part ∷ all) (all_before ended parts some)
 
 -- for each cut of the bytes, the lines are those that end in the first part, and then those of the rest of it
 -- with the second part

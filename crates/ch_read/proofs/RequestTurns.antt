@@ -4,7 +4,8 @@ use Rattle.std.proofs.lemmas.List.{append-nil, append_assoc}
 use Rattle.ch_read.specs.declared.request.Request.{Request}
 use Rattle.ch_read.specs.declared.request_fault.RequestFault.{RequestFault}
 use Rattle.ch_read.specs.Words.{lines}
-use Rattle.ch_read.specs.Requests.{Standing, after_these, stopping, told, told_by, ahead, starting, fed, MayCome, Gives, HasGiven, IsUsedUp, IsStopped}
+use Rattle.ch_read.specs.Requests.{Standing, after_these, stopping, told, told_by, ahead, starting, fed, MayCome, Gives, HasGiven}
+use Rattle.ch_read.specs.Requests.{IsUsedUp, IsStopped}
 use Rattle.ch_read.specs.RequestLaws.{Turn, bytes_of, given_by, GoesBy, AreGivenInTurn, AreGivenToTheEnd, AreGivenToTheFault}
 use Rattle.ch_read.proofs.RequestLaws.{after_both}
 
@@ -27,7 +28,8 @@ feeds_whole n bytes part s given so_far more comes =
     ∙ ap (λ (pending : List ℕ). after_these given (told s.nodes s.line s.begun (lines pending))) (sym (append_assoc s.pending part more))
 
 -- the requests stay right after more requests are given
-pub gives_more_whole : (ended : Bool) (n : ℕ) (bytes : List ℕ) (s new : Standing) (given more_given : List Request) → HasGiven ended n bytes s given → Gives ended s new more_given →
+pub gives_more_whole : (ended : Bool) (n : ℕ) (bytes : List ℕ) (s new : Standing) (given more_given : List Request) →
+    HasGiven ended n bytes s given → Gives ended s new more_given →
     HasGiven ended n bytes new (given ++ more_given)
 gives_more_whole ended n bytes s new given more_given so_far gives more comes =
     so_far more comes ∙ ap (after_these given) (gives more comes) ∙ sym (after_both given more_given (ahead new more))
@@ -47,13 +49,16 @@ used_up_whole n bytes s given so_far none =
     ∙ ap (λ (all : List Request). record { given = all; fault = None }) (append-nil given)
 
 -- at a fault all requests before it were given
-pub stopped_whole : (ended : Bool) (n : ℕ) (bytes : List ℕ) (s : Standing) (given : List Request) (fault : RequestFault) → HasGiven ended n bytes s given → IsStopped ended s fault →
+pub stopped_whole : (ended : Bool) (n : ℕ) (bytes : List ℕ) (s : Standing) (given : List Request) (fault : RequestFault) →
+    HasGiven ended n bytes s given → IsStopped ended s fault →
     (more : List ℕ) → MayCome ended more → told_by n (bytes ++ more) ≡ record { given = given; fault = Some fault }
 stopped_whole ended n bytes s given fault so_far stops more comes =
-    so_far more comes ∙ ap (after_these given) (stops more comes) ∙ ap (λ (all : List Request). record { given = all; fault = Some fault }) (append-nil given)
+    so_far more comes ∙ ap (after_these given) (stops more comes)
+    ∙ ap (λ (all : List Request). record { given = all; fault = Some fault }) (append-nil given)
 
 -- the requests stay right after all turns
-goes_whole : (n : ℕ) (turns : List Turn) (bytes : List ℕ) (given : List Request) (old new : Standing) → HasGiven false n bytes old given → GoesBy turns old new →
+goes_whole : (n : ℕ) (turns : List Turn) (bytes : List ℕ) (given : List Request) (old new : Standing) →
+    HasGiven false n bytes old given → GoesBy turns old new →
     HasGiven false n (bytes ++ bytes_of turns) new (given ++ given_by turns)
 goes_whole n [] bytes given old new so_far same =
     rw (append-nil bytes, append-nil given) (subst (λ (s : Standing). HasGiven false n bytes s given) (sym same) so_far)
@@ -69,9 +74,11 @@ given_in_turn n turns s goes = goes_whole n turns [] [] (starting n) s (starts_w
 pub given_to_the_end : AreGivenToTheEnd
 given_to_the_end n turns s goes new last gives none =
     used_up_whole n (bytes_of turns) new (given_by turns ++ last)
-    (gives_more_whole true n (bytes_of turns) s new (given_by turns) last (ends_whole n (bytes_of turns) s (given_by turns) (given_in_turn n turns s goes)) gives) none
+    (gives_more_whole true n (bytes_of turns) s new (given_by turns) last
+    (ends_whole n (bytes_of turns) s (given_by turns) (given_in_turn n turns s goes)) gives) none
 
 pub given_to_the_fault : AreGivenToTheFault
 given_to_the_fault n turns s goes ended new last gives fault stops more comes =
     stopped_whole ended n (bytes_of turns) new (given_by turns ++ last) fault
-    (gives_more_whole ended n (bytes_of turns) s new (given_by turns) last (λ more _. given_in_turn n turns s goes more (may_come more)) gives) stops more comes
+    (gives_more_whole ended n (bytes_of turns) s new (given_by turns) last
+    (λ more _. given_in_turn n turns s goes more (may_come more)) gives) stops more comes

@@ -1,10 +1,13 @@
 -- Requests whose bytes come in parts.
-use Rattle.std.proofs.Common.{subst, ◌≡◌, ℕ, suc, ◌+◌, ◌-◌, ◌<◌, ◌≤◌, Bool, true, false, eqb, leb, ltb, get_or, if◌then◌else◌, List, [], ◌∷◌, ◌++◌, length, take, drop, Option, Some, None, refl, sym, ◌∙◌, ap, arith, length-take, length-drop}
+use Rattle.std.proofs.Common.{subst, ◌≡◌, ℕ, suc, ◌+◌, ◌-◌, ◌<◌, ◌≤◌, Bool, true, false, eqb, leb, ltb, get_or, if◌then◌else◌, List}
+use Rattle.std.proofs.Common.{[], ◌∷◌, ◌++◌, length, take, drop, Option, Some, None, refl, sym, ◌∙◌, ap, arith, length-take}
+use Rattle.std.proofs.Common.{length-drop}
 use Rattle.std.specs.Prelude.{All, IfErr, IsErrAnd, Result, Ok, Err, is_none}
 use Rattle.std.specs.List.{position, position_or_len}
 use Rattle.std.proofs.lemmas.Bool.Decides.{nat_tests}
 use Rattle.std.proofs.lemmas.Option.{cond_some}
-use Rattle.std.proofs.lemmas.List.{get_or_append_left, append-nil, append_assoc, length_push, length-append, take_rest, take-append-le, drop-append-le, drop_all}
+use Rattle.std.proofs.lemmas.List.{get_or_append_left, append-nil, append_assoc, length_push, length-append, take_rest}
+use Rattle.std.proofs.lemmas.List.{take-append-le, drop-append-le, drop_all}
 use Rattle.std.proofs.lemmas.List.Elements.{All-append, All-take, All-drop}
 use Rattle.ch_read.specs.declared.begun.Purpose.{Purpose}
 use Rattle.ch_read.specs.declared.begun.Purpose.TheVariants.{Table as ForTable, Places as ForPlaces}
@@ -15,7 +18,9 @@ use Rattle.ch_read.specs.declared.request_fault.RequestFault.{RequestFault}
 use Rattle.ch_read.specs.declared.request_fault.RequestError.{RequestError}
 use Rattle.ch_read.specs.declared.request_fault.RequestError.TheVariants.{Fault, NoMemory}
 use Rattle.ch_read.specs.Words.{lines, words}
-use Rattle.ch_read.specs.Requests.{Begun, Made, Told, Standing, wanted, is_whole, nothing, settled, with_node, request_for, request_of, none_made, at_most_one, made, told, ahead, after_these, stopping, line_after, text_fault, Gives, IsErrorAhead, IsGiven, IsRequest, IsStopped, AreTwoLists}
+use Rattle.ch_read.specs.Requests.{Begun, Made, Told, Standing, wanted, is_whole, nothing, settled, with_node, request_for}
+use Rattle.ch_read.specs.Requests.{request_of, none_made, at_most_one, made, told, ahead, after_these, stopping, line_after}
+use Rattle.ch_read.specs.Requests.{text_fault, Gives, IsErrorAhead, IsGiven, IsRequest, IsStopped, AreTwoLists}
 use Rattle.ch_read.specs.RequestSteps.{HasNoLine, IsBegun, IsOf, IsLineAhead, IsLineError, Makes, advanced}
 use Rattle.std.proofs.lemmas.List.Sums.{fails_before_first}
 use Rattle.ch_read.proofs.Splits.{line_to_feed, line_to_end, none_passes, split_at}
@@ -67,17 +72,21 @@ pub settled_within : (n : ℕ) (begun new : Begun) (given : Option Request) → 
     settled begun ≡ record { given = at_most_one given; begun = new } → IsGiven n given × IsBegun n new
 settled_within n begun new given is e = at (is_whole begun) refl (sym e)
   where
-    at : (t : Bool) → is_whole begun ≡ t → record { given = at_most_one given; begun = new } ≡ settled begun → IsGiven n given × IsBegun n new
+    at : (t : Bool) → is_whole begun ≡ t → record { given = at_most_one given; begun = new } ≡ settled begun →
+        IsGiven n given × IsBegun n new
     at true whole made_is =
         let long : wanted begun ≤ length begun.listed = grind (arith, nat_tests) in
-        let same : record { given = at_most_one given; begun = new } ≡ record { given = request_of begun ∷ []; begun = nothing } = rw whole at made_is in (
+        let same : record { given = at_most_one given; begun = new } ≡ record { given = request_of begun ∷ []; begun = nothing } =
+        rw whole at made_is in (
           given_is given (ap (λ (m : Made). m.given) same) long,
           subst (IsBegun n) (sym (ap (λ (m : Made). m.begun) same)) (nothing_begun n),
         )
       where
         given_is : (o : Option Request) → at_most_one o ≡ request_of begun ∷ [] → wanted begun ≤ length begun.listed → IsGiven n o
         given_is None f long = absurd (omega (arith, ap length f))
-        given_is (Some r) f long = subst (IsRequest n) (sym (ap (λ (rs : List Request). Rattle.std.specs.Prelude.slice_index_or rs 0 r) f)) (whole_request n begun is long)
+        given_is (Some r) f long =
+            subst (IsRequest n) (sym (ap (λ (rs : List Request). Rattle.std.specs.Prelude.slice_index_or rs 0 r) f))
+            (whole_request n begun is long)
     at false short made_is =
         let same : record { given = at_most_one given; begun = new } ≡ none_made begun = rw short at made_is in (
           given_none given (ap (λ (m : Made). m.given) same),
@@ -95,7 +104,8 @@ module _ (p : ℕ → Bool) where
   found_before [] ys lt = absurd (omega arith)
   found_before (x ∷ xs) ys lt = at (p x) refl lt (found_before xs ys)
     where
-      at : (t : Bool) → p x ≡ t → position_or_len p (x ∷ xs) < suc (length xs) → (position_or_len p xs < length xs → position_or_len p (xs ++ ys) ≡ position_or_len p xs) →
+      at : (t : Bool) → p x ≡ t → position_or_len p (x ∷ xs) < suc (length xs) →
+          (position_or_len p xs < length xs → position_or_len p (xs ++ ys) ≡ position_or_len p xs) →
           position_or_len p (x ∷ (xs ++ ys)) ≡ position_or_len p (x ∷ xs)
       at true e lt more = rw e refl
       at false e lt more =
@@ -120,22 +130,26 @@ feed_ahead xs more i e =
     let found = found_and_more (λ b. eqb b 10) xs more i e in
     let within : i < length xs = found.0 in
     let before : take i (xs ++ more) ≡ take i xs = take-append-le i xs more (omega arith) in
-    let after : take (length (xs ++ more) - (i + 1)) (drop (i + 1) (xs ++ more)) ≡ drop (i + 1) xs ++ more = take_rest (xs ++ more) (i + 1) ∙ drop-append-le (i + 1) xs more (omega arith) in
-    line_to_feed (xs ++ more) i found.1 ∙ ap (λ (t : List ℕ). t ∷ lines (take (length (xs ++ more) - (i + 1)) (drop (i + 1) (xs ++ more)))) before
+    let after : take (length (xs ++ more) - (i + 1)) (drop (i + 1) (xs ++ more)) ≡ drop (i + 1) xs ++ more =
+    take_rest (xs ++ more) (i + 1) ∙ drop-append-le (i + 1) xs more (omega arith) in
+    line_to_feed (xs ++ more) i found.1
+    ∙ ap (λ (t : List ℕ). t ∷ lines (take (length (xs ++ more) - (i + 1)) (drop (i + 1) (xs ++ more)))) before
     ∙ ap (λ (r : List ℕ). take i xs ∷ lines r) after
 
 -- at the end the bytes without a line feed are the last line
 pub last_ahead : (xs more : List ℕ) → position (λ b. eqb b 10) xs ≡ None → 0 < length xs → more ≡ [] →
     lines (xs ++ more) ≡ xs ∷ lines (drop (length xs) xs ++ more)
 last_ahead xs more e some none =
-    rw none (ap lines (append-nil xs) ∙ line_to_end xs e some ∙ ap (λ (r : List ℕ). xs ∷ lines (r ++ [])) (sym (drop_all (length xs) xs (omega arith))))
+    rw none (ap lines (append-nil xs) ∙ line_to_end xs e some
+    ∙ ap (λ (r : List ℕ). xs ∷ lines (r ++ [])) (sym (drop_all (length xs) xs (omega arith))))
 
 -- the requests and the fault of a line
 
 module _ (n line : ℕ) (begun : Begun) (text : List ℕ) (more : List (List ℕ)) where
   abbrev after_line : Option RequestFault → Told
   after_line fault =
-      if is_none fault then after_these (made n begun (words text)).given (told n (line_after line) (made n begun (words text)).begun more) else stopping fault
+      if is_none fault then after_these (made n begun (words text)).given
+      (told n (line_after line) (made n begun (words text)).begun more) else stopping fault
 
   pub line_made : (new : Begun) (given : Option Request) → Makes n (line_after line) begun new text given →
       told n line begun (text ∷ more) ≡ after_these (at_most_one given) (told n (line_after line) new more)
@@ -149,7 +163,8 @@ module _ (n line : ℕ) (begun : Begun) (text : List ℕ) (more : List (List ℕ
 pub gives_more : (ended : Bool) (a b c : Standing) (xs ys : List Request) → Gives ended a b xs → Gives ended b c ys →
     Gives ended a c (xs ++ ys)
 gives_more ended a b c xs ys first next more comes =
-    first more comes ∙ ap (after_these xs) (next more comes) ∙ (λ i. record { given = sym (append_assoc xs ys (ahead c more).given) i; fault = (ahead c more).fault })
+    first more comes ∙ ap (after_these xs) (next more comes)
+    ∙ (λ i. record { given = sym (append_assoc xs ys (ahead c more).given) i; fault = (ahead c more).fault })
 
 pub feed_within : (xs : List ℕ) (i : ℕ) → position (λ b. eqb b 10) xs ≡ Some i → i < length xs
 feed_within xs i e = (found_and_more (λ b. eqb b 10) xs [] i e).0
@@ -200,7 +215,8 @@ module _ (ended : Bool) (s : Standing) (text : List ℕ) (taken : ℕ) (is : IsL
 
   pub step_faulty : (error : RequestError) → IsLineError (text_fault s.nodes (line_after s.line) s.begun text) error →
       IsErrorAhead ended s error
-  step_faulty (Fault fault) e = λ more comes. ap (told s.nodes s.line s.begun) (is.0 more comes) ∙ line_faulty s.nodes s.line s.begun text (lines (drop taken s.pending ++ more)) fault e
+  step_faulty (Fault fault) e = λ more comes. ap (told s.nodes s.line s.begun) (is.0 more comes)
+      ∙ line_faulty s.nodes s.line s.begun text (lines (drop taken s.pending ++ more)) fault e
   step_faulty NoMemory e = tt
 
 -- a line that is already too long has a fault, for every continuation
@@ -211,8 +227,10 @@ step_long ended s none long more comes =
     let text = begins.0 in
     let size = begins.3 in
     let past : leb (length text) MOST_LINE ≡ false = grind (arith, nat_tests) in
-    let bad : text_fault s.nodes (line_after s.line) s.begun text ≡ Some (RequestFault.Line (record { line = line_after s.line; kind = BadLine })) = rw past refl in
-    ap (told s.nodes s.line s.begun) begins.2 ∙ line_faulty s.nodes s.line s.begun text begins.1 (RequestFault.Line (record { line = line_after s.line; kind = BadLine })) bad
+    let bad : text_fault s.nodes (line_after s.line) s.begun text
+    ≡ Some (RequestFault.Line (record { line = line_after s.line; kind = BadLine })) = rw past refl in
+    ap (told s.nodes s.line s.begun) begins.2 ∙ line_faulty s.nodes s.line s.begun text begins.1
+    (RequestFault.Line (record { line = line_after s.line; kind = BadLine })) bad
 
 -- if no line is whole, there is no line feed
 pub no_feed : (ended : Bool) (bytes : List ℕ) → HasNoLine ended bytes → position (λ b. eqb b 10) bytes ≡ None

@@ -1,5 +1,6 @@
 -- A reader without a whole line left has given all requests of the whole lines.
-use Rattle.std.proofs.Common.{◌≡◌, ℕ, suc, ◌+◌, Bool, true, false, cond, eqb, ◌&&◌, if◌then◌else◌, List, [], ◌∷◌, ◌++◌, length, Option, Some, None, refl, sym, ◌∙◌, ap, arith}
+use Rattle.std.proofs.Common.{◌≡◌, ℕ, suc, ◌+◌, Bool, true, false, cond, eqb, ◌&&◌, if◌then◌else◌, List, [], ◌∷◌, ◌++◌, length}
+use Rattle.std.proofs.Common.{Option, Some, None, refl, sym, ◌∙◌, ap, arith}
 use Rattle.std.specs.Prelude.{All, codes, is_none, filter, position}
 use Rattle.std.specs.List.{slice_split, onto_first}
 use Rattle.std.specs.Option.{option_map, option_and_then}
@@ -17,7 +18,8 @@ use Rattle.ch_read.specs.declared.form.Part.TheVariants.{First}
 use Rattle.ch_read.specs.Words.{lines, words, number, is_word, is_blank, without_empty_last}
 use Rattle.ch_read.specs.Forms.{numbers, numbers_after, item}
 use Rattle.ch_read.specs.Checks.{is_skipped, begins_with}
-use Rattle.ch_read.specs.Requests.{Begun, Made, Told, after_these, line_after, made, near_numbers, none_made, numbers_and_limit, places_numbers, route_numbers, stopping, table_numbers, text_fault, told}
+use Rattle.ch_read.specs.Requests.{Begun, Made, Told, after_these, line_after, made, near_numbers, none_made, numbers_and_limit}
+use Rattle.ch_read.specs.Requests.{places_numbers, route_numbers, stopping, table_numbers, text_fault, told}
 use Rattle.ch_read.specs.RequestLaws.{Went, bytes_of, given_by, went_by, and_then, unended, AreNotHeldBack}
 use Rattle.ch_read.proofs.Splits.{none_passes}
 use Rattle.ch_read.proofs.RequestLaws.{told_by_parts, unended_clear}
@@ -25,10 +27,6 @@ use Rattle.ch_read.proofs.Reading.{one}
 use Rattle.ch_read.proofs.RequestTurns.{given_in_turn, may_come}
 
 -- the last word of a line that ends with the letter x is no number
-
-ends_with_x : List (List ℕ) → Type 0
-ends_with_x parts = (front : List (List ℕ)) × (word : List ℕ) × (parts ≡ front ++ (word ++ 120 ∷ []) ∷ [])
-
 onto_x : (b : ℕ) (front : List (List ℕ)) (word : List ℕ) →
     (before : List (List ℕ)) × (last : List ℕ) × (onto_first b (front ++ (word ++ 120 ∷ []) ∷ []) ≡ before ++ (last ++ 120 ∷ []) ∷ [])
 onto_x b [] word = ([], b ∷ word, refl)
@@ -39,7 +37,8 @@ split_x : (bytes : List ℕ) →
 split_x [] = ([], [], refl)
 split_x (b ∷ bytes) = at (is_blank b) refl (split_x bytes)
   where
-    at : (t : Bool) → is_blank b ≡ t → (front : List (List ℕ)) × (word : List ℕ) × (slice_split is_blank (bytes ++ 120 ∷ []) ≡ front ++ (word ++ 120 ∷ []) ∷ []) →
+    at : (t : Bool) → is_blank b ≡ t → (front : List (List ℕ)) × (word : List ℕ)
+        × (slice_split is_blank (bytes ++ 120 ∷ []) ≡ front ++ (word ++ 120 ∷ []) ∷ []) →
         (front : List (List ℕ)) × (word : List ℕ) × (slice_split is_blank (b ∷ (bytes ++ 120 ∷ [])) ≡ front ++ (word ++ 120 ∷ []) ∷ [])
     at true e split = ([] ∷ split.0, split.1, rw e (ap (λ (parts : List (List ℕ)). [] ∷ parts) split.2))
     at false e split =
@@ -97,17 +96,21 @@ x_no_item letter count (w ∷ front) word = at (bytes_eq w letter) (eqb (length 
 -- a line that ends with x does not have the numbers of a request that may have a limit
 x_no_limited : (letter : List ℕ) (count : ℕ) (front : List (List ℕ)) (word : List ℕ) →
     numbers_and_limit (letter ∷ []) (suc count) (front ++ (word ++ 120 ∷ []) ∷ []) ≡ None
-x_no_limited letter count front word = let next : suc count + 1 ≡ suc (suc count) = omega arith in rw (x_no_item letter count front word, next) (x_no_item letter (suc count) front word)
+x_no_limited letter count front word = let next : suc count + 1 ≡ suc (suc count) = omega arith in
+    rw (x_no_item letter count front word, next) (x_no_item letter (suc count) front word)
 
 -- a line without numbers completes no request
 module _ (n : ℕ) (begun : Begun) (ws : List (List ℕ)) where
-  made_nothing : item (Queries n) First ws ≡ None → route_numbers ws ≡ None → near_numbers ws ≡ None → table_numbers ws ≡ None → places_numbers ws ≡ None → item (Nodes n) First ws ≡ None →
+  made_nothing : item (Queries n) First ws ≡ None → route_numbers ws ≡ None → near_numbers ws ≡ None → table_numbers ws ≡ None →
+      places_numbers ws ≡ None → item (Nodes n) First ws ≡ None →
       (made n begun ws).given ≡ []
   made_nothing query route near table places listed =
-      rw (query, route, near, table, places, listed) (at (is_skipped ws) (begins_with ws (codes "q")) (begins_with ws (codes "r")) (begins_with ws (codes "n")) (begins_with ws (codes "t")) (begins_with ws (codes "p")))
+      rw (query, route, near, table, places, listed) (at (is_skipped ws) (begins_with ws (codes "q")) (begins_with ws (codes "r"))
+      (begins_with ws (codes "n")) (begins_with ws (codes "t")) (begins_with ws (codes "p")))
     where
       at : (t u v w x y : Bool) →
-          (if t then none_made begun else if u then none_made begun else if v then none_made begun else if w then none_made begun else if x then none_made begun else if y then none_made begun else none_made begun).given ≡ []
+          (if t then none_made begun else if u then none_made begun else if v then none_made begun else if w then none_made begun
+          else if x then none_made begun else if y then none_made begun else none_made begun).given ≡ []
       at true u v w x y = refl
       at false true v w x y = refl
       at false false true w x y = refl
@@ -119,7 +122,8 @@ module _ (n : ℕ) (begun : Begun) (ws : List (List ℕ)) where
 x_made_nothing : (n : ℕ) (begun : Begun) (bytes : List ℕ) → (made n begun (words (bytes ++ 120 ∷ []))).given ≡ []
 x_made_nothing n begun bytes =
     let ws = words_x bytes in
-    rw (ws.2) (made_nothing n begun (ws.0 ++ (ws.1 ++ 120 ∷ []) ∷ []) (x_no_item (codes "q") 1 ws.0 ws.1) (x_no_item (codes "r") 1 ws.0 ws.1) (x_no_limited (codes "n") 0 ws.0 ws.1) (x_no_limited (codes "t") 1 ws.0 ws.1)
+    rw (ws.2) (made_nothing n begun (ws.0 ++ (ws.1 ++ 120 ∷ []) ∷ []) (x_no_item (codes "q") 1 ws.0 ws.1)
+    (x_no_item (codes "r") 1 ws.0 ws.1) (x_no_limited (codes "n") 0 ws.0 ws.1) (x_no_limited (codes "t") 1 ws.0 ws.1)
     (x_no_item (codes "p") 1 ws.0 ws.1) (x_no_item (codes "s") 0 ws.0 ws.1))
 
 -- these bytes end the line with an x, and the line after it is unknown
@@ -133,12 +137,14 @@ IsOneLine bytes = All (λ b. eqb b 10 ≡ false) bytes
 x_lines_are : (bytes : List ℕ) → IsOneLine bytes → lines (bytes ++ x_lines) ≡ (bytes ++ 120 ∷ []) ∷ (120 ∷ []) ∷ []
 x_lines_are bytes clear =
     ap lines (sym (append_assoc bytes (120 ∷ []) (10 ∷ 120 ∷ 10 ∷ [])))
-    ∙ ap without_empty_last (slice_split_at (λ b. eqb b 10) (bytes ++ 120 ∷ []) 10 (120 ∷ 10 ∷ []) (All-append (λ b. eqb b 10 ≡ false) bytes (120 ∷ []) clear (one (λ b. eqb b 10 ≡ false) 120 refl)) refl)
+    ∙ ap without_empty_last (slice_split_at (λ b. eqb b 10) (bytes ++ 120 ∷ []) 10 (120 ∷ 10 ∷ [])
+    (All-append (λ b. eqb b 10 ≡ false) bytes (120 ∷ []) clear (one (λ b. eqb b 10 ≡ false) 120 refl)) refl)
 
 -- after such bytes no request follows
 x_told_nothing : (n line : ℕ) (begun : Begun) (bytes : List ℕ) → IsOneLine bytes → (told n line begun (lines (bytes ++ x_lines))).given ≡ []
 x_told_nothing n line begun bytes clear =
-    ap (λ (all : List (List ℕ)). (told n line begun all).given) (x_lines_are bytes clear) ∙ at (text_fault n (line_after line) begun (bytes ++ 120 ∷ [])) refl
+    ap (λ (all : List (List ℕ)). (told n line begun all).given) (x_lines_are bytes clear)
+    ∙ at (text_fault n (line_after line) begun (bytes ++ 120 ∷ [])) refl
   where
     here : Made
     here = made n begun (words (bytes ++ 120 ∷ []))
@@ -156,13 +162,16 @@ one_line bytes e = let past = none_passes (λ b. eqb b 10) bytes e in λ k d lt.
 
 pub not_held_back : AreNotHeldBack
 not_held_back n turns s goes none =
-    sym (append-nil (given_by turns)) ∙ ap (λ (all : List Request). given_by turns ++ all) (sym (x_told_nothing s.nodes s.line s.begun s.pending (one_line s.pending none.0)))
-    ∙ ap (λ (t : Told). t.given) (sym (given_in_turn n turns s goes x_lines (may_come x_lines)) ∙ told_by_parts n (bytes_of turns) x_lines) ∙ ended (is_none (went_by n (bytes_of turns)).told.fault) refl
+    sym (append-nil (given_by turns)) ∙ ap (λ (all : List Request). given_by turns ++ all)
+    (sym (x_told_nothing s.nodes s.line s.begun s.pending (one_line s.pending none.0)))
+    ∙ ap (λ (t : Told). t.given) (sym (given_in_turn n turns s goes x_lines (may_come x_lines))
+    ∙ told_by_parts n (bytes_of turns) x_lines) ∙ ended (is_none (went_by n (bytes_of turns)).told.fault) refl
   where
     w : Went
     w = went_by n (bytes_of turns)
 
     ended : (t : Bool) → is_none w.told.fault ≡ t → (and_then n w (lines (unended (bytes_of turns) ++ x_lines))).given ≡ w.told.given
     ended true e =
-        rw e (ap (λ (all : List Request). w.told.given ++ all) (x_told_nothing n w.line w.begun (unended (bytes_of turns)) (unended_clear (bytes_of turns))) ∙ append-nil w.told.given)
+        rw e (ap (λ (all : List Request). w.told.given ++ all)
+        (x_told_nothing n w.line w.begun (unended (bytes_of turns)) (unended_clear (bytes_of turns))) ∙ append-nil w.told.given)
     ended false e = rw e refl

@@ -1,5 +1,7 @@
 -- The first line of a file and the first word of a line.
-use Rattle.std.proofs.Common.{subst, add-zero, ◌⊎◌, inl, inr, ◌-◌, eqb, ◌≡◌, ℕ, suc, ◌+◌, ◌<◌, ◌≤◌, Bool, true, false, cond, not, ltb, List, [], ◌∷◌, length, take, drop, get_or, ◌++◌, Some, None, refl, sym, ◌∙◌, ap, arith, length-take, length-drop}
+use Rattle.std.proofs.Common.{subst, add-zero, ◌⊎◌, inl, inr, ◌-◌, eqb, ◌≡◌, ℕ, suc, ◌+◌, ◌<◌, ◌≤◌, Bool, true, false, cond, not}
+use Rattle.std.proofs.Common.{ltb, List, [], ◌∷◌, length, take, drop, get_or, ◌++◌, Some, None, refl, sym, ◌∙◌, ap, arith}
+use Rattle.std.proofs.Common.{length-take, length-drop}
 use Rattle.std.specs.Prelude.{filter}
 use Rattle.std.specs.List.{slice_split, position, position_or_len}
 use Rattle.std.proofs.Math.Nat.{eq-zero-or-pos}
@@ -19,7 +21,8 @@ module _ (p : ℕ → Bool) where
       let found = cond_some _ _ _ e in
       let at : position_or_len p xs ≡ i = found.1 in
       let within : position_or_len p xs < length xs = grind (arith, nat_tests) in
-      let cut : (position_or_len p xs < length xs) × (p (get_or xs (position_or_len p xs) 0) ≡ true) × (slice_split p xs ≡ take (position_or_len p xs) xs ∷ slice_split p (drop (position_or_len p xs + 1) xs))
+      let cut : (position_or_len p xs < length xs) × (p (get_or xs (position_or_len p xs) 0) ≡ true)
+      × (slice_split p xs ≡ take (position_or_len p xs) xs ∷ slice_split p (drop (position_or_len p xs + 1) xs))
       = (within, passes_at_first p xs 0 within, slice_split_first p xs 0 within) in
       subst (λ n. (n < length xs) × (p (get_or xs n 0) ≡ true) × (slice_split p xs ≡ take n xs ∷ slice_split p (drop (n + 1) xs))) at cut
 
@@ -66,7 +69,8 @@ module _ (p : ℕ → Bool) (xs : List ℕ) (searched : ℕ) (inside : searched 
   pub found_after : (i : ℕ) → position p (drop searched xs) ≡ Some i → position p xs ≡ Some (searched + i)
   found_after i e =
       let front : length (take searched xs) ≡ searched = omega (arith, length-take searched xs) in
-      ap (position p) (sym (take-append-drop searched xs)) ∙ found_past p (take searched xs) (drop searched xs) none i e ∙ ap (λ n. Some (n + i)) front
+      ap (position p) (sym (take-append-drop searched xs)) ∙ found_past p (take searched xs) (drop searched xs) none i e
+      ∙ ap (λ n. Some (n + i)) front
 
   pub none_after : position p (drop searched xs) ≡ None → position p xs ≡ None
   none_after e = ap (position p) (sym (take-append-drop searched xs)) ∙ none_past p (take searched xs) (drop searched xs) none e
@@ -128,7 +132,8 @@ word_found text start e =
     let found = split_at (λ b. not (is_blank b)) text start e in
     let within : start < length text = found.0 in
     let at : word_begins text ≡ start = (cond_some _ _ _ e).1 in
-    let first : get_or (drop start text) 0 0 ≡ get_or text start 0 = get_or-drop start text 0 0 ∙ ap (λ n. get_or text n 0) (add-zero start) in
+    let first : get_or (drop start text) 0 0 ≡ get_or text start 0 =
+    get_or-drop start text 0 0 ∙ ap (λ n. get_or text n 0) (add-zero start) in
     rw (take_rest text start) (
       words_after_blanks text ∙ ap (λ n. words (drop n text)) at,
       record {
@@ -155,7 +160,8 @@ word_to_blank text end begins e =
     let within : end < length text = found.0 in
     let some : 0 < end = after end (eq-zero-or-pos end) found.1 in
     let long : 0 < length (take end text) = omega (arith, length-take end text) in
-    let rest : words (drop end text) ≡ words (drop (end + 1) text) = ap words (drop_more text end 0 within) ∙ blank_first (get_or text end 0) (drop (end + 1) text) found.1 in (
+    let rest : words (drop end text) ≡ words (drop (end + 1) text) =
+    ap words (drop_more text end 0 within) ∙ blank_first (get_or text end 0) (drop (end + 1) text) found.1 in (
       ap (filter is_word) found.2 ∙ one_word (take end text) (slice_split is_blank (drop (end + 1) text)) long
           ∙ ap (λ ws. take end text ∷ ws) (sym rest ∙ ap words (sym (take_rest text end))),
       long,

@@ -1,5 +1,6 @@
 -- Reading back lines of words, which are written with a space between each two; and reading back numbers.
-use Rattle.std.proofs.Common.{◌≡◌, ℕ, suc, ◌<◌, ◌^◌, ◌||◌, Bool, true, false, eqb, List, [], ◌∷◌, ◌++◌, length, map, get_or, Contains, Some, refl, sym, ◌∙◌, ap, arith, append_assoc}
+use Rattle.std.proofs.Common.{◌≡◌, ℕ, suc, ◌<◌, ◌^◌, ◌||◌, Bool, true, false, eqb, List, [], ◌∷◌, ◌++◌, length, map, get_or}
+use Rattle.std.proofs.Common.{Contains, Some, refl, sym, ◌∙◌, ap, arith, append_assoc}
 use Rattle.std.specs.Prelude.{All, ⊤, filter, decimal}
 use Rattle.std.specs.List.{flat_map, slice_split, onto_first}
 use Rattle.std.specs.Str.{all_ascii_digits}
@@ -28,7 +29,8 @@ split_front : (p : ℕ → Bool) (xs rest : List ℕ) (c : ℕ) → All (λ b. p
     slice_split p (xs ++ c ∷ rest) ≡ xs ∷ slice_split p rest
 split_front p [] rest c none here = slice_split-cons_yes p c rest here
 split_front p (x ∷ xs) rest c none here =
-    slice_split-cons_no p x (xs ++ c ∷ rest) (none 0 0 (omega arith)) ∙ ap (onto_first x) (split_front p xs rest c (λ k d lt. none (suc k) d (omega arith)) here)
+    slice_split-cons_no p x (xs ++ c ∷ rest) (none 0 0 (omega arith))
+    ∙ ap (onto_first x) (split_front p xs rest c (λ k d lt. none (suc k) d (omega arith)) here)
 
 -- a word, and then each further word after a space
 abbrev pub spaced : List ℕ → List (List ℕ) → List ℕ
@@ -48,7 +50,8 @@ fed_is w (v ∷ ws) = ap (λ t. w ++ 32 ∷ t) (fed_is v ws) ∙ sym (append_ass
 pub words_spaced : (w : List ℕ) (ws : List (List ℕ)) → IsPlain w → ArePlain ws → words (spaced w ws) ≡ w ∷ ws
 words_spaced w [] plain more = ap (filter is_word) (slice_split_none is_blank w plain.none) ∙ one_word w [] plain.some
 words_spaced w (v ∷ ws) plain more =
-    ap (filter is_word) (split_front is_blank w (spaced v ws) 32 plain.none refl) ∙ one_word w (slice_split is_blank (spaced v ws)) plain.some
+    ap (filter is_word) (split_front is_blank w (spaced v ws) 32 plain.none refl)
+    ∙ one_word w (slice_split is_blank (spaced v ws)) plain.some
     ∙ ap (λ (t : List (List ℕ)). w ∷ t) (words_spaced v ws more.0 more.1)
 
 abbrev is_feed : ℕ → Bool
@@ -81,9 +84,11 @@ text_of ls = flat_map (λ l. fed l.0 l.1) ls
 -- the first line is the one that was written
 first_line : (l : Line) (rest : List ℕ) → IsPlainLine l → lines (fed l.0 l.1 ++ rest) ≡ line_of l ∷ lines rest
 first_line l rest plain =
-    let whole : fed l.0 l.1 ++ rest ≡ line_of l ++ 10 ∷ rest = ap (λ t. t ++ rest) (fed_is l.0 l.1) ∙ append_assoc (line_of l) (10 ∷ []) rest in
+    let whole : fed l.0 l.1 ++ rest ≡ line_of l ++ 10 ∷ rest =
+    ap (λ t. t ++ rest) (fed_is l.0 l.1) ∙ append_assoc (line_of l) (10 ∷ []) rest in
     let some : 0 < length (slice_split is_feed rest) = omega (arith, length-slice_split is_feed rest) in
-    ap lines whole ∙ ap without_empty_last (split_front is_feed (line_of l) rest 10 (no_feeds l.0 l.1 plain.0 plain.1) refl) ∙ line_before (line_of l) (slice_split is_feed rest) some
+    ap lines whole ∙ ap without_empty_last (split_front is_feed (line_of l) rest 10 (no_feeds l.0 l.1 plain.0 plain.1) refl)
+    ∙ line_before (line_of l) (slice_split is_feed rest) some
 
 -- all lines are those that were written
 pub lines_text : (ls : List Line) → ((l : Line) → Contains ls l → IsPlainLine l) → lines (text_of ls) ≡ map line_of ls

@@ -1,5 +1,6 @@
 -- The lines of a saved hierarchy within the limits have no fault, and name it.
-use Rattle.std.proofs.Common.{◌≡◌, ℕ, ◌+◌, ◌<◌, ◌≤◌, ◌^◌, true, false, List, [], ◌∷◌, ◌++◌, length, map, Contains, Option, Some, None, refl, ◌∙◌, ap, arith}
+use Rattle.std.proofs.Common.{◌≡◌, ℕ, ◌+◌, ◌<◌, ◌≤◌, ◌^◌, true, false, List, [], ◌∷◌, ◌++◌, length, map, Contains, Option, Some}
+use Rattle.std.proofs.Common.{None, refl, ◌∙◌, ap, arith}
 use Rattle.std.specs.Prelude.{⊤, codes, decimal, is_some, option_map}
 use Rattle.std.specs.List.{filter_map, cons_option}
 use Rattle.std.specs.Option.{option_and_then}
@@ -107,7 +108,13 @@ module _ (n : ℕ) (small : n ≤ MOST_NODES) where
       let weight = is.weight in
       let arcs = is.arcs in (
         plain_byte 108 refl,
-        (decimal_plain (l.from + 1) (fits l.from is.from), (decimal_plain (l.to + 1) (fits l.to is.to), (decimal_plain l.cost.weight (omega arith), (decimal_plain l.cost.arcs (omega arith), (middle_plain l.middle is.middle, tt))))),
+        (
+          decimal_plain (l.from + 1) (fits l.from is.from),
+          (
+            decimal_plain (l.to + 1) (fits l.to is.to),
+            (decimal_plain l.cost.weight (omega arith), (decimal_plain l.cost.arcs (omega arith), (middle_plain l.middle is.middle, tt))),
+          ),
+        ),
       )
 
   -- the numbers of the lines of the order
@@ -120,7 +127,10 @@ module _ (n : ℕ) (small : n ≤ MOST_NODES) where
       let arcs = is.arcs in
       numbers_read (leg_line l).1 (leg_numbers l) (
         number_decimal (l.from + 1) (fits l.from is.from),
-        (number_decimal (l.to + 1) (fits l.to is.to), (number_decimal l.cost.weight (omega arith), (number_decimal l.cost.arcs (omega arith), (middle_read l.middle is.middle, tt)))),
+        (
+          number_decimal (l.to + 1) (fits l.to is.to),
+          (number_decimal l.cost.weight (omega arith), (number_decimal l.cost.arcs (omega arith), (middle_read l.middle is.middle, tt))),
+        ),
       )
 
 -- the values of lines that each have one, and of lines that have none
@@ -138,12 +148,16 @@ module _ {X Y : Type 0} (f : X → List ℕ) (p : List ℕ → Option Y) where
 pub problem_clear : (form : Form) (ws : List (List ℕ)) (h : Heading) → heading form ws ≡ Some h → is_size form h ≡ true →
     first_failing (problem_checks form None ws) ≡ None
 problem_clear form ws h found size =
-    ap (λ o. first_failing ((true, SecondProblem) ∷ (is_some o, BadProblem) ∷ (passes (is_size form) o, Size) ∷ [])) found ∙ ap (λ b. first_failing ((b, Size) ∷ [])) size
+    ap (λ o. first_failing ((true, SecondProblem) ∷ (is_some o, BadProblem) ∷ (passes (is_size form) o, Size) ∷ [])) found
+    ∙ ap (λ b. first_failing ((b, Size) ∷ [])) size
 
-pub item_clear : (form : Form) (part : Part) (h : Heading) (count : ℕ) (o : Option (List ℕ)) (ns : List ℕ) → o ≡ Some ns → count < count_of h.items part →
-    are_nodes form part h.nodes ns ≡ true → is_weight form part h.nodes ns ≡ true → first_failing (item_checks form part (Some h) count o) ≡ None
+pub item_clear : (form : Form) (part : Part) (h : Heading) (count : ℕ) (o : Option (List ℕ)) (ns : List ℕ) → o ≡ Some ns →
+    count < count_of h.items part →
+    are_nodes form part h.nodes ns ≡ true → is_weight form part h.nodes ns ≡ true →
+    first_failing (item_checks form part (Some h) count o) ≡ None
 item_clear form part h count o ns read few nodes weight =
     ap (λ q. first_failing (item_checks form part (Some h) count q)) read
-    ∙ ap (λ b. first_failing ((b, TooMany) ∷ (are_nodes form part h.nodes ns, NodeRange) ∷ (is_weight form part h.nodes ns, Sum) ∷ [])) (lt-ltb count (count_of h.items part) few)
+    ∙ ap (λ b. first_failing ((b, TooMany) ∷ (are_nodes form part h.nodes ns, NodeRange) ∷ (is_weight form part h.nodes ns, Sum)
+    ∷ [])) (lt-ltb count (count_of h.items part) few)
     ∙ ap (λ b. first_failing ((b, NodeRange) ∷ (is_weight form part h.nodes ns, Sum) ∷ [])) nodes
     ∙ ap (λ b. first_failing ((b, Sum) ∷ [])) weight

@@ -1,11 +1,13 @@
 -- The checks of each line in their order, and the first check that fails.
-use Rattle.std.specs.Prelude.{◌≡◌, ℕ, ◌+◌, ◌*◌, ◌-◌, ◌<◌, ◌≤◌, ◌==◌, ◌&&◌, nat_lt, nat_le, Bool, true, false, if◌then◌else◌, List, [], ◌∷◌, length, take, slice_index, slice_index_or, Option, Some, None, is_some, is_none, codes}
+use Rattle.std.specs.Prelude.{◌≡◌, ℕ, ◌+◌, ◌*◌, ◌-◌, ◌<◌, ◌≤◌, ◌==◌, ◌&&◌, nat_lt, nat_le, Bool, true, false, if◌then◌else◌, List}
+use Rattle.std.specs.Prelude.{[], ◌∷◌, length, take, slice_index, slice_index_or, Option, Some, None, is_some, is_none, codes}
 use Rattle.std.specs.List.{list_all}
 use Rattle.std.specs.Option.{option_map_or}
 use Rattle.std.specs.Str.{bytes_eq}
 use Rattle.ch_graph.specs.declared.limits.TheConstants.{MOST_NODES, MOST_ARCS, MOST_WEIGHT, MOST_QUERIES, MOST_LISTED, MOST_LEGS}
 use Rattle.ch_read.specs.declared.fault.FaultKind.{FaultKind}
-use Rattle.ch_read.specs.declared.fault.FaultKind.TheVariants.{UnknownLine, BadProblem, SecondProblem, NoProblem, BadLine, NodeRange, Sum, Size, TooMany, TooFew}
+use Rattle.ch_read.specs.declared.fault.FaultKind.TheVariants.{UnknownLine, BadProblem, SecondProblem, NoProblem, BadLine}
+use Rattle.ch_read.specs.declared.fault.FaultKind.TheVariants.{NodeRange, Sum, Size, TooMany, TooFew}
 use Rattle.ch_read.specs.declared.form.Form.{Form}
 use Rattle.ch_read.specs.declared.form.Form.TheVariants.{Graph, Queries, Nodes, Saved}
 use Rattle.ch_read.specs.declared.form.Part.{Part}

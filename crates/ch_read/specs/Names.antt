@@ -57,3 +57,7 @@ pub record NamesSaved (bytes : List ℕ) (n : ℕ) (saved : OrderAndLegs) : Type
   pub accepted : IsAccepted (Saved n) bytes
   pub order : saved.order ≡ map node_from (items_in (Saved n) First (lines bytes))
   pub legs : saved.legs ≡ map leg_from (items_in (Saved n) Second (lines bytes))
+
+-- the bytes name a hierarchy with this order of the nodes, on a graph of n nodes
+abbrev pub NamesOrder : List ℕ → ℕ → List ℕ → Type 0
+NamesOrder bytes n order = (legs : List SavedLeg) × NamesSaved bytes n (record { order = order; legs = legs })

@@ -1,5 +1,6 @@
 -- The clauses on one line.
-use Rattle.std.specs.Prelude.{◌≡◌, ℕ, ◌-◌, ◌^◌, ◌<◌, ◌≤◌, true, List, [], length, map, min, replicate, ◌++◌, slice_index, Option, Some, None, All, ⊤}
+use Rattle.std.specs.Prelude.{◌≡◌, ℕ, ◌-◌, ◌^◌, ◌<◌, ◌≤◌, true, List, [], length, map, min, replicate, ◌++◌, slice_index, Option}
+use Rattle.std.specs.Prelude.{Some, None, All, ⊤, ◌∷◌, option_map}
 use Rattle.ch_read.specs.declared.fault.FaultKind.{FaultKind}
 use Rattle.ch_read.specs.declared.form.Form.{Form}
 use Rattle.ch_read.specs.declared.form.Part.{Part}
@@ -12,7 +13,7 @@ use Rattle.ch_read.specs.declared.check.Line.TheVariants.{Skipped, Problem, Firs
 use Rattle.ch_read.specs.Forms.{numbers_after, item_size, heading, item, heading_in, items_in, count_of}
 use Rattle.ch_read.specs.Checks.{Check, is_size, are_nodes, is_weight, first_failing, line_checks, end_checks, IsAccepted, IsFault}
 use Rattle.ch_read.specs.Names.{node_or_none}
-use Rattle.ch_read.specs.Words.{lines}
+use Rattle.ch_read.specs.Words.{lines, number}
 use Rattle.ch_read.specs.declared.fault.ReadError.{ReadError}
 use Rattle.ch_read.specs.declared.fault.ReadError.TheVariants.{Fault, NoMemory}
 
@@ -31,6 +32,15 @@ Fails checks kind = first_failing checks ≡ Some kind
 -- there are numbers, and the five values are these numbers, capped, and then zeros
 abbrev pub AreCapped : Option (List ℕ) → List ℕ → Type 0
 AreCapped numbers values = (ns : List ℕ) × (numbers ≡ Some ns) × (values ≡ map capped_number ns ++ replicate (5 - length ns) 0)
+
+-- the first word writes this number, which is capped, and these words follow it
+abbrev pub HasFirstNumber : List (List ℕ) → ℕ → List (List ℕ) → Type 0
+HasFirstNumber ws value rest = (word : List ℕ) × (ws ≡ word ∷ rest) × (Some value ≡ option_map capped_number (number word))
+
+-- there is no word, or the first word writes no number
+abbrev pub HasNoFirstNumber : List (List ℕ) → Type 0
+HasNoFirstNumber [] = ⊤
+HasNoFirstNumber (word ∷ rest) = number word ≡ None
 
 -- the words do not begin with these
 abbrev pub IsOther : List (List ℕ) → List (List ℕ) → Type 0

@@ -4,7 +4,8 @@ use Rattle.std.specs.List.{slice_split, flat_map}
 use Rattle.ch_read.specs.declared.request.Request.{Request}
 use Rattle.ch_read.specs.declared.request_fault.RequestFault.{RequestFault}
 use Rattle.ch_read.specs.Words.{lines, words}
-use Rattle.ch_read.specs.Requests.{Begun, Told, Standing, after_these, line_after, made, nothing, stopping, text_fault, told, told_by, starting, fed, MayCome, Gives, HasGiven, IsUsedUp, IsStopped}
+use Rattle.ch_read.specs.Requests.{Begun, Told, Standing, after_these, line_after, made, nothing, stopping, text_fault, told}
+use Rattle.ch_read.specs.Requests.{told_by, starting, fed, MayCome, Gives, HasGiven, IsUsedUp, IsStopped}
 
 -- the state of a reader after some lines: their requests and their fault, and the state for the next line
 pub record Went : Type 0 where
@@ -77,17 +78,21 @@ AreGivenInTurn =
 -- when the input has ended and all is used up, the reader has given all requests of the bytes, and they have no fault
 abbrev pub AreGivenToTheEnd : Type 0
 AreGivenToTheEnd =
-    (n : ℕ) (turns : List Turn) (s : Standing) → GoesBy turns (starting n) s → (new : Standing) (last : List Request) → Gives true s new last → IsUsedUp true new →
+    (n : ℕ) (turns : List Turn) (s : Standing) → GoesBy turns (starting n) s → (new : Standing) (last : List Request) →
+    Gives true s new last → IsUsedUp true new →
     told_by n (bytes_of turns) ≡ record { given = given_by turns ++ last; fault = None }
 
 -- for every continuation of the input: when a fault was met, the reader has given all requests before it, and the bytes
 -- have that fault
 abbrev pub AreGivenToTheFault : Type 0
 AreGivenToTheFault =
-    (n : ℕ) (turns : List Turn) (s : Standing) → GoesBy turns (starting n) s → (ended : Bool) (new : Standing) (last : List Request) → Gives ended s new last → (fault : RequestFault) → IsStopped ended new fault →
-    (more : List ℕ) → MayCome ended more → told_by n (bytes_of turns ++ more) ≡ record { given = given_by turns ++ last; fault = Some fault }
+    (n : ℕ) (turns : List Turn) (s : Standing) → GoesBy turns (starting n) s → (ended : Bool) (new : Standing)
+    (last : List Request) → Gives ended s new last → (fault : RequestFault) → IsStopped ended new fault →
+    (more : List ℕ) → MayCome ended more →
+    told_by n (bytes_of turns ++ more) ≡ record { given = given_by turns ++ last; fault = Some fault }
 
 -- if no line is whole in the pending bytes, no request is held back: the reader has given all requests of the lines
 -- that ended
 abbrev pub AreNotHeldBack : Type 0
-AreNotHeldBack = (n : ℕ) (turns : List Turn) (s : Standing) → GoesBy turns (starting n) s → IsUsedUp false s → given_by turns ≡ (went_by n (bytes_of turns)).told.given
+AreNotHeldBack = (n : ℕ) (turns : List Turn) (s : Standing) → GoesBy turns (starting n) s → IsUsedUp false s →
+    given_by turns ≡ (went_by n (bytes_of turns)).told.given

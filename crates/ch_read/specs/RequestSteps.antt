@@ -1,5 +1,6 @@
 -- The clauses on one line of requests.
-use Rattle.std.specs.Prelude.{◌≡◌, ℕ, ◌*◌, ◌<◌, ◌≤◌, Bool, true, false, List, [], ◌∷◌, ◌++◌, length, drop, slice_get, slice_index, Option, Some, None, option_map, position, ◌==◌, All, ⊤}
+use Rattle.std.specs.Prelude.{◌≡◌, ℕ, ◌*◌, ◌<◌, ◌≤◌, Bool, true, false, List, [], ◌∷◌, ◌++◌, length, drop, slice_get, slice_index}
+use Rattle.std.specs.Prelude.{Option, Some, None, option_map, position, ◌==◌, All, ⊤}
 use Rattle.ch_graph.specs.declared.limits.TheConstants.{MOST_LISTED}
 use Rattle.ch_work.specs.declared.limits.TheConstants.{MOST_CELLS}
 use Rattle.ch_read.specs.declared.begun.Purpose.{Purpose}
@@ -32,7 +33,8 @@ pub record IsBegun (n : ℕ) (begun : Begun) : Type 0 where
 -- the first two of the numbers, and the number at this place as a limit, if there is one; each is capped
 abbrev pub IsLimited : ℕ → Option (List ℕ) → Limited → Type 0
 IsLimited place numbers limited =
-    (ns : List ℕ) × (numbers ≡ Some ns) × (limited.first ≡ capped_number (slice_index ns 0)) × (limited.second ≡ capped_number (slice_index ns 1))
+    (ns : List ℕ) × (numbers ≡ Some ns) × (limited.first ≡ capped_number (slice_index ns 0))
+    × (limited.second ≡ capped_number (slice_index ns 1))
     × (limited.within ≡ option_map capped_number (slice_get ns place))
 
 -- there is no fault, and the numbers give this value
@@ -56,7 +58,8 @@ IsLineError fault NoMemory = ⊤
 -- for every continuation of the input: the first line is `text`, and takes this number of bytes; or no line is whole
 abbrev pub IsLineAhead : Bool → List ℕ → List ℕ → ℕ → Type 0
 IsLineAhead ended bytes text taken =
-    ((more : List ℕ) → MayCome ended more → lines (bytes ++ more) ≡ text ∷ lines (drop taken bytes ++ more)) × (0 < taken) × (taken ≤ length bytes)
+    ((more : List ℕ) → MayCome ended more → lines (bytes ++ more) ≡ text ∷ lines (drop taken bytes ++ more)) × (0 < taken)
+    × (taken ≤ length bytes)
 
 abbrev pub HasNoLine : Bool → List ℕ → Type 0
 HasNoLine false bytes = position (λ b. b == 10) bytes ≡ None

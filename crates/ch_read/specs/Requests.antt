@@ -1,6 +1,8 @@
 -- The requests of a stream: queries, tables with their lists, places and near rows. Each is given as soon as it is
 -- whole.
-use Rattle.std.specs.Prelude.{◌≡◌, ℕ, ◌+◌, ◌*◌, ◌<◌, ◌≤◌, nat_le, Bool, true, false, ◌&&◌, if◌then◌else◌, List, [], ◌∷◌, ◌++◌, length, take, drop, slice_index, slice_get, ◌==◌, Option, Some, None, is_some, is_none, option_map, codes, All, position, ⊤}
+use Rattle.std.specs.Prelude.{◌≡◌, ℕ, ◌+◌, ◌*◌, ◌<◌, ◌≤◌, nat_le, Bool, true, false, ◌&&◌, if◌then◌else◌, List, [], ◌∷◌, ◌++◌}
+use Rattle.std.specs.Prelude.{length, take, drop, slice_index, slice_get, ◌==◌, Option, Some, None, is_some, is_none, option_map}
+use Rattle.std.specs.Prelude.{codes, All, position, ⊤}
 use Rattle.std.specs.Option.{option_map_or, option_or}
 use Rattle.ch_graph.specs.declared.limits.TheConstants.{MOST_LISTED, MOST_WEIGHT}
 use Rattle.ch_work.specs.declared.limits.TheConstants.{MOST_CELLS}
@@ -88,7 +90,8 @@ query_checks n begun numbers = (is_whole begun, TooFew) ∷ item_checks (Queries
 
 abbrev pub table_checks : Begun → Option (List ℕ) → List Check
 table_checks begun numbers =
-    (is_whole begun, TooFew) ∷ (is_some numbers, BadLine) ∷ (passes are_listable numbers, Size) ∷ (passes (λ ns. is_limit (slice_get ns 2)) numbers, Sum) ∷ []
+    (is_whole begun, TooFew) ∷ (is_some numbers, BadLine) ∷ (passes are_listable numbers, Size)
+    ∷ (passes (λ ns. is_limit (slice_get ns 2)) numbers, Sum) ∷ []
 
 abbrev pub places_checks : Begun → Option (List ℕ) → List Check
 places_checks begun numbers = (is_whole begun, TooFew) ∷ (is_some numbers, BadLine) ∷ (passes are_listable numbers, Size) ∷ []
@@ -189,9 +192,12 @@ with_node begun node =
 abbrev pub made : ℕ → Begun → List (List ℕ) → Made
 made n begun ws =
     if is_skipped ws then none_made begun
-    else if begins_with ws (codes "q") then option_map_or (λ ns. record { given = query_from (pair_from ns) ∷ []; begun = begun }) (item (Queries n) First ws) (none_made begun)
-    else if begins_with ws (codes "r") then option_map_or (λ ns. record { given = route_from (pair_from ns) ∷ []; begun = begun }) (route_numbers ws) (none_made begun)
-    else if begins_with ws (codes "n") then option_map_or (λ ns. record { given = row_from (near_from ns) ∷ []; begun = begun }) (near_numbers ws) (none_made begun)
+    else if begins_with ws (codes "q") then option_map_or (λ ns. record { given = query_from (pair_from ns) ∷ []; begun = begun })
+    (item (Queries n) First ws) (none_made begun)
+    else if begins_with ws (codes "r") then option_map_or (λ ns. record { given = route_from (pair_from ns) ∷ []; begun = begun })
+    (route_numbers ws) (none_made begun)
+    else if begins_with ws (codes "n") then option_map_or (λ ns. record { given = row_from (near_from ns) ∷ []; begun = begun })
+    (near_numbers ws) (none_made begun)
     else if begins_with ws (codes "t") then option_map_or (λ ns. settled (table_from ns)) (table_numbers ws) (none_made begun)
     else if begins_with ws (codes "p") then option_map_or (λ ns. settled (places_from ns)) (places_numbers ws) (none_made begun)
     else option_map_or (λ ns. settled (with_node begun (node_from ns))) (item (Nodes n) First ws) (none_made begun)

@@ -1,5 +1,6 @@
 -- A file that is read in sections: its head up to the problem line, and then parts of the bytes after it.
-use Rattle.std.specs.Prelude.{◌≡◌, ℕ, ◌-◌, ◌+◌, ◌<◌, ◌≤◌, true, List, [], ◌++◌, length, take, slice_index_or, Option, Some, None, is_some, Vec, All}
+use Rattle.std.specs.Prelude.{◌≡◌, ℕ, ◌-◌, ◌+◌, ◌<◌, ◌≤◌, true, List, [], ◌++◌, length, take, slice_index_or, Option, Some, None}
+use Rattle.std.specs.Prelude.{is_some, Vec, All}
 use Rattle.std.specs.List.{flat_map}
 use Rattle.ch_read.specs.declared.fault.FaultKind.{FaultKind}
 use Rattle.ch_read.specs.declared.fault.ReadError.{ReadError}
@@ -36,7 +37,8 @@ IsErrorAfter form begun bytes (Fault f) = IsFaultAfter form begun bytes f.line f
 IsErrorAfter form begun bytes NoMemory = Unit {0}
 
 -- no line has a fault after this heading, and this is the content of the lines
-pub record AreLines {A B : Type 0} (a : Item → A) (b : Item → B) (form : Form) (begun : Option Heading) (all : List (List ℕ)) (count : ℕ) (seen : Option Heading) (first : List A) (second : List B) : Type 0 where
+pub record AreLines {A B : Type 0} (a : Item → A) (b : Item → B) (form : Form) (begun : Option Heading) (all : List (List ℕ))
+    (count : ℕ) (seen : Option Heading) (first : List A) (second : List B) : Type 0 where
   pub counted : count ≡ length all
   pub clear : (i : ℕ) → i < length all → fault_after form begun all i ≡ None
   pub seen_is : seen ≡ seen_after form begun all
@@ -49,7 +51,8 @@ abbrev pub PassesAfter : Form → Heading → List ℕ → Type 0
 PassesAfter form h line = (counts : Counts) × (first_failing (line_checks form (Some h) counts (words line)) ≡ None)
 
 -- the lines of a section pass their checks after this heading, and these are their items
-pub record IsSection {A B : Type 0} (a : Item → A) (b : Item → B) (form : Form) (h : Heading) (all : List (List ℕ)) (first : List A) (second : List B) : Type 0 where
+pub record IsSection {A B : Type 0} (a : Item → A) (b : Item → B) (form : Form) (h : Heading) (all : List (List ℕ)) (first : List A)
+    (second : List B) : Type 0 where
   pub passes : All (PassesAfter form h) all
   pub first_is : first ≡ values_in a form First all
   pub second_is : second ≡ values_in b form Second all
@@ -80,7 +83,8 @@ second_of None = []
 second_of (Some items) = items.1.items
 
 -- each section was read, and the lists have the items of all sections in order
-pub record AreListsOf {A B Y Z : Type 0} (sections : List (Option (Vec A Y × Vec B Z))) (firsts : List (Vec A Y)) (seconds : List (Vec B Z)) : Type 0 where
+pub record AreListsOf {A B Y Z : Type 0} (sections : List (Option (Vec A Y × Vec B Z))) (firsts : List (Vec A Y))
+    (seconds : List (Vec B Z)) : Type 0 where
   pub there : All (λ section. is_some section ≡ true) sections
   pub first_is : flat_map (λ (list : Vec A Y). list.items) firsts ≡ flat_map first_of sections
   pub second_is : flat_map (λ (list : Vec B Z). list.items) seconds ≡ flat_map second_of sections

@@ -1,7 +1,8 @@
 -- The texts of faults.
 use Rattle.std.specs.Prelude.{ℕ, ◌++◌, List, codes, decimal}
 use Rattle.ch_read.specs.declared.fault.FaultKind.{FaultKind}
-use Rattle.ch_read.specs.declared.fault.FaultKind.TheVariants.{UnknownLine, BadProblem, SecondProblem, NoProblem, BadLine, NodeRange, Sum, Size, TooMany, TooFew}
+use Rattle.ch_read.specs.declared.fault.FaultKind.TheVariants.{UnknownLine, BadProblem, SecondProblem, NoProblem, BadLine}
+use Rattle.ch_read.specs.declared.fault.FaultKind.TheVariants.{NodeRange, Sum, Size, TooMany, TooFew}
 use Rattle.ch_read.specs.declared.fault.ReadFault.{ReadFault}
 use Rattle.ch_read.specs.declared.fault.ReadError.{ReadError}
 use Rattle.ch_read.specs.declared.fault.ReadError.TheVariants.{Fault, NoMemory}

@@ -88,4 +88,4 @@ pub use queries::read_queries;
 pub use request::{MOST_LINE, NearPlaces, Request, TableLists};
 pub use request_fault::{RequestError, RequestFault};
 pub use request_reader::RequestReader;
-pub use saved::{read_saved, read_saved_by, read_saved_in_sections};
+pub use saved::{read_order_by, read_saved, read_saved_by, read_saved_in_sections};

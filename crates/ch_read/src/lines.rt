@@ -23,7 +23,7 @@ pub fn split_line(bytes: &[u8]) -> (&[u8], &[u8])
 }
 
 /// Whether the byte is a blank, which separates words.
-fn blank(b: u8) -> bool
+pub(crate) fn blank(b: u8) -> bool
     ensures { result ≡ is_blank b }
 {
     b == b' ' || b == b'\t' || b == b'\r' || b == b'\n'
@@ -37,7 +37,7 @@ fn blank_at(text: &[u8]) -> Option<usize>
 }
 
 /// Returns the place at which the first word begins.
-fn word_at(text: &[u8]) -> Option<usize>
+pub(crate) fn word_at(text: &[u8]) -> Option<usize>
     ensures { result ≡ position (λ b. not (is_blank b)) text.now }
 {
     text.iter().position(|b| !blank(*b))

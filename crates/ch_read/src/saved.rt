@@ -1,9 +1,10 @@
 //! Saved hierarchies.
+ghost use Rattle.std.specs.Prelude.{ℕ, List};
 ghost use Rattle.ch_graph.specs.Saved.{OrderAndLegs};
 ghost use Rattle.ch_read.specs.declared.fault.ReadFault.{ReadFault as FaultAt};
-ghost use Rattle.ch_read.specs.Answers.{AnswersWhere};
+ghost use Rattle.ch_read.specs.Answers.{AnswersWhere, seen_by_items};
 ghost use Rattle.ch_read.specs.Checks.{IsFault};
-ghost use Rattle.ch_read.specs.Names.{NamesSaved};
+ghost use Rattle.ch_read.specs.Names.{NamesOrder, NamesSaved};
 
 use crate::fault::ReadError;
 use crate::form::{Form, Item};
@@ -66,6 +67,26 @@ pub fn read_saved_in_sections<R: Threads + Sync, G: Gate>(
 {
     let (_, order, legs) = read_items_by::<R, G, u32, SavedLeg>(crew, size, Form::Saved(n), bytes)?;
     Ok(Saved { order, legs })
+}
+
+/// Reads the order that the bytes of a saved file name, on a graph of `n` nodes, with the workers of a crew. The lines
+/// of its legs are judged as [`read_saved`] judges them, and no leg is kept: the call takes memory for the order alone.
+///
+/// # Errors
+/// The errors of [`read_saved`].
+pub fn read_order_by<R: Threads + Sync, G: Gate>(
+    crew: &Crew<'_, R, G>,
+    bytes: &[u8],
+    n: u32,
+) -> Result<Vec<u32>, ReadError>
+    ensures value { (order : List ℕ) →
+        AnswersWhere (seen_by_items result) (Ok order) (NamesOrder bytes.now n order) }
+    ensures fault { (f : FaultAt) →
+        AnswersWhere (seen_by_items result) (Err (ReadError.Fault f))
+        (IsFault (Form.Saved n) bytes.now f.line f.kind) }
+{
+    let (_, order, _) = read_items_by::<R, G, u32, ()>(crew, SECTION, Form::Saved(n), bytes)?;
+    Ok(order)
 }
 
 impl FromItem for SavedLeg {

@@ -39,7 +39,7 @@ pub(crate) fn read_items_by<
         × (second.items ≡ values_in B.from_item_gives form Part.Second (lines bytes.now)))
         (IsErrorOf form bytes.now) }
 {
-    if crew.plan.workers() > 1 && bytes.len() > size {
+    if crew.plan.shares(bytes.len(), size.saturating_add(1)) {
         match read_sections::<R, G, A, B>(crew, size, form, bytes) {
             Ok(Some(read)) => return Ok(read),
             Ok(None) => {}

@@ -1,5 +1,6 @@
 -- A node that is neither in a round nor a neighbour of it keeps its legs, its depth, its count and its key.
-use Rattle.std.proofs.Common.{◌≡◌, ℕ, ◌+◌, ◌*◌, ◌≤◌, ◌^◌, Bool, true, false, List, [], ◌∷◌, Some, None, Contains, refl, sym, ◌∙◌, ap, subst, arith, inl, inr}
+use Rattle.std.proofs.Common.{◌≡◌, ℕ, ◌+◌, ◌*◌, ◌≤◌, ◌^◌, Bool, true, false, List, [], ◌∷◌, Some, None, Contains, refl, sym, ◌∙◌}
+use Rattle.std.proofs.Common.{ap, subst, arith, inl, inr}
 use Rattle.std.specs.Prelude.{◌&&◌, ◌||◌, not, if◌then◌else◌, is_some, max, slice_index}
 use Rattle.std.specs.List.{list_any}
 use Rattle.std.proofs.Math.Nat.{mul-le-mul}
@@ -34,7 +35,8 @@ any_of p (x ∷ xs) v c t = elim (contains_cons x v xs c) [
     right true rest e = refl
     right false rest e = e
 
-module _ (n h : ℕ) (L M : Legs) (nodes : List ℕ) (c : ContractsRound n h L nodes M) (x : ℕ) (away : Contains nodes x → ⊥) (far : (v : ℕ) → Contains nodes v → are_neighbours L v x ≡ true → ⊥) where
+module _ (n h : ℕ) (L M : Legs) (nodes : List ℕ) (c : ContractsRound n h L nodes M) (x : ℕ) (away : Contains nodes x → ⊥)
+    (far : (v : ℕ) → Contains nodes v → are_neighbours L v x ≡ true → ⊥) where
   -- x has no leg to a node of the round
   far_out : (v : ℕ) → Contains nodes v → L x v ≡ None
   far_out v is = none_unless (L x v) (λ l e. far v is (neighbour_in L v x l e))
@@ -59,7 +61,8 @@ module _ (n h : ℕ) (L M : Legs) (nodes : List ℕ) (c : ContractsRound n h L n
       at false e = rw (e, none_of nodes x away) refl
 
   -- no shortcut leads from x, so x keeps the legs from it when shortcuts are put in
-  put_out : (todo : List ℕ) (K : Legs) → ((v : ℕ) → Contains todo v → Contains nodes v) → (w : ℕ) → legs_with_shortcuts todo c.0 K x w ≡ K x w
+  put_out : (todo : List ℕ) (K : Legs) → ((v : ℕ) → Contains todo v → Contains nodes v) → (w : ℕ) →
+      legs_with_shortcuts todo c.0 K x w ≡ K x w
   put_out [] K all w = refl
   put_out (v ∷ todo) K all w =
       put_out todo (λ a b. leg_after_shortcuts v (c.0 v) a b (K a b)) (λ y is. all y (contains_tail y v todo is)) w
@@ -72,7 +75,8 @@ module _ (n h : ℕ) (L M : Legs) (nodes : List ℕ) (c : ContractsRound n h L n
       ]
 
   -- no shortcut leads to x, so x keeps the legs to it when shortcuts are put in
-  put_in : (todo : List ℕ) (K : Legs) → ((v : ℕ) → Contains todo v → Contains nodes v) → (w : ℕ) → legs_with_shortcuts todo c.0 K w x ≡ K w x
+  put_in : (todo : List ℕ) (K : Legs) → ((v : ℕ) → Contains todo v → Contains nodes v) → (w : ℕ) →
+      legs_with_shortcuts todo c.0 K w x ≡ K w x
   put_in [] K all w = refl
   put_in (v ∷ todo) K all w =
       put_in todo (λ a b. leg_after_shortcuts v (c.0 v) a b (K a b)) (λ y is. all y (contains_tail y v todo is)) w
@@ -96,7 +100,8 @@ module _ (n h : ℕ) (L M : Legs) (nodes : List ℕ) (c : ContractsRound n h L n
   -- x keeps its depth
   depth_far : (todo : List ℕ) (depth : ℕ → ℕ) → ((v : ℕ) → Contains todo v → Contains nodes v) → depth_after_round L todo depth x ≡ depth x
   depth_far [] depth all = refl
-  depth_far (v ∷ todo) depth all = depth_far todo (next_depth L v depth) (λ y is. all y (contains_tail y v todo is)) ∙ at (are_neighbours L v x) refl
+  depth_far (v ∷ todo) depth all = depth_far todo (next_depth L v depth) (λ y is. all y (contains_tail y v todo is))
+      ∙ at (are_neighbours L v x) refl
     where
       at : (b : Bool) → are_neighbours L v x ≡ b → (if b then max (depth x) (depth v + 1) else depth x) ≡ depth x
       at true e = absurd (far v (all v (contains_head v todo)) e)
@@ -106,7 +111,8 @@ module _ (n h : ℕ) (L M : Legs) (nodes : List ℕ) (c : ContractsRound n h L n
   depth_kept depth = depth_far nodes depth (λ v is. is)
 
 -- a remaining node whose key is not written is no neighbour of the round, and its shortcuts are not counted
-pub not_stale : (early first : Bool) (near rest : List ℕ) (x : ℕ) → Contains rest x → (Contains (if first && not early then rest else near) x → ⊥) →
+pub not_stale : (early first : Bool) (near rest : List ℕ) (x : ℕ) → Contains rest x →
+    (Contains (if first && not early then rest else near) x → ⊥) →
     (Contains near x → ⊥) × (Contains (if early then [] else (if first then rest else near)) x → ⊥)
 not_stale true true near rest x has away = (away, λ c. contains_none x c)
 not_stale true false near rest x has away = (away, λ c. contains_none x c)

@@ -1,5 +1,6 @@
 -- The neighbours of the nodes of a round, collected node by node.
-use Rattle.std.proofs.Common.{◌≡◌, ℕ, ◌+◌, ◌<◌, Bool, true, false, List, [], ◌∷◌, ◌++◌, length, get_or, take, refl, sym, ◌∙◌, ap, subst, arith, inl, inr, Contains, map, not, drop}
+use Rattle.std.proofs.Common.{◌≡◌, ℕ, ◌+◌, ◌<◌, Bool, true, false, List, [], ◌∷◌, ◌++◌, length, get_or, take, refl, sym, ◌∙◌, ap}
+use Rattle.std.proofs.Common.{subst, arith, inl, inr, Contains, map, not, drop}
 use Rattle.std.specs.Prelude.{◌≢◌, ◌↔◌, ◌≤◌, ◌||◌, ◌==◌, AllPairs, filter, slice_index}
 use Rattle.std.specs.List.{list_any}
 use Rattle.std.proofs.lemmas.Bool.{true≢false}
@@ -7,7 +8,8 @@ use Rattle.std.proofs.lemmas.List.{take_more, take-append-drop}
 use Rattle.std.proofs.lemmas.List.Kept.{AllPairs-filter}
 use Rattle.std.proofs.lemmas.List.Folds.{list_any-append}
 use Rattle.std.proofs.lemmas.List.Elements.{Contains-append_left, Contains-append_right, Contains-append_cases, Contains-get_or}
-use Rattle.ch_graph.proofs.Lists.{contains_head, contains_tail, contains_map_of, contains_filter_of, contains_cons, contains_none, pairs_append, pairs_map}
+use Rattle.ch_graph.proofs.Lists.{contains_head, contains_tail, contains_map_of, contains_filter_of, contains_cons, contains_none}
+use Rattle.ch_graph.proofs.Lists.{pairs_append, pairs_map}
 use Rattle.ch_graph.proofs.Numbers.{eqb-refl}
 use Rattle.ch_hierarchy.specs.declared.leg.Leg.{Leg}
 use Rattle.ch_hierarchy.specs.Rows.{IsRow}
@@ -50,7 +52,8 @@ has_one (k ∷ legs) l x c e = elim (contains_cons k l legs c) [
 pub neighbours_differ : (up down : List Leg) → IsRow up → IsRow down → AllPairs ◌≢◌ (neighbours_in up down)
 neighbours_differ up down above below =
     let other : Leg → Bool = λ l. not (has_node up l.node) in
-    pairs_append ◌≢◌ (map (λ (l : Leg). l.node) up) (map (λ (l : Leg). l.node) (filter other down)) (differ up above) (differ (filter other down) (AllPairs-filter (λ (a b : Leg). a.node < b.node) other down below))
+    pairs_append ◌≢◌ (map (λ (l : Leg). l.node) up) (map (λ (l : Leg). l.node) (filter other down)) (differ up above)
+    (differ (filter other down) (AllPairs-filter (λ (a b : Leg). a.node < b.node) other down below))
     (λ x y c d same.
     let mine = contains_map_of (λ (l : Leg). l.node) up x c in
     let its = contains_map_of (λ (l : Leg). l.node) (filter other down) y d in
@@ -67,32 +70,41 @@ pub record AreNear (L : Legs) (done near : List ℕ) : Type 0 where
 
 -- without nodes there are no neighbours
 pub near_none : (L : Legs) → AreNear L [] []
-near_none L = record { each = λ x. (λ c. absurd (contains_none x c), λ e. absurd (true≢false (sym e))); differ = λ i j d lt inside. absurd (omega arith) }
+near_none L = record {
+  each = λ x. (λ c. absurd (contains_none x c), λ e. absurd (true≢false (sym e)));
+  differ =
+      λ i j d lt inside. absurd (omega arith);
+}
 
 module _ (n : ℕ) (L : Legs) (nodes : List ℕ) (limits : AreLegsWithin n L) (is : AreApart L nodes) where
   -- there are at most n neighbours
   pub near_few : (done near : List ℕ) → AreNear L done near → length near ≤ n
-  near_few done near a = distinct_most near n a.differ (λ x c. let v = any_found (λ v. are_neighbours L v x) done ((a.each x).0 c) in neighbour_below n L v.0 x limits v.2)
+  near_few done near a = distinct_most near n a.differ
+      (λ x c. let v = any_found (λ v. are_neighbours L v x) done ((a.each x).0 c) in neighbour_below n L v.0 x limits v.2)
 
   -- a node is a neighbour of one of the first i + 1 nodes exactly if it is one of the first i, or of node i
   any_more : (i x : ℕ) → i < length nodes →
-      list_any (λ v. are_neighbours L v x) (take (i + 1) nodes) ≡ (list_any (λ v. are_neighbours L v x) (take i nodes) || are_neighbours L (get_or nodes i 0) x)
+      list_any (λ v. are_neighbours L v x) (take (i + 1) nodes)
+      ≡ (list_any (λ v. are_neighbours L v x) (take i nodes) || are_neighbours L (get_or nodes i 0) x)
   any_more i x lt =
       let p : ℕ → Bool = λ v. are_neighbours L v x in
       let v : ℕ = get_or nodes i 0 in
-      ap (list_any p) (take_more nodes i 0 lt) ∙ list_any-append p (take i nodes) (v ∷ []) ∙ ap (λ b. list_any p (take i nodes) || b) (one (p v))
+      ap (list_any p) (take_more nodes i 0 lt) ∙ list_any-append p (take i nodes) (v ∷ [])
+      ∙ ap (λ b. list_any p (take i nodes) || b) (one (p v))
     where
       one : (b : Bool) → (b || false) ≡ b
       one true = refl
       one false = refl
 
-  module _ (i : ℕ) (lt : i < length nodes) (up down : List Leg) (from : AreLegsFrom L (get_or nodes i 0) up) (to : AreLegsTo L (get_or nodes i 0) down) where
+  module _ (i : ℕ) (lt : i < length nodes) (up down : List Leg) (from : AreLegsFrom L (get_or nodes i 0) up)
+      (to : AreLegsTo L (get_or nodes i 0) down) where
     -- no node is a neighbour of this node and of an earlier one
     near_one : (x : ℕ) → list_any (λ v. are_neighbours L v x) (take i nodes) ≡ true → are_neighbours L (get_or nodes i 0) x ≡ true → ⊥
     near_one x past now =
         let v : ℕ = get_or nodes i 0 in
         let u = any_found (λ v. are_neighbours L v x) (take i nodes) past in
-        let member : Contains nodes u.0 = subst (λ l. Contains l u.0) (take-append-drop i nodes) (Contains-append_left (take i nodes) (drop i nodes) u.0 u.1) in
+        let member : Contains nodes u.0 = subst (λ l. Contains l u.0) (take-append-drop i nodes)
+        (Contains-append_left (take i nodes) (drop i nodes) u.0 u.1) in
         let ne : u.0 ≢ v = λ e. not_before i nodes lt is.distinct (subst (Contains (take i nodes)) e u.1) in
         is.apart u.0 v member (Contains-get_or nodes i 0 lt) ne (inr (x, u.2, neighbours_flip L x v ∙ now))
 
@@ -102,13 +114,15 @@ module _ (n : ℕ) (L : Legs) (nodes : List ℕ) (limits : AreLegsWithin n L) (i
       each = λ x. (
         λ c. any_more i x lt ∙ elim (Contains-append_cases near (neighbours_in up down) x c) [
           | inl early ↦ ap (λ b. b || are_neighbours L (get_or nodes i 0) x) ((a.each x).0 early)
-          | inr now ↦ right (list_any (λ v. are_neighbours L v x) (take i nodes)) (listed_neighbour L (get_or nodes i 0) up down from to x now)
+          | inr now ↦ right (list_any (λ v. are_neighbours L v x) (take i nodes))
+              (listed_neighbour L (get_or nodes i 0) up down from to x now)
         ],
         λ e. at x (list_any (λ v. are_neighbours L v x) (take i nodes)) refl (sym (any_more i x lt) ∙ e),
       );
       differ =
           pairs_append ◌≢◌ near (neighbours_in up down) a.differ (neighbours_differ up down from.0 to.0)
-          (λ x y c d same. near_one x ((a.each x).0 c) (subst (λ z. are_neighbours L (get_or nodes i 0) z ≡ true) (sym same) (listed_neighbour L (get_or nodes i 0) up down from to y d)));
+          (λ x y c d same. near_one x ((a.each x).0 c) (subst (λ z. are_neighbours L (get_or nodes i 0) z ≡ true) (sym same)
+          (listed_neighbour L (get_or nodes i 0) up down from to y d)));
     }
       where
         right : {b : Bool} (a : Bool) → b ≡ true → (a || b) ≡ true
@@ -121,8 +135,10 @@ module _ (n : ℕ) (L : Legs) (nodes : List ℕ) (limits : AreLegsWithin n L) (i
         at x false e f = Contains-append_right near (neighbours_in up down) x (neighbour_listed L (get_or nodes i 0) up down from to x f)
 
     -- the depths after the neighbours of one more node get theirs
-    pub deepened_near : (old before after around : List ℕ) → around ≡ neighbours_in up down → ((x : ℕ) → slice_index before x ≡ depth_after_round L (take i nodes) (λ y. slice_index old y) x) →
-        AreDeepened around (slice_index before (get_or nodes i 0) + 1) before after → (x : ℕ) → slice_index after x ≡ depth_after_round L (take (i + 1) nodes) (λ y. slice_index old y) x
+    pub deepened_near : (old before after around : List ℕ) → around ≡ neighbours_in up down →
+        ((x : ℕ) → slice_index before x ≡ depth_after_round L (take i nodes) (λ y. slice_index old y) x) →
+        AreDeepened around (slice_index before (get_or nodes i 0) + 1) before after → (x : ℕ) →
+        slice_index after x ≡ depth_after_round L (take (i + 1) nodes) (λ y. slice_index old y) x
     deepened_near old before after around e known d x =
         let v : ℕ = get_or nodes i 0 in
         let first : ℕ → ℕ = λ y. slice_index old y in

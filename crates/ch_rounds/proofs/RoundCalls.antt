@@ -1,5 +1,6 @@
 -- One round of a construction, from the clauses of its calls.
-use Rattle.std.proofs.Common.{◌≡◌, ℕ, ◌+◌, ◌<◌, ◌≤◌, Bool, true, false, not, List, [], length, get_or, sym, ◌∙◌, ap, subst, arith, inl, inr, Contains}
+use Rattle.std.proofs.Common.{◌≡◌, ℕ, ◌+◌, ◌<◌, ◌≤◌, Bool, true, false, not, List, [], length, get_or, sym, ◌∙◌, ap, subst, arith}
+use Rattle.std.proofs.Common.{inl, inr, Contains}
 use Rattle.std.specs.Prelude.{◌↔◌, ◌*◌, ◌&&◌, ◌||◌, nat_lt, if◌then◌else◌, slice_index, slice_index_or, All, AllPairs, ℤ, pos}
 use Rattle.std.specs.List.{list_any, range_with_len}
 use Rattle.std.proofs.lemmas.Bool.{cases_eq, true≢false}
@@ -44,16 +45,20 @@ pub record IsSteppedByRound (h : ℕ) (before after : ConstructionByRounds) (nod
       slice_index after.depths.items x ≡ depth_after_round (legs_of before.remaining) nodes (λ y. slice_index before.depths.items y) x
   pub deep : length after.depths.items ≡ length before.depths.items
   pub around : (x : ℕ) → Contains near x ↔ (list_any (λ v. are_neighbours (legs_of before.remaining) v x) nodes ≡ true)
-  pub counted : AreCounted before.remaining.nodes h (legs_of after.remaining) (due_of before.remaining.nodes before.contracted after.contracted near after.left.items) before.counts.items after.counts.items
+  pub counted : AreCounted before.remaining.nodes h (legs_of after.remaining)
+      (due_of before.remaining.nodes before.contracted after.contracted near after.left.items) before.counts.items after.counts.items
   pub ranked : AreRanked nodes before.contracted before.levels.items after.levels.items
   pub contracted : after.contracted ≡ before.contracted + length nodes
-  pub rekeyed : AreKeyed after.remaining after.counts.items after.depths.items (stale_of before.remaining.nodes before.contracted after.contracted near after.left.items) before.keys.items after.keys.items
+  pub rekeyed : AreKeyed after.remaining after.counts.items after.depths.items
+      (stale_of before.remaining.nodes before.contracted after.contracted near after.left.items) before.keys.items after.keys.items
 
 -- the nodes of a round are apart
 pub split_apart : (keys : List ℤ) (L : Legs) (left nodes rest : List ℕ) → IsSplit (IsFirstBy keys L) left nodes rest → AreApart L nodes
 split_apart keys L left nodes rest s = record {
   distinct = λ i j d lt inside e. let before = s.ordered.0 i j d lt inside in omega arith;
-  apart = λ v x p q ne near. ne (both_before _ _ (mixed_number v) (mixed_number x) v x (((s.first v).0 p).1 x near) (((s.first x).0 q).1 v (within_flip L v x near)));
+  apart = λ v x p q ne near.
+      ne (both_before _ _ (mixed_number v) (mixed_number x) v x (((s.first v).0 p).1 x near)
+      (((s.first x).0 q).1 v (within_flip L v x near)));
 }
 
 -- the nodes of a round are below the number of nodes
@@ -92,7 +97,9 @@ due_out true first any near rest x is e c = contains_none x c
 due_out false true any near rest x is e c = true≢false e
 due_out false false any near rest x is e c = true≢false (sym (is.0 c) ∙ e)
 
-module _ (h : ℕ) (before after : ConstructionByRounds) (nodes near : List ℕ) (keys : List ℤ) (closed : (v x : ℕ) → are_neighbours (legs_of before.remaining) v x ≡ true → Contains before.left.items x) (s : IsSteppedByRound h before after nodes near keys) where
+module _ (h : ℕ) (before after : ConstructionByRounds) (nodes near : List ℕ) (keys : List ℤ)
+    (closed : (v x : ℕ) → are_neighbours (legs_of before.remaining) v x ≡ true → Contains before.left.items x)
+    (s : IsSteppedByRound h before after nodes near keys) where
   -- a node within two legs of another remains
   near_left : (v x : ℕ) → IsWithinTwoLegs (legs_of before.remaining) v x → Contains before.left.items x
   near_left v x close = elim close [
@@ -101,12 +108,21 @@ module _ (h : ℕ) (before after : ConstructionByRounds) (nodes near : List ℕ)
   ]
 
   -- the nodes are the next round
-  is_round : IsRound (IsKeyNow before.remaining.nodes (round_progress_of before)) (Contains before.left.items) (legs_of before.remaining) nodes
+  is_round : IsRound (IsKeyNow before.remaining.nodes (round_progress_of before)) (Contains before.left.items)
+      (legs_of before.remaining) nodes
   is_round = record {
     ordered = s.split.ordered.0;
     sound = λ v c.
-        let first = (s.split.first v).0 c in
-        (first.0, λ x ne close. let x_left = near_left v x close in (slice_index_or keys v (pos 0), slice_index_or keys x (pos 0), (first.0, s.keyed v first.0), (x_left, s.keyed x x_left), first.1 x close));
+        let first = (s.split.first v).0 c in (
+          first.0,
+          λ x ne close. let x_left = near_left v x close in (
+            slice_index_or keys v (pos 0),
+            slice_index_or keys x (pos 0),
+            (first.0, s.keyed v first.0),
+            (x_left, s.keyed x x_left),
+            first.1 x close,
+          ),
+        );
     whole = λ v is f. (s.split.first v).1 (
       is,
       λ x close. elim (cases_eq x v) [
@@ -125,14 +141,16 @@ module _ (h : ℕ) (before after : ConstructionByRounds) (nodes near : List ℕ)
       Contains (due_of before.remaining.nodes before.contracted after.contracted near after.left.items) x
   listed_due x c e =
       let count = s.contracted in
-      subst (λ k. Contains (due_of before.remaining.nodes before.contracted k near after.left.items) x) (sym count) (due_in _ _ _ near after.left.items x c (s.around x) e)
+      subst (λ k. Contains (due_of before.remaining.nodes before.contracted k near after.left.items) x) (sym count)
+      (due_in _ _ _ near after.left.items x c (s.around x) e)
 
   -- a node whose count is not due is not in this list
   not_due : (x : ℕ) → is_due before.remaining.nodes (round_progress_of before) nodes x ≡ false →
       Contains (due_of before.remaining.nodes before.contracted after.contracted near after.left.items) x → ⊥
   not_due x e c =
       let count = s.contracted in
-      due_out _ _ _ near after.left.items x (s.around x) e (subst (λ k. Contains (due_of before.remaining.nodes before.contracted k near after.left.items) x) count c)
+      due_out _ _ _ near after.left.items x (s.around x) e
+      (subst (λ k. Contains (due_of before.remaining.nodes before.contracted k near after.left.items) x) count c)
 
   -- the construction has made one round
   pub stepped_by_round : IsRoundStep before.remaining.nodes h (round_progress_of before) nodes (round_progress_of after)
@@ -160,7 +178,8 @@ module _ (h : ℕ) (before after : ConstructionByRounds) (nodes near : List ℕ)
       let count = s.count in
       record {
         nodes = let most = sizes.nodes in omega arith;
-        left = subst (λ n. All (λ x. x < n) after.left.items) (sym count) (split_rest _ before.remaining.nodes before.left.items nodes after.left.items sizes.left s.split);
+        left = subst (λ n. All (λ x. x < n) after.left.items) (sym count)
+            (split_rest _ before.remaining.nodes before.left.items nodes after.left.items sizes.left s.split);
         ordered = s.split.ordered.1;
         count = let all = sizes.count in let some = s.split.count in let more = s.contracted in omega arith;
         counts = s.counted.size ∙ sizes.counts ∙ sym count;
@@ -179,17 +198,24 @@ module _ (h : ℕ) (before after : ConstructionByRounds) (nodes near : List ℕ)
       elim (contains_or_not (stale_of n before.contracted after.contracted near rest) x) [
         | inl has ↦ s.rekeyed.anew x has
         | inr away ↦
-            let quiet = not_stale (nat_lt (10 * after.contracted) (7 * n)) (nat_lt (10 * before.contracted) (7 * n)) near rest x left away in
+            let quiet = not_stale (nat_lt (10 * after.contracted) (7 * n)) (nat_lt (10 * before.contracted) (7 * n)) near rest x
+            left away in
             let was = (s.split.waits x).0 left in
             let out : Contains nodes x → ⊥ = λ c. was.1 ((s.split.first x).0 c).1 in
-            let far : (v : ℕ) → Contains nodes v → are_neighbours (legs_of before.remaining) v x ≡ true → ⊥ = λ v c e. quiet.0 ((s.around x).1 (any_of (λ z. are_neighbours (legs_of before.remaining) z x) nodes v c e)) in
-            let own : slice_index_or before.keys.items x (pos 0) ≡ key_by Rounds (slice_index before.counts.items x) (count_touching n (legs_of before.remaining) x) (slice_index before.depths.items x) =
-            subst (λ (l : List ℤ). IsKeyIn before.remaining before.counts.items before.depths.items x (slice_index_or l x (pos 0))) same (s.keyed x was.0) in
+            let far : (v : ℕ) → Contains nodes v → are_neighbours (legs_of before.remaining) v x ≡ true → ⊥ = λ v c e. quiet.0
+            ((s.around x).1 (any_of (λ z. are_neighbours (legs_of before.remaining) z x) nodes v c e)) in
+            let own : slice_index_or before.keys.items x (pos 0) ≡ key_by Rounds (slice_index before.counts.items x)
+            (count_touching n (legs_of before.remaining) x) (slice_index before.depths.items x) =
+            subst (λ (l : List ℤ). IsKeyIn before.remaining before.counts.items before.depths.items x (slice_index_or l x (pos 0)))
+            same (s.keyed x was.0) in
             let count : slice_index after.counts.items x ≡ slice_index before.counts.items x = s.counted.kept x quiet.1 in
-            let touching : count_touching after.remaining.nodes (legs_of after.remaining) x ≡ count_touching n (legs_of before.remaining) x =
-            ap (λ m. count_touching m (legs_of after.remaining) x) s.count ∙ touching_kept n h (legs_of before.remaining) (legs_of after.remaining) nodes s.legs x out far in
+            let touching : count_touching after.remaining.nodes (legs_of after.remaining) x
+            ≡ count_touching n (legs_of before.remaining) x =
+            ap (λ m. count_touching m (legs_of after.remaining) x) s.count
+            ∙ touching_kept n h (legs_of before.remaining) (legs_of after.remaining) nodes s.legs x out far in
             let deep : slice_index after.depths.items x ≡ slice_index before.depths.items x =
-            s.depths x ∙ depth_kept n h (legs_of before.remaining) (legs_of after.remaining) nodes s.legs x out far (λ y. slice_index before.depths.items y) in
+            s.depths x ∙ depth_kept n h (legs_of before.remaining) (legs_of after.remaining) nodes s.legs x out far
+            (λ y. slice_index before.depths.items y) in
             s.rekeyed.kept x away ∙ own ∙ sym (λ t. key_by Rounds (count t) (touching t) (deep t))
       ]
 
@@ -213,18 +239,24 @@ rounds_end c H sizes none level up down = record {
 }
 
 -- at the start no node is contracted
-pub rounds_open : (g : Network) (h : ℕ) (c : ConstructionByRounds) (first : List ℕ) → SameLegs (legs_of c.remaining) (opening g) → c.remaining.nodes ≡ g.nodes → c.left.items ≡ range_with_len 0 c.remaining.nodes →
-    AreCounted c.remaining.nodes h (legs_of c.remaining) c.left.items first c.counts.items → ((x : ℕ) → slice_index c.depths.items x ≡ 0) → length c.levels.items ≡ c.remaining.nodes → c.contracted ≡ 0 → IsRoundsOpen g h (round_progress_of c)
+pub rounds_open : (g : Network) (h : ℕ) (c : ConstructionByRounds) (first : List ℕ) → SameLegs (legs_of c.remaining) (opening g) →
+    c.remaining.nodes ≡ g.nodes → c.left.items ≡ range_with_len 0 c.remaining.nodes →
+    AreCounted c.remaining.nodes h (legs_of c.remaining) c.left.items first c.counts.items →
+    ((x : ℕ) → slice_index c.depths.items x ≡ 0) → length c.levels.items ≡ c.remaining.nodes → c.contracted ≡ 0 →
+    IsRoundsOpen g h (round_progress_of c)
 rounds_open g h c first same nodes left counted depths levels contracted =
     let legs = one_map (legs_of c.remaining) (opening g) same in
-    let among : (x : ℕ) → x < g.nodes → Contains c.left.items x = λ x lt. subst (λ l. Contains l x) (sym left) (number_among c.remaining.nodes x (omega arith)) in
+    let among : (x : ℕ) → x < g.nodes → Contains c.left.items x =
+    λ x lt. subst (λ l. Contains l x) (sym left) (number_among c.remaining.nodes x (omega arith)) in
     record {
       left = λ x. (
-        λ c'. let lt = All-contains (λ y. y < c.remaining.nodes) (range_with_len 0 c.remaining.nodes) x (numbers_below c.remaining.nodes) (subst (λ l. Contains l x) left c') in omega arith,
+        λ c'. let lt = All-contains (λ y. y < c.remaining.nodes) (range_with_len 0 c.remaining.nodes) x
+            (numbers_below c.remaining.nodes) (subst (λ l. Contains l x) left c') in omega arith,
         among x,
       );
       legs = same;
-      counts = λ x lt. subst (λ n. IsCount n h (opening g) x (slice_index c.counts.items x)) nodes (subst (λ (M : Legs). IsCount c.remaining.nodes h M x (slice_index c.counts.items x)) legs (counted.anew x (among x lt)));
+      counts = λ x lt. subst (λ n. IsCount n h (opening g) x (slice_index c.counts.items x)) nodes
+          (subst (λ (M : Legs). IsCount c.remaining.nodes h M x (slice_index c.counts.items x)) legs (counted.anew x (among x lt)));
       depths = depths;
       size = levels ∙ nodes;
       contracted = contracted;
@@ -238,7 +270,9 @@ numbers_ordered n i j d lt inside =
     omega (arith, get_or-range_with_len 0 n i d (omega arith), get_or-range_with_len 0 n j d below)
 
 -- a construction in which no node is contracted has its sizes
-pub sized_open : (c : ConstructionByRounds) → c.remaining.nodes ≤ MOST_NODES → c.left.items ≡ range_with_len 0 c.remaining.nodes → length c.counts.items ≡ c.remaining.nodes → length c.depths.items ≡ c.remaining.nodes → length c.keys.items ≡ c.remaining.nodes → length c.levels.items ≡ c.remaining.nodes →
+pub sized_open : (c : ConstructionByRounds) → c.remaining.nodes ≤ MOST_NODES → c.left.items ≡ range_with_len 0 c.remaining.nodes →
+    length c.counts.items ≡ c.remaining.nodes → length c.depths.items ≡ c.remaining.nodes →
+    length c.keys.items ≡ c.remaining.nodes → length c.levels.items ≡ c.remaining.nodes →
     length c.remaining.ups ≡ c.remaining.nodes → length c.remaining.downs ≡ c.remaining.nodes → c.contracted ≡ 0 → IsSizedByRounds c
 sized_open c most left counts depths keys levels ups downs contracted = record {
   nodes = most;

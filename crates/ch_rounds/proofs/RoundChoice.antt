@@ -1,44 +1,23 @@
--- Keys that are written one after the other, and the split of the remaining nodes into a round and the rest.
-use Rattle.std.proofs.Common.{◌≡◌, ℕ, ◌+◌, ◌<◌, Bool, true, false, List, [], ◌∷◌, ◌++◌, length, get_or, set, take, refl, sym, ◌∙◌, subst, arith, inl, inr, Contains, length-set, get_or-set_same, get_or-set_other}
-use Rattle.std.specs.Prelude.{◌↔◌, if◌then◌else◌, slice_index_or, AllPairs, IsTrue, ℤ, pos}
-use Rattle.std.proofs.lemmas.Bool.{cases_eq, true≢false}
+-- Keys that are written with equal lists, and the split of the remaining nodes into a round and the rest.
+use Rattle.std.proofs.Common.{◌≡◌, ℕ, ◌+◌, ◌<◌, Bool, true, false, List, [], ◌∷◌, ◌++◌, length, get_or, take, refl, sym, ◌∙◌}
+use Rattle.std.proofs.Common.{subst, arith, inl, inr, Contains}
+use Rattle.std.specs.Prelude.{◌↔◌, if◌then◌else◌, AllPairs, IsTrue, ℤ}
+use Rattle.std.proofs.lemmas.Bool.{true≢false}
 use Rattle.std.proofs.lemmas.List.{take_more, length_push, length-take-le, get_or-take, get_or_default}
 use Rattle.std.proofs.lemmas.List.Elements.{Contains-append_left, Contains-push, Contains-push_cases}
 use Rattle.ch_graph.proofs.Lists.{contains_none, pairs_append}
 use Rattle.ch_contract.specs.Remaining.{RemainingLegs}
-use Rattle.ch_rounds.specs.RoundChoice.{AreKeyed, IsKeyIn, IsSplit}
-use Rattle.ch_contract.proofs.code.NodeLists.{away_both}
-
-module _ (r : RemainingLegs) (counts depths : List ℕ) where
-  -- no key is written at first
-  pub keyed_none : (before : List ℤ) → AreKeyed r counts depths [] before before
-  keyed_none before = record { size = refl; anew = λ x c. absurd (contains_none x c); kept = λ x away. refl }
-
-  -- the key of one more node is written
-  pub keyed_more : (nodes : List ℕ) (i : ℕ) (before middle : List ℤ) (k : ℤ) → i < length nodes → get_or nodes i 0 < length middle →
-      IsKeyIn r counts depths (get_or nodes i 0) k → AreKeyed r counts depths (take i nodes) before middle →
-      AreKeyed r counts depths (take (i + 1) nodes) before (set middle (get_or nodes i 0) k)
-  keyed_more nodes i before middle k lt within is known =
-      let v : ℕ = get_or nodes i 0 in
-      let more = take_more nodes i 0 lt in
-      record {
-        size = length-set middle v k ∙ known.size;
-        anew = λ x c. elim (cases_eq x v) [
-          | inl e ↦ subst (λ z. IsKeyIn r counts depths z (slice_index_or (set middle v k) z (pos 0))) (sym e) (subst (IsKeyIn r counts depths v) (sym (get_or-set_same middle v k (pos 0) within)) is)
-          | inr ne ↦ elim (Contains-push_cases (take i nodes) v x (subst (λ l. Contains l x) more c)) [
-            | inl earlier ↦ subst (IsKeyIn r counts depths x) (sym (get_or-set_other middle v x k (pos 0) ne)) (known.anew x earlier)
-            | inr e ↦ absurd (ne (sym e))
-          ]
-        ];
-        kept = λ x away. let both = away_both nodes i x lt away in get_or-set_other middle v x k (pos 0) both.0 ∙ known.kept x both.1;
-      }
+use Rattle.ch_rounds.specs.RoundChoice.{AreKeyed, IsSplit}
 
 -- the same with equal lists
 pub keyed_as : (r : RemainingLegs) (counts others depths deep nodes list : List ℕ) (before old after new : List ℤ) → counts ≡ others →
     depths ≡ deep → nodes ≡ list → before ≡ old → after ≡ new → AreKeyed r counts depths nodes before after →
     AreKeyed r others deep list old new
 keyed_as r counts others depths deep nodes list before old after new a b c d e k =
-    subst (λ l. AreKeyed r others deep list old l) e (subst (λ l. AreKeyed r others deep list l after) d (subst (λ l. AreKeyed r others deep l before after) c (subst (λ l. AreKeyed r others l nodes before after) b (subst (λ l. AreKeyed r l depths nodes before after) a k))))
+    subst (λ l. AreKeyed r others deep list old l) e
+    (subst (λ l. AreKeyed r others deep list l after) d
+    (subst (λ l. AreKeyed r others deep l before after) c
+    (subst (λ l. AreKeyed r others l nodes before after) b (subst (λ l. AreKeyed r l depths nodes before after) a k))))
 
 -- at first both lists are empty
 pub split_none : (P : ℕ → Type 0) → IsSplit P [] [] []
@@ -66,7 +45,8 @@ earlier_at nodes i x lt c =
     let inside : c.0 < i = omega arith in
     (c.0, inside, get_or_default nodes c.0 0 x (omega arith) ∙ sym (get_or-take i nodes c.0 x inside) ∙ c.2)
 
-module _ (P : ℕ → Type 0) (nodes : List ℕ) (i : ℕ) (round rest : List ℕ) (lt : i < length nodes) (ordered : AllPairs ◌<◌ nodes) (known : IsSplit P (take i nodes) round rest) where
+module _ (P : ℕ → Type 0) (nodes : List ℕ) (i : ℕ) (round rest : List ℕ) (lt : i < length nodes) (ordered : AllPairs ◌<◌ nodes)
+    (known : IsSplit P (take i nodes) round rest) where
   -- the next node
   abbrev v : ℕ
   v = get_or nodes i 0
@@ -81,8 +61,13 @@ module _ (P : ℕ → Type 0) (nodes : List ℕ) (i : ℕ) (round rest : List �
   pushed Q list is has x =
       let more = take_more nodes i 0 lt in (
         λ c. elim (Contains-push_cases list v x c) [
-          | inl early ↦ let r = (has x).0 early in (subst (λ l. Contains l x) (sym more) (Contains-append_left (take i nodes) (v ∷ []) x r.0), r.1)
-          | inr e ↦ (subst (λ l. Contains l x) (sym more) (subst (Contains (take i nodes ++ v ∷ [])) e (Contains-push (take i nodes) v)), subst Q e is)
+          | inl early ↦ let r = (has x).0 early in
+              (subst (λ l. Contains l x) (sym more) (Contains-append_left (take i nodes) (v ∷ []) x r.0), r.1)
+          | inr e ↦ (
+            subst (λ l. Contains l x) (sym more)
+                (subst (Contains (take i nodes ++ v ∷ [])) e (Contains-push (take i nodes) v)),
+            subst Q e is,
+          )
         ],
         λ c. elim (Contains-push_cases (take i nodes) v x (subst (λ l. Contains l x) more c.0)) [
           | inl early ↦ Contains-append_left list (v ∷ []) x ((has x).1 (early, c.1))
@@ -126,6 +111,7 @@ module _ (P : ℕ → Type 0) (nodes : List ℕ) (i : ℕ) (round rest : List �
 
   -- the split after the next node goes where its test says
   pub split_more : (b : Bool) → (IsTrue b ↔ P (get_or nodes i 0)) →
-      IsSplit P (take (i + 1) nodes) (if b then round ++ get_or nodes i 0 ∷ [] else round) (if b then rest else rest ++ get_or nodes i 0 ∷ [])
+      IsSplit P (take (i + 1) nodes) (if b then round ++ get_or nodes i 0 ∷ [] else round)
+      (if b then rest else rest ++ get_or nodes i 0 ∷ [])
   split_more true is = split_in (is.0 refl)
   split_more false is = split_off (λ yes. true≢false (sym (is.1 yes)))

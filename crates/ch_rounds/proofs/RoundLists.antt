@@ -62,7 +62,8 @@ module _ {A : Type 0} (read : A → List Shortcut) where
   lists_for R (x ∷ nodes) (list ∷ lists) distinct all = (
     ap (λ b. if b then read list else list_for nodes lists x) (eqb-refl x),
     zipped_also (λ v l. list_for nodes lists v ≡ read l) (λ v l. list_for (x ∷ nodes) (list ∷ lists) v ≡ read l) nodes lists
-        (λ v l c e. ap (λ b. if b then read list else list_for nodes lists v) (not_eqb v x (λ same. pairs_head ◌≢◌ x v nodes distinct c (sym same))) ∙ e)
+        (λ v l c e. ap (λ b. if b then read list else list_for nodes lists v)
+        (not_eqb v x (λ same. pairs_head ◌≢◌ x v nodes distinct c (sym same))) ∙ e)
         (lists_for R nodes lists (pairs_tail ◌≢◌ x nodes distinct) all.1),
   )
 
@@ -71,13 +72,16 @@ pub put_in : (n h v : ℕ) (K W : Legs) (list : List Shortcut) → AreLegsWithin
 put_in n h v K W list limits are = (
   are.ordered,
   All-from_get_or (λ (s : Shortcut). IsLegWithin n s.from s.to (shortcut_label v s)) list no_shortcut
-      (λ i lt. shortcut_within n K v list limits (λ s c. (are.sound s c).pair) _ (are.sound _ (Contains-get_or list i no_shortcut lt)).pair),
+      (λ i lt. shortcut_within n K v list limits (λ s c. (are.sound s c).pair) _
+      (are.sound _ (Contains-get_or list i no_shortcut lt)).pair),
 )
 
-module _ (n h : ℕ) (nodes : List ℕ) (before away : RemainingLegs) (limits : AreLegsWithin n (legs_of before)) (is : AreApart (legs_of before) nodes) (t : AreTakenOut nodes before away) where
+module _ (n h : ℕ) (nodes : List ℕ) (before away : RemainingLegs) (limits : AreLegsWithin n (legs_of before))
+    (is : AreApart (legs_of before) nodes) (t : AreTakenOut nodes before away) where
   -- the rows of a node of the round have its legs from before the round
   pub touched : (v : ℕ) → Contains nodes v → AreTouching n MOST_WEIGHT v (row away.ups v) (row away.downs v)
-  touched v c = are_touching (legs_of before) v (row away.ups v) (row away.downs v) (t.up.legs v c) (t.down.legs v c) n MOST_WEIGHT limits (λ u w l e. (limits u w l e).weight)
+  touched v c = are_touching (legs_of before) v (row away.ups v) (row away.downs v) (t.up.legs v c) (t.down.legs v c) n MOST_WEIGHT
+      limits (λ u w l e. (limits u w l e).weight)
 
   -- the shortcuts of these rows, with witnesses among the remaining legs, are the shortcuts of the round
   of_round : (v : ℕ) (list : List Shortcut) → Contains nodes v →
@@ -87,20 +91,28 @@ module _ (n h : ℕ) (nodes : List ℕ) (before away : RemainingLegs) (limits : 
       let up = t.up.legs v c in
       let down = t.down.legs v c in
       among_same n h (legs_touching v (row away.ups v) (row away.downs v)) (legs_of before) (legs_away nodes (legs_of before)) v list
-      (touching_from (legs_of before) v (row away.ups v) (row away.downs v) up down) (touching_to (legs_of before) v (row away.ups v) (row away.downs v) up down)
-      (subst (λ (W : Legs). AreShortcutsAmong n h (legs_touching v (row away.ups v) (row away.downs v)) W v list) (one_map (legs_of away) (legs_away nodes (legs_of before)) t.legs) are)
+      (touching_from (legs_of before) v (row away.ups v) (row away.downs v) up down)
+      (touching_to (legs_of before) v (row away.ups v) (row away.downs v) up down)
+      (subst (λ (W : Legs). AreShortcutsAmong n h (legs_touching v (row away.ups v) (row away.downs v)) W v list)
+      (one_map (legs_of away) (legs_away nodes (legs_of before)) t.legs) are)
 
   -- after these shortcuts are put in, the round is contracted
-  pub round_done : {A : Type 0} (read : A → List Shortcut) (lists : List A) (M : Legs) → AllZip (λ v list. AreShortcutsAmong n h (legs_touching v (row away.ups v) (row away.downs v)) (legs_of away) v (read list)) nodes lists →
-      ((f : ℕ → List Shortcut) → AllZip (λ v list. f v ≡ read list) nodes lists → (u w : ℕ) → M u w ≡ legs_with_shortcuts nodes f (legs_of away) u w) → ContractsRound n h (legs_of before) nodes M
+  pub round_done : {A : Type 0} (read : A → List Shortcut) (lists : List A) (M : Legs) →
+      AllZip (λ v list. AreShortcutsAmong n h (legs_touching v (row away.ups v) (row away.downs v)) (legs_of away) v (read list))
+      nodes lists →
+      ((f : ℕ → List Shortcut) → AllZip (λ v list. f v ≡ read list) nodes lists → (u w : ℕ) →
+      M u w ≡ legs_with_shortcuts nodes f (legs_of away) u w) → ContractsRound n h (legs_of before) nodes M
   round_done {A} read lists M all put =
       let f : ℕ → List Shortcut = list_for read nodes lists in
-      let Among : ℕ → A → Type 0 = λ (v : ℕ) (list : A). AreShortcutsAmong n h (legs_touching v (row away.ups v) (row away.downs v)) (legs_of away) v (read list) in
+      let Among : ℕ → A → Type 0 = λ (v : ℕ) (list : A).
+      AreShortcutsAmong n h (legs_touching v (row away.ups v) (row away.downs v)) (legs_of away) v (read list) in
       let P : ℕ → Type 0 = λ v. AreShortcutsAmong n h (legs_of before) (legs_away nodes (legs_of before)) v (f v) in
       let own = lists_for read Among nodes lists is.distinct all in
       let each = zipped_two Among (λ (v : ℕ) (list : A). f v ≡ read list) (λ (v : ℕ) (list : A). P v) nodes lists
-      (λ v list c are e. subst (AreShortcutsAmong n h (legs_of before) (legs_away nodes (legs_of before)) v) (sym e) (of_round v (read list) c are)) all own in (
+      (λ v list c are e. subst (AreShortcutsAmong n h (legs_of before) (legs_away nodes (legs_of before)) v) (sym e)
+      (of_round v (read list) c are)) all own in (
         f,
         λ v c. zipped_each P nodes lists each v c,
-        λ u w. put f own u w ∙ ap (λ (W : Legs). legs_with_shortcuts nodes f W u w) (one_map (legs_of away) (legs_away nodes (legs_of before)) t.legs),
+        λ u w. put f own u w ∙ ap (λ (W : Legs). legs_with_shortcuts nodes f W u w)
+            (one_map (legs_of away) (legs_away nodes (legs_of before)) t.legs),
       )

@@ -1,10 +1,11 @@
 -- A list while values are written at the places of nodes, one after the other.
-use Rattle.std.proofs.Common.{◌≡◌, ℕ, ◌+◌, ◌<◌, List, [], ◌∷◌, ◌++◌, length, get_or, set, take, refl, sym, ◌∙◌, subst, arith, inl, inr, Contains, length-set, get_or-set_same, get_or-set_other}
+use Rattle.std.proofs.Common.{◌≡◌, ℕ, ◌+◌, ◌<◌, List, [], length, get_or, set, take, refl, sym, ◌∙◌, subst, arith, inl}
+use Rattle.std.proofs.Common.{inr, Contains, length-set, get_or-set_same, get_or-set_other}
 use Rattle.std.specs.Prelude.{◌≢◌, AllPairs, slice_index, slice_index_or}
 use Rattle.std.specs.List.{AllZip}
 use Rattle.std.proofs.lemmas.Bool.{cases_eq}
 use Rattle.std.proofs.lemmas.List.{take_more, get_or-take, length-take-le}
-use Rattle.std.proofs.lemmas.List.Elements.{Contains-append_left, Contains-push, Contains-push_cases}
+use Rattle.std.proofs.lemmas.List.Elements.{Contains-push_cases}
 use Rattle.ch_graph.proofs.Lists.{contains_none}
 use Rattle.ch_rounds.specs.SetEach.{AreGiven, AreRanked}
 use Rattle.ch_contract.proofs.code.NodeLists.{zipped_at, away_both}
@@ -73,14 +74,16 @@ ranked_more nodes i contracted before middle lt ordered within known =
       size = length-set middle v level ∙ known.size;
       anew = λ k below. elim (cases_eq k i) [
         | inl e ↦ subst (λ z. slice_index (set middle v level) (slice_index (take (i + 1) nodes) z) ≡ contracted + z + 1) (sym e)
-            (subst (λ z. slice_index (set middle v level) z ≡ level) (sym (get_or-take (i + 1) nodes i 0 (omega arith))) (get_or-set_same middle v level 0 within))
+            (subst (λ z. slice_index (set middle v level) z ≡ level) (sym (get_or-take (i + 1) nodes i 0 (omega arith)))
+            (get_or-set_same middle v level 0 within))
         | inr ne ↦
             let inside : k < i = omega arith in
             let here = get_or-take (i + 1) nodes k 0 (omega arith) in
             let there = get_or-take i nodes k 0 inside in
             let before_v = ordered k i 0 inside lt in
             let apart : get_or (take (i + 1) nodes) k 0 ≢ v = λ e. absurd (omega arith) in
-            get_or-set_other middle v (get_or (take (i + 1) nodes) k 0) level 0 apart ∙ subst (λ z. slice_index middle z ≡ contracted + k + 1) (there ∙ sym here) (known.anew k (omega arith))
+            get_or-set_other middle v (get_or (take (i + 1) nodes) k 0) level 0 apart ∙ subst
+            (λ z. slice_index middle z ≡ contracted + k + 1) (there ∙ sym here) (known.anew k (omega arith))
       ];
       kept = λ x away. let both = away_both nodes i x lt away in get_or-set_other middle v x level 0 both.0 ∙ known.kept x both.1;
     }

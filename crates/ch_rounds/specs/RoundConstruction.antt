@@ -10,7 +10,18 @@ use Rattle.ch_rounds.specs.RoundProgress.{RoundProgress}
 
 -- the progress of the construction: the rows are the legs that were set aside
 abbrev pub round_progress_of : ConstructionByRounds → RoundProgress
-round_progress_of c = record { left = c.left.items; legs = legs_of c.remaining; counts = λ x. slice_index c.counts.items x; depth = λ x. slice_index c.depths.items x; levels = c.levels.items; up = λ x. row c.remaining.ups x; down = λ x. row c.remaining.downs x; contracted = c.contracted }
+round_progress_of c = record {
+  left = c.left.items;
+  legs = legs_of c.remaining;
+  counts = λ x. slice_index c.counts.items x;
+  depth =
+      λ x. slice_index c.depths.items x;
+  levels = c.levels.items;
+  up = λ x. row c.remaining.ups x;
+  down =
+      λ x. row c.remaining.downs x;
+  contracted = c.contracted;
+}
 
 -- each node is contracted or remains, and each has a count, a depth, a key, a level, an up row and a down row
 pub record IsSizedByRounds (c : ConstructionByRounds) : Type 0 where
@@ -40,5 +51,7 @@ pub record IsRenewed (h k : ℕ) (near rest : List ℕ) (before after : Construc
   pub deep : after.depths.items ≡ before.depths.items
   pub levels : after.levels.items ≡ before.levels.items
   pub contracted : after.contracted ≡ before.contracted
-  pub counted : AreCounted before.remaining.nodes h (legs_of before.remaining) (due_of before.remaining.nodes k before.contracted near rest) before.counts.items after.counts.items
-  pub rekeyed : AreKeyed before.remaining after.counts.items before.depths.items (stale_of before.remaining.nodes k before.contracted near rest) before.keys.items after.keys.items
+  pub counted : AreCounted before.remaining.nodes h (legs_of before.remaining)
+      (due_of before.remaining.nodes k before.contracted near rest) before.counts.items after.counts.items
+  pub rekeyed : AreKeyed before.remaining after.counts.items before.depths.items
+      (stale_of before.remaining.nodes k before.contracted near rest) before.keys.items after.keys.items

@@ -1,5 +1,6 @@
 -- The state of contraction by rounds.
-use Rattle.std.specs.Prelude.{◌≡◌, ℕ, ◌+◌, ◌*◌, ◌<◌, ◌&&◌, ◌||◌, ◌↔◌, not, nat_lt, Bool, true, false, List, length, slice_index, Contains, ℤ}
+use Rattle.std.specs.Prelude.{◌≡◌, ℕ, ◌+◌, ◌*◌, ◌<◌, ◌&&◌, ◌||◌, ◌↔◌, not, nat_lt, Bool, true, false, List, length, slice_index}
+use Rattle.std.specs.Prelude.{Contains, ℤ}
 use Rattle.std.specs.List.{list_any}
 use Rattle.ch_graph.specs.Graph.{Network}
 use Rattle.ch_hierarchy.specs.declared.leg.Leg.{Leg}
@@ -35,7 +36,8 @@ IsKeyNow n p x k = Contains p.left x × (k ≡ key_by Rounds (p.counts x) (count
 
 -- whether the shortcuts of x are counted after a round of these nodes
 abbrev pub is_due : ℕ → RoundProgress → List ℕ → ℕ → Bool
-is_due n p nodes x = not (nat_lt (10 * (p.contracted + length nodes)) (7 * n)) && (nat_lt (10 * p.contracted) (7 * n) || list_any (λ v. are_neighbours p.legs v x) nodes)
+is_due n p nodes x = not (nat_lt (10 * (p.contracted + length nodes)) (7 * n))
+    && (nat_lt (10 * p.contracted) (7 * n) || list_any (λ v. are_neighbours p.legs v x) nodes)
 
 -- no node is contracted yet
 pub record IsRoundsOpen (g : Network) (h : ℕ) (p : RoundProgress) : Type 0 where

@@ -57,8 +57,6 @@ impl FirstJob<'_> {
         ensures { IsTrue result ↔ ((y : ℕ) → are_neighbours (legs_of self.now.remaining.now) node y ≡ true →
             IsBeforeNeighbours self.now.keys.now (legs_of self.now.remaining.now) node y) }
     {
-        // This call tells the proof that the legs keep the limits.
-        let _ = self.remaining.nodes();
         self.is_before_around(node, self.remaining.out_legs(node))
             && self.is_before_around(node, self.remaining.in_legs(node))
     }
@@ -83,8 +81,6 @@ impl FirstJob<'_> {
         requires other { other < self.now.remaining.now.nodes }
         ensures { IsTrue result ↔ IsBeforeNeighbours self.now.keys.now (legs_of self.now.remaining.now) node other }
     {
-        // This call tells the proof that the legs keep the limits.
-        let _ = self.remaining.nodes();
         self.is_before_all(node, self.remaining.out_legs(other))
             && self.is_before_all(node, self.remaining.in_legs(other))
     }

@@ -29,10 +29,10 @@ pub(crate) fn crew_for<'a, R, G>(
 ) -> Crew<'a, R, G>
     requires { 0 < at_once }
 {
-    if items / at_once < crew.plan.wide() as usize {
-        alone(crew)
-    } else {
+    if crew.plan.shares(items / at_once, crew.plan.wide() as usize) {
         together(crew, items)
+    } else {
+        alone(crew)
     }
 }
 
@@ -46,10 +46,14 @@ pub(crate) fn crew_for_searches<'a, R, G>(
     requires { All (λ x. x < remaining.now.nodes) nodes.now }
 {
     let wide = crew.plan.wide() as usize;
-    if nodes.len() < wide && pairs_at(remaining, nodes) / USUAL_PAIRS < wide {
-        alone(crew)
-    } else {
+    if crew.plan.shares(nodes.len(), wide)
+        || crew
+            .plan
+            .shares(pairs_at(remaining, nodes) / USUAL_PAIRS, wide)
+    {
         together(crew, nodes.len())
+    } else {
+        alone(crew)
     }
 }
 

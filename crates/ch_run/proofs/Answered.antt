@@ -1,5 +1,6 @@
 -- Requests that are answered one after the other.
-use Rattle.std.proofs.Common.{◌≡◌, ℕ, ◌+◌, ◌^◌, ◌<◌, Bool, true, false, List, [], ◌∷◌, ◌++◌, length, map, Option, Result, Ok, Err, inl, inr, refl, sym, ap, ◌∙◌, subst, arith, append_assoc}
+use Rattle.std.proofs.Common.{◌≡◌, ℕ, ◌+◌, ◌^◌, ◌<◌, Bool, true, false, List, [], ◌∷◌, ◌++◌, length, map, Option, Result, Ok, Err}
+use Rattle.std.proofs.Common.{inl, inr, refl, sym, ap, ◌∙◌, subst, arith, append_assoc}
 use Rattle.std.proofs.lemmas.List.{append-nil, length-append}
 use Rattle.std.specs.List.{AllZip, flat_map, zip}
 use Rattle.std.specs.Prelude.{IsErrAnd}
@@ -9,7 +10,7 @@ use Rattle.ch_query.specs.declared.answer.Answer.{Answer}
 use Rattle.ch_read.specs.declared.request.Request.{Request}
 use Rattle.ch_read.specs.Reading.{capped_number}
 use Rattle.ch_run.specs.declared.fault.RunFault.{RunFault}
-use Rattle.ch_run.specs.declared.options.Options.{Options}
+use Rattle.ch_job.specs.declared.options.Options.{Options}
 use Rattle.ch_text.specs.declared.device.DeviceFault.{DeviceFault}
 use Rattle.ch_text.proofs.Moves.{took-fault-then, took-none, took-then}
 use Rattle.ch_near.specs.Near.{IsNearestRow}
@@ -32,8 +33,10 @@ use Rattle.ch_run.proofs.Texts.{each_weaker}
 
 -- the joined texts of the answers answer the queries one by one
 module _ (written : Answer → List ℕ) (IsTextOf : TextOf) (from : ℕ × ℕ → Request) (Of : ℕ × ℕ → List ℕ → Type 0)
-    (so : (places : PlaceList) (query : ℕ × ℕ) (text : List ℕ) → Of query text → IsTextOf places (from query) text) (stay : (places : PlaceList) (query : ℕ × ℕ) → places_then places (from query) ≡ places) where
-  each_answered : (places : PlaceList) (queries : List (ℕ × ℕ)) (answers : List Answer) → AllZip (λ query answer. Of query (written answer)) queries answers →
+    (so : (places : PlaceList) (query : ℕ × ℕ) (text : List ℕ) → Of query text → IsTextOf places (from query) text)
+    (stay : (places : PlaceList) (query : ℕ × ℕ) → places_then places (from query) ≡ places) where
+  each_answered : (places : PlaceList) (queries : List (ℕ × ℕ)) (answers : List Answer) →
+      AllZip (λ query answer. Of query (written answer)) queries answers →
       AreAnswered IsTextOf places (map from queries) (flat_map written answers)
   each_answered places [] [] h = refl
   each_answered places [] (a ∷ answers) h = absurd h
@@ -43,42 +46,52 @@ module _ (written : Answer → List ℕ) (IsTextOf : TextOf) (from : ℕ × ℕ 
     flat_map written answers,
     refl,
     so places q (written a) h.0,
-    subst (λ (p : PlaceList). AreAnswered IsTextOf p (map from queries) (flat_map written answers)) (sym (stay places q)) (each_answered places queries answers h.1),
+    subst (λ (p : PlaceList). AreAnswered IsTextOf p (map from queries) (flat_map written answers)) (sym (stay places q))
+        (each_answered places queries answers h.1),
   )
 
 -- the text of one answer is a text of its query
-one_text : (written : Answer → List ℕ) (P : ℕ × ℕ → Answer → Type 0) (query : ℕ × ℕ) (a : Answer) → P query a → HasText written P (query ∷ []) (written a)
+one_text : (written : Answer → List ℕ) (P : ℕ × ℕ → Answer → Type 0) (query : ℕ × ℕ) (a : Answer) → P query a →
+    HasText written P (query ∷ []) (written a)
 one_text written P query a is = (a ∷ [], (is, tt), sym (append-nil (written a)))
 
 -- a text that answers queries answers them one by one
 split_by : (IsTextOf : TextOf) (from : ℕ × ℕ → Request) (routes : Bool) (g : Network) (From : LevelsAndLegs → Type 0) →
     ((places : PlaceList) (query : ℕ × ℕ) (text : List ℕ) → IsTextBy routes g From (query ∷ []) text → IsTextOf places (from query) text) →
     ((places : PlaceList) (query : ℕ × ℕ) → places_then places (from query) ≡ places) →
-    (places : PlaceList) (queries : List (ℕ × ℕ)) (text : List ℕ) → IsTextBy routes g From queries text → AreAnswered IsTextOf places (map from queries) text
+    (places : PlaceList) (queries : List (ℕ × ℕ)) (text : List ℕ) → IsTextBy routes g From queries text →
+    AreAnswered IsTextOf places (map from queries) text
 split_by IsTextOf from false g From so stay places queries text h =
     subst (AreAnswered IsTextOf places (map from queries)) (sym h.2)
     (each_answered distance_text IsTextOf from (λ query one. IsTextBy false g From (query ∷ []) one) so stay places queries h.0
-    (each_weaker (AnswersShortly g) (λ query a. IsTextBy false g From (query ∷ []) (distance_text a)) (λ query a is. one_text distance_text (AnswersShortly g) query a is) queries h.0 h.1))
+    (each_weaker (AnswersShortly g) (λ query a. IsTextBy false g From (query ∷ []) (distance_text a))
+    (λ query a is. one_text distance_text (AnswersShortly g) query a is) queries h.0 h.1))
 split_by IsTextOf from true g From so stay places queries text h =
     let H = h.0 in
     subst (AreAnswered IsTextOf places (map from queries)) (sym h.2.2)
     (each_answered answer_text IsTextOf from (λ query one. IsTextBy true g From (query ∷ []) one) so stay places queries h.2.0
-    (each_weaker (AnswersWithRoute g H) (λ query a. IsTextBy true g From (query ∷ []) (answer_text a)) (λ query a is. (H, h.1, one_text answer_text (AnswersWithRoute g H) query a is)) queries h.2.0 h.2.1))
+    (each_weaker (AnswersWithRoute g H) (λ query a. IsTextBy true g From (query ∷ []) (answer_text a))
+    (λ query a is. (H, h.1, one_text answer_text (AnswersWithRoute g H) query a is)) queries h.2.0 h.2.1))
 
 -- no query gives places
 stays : (routed : Bool) (places : PlaceList) (query : ℕ × ℕ) → places_then places (asked_for routed query) ≡ places
 stays true places query = refl
 stays false places query = refl
 
-pub split_answers : (options : Options) (routed : Bool) (g : Network) (From : LevelsAndLegs → Type 0) (places : PlaceList) (queries : List (ℕ × ℕ)) (text : List ℕ) → IsTextBy (routes_for options routed) g From queries text →
+pub split_answers : (options : Options) (routed : Bool) (g : Network) (From : LevelsAndLegs → Type 0) (places : PlaceList)
+    (queries : List (ℕ × ℕ)) (text : List ℕ) → IsTextBy (routes_for options routed) g From queries text →
     AreAnswered (IsRequestText options g From) places (map (asked_for routed) queries) text
-split_answers options true g From places queries text h = split_by (IsRequestText options g From) (asked_for true) true g From (λ places query one is. is) (stays true) places queries text h
-split_answers options false g From places queries text h = split_by (IsRequestText options g From) (asked_for false) (writes_routes options) g From (λ places query one is. is) (stays false) places queries text h
+split_answers options true g From places queries text h = split_by (IsRequestText options g From) (asked_for true) true g From
+    (λ places query one is. is) (stays true) places queries text h
+split_answers options false g From places queries text h = split_by (IsRequestText options g From) (asked_for false)
+    (writes_routes options) g From (λ places query one is. is) (stays false) places queries text h
 
 -- near rows that are made together answer the requests one by one
-pub rows_answered : (options : Options) (g : Network) (From : LevelsAndLegs → Type 0) (within : Option ℕ) (places : PlaceList) (sources : List ℕ) (rows : List (List (ℕ × ℕ))) →
+pub rows_answered : (options : Options) (g : Network) (From : LevelsAndLegs → Type 0) (within : Option ℕ) (places : PlaceList)
+    (sources : List ℕ) (rows : List (List (ℕ × ℕ))) →
     AllZip (IsNearestRow g options.direction (limit_of options within) places.count places.nodes) sources rows →
-    AreAnswered (IsRequestText options g From) places (map (near_row_of within) sources) (flat_map (near_row_text places.nodes) (zip sources rows))
+    AreAnswered (IsRequestText options g From) places (map (near_row_of within) sources)
+    (flat_map (near_row_text places.nodes) (zip sources rows))
 rows_answered options g From within places [] [] h = refl
 rows_answered options g From within places [] (row ∷ rows) h = absurd h
 rows_answered options g From within places (s ∷ sources) [] h = absurd h
@@ -98,7 +111,8 @@ module _ (IsTextOf : TextOf) where
   pub answered_none : (places : PlaceList) → AreAnswered IsTextOf places [] []
   answered_none places = refl
 
-  pub answered_append : (places : PlaceList) (xs ys : List Request) (text more : List ℕ) → AreAnswered IsTextOf places xs text → AreAnswered IsTextOf (places_after places xs) ys more →
+  pub answered_append : (places : PlaceList) (xs ys : List Request) (text more : List ℕ) → AreAnswered IsTextOf places xs text →
+      AreAnswered IsTextOf (places_after places xs) ys more →
       AreAnswered IsTextOf places (xs ++ ys) (text ++ more)
   answered_append places [] ys text more h k = rw h k
   answered_append places (x ∷ xs) ys text more h k = (
@@ -111,11 +125,15 @@ module _ (IsTextOf : TextOf) where
 
 module _ (IsTextOf : TextOf) {S : Type 0} (gives : S → List ℕ → Result ℕ DeviceFault → S → Type 0) where
   -- a text that was written answers its requests
-  pub written_answers : {T : Type 0} (places : PlaceList) (old new : S) (before after : ℕ) (requests : List Request) (text : List ℕ) (r : Result T RunFault) →
-      AreAnswered IsTextOf places requests text → WritesMore gives old new before after text r → AnswersInTurn IsTextOf gives places old new before after requests r
+  pub written_answers : {T : Type 0} (places : PlaceList) (old new : S) (before after : ℕ) (requests : List Request) (text : List ℕ)
+      (r : Result T RunFault) →
+      AreAnswered IsTextOf places requests text → WritesMore gives old new before after text r →
+      AnswersInTurn IsTextOf gives places old new before after requests r
   written_answers places old new before after requests text (Ok x) is h = (text, is, h.0, h.1)
-  written_answers places old new before after requests text (Err (RunFault.Write count)) is h = (requests, [], text, h.0, sym (append-nil requests), is, h.1, h.2)
-  written_answers places old new before after requests text (Err RunFault.Memory) is h = rw h ([], requests, refl, ([], answered_none IsTextOf places, took-none gives old))
+  written_answers places old new before after requests text (Err (RunFault.Write count)) is h =
+      (requests, [], text, h.0, sym (append-nil requests), is, h.1, h.2)
+  written_answers places old new before after requests text (Err RunFault.Memory) is h =
+      rw h ([], requests, refl, ([], answered_none IsTextOf places, took-none gives old))
   written_answers places old new before after requests text (Err RunFault.Cells) is h = absurd h
   written_answers places old new before after requests text (Err RunFault.Order) is h = absurd h
   written_answers places old new before after requests text (Err (RunFault.CellsAt line)) is h = absurd h
@@ -124,7 +142,8 @@ module _ (IsTextOf : TextOf) {S : Type 0} (gives : S → List ℕ → Result ℕ
   written_answers places old new before after requests text (Err (RunFault.Check f)) is h = absurd h
 
   -- a failed write or a lack of memory is a fault of answering
-  pub more_own : (T : Type 0) (old new : S) (before after : ℕ) (text : List ℕ) (e : RunFault) → WritesMore {T = T} gives old new before after text (Err e) → IsOfAnswering e
+  pub more_own : (T : Type 0) (old new : S) (before after : ℕ) (text : List ℕ) (e : RunFault) →
+      WritesMore {T = T} gives old new before after text (Err e) → IsOfAnswering e
   more_own T old new before after text (RunFault.Write count) h = inl tt
   more_own T old new before after text RunFault.Memory h = inr refl
   more_own T old new before after text RunFault.Cells h = absurd h
@@ -134,14 +153,9 @@ module _ (IsTextOf : TextOf) {S : Type 0} (gives : S → List ℕ → Result ℕ
   more_own T old new before after text (RunFault.Read which f) h = absurd h
   more_own T old new before after text (RunFault.Check f) h = absurd h
 
-  -- nothing is answered without memory
-  pub answers_nothing : {T : Type 0} (places : PlaceList) (old : S) (before after : ℕ) (requests : List Request) (r : Result T RunFault) → IsErrAnd r (λ y. y ≡ RunFault.Memory) → AnswersInTurn IsTextOf gives places old old before after requests r
-  answers_nothing places old before after requests (Ok x) is = absurd is
-  answers_nothing {T} places old before after requests (Err y) is =
-      subst (λ (f : RunFault). AnswersInTurn {T = T} IsTextOf gives places old old before after requests (Err f)) (sym is) ([], requests, refl, ([], answered_none IsTextOf places, took-none gives old))
-
   -- if answering ends in a lack of memory or a failed write, there may have been more requests
-  answers_front : (places : PlaceList) (old new : S) (before after : ℕ) (xs ys : List Request) (e : RunFault) → IsOfAnswering e → AnswersInTurn {T = Unit} IsTextOf gives places old new before after xs (Err e) →
+  answers_front : (places : PlaceList) (old new : S) (before after : ℕ) (xs ys : List Request) (e : RunFault) → IsOfAnswering e →
+      AnswersInTurn {T = Unit} IsTextOf gives places old new before after xs (Err e) →
       AnswersInTurn {T = Unit} IsTextOf gives places old new before after (xs ++ ys) (Err e)
   answers_front places old new before after xs ys RunFault.Memory own h =
       (h.0, h.1 ++ ys, ap (λ zs. zs ++ ys) h.2 ∙ append_assoc h.0 h.1 ys, h.3)
@@ -163,22 +177,30 @@ module _ (IsTextOf : TextOf) {S : Type 0} (gives : S → List ℕ → Result ℕ
   answers_front places old new before after xs ys (RunFault.Check f) own h = absurd h
 
   -- a fault that is passed on keeps the promise on the answered requests
-  pub answers_passed : (places : PlaceList) (old new : S) (before after : ℕ) (xs ys : List Request) (e : RunFault) (r : Result Unit RunFault) → IsErrAnd r (λ y. y ≡ e) → IsOfAnswering e →
-      AnswersInTurn {T = Unit} IsTextOf gives places old new before after xs (Err e) → AnswersInTurn IsTextOf gives places old new before after (xs ++ ys) r
+  pub answers_passed : (places : PlaceList) (old new : S) (before after : ℕ) (xs ys : List Request) (e : RunFault)
+      (r : Result Unit RunFault) → IsErrAnd r (λ y. y ≡ e) → IsOfAnswering e →
+      AnswersInTurn {T = Unit} IsTextOf gives places old new before after xs (Err e) →
+      AnswersInTurn IsTextOf gives places old new before after (xs ++ ys) r
   answers_passed places old new before after xs ys e (Ok x) is own h = absurd is
   answers_passed places old new before after xs ys e (Err y) is own h =
-      subst (λ (f : RunFault). AnswersInTurn {T = Unit} IsTextOf gives places old new before after (xs ++ ys) (Err f)) (sym is) (answers_front places old new before after xs ys e own h)
+      subst (λ (f : RunFault). AnswersInTurn {T = Unit} IsTextOf gives places old new before after (xs ++ ys) (Err f)) (sym is)
+      (answers_front places old new before after xs ys e own h)
 
-  took_append : (places : PlaceList) (old mid new : S) (before after : ℕ) (xs ys : List Request) → AnswersInTurn {T = Unit} IsTextOf gives places old mid before after xs (Ok tt) →
+  took_append : (places : PlaceList) (old mid new : S) (before after : ℕ) (xs ys : List Request) →
+      AnswersInTurn {T = Unit} IsTextOf gives places old mid before after xs (Ok tt) →
       TookAnswers IsTextOf gives (places_after places xs) mid new ys → TookAnswers IsTextOf gives places old new (xs ++ ys)
   took_append places old mid new before after xs ys h k =
       (h.0 ++ k.0, answered_append IsTextOf places xs ys h.0 k.0 h.1 k.1, took-then gives old mid new h.0 k.0 [] h.2 k.2)
 
   -- requests were answered, and then more
-  pub answers_more : {T : Type 0} (places : PlaceList) (old mid new : S) (before between after : ℕ) (xs ys : List Request) (r : Result T RunFault) →
-      AnswersInTurn {T = Unit} IsTextOf gives places old mid before between xs (Ok tt) → AnswersInTurn IsTextOf gives (places_after places xs) mid new between after ys r → AnswersInTurn IsTextOf gives places old new before after (xs ++ ys) r
+  pub answers_more : {T : Type 0} (places : PlaceList) (old mid new : S) (before between after : ℕ) (xs ys : List Request)
+      (r : Result T RunFault) →
+      AnswersInTurn {T = Unit} IsTextOf gives places old mid before between xs (Ok tt) →
+      AnswersInTurn IsTextOf gives (places_after places xs) mid new between after ys r →
+      AnswersInTurn IsTextOf gives places old new before after (xs ++ ys) r
   answers_more places old mid new before between after xs ys (Ok x) h k =
-      let count : capped_number (capped_number (before + length h.0) + length k.0) ≡ capped_number (before + (length h.0 + length k.0)) = capped_on before (length h.0) (length k.0) in
+      let count : capped_number (capped_number (before + length h.0) + length k.0)
+      ≡ capped_number (before + (length h.0 + length k.0)) = capped_on before (length h.0) (length k.0) in
       let long : length (h.0 ++ k.0) ≡ length h.0 + length k.0 = length-append h.0 k.0 in
       let first = h.3 in
       let second = k.3 in
@@ -186,7 +208,8 @@ module _ (IsTextOf : TextOf) {S : Type 0} (gives : S → List ℕ → Result ℕ
   answers_more places old mid new before between after xs ys (Err RunFault.Memory) h k =
       (xs ++ k.0, k.1, ap (λ zs. xs ++ zs) k.2 ∙ sym (append_assoc xs k.0 k.1), took_append places old mid new before between xs k.0 h k.3)
   answers_more places old mid new before between after xs ys (Err (RunFault.Write count)) h k =
-      let total : capped_number (capped_number (before + length h.0) + k.3) ≡ capped_number (before + (length h.0 + k.3)) = capped_on before (length h.0) k.3 in
+      let total : capped_number (capped_number (before + length h.0) + k.3) ≡ capped_number (before + (length h.0 + k.3)) =
+      capped_on before (length h.0) k.3 in
       let first = h.3 in
       let second = k.7 in (
         xs ++ k.0,
@@ -198,25 +221,32 @@ module _ (IsTextOf : TextOf) {S : Type 0} (gives : S → List ℕ → Result ℕ
         took-fault-then gives old mid new h.0 k.2 k.3 h.2 k.6,
         (cc),
       )
-  answers_more places old mid new before between after xs ys (Err (RunFault.CellsAt line)) h k = took_append places old mid new before between xs ys h k
-  answers_more places old mid new before between after xs ys (Err (RunFault.Read which f)) h k = (k.0, took_append places old mid new before between xs ys h k.1)
+  answers_more places old mid new before between after xs ys (Err (RunFault.CellsAt line)) h k =
+      took_append places old mid new before between xs ys h k
+  answers_more places old mid new before between after xs ys (Err (RunFault.Read which f)) h k =
+      (k.0, took_append places old mid new before between xs ys h k.1)
   answers_more places old mid new before between after xs ys (Err RunFault.Cells) h k = absurd k
   answers_more places old mid new before between after xs ys (Err RunFault.Order) h k = absurd k
   answers_more places old mid new before between after xs ys (Err (RunFault.Device which)) h k = absurd k
   answers_more places old mid new before between after xs ys (Err (RunFault.Check f)) h k = absurd k
 
   -- no requests were asked for
-  pub answers_none : (places : PlaceList) (old : S) (written : ℕ) → written < 2 ^ 64 → AnswersInTurn {T = Unit} IsTextOf gives places old old written written [] (Ok tt)
+  pub answers_none : (places : PlaceList) (old : S) (written : ℕ) → written < 2 ^ 64 →
+      AnswersInTurn {T = Unit} IsTextOf gives places old old written written [] (Ok tt)
   answers_none places old written fits = ([], answered_none IsTextOf places, took-none gives old, omega arith)
 
   -- a fault is passed on
-  pub answers_err : (places : PlaceList) (old new : S) (before after : ℕ) (requests : List Request) (e : RunFault) (r : Result Unit RunFault) → IsErrAnd r (λ y. y ≡ e) →
-      AnswersInTurn {T = Unit} IsTextOf gives places old new before after requests (Err e) → AnswersInTurn IsTextOf gives places old new before after requests r
+  pub answers_err : (places : PlaceList) (old new : S) (before after : ℕ) (requests : List Request) (e : RunFault)
+      (r : Result Unit RunFault) → IsErrAnd r (λ y. y ≡ e) →
+      AnswersInTurn {T = Unit} IsTextOf gives places old new before after requests (Err e) →
+      AnswersInTurn IsTextOf gives places old new before after requests r
   answers_err places old new before after requests e (Ok x) is h = absurd is
-  answers_err places old new before after requests e (Err y) is h = subst (λ (f : RunFault). AnswersInTurn {T = Unit} IsTextOf gives places old new before after requests (Err f)) (sym is) h
+  answers_err places old new before after requests e (Err y) is h = subst
+      (λ (f : RunFault). AnswersInTurn {T = Unit} IsTextOf gives places old new before after requests (Err f)) (sym is) h
 
   -- a batch was answered, with any end
-  pub answers_end : (places : PlaceList) (old new : S) (before after : ℕ) (requests : List Request) (ends : Then) → IsAfter ends → AnswersInTurn {T = Unit} IsTextOf gives places old new before after requests (Ok tt) →
+  pub answers_end : (places : PlaceList) (old new : S) (before after : ℕ) (requests : List Request) (ends : Then) → IsAfter ends →
+      AnswersInTurn {T = Unit} IsTextOf gives places old new before after requests (Ok tt) →
       AnswersInTurn IsTextOf gives places old new before after requests (end_of ends)
   answers_end places old new before after requests More is h = h
   answers_end places old new before after requests Nothing is h = h
@@ -230,6 +260,7 @@ module _ (IsTextOf : TextOf) {S : Type 0} (gives : S → List ℕ → Result ℕ
   answers_end places old new before after requests (Stop (RunFault.Check f)) is h = absurd is
 
 -- the lists of a request are lists of a table
-pub lists_of : (n nodes : ℕ) (lists : TwoLists) (sources targets : List ℕ) → AreTwoLists n lists → nodes ≡ n → sources ≡ lists.sources → targets ≡ lists.targets → AreLists nodes sources targets
+pub lists_of : (n nodes : ℕ) (lists : TwoLists) (sources targets : List ℕ) → AreTwoLists n lists → nodes ≡ n →
+    sources ≡ lists.sources → targets ≡ lists.targets → AreLists nodes sources targets
 lists_of n nodes lists sources targets are same from to =
     rw (same, from, to) (record { sources = are.sources; targets = are.targets; sizes = are.sizes; cells = are.cells })

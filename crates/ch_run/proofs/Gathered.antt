@@ -1,8 +1,9 @@
 -- The first of the requests that came together.
-use Rattle.std.proofs.Common.{◌≡◌, ℕ, suc, ◌+◌, ◌<◌, ◌≤◌, Bool, true, false, List, [], ◌∷◌, ◌++◌, length, take, drop, map, get_or, Option, Some, None, refl, sym, ap, ◌∙◌, subst, arith}
+use Rattle.std.proofs.Common.{◌≡◌, ℕ, ◌<◌, Bool, true, false, List, [], ◌∷◌, length, take, drop, map, get_or}
+use Rattle.std.proofs.Common.{Option, Some, None, refl, sym, ap, ◌∙◌, subst, arith}
 use Rattle.std.specs.Prelude.{All}
 use Rattle.std.proofs.Math.ListN.{get_or-map}
-use Rattle.std.proofs.lemmas.List.{length-map, length-take, map-append, take_more, append-nil}
+use Rattle.std.proofs.lemmas.List.{length-map, append-nil}
 use Rattle.std.proofs.lemmas.List.Elements.{All-take}
 use Rattle.ch_graph.specs.Graph.{Network, IsWithinLimits}
 use Rattle.ch_hierarchy.specs.Kept.{IsKept}
@@ -14,26 +15,13 @@ use Rattle.ch_near.specs.Near.{IsNearRow, IsNearestRow, Wanted, wanted_within}
 use Rattle.ch_read.specs.declared.request.Request.{Request}
 use Rattle.ch_read.specs.RequestLists.{PlaceList}
 use Rattle.ch_read.specs.Requests.{IsRequest}
-use Rattle.ch_run.specs.declared.options.Options.{Options}
+use Rattle.ch_job.specs.declared.options.Options.{Options}
 use Rattle.ch_run.specs.Ask.{AreAnswered, IsRequestText, IsTextOfRequest, TextOf, limit_of, no_places, places_after, places_then}
 use Rattle.ch_run.specs.NearRows.{HasNearRows}
 use Rattle.ch_text.specs.NearText.{near_row_text}
 use Rattle.ch_run.specs.Serving.{AnswersFirst, AreFirstOf, asked_for, near_row_of, places_of}
 use Rattle.ch_run.proofs.Answered.{rows_answered}
 use Rattle.ch_run.proofs.Texts.{each_weaker}
-
-module _ {A : Type 0} (from : A → Request) (x : Request) (rest : List Request) (i : ℕ) (values : List A) (so_far : map from values ≡ x ∷ take i rest) where
-  -- the values so far make the first of the requests
-  pub first_made : i ≤ length rest → AreFirstOf from (x ∷ rest) values
-  first_made within =
-      let long : length values ≡ suc i = omega (arith, ap length so_far, length-map values from, length-take i rest) in
-      record { some = omega arith; few = omega arith; are = so_far ∙ ap (λ n. take n (x ∷ rest)) (sym long) }
-
-  -- one more value makes one more of the requests
-  pub first_more : (v : A) (d : Request) → i < length rest → get_or rest i d ≡ from v → map from (values ++ v ∷ []) ≡ x ∷ take (i + 1) rest
-  first_more v d within is =
-      map-append from values (v ∷ []) ∙ ap (λ (front : List Request). front ++ from v ∷ []) so_far
-      ∙ ap (λ (last : Request). x ∷ (take i rest ++ last ∷ [])) (sym is) ∙ ap (λ (front : List Request). x ∷ front) (sym (take_more rest i d within))
 
 -- requests are their first one and the rest
 pub front : (requests : List Request) (d r : Request) → 0 < length requests → get_or requests 0 d ≡ r → requests ≡ r ∷ drop 1 requests
@@ -44,7 +32,8 @@ module _ {A : Type 0} (from : A → Request) (requests : List Request) (values :
   -- a property of the requests of these values holds of the values
   pub values_within : (n : ℕ) (P : A → Type 0) → ((v : A) → IsRequest n (from v) → P v) → All (IsRequest n) requests → All P values
   values_within n P so each k d lt =
-      let made : All (IsRequest n) (map from values) = subst (All (IsRequest n)) (sym first.are) (All-take (IsRequest n) (length values) requests each) in
+      let made : All (IsRequest n) (map from values) =
+      subst (All (IsRequest n)) (sym first.are) (All-take (IsRequest n) (length values) requests each) in
       let within : k < length (map from values) = omega (arith, length-map values from) in
       so (get_or values k d) (subst (IsRequest n) (get_or-map from values k d) (made k (from d) within))
 
@@ -54,7 +43,8 @@ module _ {A : Type 0} (from : A → Request) (requests : List Request) (values :
   places_stay stay places (v ∷ vs) = ap (λ (p : PlaceList). places_after p (map from vs)) (stay places v) ∙ places_stay stay places vs
 
   -- a text of the requests of these values answers the first of the requests
-  pub first_answered : (IsTextOf : TextOf) (before after : PlaceList) (text : List ℕ) (count : ℕ) → ((places : PlaceList) (v : A) → places_then places (from v) ≡ places) → count ≡ length values → after ≡ before →
+  pub first_answered : (IsTextOf : TextOf) (before after : PlaceList) (text : List ℕ) (count : ℕ) →
+      ((places : PlaceList) (v : A) → places_then places (from v) ≡ places) → count ≡ length values → after ≡ before →
       AreAnswered IsTextOf before (map from values) text → AnswersFirst IsTextOf before after requests text count
   first_answered IsTextOf before after text count stay count_is same answers =
       let these : map from values ≡ take count requests = first.are ∙ ap (λ n. take n requests) (sym count_is) in
@@ -86,7 +76,8 @@ pub one_answered : (IsTextOf : TextOf) (places : PlaceList) (r : Request) (rest 
 one_answered IsTextOf places r rest text is = record {
   some = omega arith;
   few = omega arith;
-  answers = subst (λ (rs : List Request). AreAnswered IsTextOf places rs text) (sym (take_one r rest)) (text, [], sym (append-nil text), is, refl);
+  answers = subst (λ (rs : List Request). AreAnswered IsTextOf places rs text) (sym (take_one r rest))
+      (text, [], sym (append-nil text), is, refl);
   places = ap (places_after places) (sym (take_one r rest));
 }
 
@@ -105,12 +96,15 @@ none_near options g From s within text is =
     ([] ∷ [], (no_row g options.direction _ s, tt), is ∙ sym (append-nil (near_row_text [] (s, []))))
 
 -- near rows in the searched hierarchy are those of the graph
-pub near_answered : (options : Options) (g : Network) (H : LevelsAndLegs) → IsWithinLimits g → IsKept g H → (within : Option ℕ) (near : Wanted) → near.hierarchy ≡ facing options.direction H → (sources text : List ℕ) →
-    HasNearRows (wanted_within near (limit_of options within)) sources text → AreAnswered (IsTextOfRequest options g H) (places_of (Some near)) (map (near_row_of within) sources) text
+pub near_answered : (options : Options) (g : Network) (H : LevelsAndLegs) → IsWithinLimits g → IsKept g H →
+    (within : Option ℕ) (near : Wanted) → near.hierarchy ≡ facing options.direction H → (sources text : List ℕ) →
+    HasNearRows (wanted_within near (limit_of options within)) sources text →
+    AreAnswered (IsTextOfRequest options g H) (places_of (Some near)) (map (near_row_of within) sources) text
 near_answered options g H limits kept within near same sources text h =
     let direction = options.direction in
     let limit = limit_of options within in
     subst (AreAnswered (IsTextOfRequest options g H) (places_of (Some near)) (map (near_row_of within) sources)) (sym h.2)
     (rows_answered options g (λ K. K ≡ H) within (places_of (Some near)) sources h.0
     (each_weaker (IsNearRow near.hierarchy limit near.count near.targets) (IsNearestRow g direction limit near.count near.targets)
-    (λ s row is. row_of_graph g H direction limit near.count near.targets s row limits kept (subst (λ (K : LevelsAndLegs). IsNearRow K limit near.count near.targets s row) same is)) sources h.0 h.1))
+    (λ s row is. row_of_graph g H direction limit near.count near.targets s row limits kept
+    (subst (λ (K : LevelsAndLegs). IsNearRow K limit near.count near.targets s row) same is)) sources h.0 h.1))

@@ -18,11 +18,6 @@ use Rattle.ch_run.specs.Run.{IsOf, IsWrite, Reading, ReadsGraph, StopsAt, Source
 use Rattle.ch_run.specs.Source.{AreBuiltLike, AreChecked, AreLoaded, IsInPlaceOf, IsOfLoading, WithLoaded}
 use Rattle.ch_run.proofs.Inputs.{of_one}
 
--- no hierarchy serves in the place of none
-pub no_place : (named : Bool) (g : Network) → IsInPlaceOf named g None None
-no_place true g = refl
-no_place false g = (refl, tt)
-
 -- a hierarchy that is right for the graph serves in its own place
 pub own_place : (named : Bool) (g : Network) (H K : LevelsAndLegs) → K ≡ H → IsKept g H → IsInPlaceOf named g (Some H) (Some K)
 own_place true g H K same kept = ap (λ (x : LevelsAndLegs). Some x) same
@@ -30,12 +25,15 @@ own_place false g H K same kept = (refl, subst (IsKept g) (sym same) kept)
 
 module _ (g : Network) (hops : ℕ) (given : List ℕ) (fresh : ℕ) where
   -- the hierarchy that the rules name serves in its own place
-  pub built_in_place : (named : Bool) (r : Result LevelsAndLegs OrderError) → IfOk r (IsHierarchyLike g hops given fresh) → IfOk r (IsKept g) → IfOk r (λ K. (H : LevelsAndLegs) × IsHierarchyLike g hops given fresh H × IsKept g H × IsInPlaceOf named g (Some H) (Some K))
+  pub built_in_place : (named : Bool) (r : Result LevelsAndLegs OrderError) → IfOk r (IsHierarchyLike g hops given fresh) →
+      IfOk r (IsKept g) → IfOk r
+      (λ K. (H : LevelsAndLegs) × IsHierarchyLike g hops given fresh H × IsKept g H × IsInPlaceOf named g (Some H) (Some K))
   built_in_place named (Ok K) like kept = (K, like, kept, own_place named g K K refl kept)
   built_in_place named (Err e) like kept = tt
 
   -- each hierarchy that is right for the graph serves in its place, if it is not named
-  pub built_in_its_place : (named : Bool) (r : Result LevelsAndLegs OrderError) → named ≡ false → IsHopBound hops → IsWithinLimits g → IfOk r (λ _. IsOrderOf g.nodes given) → IfOk r (IsKept g) →
+  pub built_in_its_place : (named : Bool) (r : Result LevelsAndLegs OrderError) → named ≡ false → IsHopBound hops →
+      IsWithinLimits g → IfOk r (λ _. IsOrderOf g.nodes given) → IfOk r (IsKept g) →
       IfOk r (λ K. (H : LevelsAndLegs) × IsHierarchyLike g hops given fresh H × IsKept g H × IsInPlaceOf named g (Some H) (Some K))
   built_in_its_place named (Ok K) unnamed bound limits each kept =
       let H = like_exists g hops given fresh limits bound each in
@@ -43,15 +41,19 @@ module _ (g : Network) (hops : ℕ) (given : List ℕ) (fresh : ℕ) where
   built_in_its_place named (Err e) unnamed bound limits each kept = tt
 
 -- a fault of loading belongs to the graph, to the saved hierarchy or to the order
-pub loading_past : (source : SourceReading) (e : RunFault) → IsOfLoading source e → (which : Which) → (which ≡ Which.Graph → ⊥) → (which ≡ Which.Saved → ⊥) → (which ≡ Which.Order → ⊥) → StopsAt which e → ⊥
+pub loading_past : (source : SourceReading) (e : RunFault) → IsOfLoading source e → (which : Which) → (which ≡ Which.Graph → ⊥) →
+    (which ≡ Which.Saved → ⊥) → (which ≡ Which.Order → ⊥) → StopsAt which e → ⊥
 loading_past NoFile e own which not_graph not_saved not_order stops = not_graph (of_one Which.Graph which e own stops)
 loading_past (SavedFile saved) e (inl own) which not_graph not_saved not_order stops = not_graph (of_one Which.Graph which e own stops)
 loading_past (SavedFile saved) e (inr own) which not_graph not_saved not_order stops = not_saved (of_one Which.Saved which e own stops)
-loading_past (OrderFile order fresh hops) e (inl own) which not_graph not_saved not_order stops = not_graph (of_one Which.Graph which e own stops)
-loading_past (OrderFile order fresh hops) e (inr own) which not_graph not_saved not_order stops = not_order (of_one Which.Order which e own stops)
+loading_past (OrderFile order fresh hops) e (inl own) which not_graph not_saved not_order stops =
+    not_graph (of_one Which.Graph which e own stops)
+loading_past (OrderFile order fresh hops) e (inr own) which not_graph not_saved not_order stops =
+    not_order (of_one Which.Order which e own stops)
 
 -- the loaded graph, without a saved hierarchy
-pub built : (graph : Reading) (P : Network → Option LevelsAndLegs → Type 0) → WithLoaded graph NoFile P → (g : Network) × IsWithinLimits g × ReadsGraph graph g × P g None
+pub built : (graph : Reading) (P : Network → Option LevelsAndLegs → Type 0) → WithLoaded graph NoFile P →
+    (g : Network) × IsWithinLimits g × ReadsGraph graph g × P g None
 built graph P t = (t.0, t.2.0, t.2.1, subst (P t.0) t.2.2 t.3)
 
 -- the loaded graph, with the saved hierarchy
@@ -59,16 +61,19 @@ pub checked : (graph saved : Reading) (P : Network → Option LevelsAndLegs → 
     (g : Network) × (s : OrderAndLegs) × (H : LevelsAndLegs) × AreChecked graph saved g s H × P g (Some H)
 checked graph saved P t = at t.1 t.2 t.3
   where
-    at : (h : Option LevelsAndLegs) → AreLoaded graph (SavedFile saved) t.0 h → P t.0 h → (g : Network) × (s : OrderAndLegs) × (H : LevelsAndLegs) × AreChecked graph saved g s H × P g (Some H)
+    at : (h : Option LevelsAndLegs) → AreLoaded graph (SavedFile saved) t.0 h → P t.0 h →
+        (g : Network) × (s : OrderAndLegs) × (H : LevelsAndLegs) × AreChecked graph saved g s H × P g (Some H)
     at None is p = absurd is
     at (Some H) is p = (t.0, is.0, H, is.1, p)
 
 -- the loaded graph, with the hierarchy that was built like an order
-pub built_like : (graph order : Reading) (fresh hops : ℕ) (P : Network → Option LevelsAndLegs → Type 0) → WithLoaded graph (OrderFile order fresh hops) P →
+pub built_like : (graph order : Reading) (fresh hops : ℕ) (P : Network → Option LevelsAndLegs → Type 0) →
+    WithLoaded graph (OrderFile order fresh hops) P →
     (g : Network) × (s : OrderAndLegs) × (H : LevelsAndLegs) × AreBuiltLike graph order fresh hops g s H × P g (Some H)
 built_like graph order fresh hops P t = at t.1 t.2 t.3
   where
-    at : (h : Option LevelsAndLegs) → AreLoaded graph (OrderFile order fresh hops) t.0 h → P t.0 h → (g : Network) × (s : OrderAndLegs) × (H : LevelsAndLegs) × AreBuiltLike graph order fresh hops g s H × P g (Some H)
+    at : (h : Option LevelsAndLegs) → AreLoaded graph (OrderFile order fresh hops) t.0 h → P t.0 h →
+        (g : Network) × (s : OrderAndLegs) × (H : LevelsAndLegs) × AreBuiltLike graph order fresh hops g s H × P g (Some H)
     at None is p = absurd is
     at (Some H) is p = (t.0, is.0, H, is.1, p)
 

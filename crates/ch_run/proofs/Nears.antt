@@ -16,7 +16,7 @@ use Rattle.ch_near.proofs.GraphRows.{row_of_graph}
 use Rattle.ch_near.proofs.NearRows.{zip_at}
 use Rattle.ch_near.specs.Direction.{facing}
 use Rattle.ch_near.specs.Near.{Wanted, IsNearRow, IsNearestRow}
-use Rattle.ch_run.specs.declared.options.Options.{Options}
+use Rattle.ch_job.specs.declared.options.Options.{Options}
 use Rattle.ch_run.specs.NearRows.{HasNearRows}
 use Rattle.ch_run.specs.Text.{IsNearTextFor}
 use Rattle.ch_text.specs.NearText.{near_row_text, nodes_in_order}
@@ -34,17 +34,14 @@ joined P [] us (y ∷ ys) vs h k = absurd h
 joined P (x ∷ xs) us [] vs h k = absurd h
 joined P (x ∷ xs) us (y ∷ ys) vs h k = let rest = joined P xs us ys vs h.1 k in ((h.0, rest.0), ap (λ l. (x, y) ∷ l) rest.1)
 
--- without sources there are no rows
-pub no_rows : (wanted : Wanted) → HasNearRows wanted [] []
-no_rows wanted = ([], tt, refl)
-
 -- the text of some sources, joined with the text of others, is the text of all of them
 pub rows_joined : (wanted : Wanted) (a b s t : List ℕ) → HasNearRows wanted a s → HasNearRows wanted b t →
     HasNearRows wanted (a ++ b) (s ++ t)
 rows_joined wanted a b s t h k =
     let f = near_row_text wanted.targets in
     let both = joined (IsWantedRow wanted) a b h.0 k.0 h.1 k.1 in
-    let text : s ++ t ≡ flat_map f (zip a h.0 ++ zip b k.0) = ap (λ l. l ++ t) h.2 ∙ ap (λ l. flat_map f (zip a h.0) ++ l) k.2 ∙ sym (flat_map-append f (zip a h.0) (zip b k.0)) in
+    let text : s ++ t ≡ flat_map f (zip a h.0 ++ zip b k.0) = ap (λ l. l ++ t) h.2 ∙ ap (λ l. flat_map f (zip a h.0) ++ l) k.2
+    ∙ sym (flat_map-append f (zip a h.0) (zip b k.0)) in
     (h.0 ++ k.0, both.0, text ∙ ap (flat_map f) (sym both.1))
 
 -- the pairs of a row that is in a vector
@@ -57,7 +54,8 @@ pub row_places : (wanted : Wanted) (s : ℕ) (row : List (ℕ × ℕ)) → IsWan
 row_places wanted s row near i d lt = (near.sound (get_or row i d) (Contains-get_or row i d lt)).0
 
 -- the places in all rows are places of targets
-pub rows_places : (wanted : Wanted) (sources : List ℕ) (rows : List (Vec (ℕ × ℕ) Global)) → AllZip (λ s (row : Vec (ℕ × ℕ) Global). IsWantedRow wanted s row.items) sources rows →
+pub rows_places : (wanted : Wanted) (sources : List ℕ) (rows : List (Vec (ℕ × ℕ) Global)) →
+    AllZip (λ s (row : Vec (ℕ × ℕ) Global). IsWantedRow wanted s row.items) sources rows →
     All (λ (row : Vec (ℕ × ℕ) Global). All (λ (e : ℕ × ℕ). e.1 < length wanted.targets) row.items) rows
 rows_places wanted sources rows each i d lt =
     let size = zipped_length (λ s (row : Vec (ℕ × ℕ) Global). IsWantedRow wanted s row.items) sources rows each in
@@ -65,7 +63,8 @@ rows_places wanted sources rows each i d lt =
     row_places wanted (get_or sources i 0) (get_or rows i d).items row
 
 -- for each source, the row of its node is a wanted row
-pub node_rows : (wanted : Wanted) (n : ℕ) (row : ℕ → List (ℕ × ℕ)) → ((v : ℕ) → v < n → IsWantedRow wanted v (row v)) → (sources : List ℕ) → All (λ s. s < n) sources →
+pub node_rows : (wanted : Wanted) (n : ℕ) (row : ℕ → List (ℕ × ℕ)) → ((v : ℕ) → v < n → IsWantedRow wanted v (row v)) →
+    (sources : List ℕ) → All (λ s. s < n) sources →
     AllZip (IsWantedRow wanted) sources (map row sources) × (zip sources (map row sources) ≡ map (λ s. (s, row s)) sources)
 node_rows wanted n row each [] within = (tt, refl)
 node_rows wanted n row each (s ∷ sources) within =
@@ -73,7 +72,8 @@ node_rows wanted n row each (s ∷ sources) within =
     ((each s (within 0 0 (omega arith)), rest.0), ap (λ l. (s, row s) ∷ l) rest.1)
 
 -- the lines of these rows, one after the other, are the text of the sources
-pub nodes_text : (wanted : Wanted) (n : ℕ) (row : ℕ → List (ℕ × ℕ)) → ((v : ℕ) → v < n → IsWantedRow wanted v (row v)) → (sources text : List ℕ) → All (λ s. s < n) sources →
+pub nodes_text : (wanted : Wanted) (n : ℕ) (row : ℕ → List (ℕ × ℕ)) → ((v : ℕ) → v < n → IsWantedRow wanted v (row v)) →
+    (sources text : List ℕ) → All (λ s. s < n) sources →
     text ≡ flat_map (λ s. near_row_text wanted.targets (s, row s)) sources → HasNearRows wanted sources text
 nodes_text wanted n row each sources text within is =
     let rows = node_rows wanted n row each sources within in
@@ -81,27 +81,39 @@ nodes_text wanted n row each sources text within is =
     (map row sources, rows.0, is ∙ sym (flat_map-map f (λ (s : ℕ). (s, row s)) sources) ∙ ap (flat_map f) (sym rows.1))
 
 -- the near rows of a hierarchy that is right for a graph are those of the graph
-pub text_of_graph : (g : Network) (H : LevelsAndLegs) → IsWithinLimits g → IsKept g H → (options : Options) (sources targets text : List ℕ) →
-    HasNearRows (record { hierarchy = facing options.direction H; targets = targets; limit = options.within; count = options.count }) sources text → IsNearTextFor options g sources targets text
+pub text_of_graph : (g : Network) (H : LevelsAndLegs) → IsWithinLimits g → IsKept g H →
+    (options : Options) (sources targets text : List ℕ) →
+    HasNearRows (record {
+      hierarchy = facing options.direction H;
+      targets = targets;
+      limit = options.within;
+      count =
+          options.count;
+    }) sources text → IsNearTextFor options g sources targets text
 text_of_graph g H limits kept options sources targets text h = (
   h.0,
-  each_weaker (IsNearRow (facing options.direction H) options.within options.count targets) (IsNearestRow g options.direction options.within options.count targets)
+  each_weaker (IsNearRow (facing options.direction H) options.within options.count targets)
+      (IsNearestRow g options.direction options.within options.count targets)
       (λ s row near. row_of_graph g H options.direction options.within options.count targets s row limits kept near) sources h.0 h.1,
   h.2,
 )
 
 -- if a call makes the near rows of the hierarchy, it makes those of the graph
-pub made_of_graph : {E : Type 0} (H : LevelsAndLegs) (options : Options) (sources targets : List ℕ) (wanted : Wanted) (made : Result (Vec ℕ Global) E) →
+pub made_of_graph : {E : Type 0} (H : LevelsAndLegs) (options : Options) (sources targets : List ℕ) (wanted : Wanted)
+    (made : Result (Vec ℕ Global) E) →
     wanted ≡ record { hierarchy = facing options.direction H; targets = targets; limit = options.within; count = options.count } →
-    IfOk made (λ text. HasNearRows wanted sources text.items) → IfOk made (λ text. (g : Network) → IsWithinLimits g → IsKept g H → IsNearTextFor options g sources targets text.items)
+    IfOk made (λ text. HasNearRows wanted sources text.items) → IfOk made
+    (λ text. (g : Network) → IsWithinLimits g → IsKept g H → IsNearTextFor options g sources targets text.items)
 made_of_graph H options sources targets wanted made is h = IfOk-weaker made (λ (text : Vec ℕ Global). HasNearRows wanted sources text.items)
     (λ (text : Vec ℕ Global). (g : Network) → IsWithinLimits g → IsKept g H → IsNearTextFor options g sources targets text.items)
-    (λ text rows g limits kept. text_of_graph g H limits kept options sources targets text.items (subst (λ (w : Wanted). HasNearRows w sources text.items) is rows)) h
+    (λ text rows g limits kept. text_of_graph g H limits kept options sources targets text.items
+    (subst (λ (w : Wanted). HasNearRows w sources text.items) is rows)) h
 
 -- a range with one more number has this number at its end
 one_more : (a n : ℕ) → range_with_len a (suc n) ≡ range_with_len a n ++ (a + n) ∷ []
 one_more a zero = let e : a ≡ a + 0 = omega arith in ap (λ (x : ℕ). x ∷ []) e
-one_more a (suc n) = let e : a + 1 + n ≡ a + suc n = omega arith in ap (λ l. a ∷ l) (one_more (a + 1) n ∙ ap (λ (x : ℕ). range_with_len (a + 1) n ++ x ∷ []) e)
+one_more a (suc n) = let e : a + 1 + n ≡ a + suc n = omega arith in
+    ap (λ l. a ∷ l) (one_more (a + 1) n ∙ ap (λ (x : ℕ). range_with_len (a + 1) n ++ x ∷ []) e)
 
 -- the nodes in order are below the number of nodes
 pub all_below : (n : ℕ) → All (λ v. v < n) (nodes_in_order n)

@@ -73,7 +73,8 @@ same_answers a b from to weight arcs = λ i. record { from = from i; to = to i; 
 -- a query has only one short answer
 one_short : (g : Network) (query : ℕ × ℕ) (a b : Answer) → AnswersShortly g query a → AnswersShortly g query b → a ≡ b
 one_short g query a b h k =
-    same_answers a b (h.0.from ∙ sym k.0.from) (h.0.to ∙ sym k.0.to) (one_cell g query.0 query.1 a.weight b.weight h.0.weight k.0.weight) (h.1 ∙ sym k.1)
+    same_answers a b (h.0.from ∙ sym k.0.from) (h.0.to ∙ sym k.0.to)
+    (one_cell g query.0 query.1 a.weight b.weight h.0.weight k.0.weight) (h.1 ∙ sym k.1)
 
 -- for one weight there is only one list of arcs
 one_arcs : (g : Network) (H : LevelsAndLegs) → IsKept g H → (s t : ℕ) (w : Option ℕ) (xs ys : Option (List InArc)) →
@@ -91,7 +92,8 @@ one_routed : (g : Network) (H : LevelsAndLegs) → IsKept g H → (query : ℕ �
     AnswersWithRoute g H query b → a ≡ b
 one_routed g H kept query a b h k =
     let weight = one_cell g query.0 query.1 a.weight b.weight h.answers.weight k.answers.weight in
-    let arcs = one_arcs g H kept query.0 query.1 b.weight a.arcs b.arcs (subst (λ w. HasArcs H true query.0 query.1 w a.arcs) weight h.route) k.route in
+    let arcs = one_arcs g H kept query.0 query.1 b.weight a.arcs b.arcs
+    (subst (λ w. HasArcs H true query.0 query.1 w a.arcs) weight h.route) k.route in
     same_answers a b (h.answers.from ∙ sym k.answers.from) (h.answers.to ∙ sym k.answers.to) weight arcs
 
 -- if each query has only one answer, there is only one text
@@ -100,13 +102,16 @@ one_answers_text : (written : Answer → List ℕ) (P : ℕ × ℕ → Answer �
 one_answers_text written P one queries text other h k = h.2 ∙ ap (flat_map written) (one_list P one queries h.0 k.0 h.1 k.1) ∙ sym k.2
 
 -- the answers have only one text, if the routes go by one hierarchy, which is kept
-pub one_text_by : (routes : Bool) (g : Network) (From : LevelsAndLegs → Type 0) → ((H K : LevelsAndLegs) → From H → From K → H ≡ K) → ((H : LevelsAndLegs) → From H → IsKept g H) →
-    (queries : List (ℕ × ℕ)) (text other : List ℕ) → IsTextBy routes g From queries text → IsTextBy routes g From queries other → text ≡ other
+pub one_text_by : (routes : Bool) (g : Network) (From : LevelsAndLegs → Type 0) →
+    ((H K : LevelsAndLegs) → From H → From K → H ≡ K) → ((H : LevelsAndLegs) → From H → IsKept g H) →
+    (queries : List (ℕ × ℕ)) (text other : List ℕ) → IsTextBy routes g From queries text → IsTextBy routes g From queries other →
+    text ≡ other
 one_text_by false g From one kept queries text other t u =
     one_answers_text distance_text (AnswersShortly g) (one_short g) queries text other t u
 one_text_by true g From one kept queries text other t u =
     let same : u.0 ≡ t.0 = one u.0 t.0 u.1 t.1 in
-    one_answers_text answer_text (AnswersWithRoute g t.0) (one_routed g t.0 (kept t.0 t.1)) queries text other t.2 (subst (λ (H : LevelsAndLegs). HasText answer_text (AnswersWithRoute g H) queries other) same u.2)
+    one_answers_text answer_text (AnswersWithRoute g t.0) (one_routed g t.0 (kept t.0 t.1)) queries text other t.2
+    (subst (λ (H : LevelsAndLegs). HasText answer_text (AnswersWithRoute g H) queries other) same u.2)
 
 -- the bytes of a graph name only one graph
 pub same_graph : (graph : Reading) (bytes : List ℕ) (g h : Network) → GivesOnly graph bytes → ReadsGraph graph g → ReadsGraph graph h →
@@ -118,13 +123,15 @@ same_graph graph bytes g h told a b =
 pub same_queries : (queries : Reading) (bytes : List ℕ) (n : ℕ) (p q : List (ℕ × ℕ)) → GivesOnly queries bytes → ReadsQueries queries n p →
     ReadsQueries queries n q → p ≡ q
 same_queries queries bytes n p q told a b =
-    (queries_answer bytes n).one_value p q (subst (λ xs. NamesQueries xs n p) (told a.0 a.1) a.2) (subst (λ xs. NamesQueries xs n q) (told b.0 b.1) b.2)
+    (queries_answer bytes n).one_value p q (subst (λ xs. NamesQueries xs n p) (told a.0 a.1) a.2)
+    (subst (λ xs. NamesQueries xs n q) (told b.0 b.1) b.2)
 
 -- the bytes of a list of nodes name only one list
 pub same_nodes : (list : Reading) (bytes : List ℕ) (n : ℕ) (p q : List ℕ) → GivesOnly list bytes → ReadsNodes list n p →
     ReadsNodes list n q → p ≡ q
 same_nodes list bytes n p q told a b =
-    (nodes_answer bytes n).one_value p q (subst (λ xs. NamesNodes xs n p) (told a.0 a.1) a.2) (subst (λ xs. NamesNodes xs n q) (told b.0 b.1) b.2)
+    (nodes_answer bytes n).one_value p q (subst (λ xs. NamesNodes xs n p) (told a.0 a.1) a.2)
+    (subst (λ xs. NamesNodes xs n q) (told b.0 b.1) b.2)
 
 -- a row has only one list of cells
 one_row : (g : Network) (limit : Option ℕ) (targets : List ℕ) (s : ℕ) (xs ys : List (Option ℕ)) → IsTableRow g limit targets s xs →
@@ -135,7 +142,8 @@ one_row g limit targets s xs ys h k = one_list (IsCell g limit s) (one_cell_with
 pub one_table_text : (g : Network) (limit : Option ℕ) (sources targets text other : List ℕ) → IsTableText g limit sources targets text →
     IsTableText g limit sources targets other → text ≡ other
 one_table_text g limit sources targets text other h k =
-    h.2 ∙ ap (λ rows. flat_map row_text (zip sources rows)) (one_list (IsTableRow g limit targets) (one_row g limit targets) sources h.0 k.0 h.1 k.1) ∙ sym k.2
+    h.2 ∙ ap (λ rows. flat_map row_text (zip sources rows))
+    (one_list (IsTableRow g limit targets) (one_row g limit targets) sources h.0 k.0 h.1 k.1) ∙ sym k.2
 
 -- inputs whose bytes are known have one text of answers
 pub one_text : (graph queries : Reading) → AnswersHaveOneText graph queries
@@ -143,12 +151,17 @@ one_text graph queries options graph_bytes query_bytes text other hops told_grap
     let h = built graph _ t in
     let k = built graph _ u in
     let same : h.0 ≡ k.0 = same_graph graph graph_bytes h.0 k.0 told_graph h.2 k.2 in
-    let pairs : h.3.0 ≡ k.3.0 = same_queries queries query_bytes h.0.nodes h.3.0 k.3.0 told_queries h.3.1 (subst (λ (g : Network). ReadsQueries queries g.nodes k.3.0) (sym same) k.3.1) in
+    let pairs : h.3.0 ≡ k.3.0 = same_queries queries query_bytes h.0.nodes h.3.0 k.3.0 told_queries h.3.1
+    (subst (λ (g : Network). ReadsQueries queries g.nodes k.3.0) (sym same) k.3.1) in
     let routes = not options.plain && options.routes in
-    let on_graph : IsTextBy routes h.0 (IsHierarchyBy options.order h.0 options.hops) k.3.0 other = subst (λ (g : Network). IsTextBy routes g (IsHierarchyBy options.order g options.hops) k.3.0 other) (sym same) k.3.2 in
-    let here : IsTextBy routes h.0 (IsHierarchyBy options.order h.0 options.hops) h.3.0 other = subst (λ p. IsTextBy routes h.0 (IsHierarchyBy options.order h.0 options.hops) p other) (sym pairs) on_graph in
-    let kept : (H : LevelsAndLegs) → IsHierarchyBy options.order h.0 options.hops H → IsKept h.0 H = λ H is. hierarchies_kept options.order h.0 options.hops H h.1 hops is in
-    one_text_by routes h.0 (IsHierarchyBy options.order h.0 options.hops) (one_hierarchy options.order h.0 options.hops) kept h.3.0 text other h.3.2 here
+    let on_graph : IsTextBy routes h.0 (IsHierarchyBy options.order h.0 options.hops) k.3.0 other = subst
+    (λ (g : Network). IsTextBy routes g (IsHierarchyBy options.order g options.hops) k.3.0 other) (sym same) k.3.2 in
+    let here : IsTextBy routes h.0 (IsHierarchyBy options.order h.0 options.hops) h.3.0 other =
+    subst (λ p. IsTextBy routes h.0 (IsHierarchyBy options.order h.0 options.hops) p other) (sym pairs) on_graph in
+    let kept : (H : LevelsAndLegs) → IsHierarchyBy options.order h.0 options.hops H →
+    IsKept h.0 H = λ H is. hierarchies_kept options.order h.0 options.hops H h.1 hops is in
+    one_text_by routes h.0 (IsHierarchyBy options.order h.0 options.hops) (one_hierarchy options.order h.0 options.hops) kept h.3.0
+    text other h.3.2 here
 
 -- inputs whose bytes are known have one table
 pub one_table : (graph sources targets : Reading) → TablesHaveOneText graph sources targets
@@ -156,8 +169,13 @@ one_table graph sources targets options graph_bytes source_bytes target_bytes te
     let h = built graph _ t in
     let k = built graph _ u in
     let same : h.0 ≡ k.0 = same_graph graph graph_bytes h.0 k.0 told_graph h.2 k.2 in
-    let from : h.3.0 ≡ k.3.0 = same_nodes sources source_bytes h.0.nodes h.3.0 k.3.0 told_sources h.3.2.0 (subst (λ (g : Network). ReadsNodes sources g.nodes k.3.0) (sym same) k.3.2.0) in
-    let to : h.3.1 ≡ k.3.1 = same_nodes targets target_bytes h.0.nodes h.3.1 k.3.1 told_targets h.3.2.1 (subst (λ (g : Network). ReadsNodes targets g.nodes k.3.1) (sym same) k.3.2.1) in
-    let first : IsTableText h.0 options.within k.3.0 k.3.1 other = subst (λ (g : Network). IsTableText g options.within k.3.0 k.3.1 other) (sym same) k.3.3 in
-    let second : IsTableText h.0 options.within h.3.0 k.3.1 other = subst (λ xs. IsTableText h.0 options.within xs k.3.1 other) (sym from) first in
-    one_table_text h.0 options.within h.3.0 h.3.1 text other h.3.3 (subst (λ xs. IsTableText h.0 options.within h.3.0 xs other) (sym to) second)
+    let from : h.3.0 ≡ k.3.0 = same_nodes sources source_bytes h.0.nodes h.3.0 k.3.0 told_sources h.3.2.0
+    (subst (λ (g : Network). ReadsNodes sources g.nodes k.3.0) (sym same) k.3.2.0) in
+    let to : h.3.1 ≡ k.3.1 = same_nodes targets target_bytes h.0.nodes h.3.1 k.3.1 told_targets h.3.2.1
+    (subst (λ (g : Network). ReadsNodes targets g.nodes k.3.1) (sym same) k.3.2.1) in
+    let first : IsTableText h.0 options.within k.3.0 k.3.1 other =
+    subst (λ (g : Network). IsTableText g options.within k.3.0 k.3.1 other) (sym same) k.3.3 in
+    let second : IsTableText h.0 options.within h.3.0 k.3.1 other =
+    subst (λ xs. IsTableText h.0 options.within xs k.3.1 other) (sym from) first in
+    one_table_text h.0 options.within h.3.0 h.3.1 text other h.3.3
+    (subst (λ xs. IsTableText h.0 options.within h.3.0 xs other) (sym to) second)

@@ -6,7 +6,7 @@ use Rattle.ch_hierarchy.specs.declared.fault.CheckFault.{CheckFault}
 use Rattle.ch_text.specs.declared.device.DeviceFault.{DeviceFault}
 use Rattle.ch_run.specs.declared.fault.RunFault.{RunFault}
 use Rattle.ch_run.specs.declared.fault.Which.{Which}
-use Rattle.ch_run.specs.declared.sources.Sources.{Sources}
+use Rattle.ch_job.specs.declared.sources.Sources.{Sources}
 use Rattle.ch_run.specs.NearRun.{ReadsSources}
 use Rattle.ch_run.specs.Run.{Delivers, GoesPast, IsWrite, Reading, ReadsOrRefuses, ReadsAfter, ReadsOnce, StopsAt, WritesAfter, WritesOnce}
 use Rattle.ch_run.proofs.Writes.{ends_in}
@@ -40,18 +40,28 @@ not_below less = omega arith
 -- a run that goes past an input and does not touch it keeps the promise on it
 module _ {T I : Type 0} (which : Which) (r : Result T RunFault) (failed : I → ℕ) (x : I) (past : GoesPast which r) where
   pub untouched_once : ReadsOnce which r failed x x
-  untouched_once = record { device = (λ same. absurd (no_end which r (RunFault.Device which) past (stops_device which) same), λ less. absurd (not_below less)); once = inl refl }
+  untouched_once = record {
+    device =
+        (λ same. absurd (no_end which r (RunFault.Device which) past (stops_device which) same), λ less. absurd (not_below less));
+    once = inl refl;
+  }
 
   pub untouched : (gives : I → List ℕ → Result ℕ DeviceFault → I → Type 0) (IsRefused : Reading → ReadFault → Type 0) →
       ReadsOrRefuses which r gives failed x x IsRefused
-  untouched gives IsRefused = record { refused = λ fault same. absurd (no_end which r (RunFault.Read which fault) past (stops_read which fault) same); once = untouched_once }
+  untouched gives IsRefused =
+      record {
+        refused = λ fault same. absurd (no_end which r (RunFault.Read which fault) past (stops_read which fault) same);
+        once = untouched_once;
+      }
 
-  pub untouched_after : (earlier : List Which) (accepted : Type 0) (gives : I → List ℕ → Result ℕ DeviceFault → I → Type 0) (IsRefused : Reading → ReadFault → Type 0) →
+  pub untouched_after : (earlier : List Which) (accepted : Type 0) (gives : I → List ℕ → Result ℕ DeviceFault → I → Type 0)
+      (IsRefused : Reading → ReadFault → Type 0) →
       ReadsAfter earlier accepted which r gives failed x x IsRefused
   untouched_after earlier accepted gives IsRefused = record { reads = untouched gives IsRefused; unread = inl refl }
 
 -- a run that does not touch a list of sources keeps the promise on it
-pub untouched_sources : {T J : Type 0} (earlier : List Which) (accepted : Type 0) (r : Result T RunFault) (gives : J → List ℕ → Result ℕ DeviceFault → J → Type 0) (failed : J → ℕ) (P : Reading → ReadFault → Type 0) →
+pub untouched_sources : {T J : Type 0} (earlier : List Which) (accepted : Type 0) (r : Result T RunFault)
+    (gives : J → List ℕ → Result ℕ DeviceFault → J → Type 0) (failed : J → ℕ) (P : Reading → ReadFault → Type 0) →
     GoesPast Which.Sources r → (x : Sources J) → ReadsSources earlier accepted r gives failed x x P
 untouched_sources earlier accepted r gives failed P past Sources.All = refl
 untouched_sources earlier accepted r gives failed P past (Sources.Listed x) =
@@ -65,7 +75,8 @@ no_write (Err y) e is other met = other (subst IsWrite is met)
 -- a run without a failed write keeps the promise on an output that it did not touch
 pub unwritten_once : {T O : Type 0} (r : Result T RunFault) (e : RunFault) → IsErrAnd r (λ y. y ≡ e) → (IsWrite e → ⊥) →
     (failed idle : O → ℕ) (x : O) → WritesOnce r failed idle x x
-unwritten_once r e is other failed idle x = record { device = (λ met. absurd (no_write r e is other met), none); once = inl (inl refl, refl) }
+unwritten_once r e is other failed idle x =
+    record { device = (λ met. absurd (no_write r e is other met), none); once = inl (inl refl, refl) }
   where
     none : (failed x < failed x) ⊎ (idle x < idle x) → IsErrAnd r IsWrite
     none (inl less) = absurd (not_below less)
@@ -76,7 +87,8 @@ pub unwritten : {T O : Type 0} (r : Result T RunFault) (e : RunFault) → IsErrA
 unwritten r e is other accepted failed idle x = record { writes = unwritten_once r e is other failed idle x; unwritten = inl refl }
 
 -- such a run has written nothing
-pub undelivered : {T S : Type 0} (r : Result T RunFault) (e : RunFault) (gives : S → List ℕ → Result ℕ DeviceFault → S → Type 0) (old new : S) (P : List ℕ → Type 0) →
+pub undelivered : {T S : Type 0} (r : Result T RunFault) (e : RunFault) (gives : S → List ℕ → Result ℕ DeviceFault → S → Type 0)
+    (old new : S) (P : List ℕ → Type 0) →
     IsErrAnd r (λ y. y ≡ e) → (IsWrite e → ⊥) → Delivers r gives old new P
 undelivered (Ok x) e gives old new P is other = absurd is
 undelivered (Err y) e gives old new P is other = λ count same. absurd (other (subst IsWrite (sym same ∙ is) tt))

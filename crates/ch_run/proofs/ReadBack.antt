@@ -1,5 +1,6 @@
 -- The text of a hierarchy that is right for a graph names this hierarchy again.
-use Rattle.std.proofs.Common.{◌≡◌, ℕ, ◌+◌, ◌*◌, ◌<◌, ◌≤◌, List, [], ◌∷◌, ◌++◌, length, map, take, get_or, Contains, Option, Some, None, refl, sym, ◌∙◌, ap, subst, arith, append_assoc, inl, inr}
+use Rattle.std.proofs.Common.{◌≡◌, ℕ, ◌+◌, ◌*◌, ◌<◌, ◌≤◌, List, [], ◌∷◌, ◌++◌, length, map, take, get_or, Contains, Option, Some}
+use Rattle.std.proofs.Common.{None, refl, sym, ◌∙◌, ap, subst, arith, append_assoc, inl, inr}
 use Rattle.std.specs.Prelude.{◌≢◌, AllPairs, All, codes, decimal}
 use Rattle.std.specs.List.{flat_map}
 use Rattle.std.proofs.lemmas.Bool.{cases_lt}
@@ -39,13 +40,15 @@ same_middle None = refl
 same_middle (Some v) = refl
 
 leg_words : (a b c d e : List ℕ) →
-    codes "l " ++ a ++ codes " " ++ b ++ codes " " ++ c ++ codes " " ++ d ++ codes " " ++ e ++ codes "\n" ≡ fed (codes "l") (a ∷ b ∷ c ∷ d ∷ e ∷ [])
+    codes "l " ++ a ++ codes " " ++ b ++ codes " " ++ c ++ codes " " ++ d ++ codes " " ++ e ++ codes "\n"
+    ≡ fed (codes "l") (a ∷ b ∷ c ∷ d ∷ e ∷ [])
 leg_words a b c d e = simp (append_assoc)
 
 same_leg : (l : SavedLeg) → leg_text l ≡ fed (leg_line l).0 (leg_line l).1
 same_leg l =
     leg_words (decimal (l.from + 1)) (decimal (l.to + 1)) (decimal l.cost.weight) (decimal l.cost.arcs) (middle_text l.middle)
-    ∙ ap (λ t. fed (codes "l") (decimal (l.from + 1) ∷ decimal (l.to + 1) ∷ decimal l.cost.weight ∷ decimal l.cost.arcs ∷ t ∷ [])) (same_middle l.middle)
+    ∙ ap (λ t. fed (codes "l") (decimal (l.from + 1) ∷ decimal (l.to + 1) ∷ decimal l.cost.weight ∷ decimal l.cost.arcs ∷ t ∷ []))
+    (same_middle l.middle)
 
 same_texts : {X : Type 0} (f g : X → List ℕ) → ((x : X) → f x ≡ g x) → (xs : List X) → flat_map f xs ≡ flat_map g xs
 same_texts f g same [] = refl
@@ -59,7 +62,8 @@ same_text : (s : OrderAndLegs) → saved_text s ≡ text_of (saved_lines s)
 same_text s =
     let parts : flat_map order_text s.order ++ flat_map leg_text s.legs ≡ text_of (map order_line s.order ++ map leg_line s.legs) =
     (λ i. flat_map order_text s.order ++ same_texts leg_text (λ l. fed (leg_line l).0 (leg_line l).1) same_leg s.legs i)
-    ∙ sym (flat_map-append (λ l. fed l.0 l.1) (map order_line s.order) (map leg_line s.legs) ∙ (λ i. flat_map-map (λ l. fed l.0 l.1) order_line s.order i ++ flat_map-map (λ l. fed l.0 l.1) leg_line s.legs i)) in
+    ∙ sym (flat_map-append (λ l. fed l.0 l.1) (map order_line s.order) (map leg_line s.legs)
+    ∙ (λ i. flat_map-map (λ l. fed l.0 l.1) order_line s.order i ++ flat_map-map (λ l. fed l.0 l.1) leg_line s.legs i)) in
     heading_words (decimal (length s.order)) (decimal (length s.legs)) (flat_map order_text s.order) (flat_map leg_text s.legs)
     ∙ ap (λ t. fed (codes "p") (codes "ch" ∷ decimal (length s.order) ∷ decimal (length s.legs) ∷ []) ++ t) parts
 
@@ -73,7 +77,8 @@ distinct_few xs n distinct below = elim (cases_lt n (length xs)) [ inr few ↦ f
         let size : length (take n xs) ≡ n = length-take-le n xs (omega arith) in
         let found = every_number (take n xs) n d size
         (λ k e lt. subst (λ q. q < n) (sym (get_or-take n xs k e (omega arith))) (below k e (omega arith)))
-        (λ i j e less lt same. distinct i j e less (omega arith) (sym (get_or-take n xs i e (omega arith)) ∙ same ∙ get_or-take n xs j e (omega arith)))
+        (λ i j e less lt same. distinct i j e less (omega arith)
+        (sym (get_or-take n xs i e (omega arith)) ∙ same ∙ get_or-take n xs j e (omega arith)))
         (below n 0 many) in
         let lt = found.1 in
         distinct found.0 n d (omega arith) many (sym (get_or-take n xs found.0 d (omega arith)) ∙ found.2 ∙ get_or_default xs n 0 d many)
@@ -102,7 +107,8 @@ few_pairs n legs ends once =
     within l has = let e = ends l has in mul-add-lt l.from n l.to n e.0 e.1
 
     below : All (λ x. x < n * n) (map (pair_of n) legs)
-    below k d lt = let r = contains_map_of (pair_of n) legs (get_or (map (pair_of n) legs) k d) (Contains-get_or (map (pair_of n) legs) k d lt) in subst (λ q. q < n * n) r.2 (within r.0 r.1)
+    below k d lt = let r = contains_map_of (pair_of n) legs (get_or (map (pair_of n) legs) k d)
+        (Contains-get_or (map (pair_of n) legs) k d lt) in subst (λ q. q < n * n) r.2 (within r.0 r.1)
 
 module _ (g : Network) (H : LevelsAndLegs) (order : List ℕ) (kept : IsKept g H) (by : IsByLevel H order) where
   names : NamesHierarchy (written H order) H
@@ -136,10 +142,12 @@ module _ (g : Network) (H : LevelsAndLegs) (order : List ℕ) (kept : IsKept g H
       at : IsLeg H l.from l.to l.cost l.middle → IsFounded g H l.from l.to l.cost l.middle → IsLegWithin g.nodes l
       at (x, cost, middle, inl (has, node)) founded =
           let up = All-contains (IsLegUp H l.from) (row H.up l.from) x (kept.levelled.up.1 l.from).1 has in
-          ends x cost up.weight up.arcs (in_row_below H.up (nodes_of H) l.from x kept.levelled.up.0 has) (subst (λ q. q < nodes_of H) node up.node) founded
+          ends x cost up.weight up.arcs (in_row_below H.up (nodes_of H) l.from x kept.levelled.up.0 has)
+          (subst (λ q. q < nodes_of H) node up.node) founded
       at (x, cost, middle, inr (has, node)) founded =
           let up = All-contains (IsLegUp H l.to) (row H.down l.to) x (kept.levelled.down.1 l.to).1 has in
-          ends x cost up.weight up.arcs (subst (λ q. q < nodes_of H) node up.node) (in_row_below H.down (nodes_of H) l.to x kept.levelled.down.0 has) founded
+          ends x cost up.weight up.arcs (subst (λ q. q < nodes_of H) node up.node)
+          (in_row_below H.down (nodes_of H) l.to x kept.levelled.down.0 has) founded
 
   legs_within : (l : SavedLeg) → Contains (written H order).legs l → IsLegWithin g.nodes l
   legs_within l h = leg_within l ((names.legs l.from l.to l.cost l.middle).1 h)
@@ -156,14 +164,19 @@ module _ (g : Network) (H : LevelsAndLegs) (order : List ℕ) (kept : IsKept g H
         small = omega arith;
         count = by.nodes.count ∙ kept.nodes;
         few = omega arith;
-        nodes = λ v h. (let inside = by.nodes.within h.0 h.1 in let is : get_or order h.0 0 ≡ v = get_or_default order h.0 0 v h.1 ∙ h.2 in omega arith);
+        nodes = λ v h. (let inside = by.nodes.within h.0 h.1 in
+            let is : get_or order h.0 0 ≡ v = get_or_default order h.0 0 v h.1 ∙ h.2 in omega arith);
         legs = legs_within;
       }
 
 -- the text names the hierarchy again
 pub hierarchy_reads_back : HierarchyTextsReadBack
-hierarchy_reads_back g H text kept (order, by, is) =
-    (written H order, subst (λ t. NamesSaved t g.nodes (written H order)) (sym (is ∙ same_text (written H order))) (reads_back g.nodes (written H order) (are_within g H order kept by)), written_kept g H order kept by)
+hierarchy_reads_back g H text kept (order, by, is) = (
+  written H order,
+  subst (λ t. NamesSaved t g.nodes (written H order)) (sym (is ∙ same_text (written H order)))
+      (reads_back g.nodes (written H order) (are_within g H order kept by)),
+  written_kept g H order kept by,
+)
 
 -- the text that is saved of a graph names its hierarchy again
 pub saved_reads_back : SavedTextsReadBack

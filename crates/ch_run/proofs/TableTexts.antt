@@ -21,10 +21,13 @@ zip_append (x ∷ xs) [] more others same = absurd (omega arith)
 zip_append (x ∷ xs) (y ∷ ys) more others same = ap (λ pairs. (x, y) ∷ pairs) (zip_append xs ys more others (omega arith))
 
 -- the text of rows, with one more row behind them
-pub row_written : (sources : List ℕ) (rows : List (List (Option ℕ))) (source : ℕ) (cells : List (Option ℕ)) (before after : List ℕ) → length rows ≡ length sources →
-    before ≡ flat_map row_text (zip sources rows) → after ≡ before ++ row_text (source, cells) → after ≡ flat_map row_text (zip (sources ++ source ∷ []) (rows ++ cells ∷ []))
+pub row_written : (sources : List ℕ) (rows : List (List (Option ℕ))) (source : ℕ) (cells : List (Option ℕ))
+    (before after : List ℕ) → length rows ≡ length sources →
+    before ≡ flat_map row_text (zip sources rows) → after ≡ before ++ row_text (source, cells) →
+    after ≡ flat_map row_text (zip (sources ++ source ∷ []) (rows ++ cells ∷ []))
 row_written sources rows source cells before after same so_far more =
-    more ∙ ap₂ ◌++◌ so_far (sym (append-nil (row_text (source, cells)))) ∙ sym (flat_map-append row_text (zip sources rows) ((source, cells) ∷ []))
+    more ∙ ap₂ ◌++◌ so_far (sym (append-nil (row_text (source, cells))))
+    ∙ sym (flat_map-append row_text (zip sources rows) ((source, cells) ∷ []))
     ∙ ap (flat_map row_text) (sym (zip_append sources rows (source ∷ []) (cells ∷ []) same))
 
 module _ (H : LevelsAndLegs) (limit : Option ℕ) (targets : List ℕ) where
@@ -44,10 +47,15 @@ module _ (H : LevelsAndLegs) (limit : Option ℕ) (targets : List ℕ) where
       let rows = h.0.0 in
       let more = flat_map (λ (list : List ℕ). list) parts in
       let both = flat_map-append row_text (zip part rows) (zip more rest.0) in
-      let pairs = zip_append part rows more rest.0 (zipped_length R part rows h.0.1) in
-      (rows ++ rest.0, zipped_append R part rows more rest.0 h.0.1 rest.1, ap₂ ◌++◌ h.0.2 rest.2 ∙ sym both ∙ ap (flat_map row_text) (sym pairs))
+      let pairs = zip_append part rows more rest.0 (zipped_length R part rows h.0.1) in (
+        rows ++ rest.0,
+        zipped_append R part rows more rest.0 h.0.1 rest.1,
+        ap₂ ◌++◌ h.0.2 rest.2 ∙ sym both
+            ∙ ap (flat_map row_text) (sym pairs),
+      )
 
   pub gathered_texts : (sources : List ℕ) (texts : List (Vec ℕ Global)) → AreGathered IsRowsText H limit targets sources texts →
       IsTableTextBy H limit sources targets (flat_map (λ (text : Vec ℕ Global). text.items) texts)
   gathered_texts sources texts h =
-      subst (λ list. IsTableTextBy H limit list targets (flat_map (λ (text : Vec ℕ Global). text.items) texts)) h.1 (texts_of_parts h.0 texts h.2)
+      subst (λ list. IsTableTextBy H limit list targets (flat_map (λ (text : Vec ℕ Global). text.items) texts)) h.1
+      (texts_of_parts h.0 texts h.2)

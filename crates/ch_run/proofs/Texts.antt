@@ -1,5 +1,6 @@
 -- The texts of answers.
-use Rattle.std.proofs.Common.{◌≡◌, ℕ, ◌+◌, ◌<◌, Bool, true, false, List, [], ◌∷◌, ◌++◌, length, take, get_or, Option, Some, None, refl, sym, ap, ap₂, ◌∙◌, subst}
+use Rattle.std.proofs.Common.{◌≡◌, ℕ, ◌+◌, ◌<◌, Bool, true, false, List, [], ◌∷◌, ◌++◌, length, take, get_or, Option, Some, None}
+use Rattle.std.proofs.Common.{refl, sym, ap, ap₂, ◌∙◌, subst}
 use Rattle.std.proofs.lemmas.List.{append-nil, take_more}
 use Rattle.std.proofs.lemmas.Slice.Zip.{all_zipped_more}
 use Rattle.std.specs.List.{AllZip, flat_map}
@@ -25,37 +26,44 @@ use Rattle.ch_run.specs.TableText.{IsTableTextBy}
 
 -- one more query is answered with its distance
 pub answered : (g : Network) (queries : List (ℕ × ℕ)) (i : ℕ) (d : ℕ × ℕ) (answers : List Answer) (a : Answer) → i < length queries →
-    AllZip (AnswersShortly g) (take i queries) answers → AnswersShortly g (get_or queries i d) a → AllZip (AnswersShortly g) (take (i + 1) queries) (answers ++ a ∷ [])
+    AllZip (AnswersShortly g) (take i queries) answers → AnswersShortly g (get_or queries i d) a →
+    AllZip (AnswersShortly g) (take (i + 1) queries) (answers ++ a ∷ [])
 answered g queries i d answers a within so_far is =
-    subst (λ qs. AllZip (AnswersShortly g) qs (answers ++ a ∷ [])) (sym (take_more queries i d within)) (all_zipped_more (AnswersShortly g) (take i queries) answers (get_or queries i d) a so_far is)
+    subst (λ qs. AllZip (AnswersShortly g) qs (answers ++ a ∷ [])) (sym (take_more queries i d within))
+    (all_zipped_more (AnswersShortly g) (take i queries) answers (get_or queries i d) a so_far is)
 
 -- an answer without arcs is written as its distance alone
 short_line : (g : Network) (query : ℕ × ℕ) (a : Answer) → AnswersShortly g query a → answer_text a ≡ distance_text a
 short_line g query a is = ap (λ arcs. distance_text a ++ route_text arcs) is.1 ∙ append-nil (distance_text a)
 
-short_lines : (g : Network) (queries : List (ℕ × ℕ)) (answers : List Answer) → AllZip (AnswersShortly g) queries answers → flat_map answer_text answers ≡ flat_map distance_text answers
+short_lines : (g : Network) (queries : List (ℕ × ℕ)) (answers : List Answer) → AllZip (AnswersShortly g) queries answers →
+    flat_map answer_text answers ≡ flat_map distance_text answers
 short_lines g [] [] h = refl
 short_lines g [] (a ∷ answers) h = absurd h
 short_lines g (q ∷ queries) [] h = absurd h
 short_lines g (q ∷ queries) (a ∷ answers) h = ap₂ ◌++◌ (short_line g q a h.0) (short_lines g queries answers h.1)
 
 -- the lines of answers without arcs are a text of distances
-pub short_text : (g : Network) (queries : List (ℕ × ℕ)) (answers : List Answer) (text : List ℕ) → AllZip (AnswersShortly g) queries answers → text ≡ flat_map answer_text answers → IsDistanceText g queries text
+pub short_text : (g : Network) (queries : List (ℕ × ℕ)) (answers : List Answer) (text : List ℕ) →
+    AllZip (AnswersShortly g) queries answers → text ≡ flat_map answer_text answers → IsDistanceText g queries text
 short_text g queries answers text short is = (answers, short, is ∙ short_lines g queries answers short)
 
 -- if P implies Q, lists whose elements have P place by place also have Q place by place
-pub each_weaker : {A B : Type 0} (P Q : A → B → Type 0) → ((x : A) (y : B) → P x y → Q x y) → (xs : List A) (ys : List B) → AllZip P xs ys → AllZip Q xs ys
+pub each_weaker : {A B : Type 0} (P Q : A → B → Type 0) → ((x : A) (y : B) → P x y → Q x y) → (xs : List A) (ys : List B) →
+    AllZip P xs ys → AllZip Q xs ys
 each_weaker P Q so [] [] h = tt
 each_weaker P Q so [] (y ∷ ys) h = absurd h
 each_weaker P Q so (x ∷ xs) [] h = absurd h
 each_weaker P Q so (x ∷ xs) (y ∷ ys) h = (so x y h.0, each_weaker P Q so xs ys h.1)
 
 -- an answer of a hierarchy that is right for a graph is an answer on the graph
-reply_answers : (g : Network) (H : LevelsAndLegs) → IsWithinLimits g → IsKept g H → (routes : Bool) (query : ℕ × ℕ) (a : Answer) → IsReply H routes query a → Answers g query a
+reply_answers : (g : Network) (H : LevelsAndLegs) → IsWithinLimits g → IsKept g H → (routes : Bool) (query : ℕ × ℕ) (a : Answer) →
+    IsReply H routes query a → Answers g query a
 reply_answers g H limits kept routes query a r = record { from = r.from; to = r.to; weight = r.distance g limits kept }
 
 -- the arcs of a reply are a walk of least cost
-reply_walks : (g : Network) (H : LevelsAndLegs) → IsWithinLimits g → IsKept g H → (s t : ℕ) (weight : Option ℕ) (found : Option (List InArc)) → HasArcs H true s t weight found →
+reply_walks : (g : Network) (H : LevelsAndLegs) → IsWithinLimits g → IsKept g H →
+    (s t : ℕ) (weight : Option ℕ) (found : Option (List InArc)) → HasArcs H true s t weight found →
     (arcs : List InArc) → found ≡ Some arcs → IsLeastWalk g s t arcs
 reply_walks g H limits kept s t None found h arcs is = absurd (none-some arcs (sym h ∙ is))
 reply_walks g H limits kept s t (Some x) None h arcs is = absurd h
@@ -63,10 +71,12 @@ reply_walks g H limits kept s t (Some x) (Some xs) h arcs is =
     subst (IsLeastWalk g s t) (same_Some xs arcs is) (route_least_walk g H kept limits s t (record { weight = x; arcs = xs }) h).0
 
 -- the answers of a hierarchy that is right for a graph have the text that is asked for
-pub replies_text : (g : Network) (H : LevelsAndLegs) → IsWithinLimits g → IsKept g H → (routes : Bool) (queries : List (ℕ × ℕ)) (answers : List Answer) (text : List ℕ) →
+pub replies_text : (g : Network) (H : LevelsAndLegs) → IsWithinLimits g → IsKept g H →
+    (routes : Bool) (queries : List (ℕ × ℕ)) (answers : List Answer) (text : List ℕ) →
     AllZip (IsReply H routes) queries answers → text ≡ flat_map answer_text answers → IsTextBy routes g (λ K. K ≡ H) queries text
 replies_text g H limits kept false queries answers text replies is =
-    let short = each_weaker (IsReply H false) (AnswersShortly g) (λ query a r. (reply_answers g H limits kept false query a r, r.arcs)) queries answers replies in
+    let short = each_weaker (IsReply H false) (AnswersShortly g)
+    (λ query a r. (reply_answers g H limits kept false query a r, r.arcs)) queries answers replies in
     short_text g queries answers text short is
 replies_text g H limits kept true queries answers text replies is =
     let routed : (query : ℕ × ℕ) (a : Answer) → IsReply H true query a → AnswersWithRoute g H query a = λ query a r. record {
@@ -77,23 +87,31 @@ replies_text g H limits kept true queries answers text replies is =
     (H, refl, (answers, each_weaker (IsReply H true) (AnswersWithRoute g H) routed queries answers replies, is))
 
 -- the text has the routes of the wanted hierarchy, or only distances, which are the same for each hierarchy
-pub text_in : (routes : Bool) (wanted by : OrderBy) (hops : ℕ) (g : Network) (h : Option LevelsAndLegs) (H : LevelsAndLegs) → (routes ≡ true → by ≡ wanted) → IsServing by hops g h H →
-    (queries : List (ℕ × ℕ)) (text : List ℕ) → IsTextBy routes g (λ K. K ≡ H) queries text → IsTextBy routes g (IsServing wanted hops g h) queries text
+pub text_in : (routes : Bool) (wanted by : OrderBy) (hops : ℕ) (g : Network) (h : Option LevelsAndLegs) (H : LevelsAndLegs) →
+    (routes ≡ true → by ≡ wanted) → IsServing by hops g h H →
+    (queries : List (ℕ × ℕ)) (text : List ℕ) → IsTextBy routes g (λ K. K ≡ H) queries text →
+    IsTextBy routes g (IsServing wanted hops g h) queries text
 text_in false wanted by hops g h H same is queries text t = t
-text_in true wanted by hops g h H same is queries text t = (t.0, subst (IsServing wanted hops g h) (sym t.1) (subst (λ o. IsServing o hops g h H) (same refl) is), t.2)
+text_in true wanted by hops g h H same is queries text t =
+    (t.0, subst (IsServing wanted hops g h) (sym t.1) (subst (λ o. IsServing o hops g h H) (same refl) is), t.2)
 
 -- a text that is that of the hierarchy that serves is that of the one in whose place it serves
-pub text_in_place : (plain routes : Bool) (wanted : OrderBy) (hops : ℕ) (g : Network) (h serving : Option LevelsAndLegs) → IsInPlaceOf routes g h serving → (queries : List (ℕ × ℕ)) (text : List ℕ) →
-    IsTextBy (not plain && routes) g (IsServing wanted hops g serving) queries text → IsTextBy (not plain && routes) g (IsServing wanted hops g h) queries text
-text_in_place plain true wanted hops g h serving place queries text t = subst (λ o. IsTextBy (not plain && true) g (IsServing wanted hops g o) queries text) place t
+pub text_in_place : (plain routes : Bool) (wanted : OrderBy) (hops : ℕ) (g : Network) (h serving : Option LevelsAndLegs) →
+    IsInPlaceOf routes g h serving → (queries : List (ℕ × ℕ)) (text : List ℕ) →
+    IsTextBy (not plain && routes) g (IsServing wanted hops g serving) queries text →
+    IsTextBy (not plain && routes) g (IsServing wanted hops g h) queries text
+text_in_place plain true wanted hops g h serving place queries text t =
+    subst (λ o. IsTextBy (not plain && true) g (IsServing wanted hops g o) queries text) place t
 text_in_place true false wanted hops g h serving place queries text t = t
 text_in_place false false wanted hops g h serving place queries text t = t
 
 -- the table of a hierarchy that is right for a graph is the table of the graph
-pub cells_text : (g : Network) (H : LevelsAndLegs) → IsWithinLimits g → IsKept g H → (limit : Option ℕ) (sources targets text : List ℕ) → IsTableTextBy H limit sources targets text → IsTableText g limit sources targets text
+pub cells_text : (g : Network) (H : LevelsAndLegs) → IsWithinLimits g → IsKept g H → (limit : Option ℕ)
+    (sources targets text : List ℕ) → IsTableTextBy H limit sources targets text → IsTableText g limit sources targets text
 cells_text g H limits kept limit sources targets text by = (
   by.0,
   each_weaker (IsRowBy H limit targets) (IsTableRow g limit targets)
-      (λ s cells row. each_weaker (IsDistanceWithin H limit s) (IsCell g limit s) (λ t cell is. (is.whole, is.distance g limits kept, is.cut)) targets cells row) sources by.0 by.1,
+      (λ s cells row. each_weaker (IsDistanceWithin H limit s) (IsCell g limit s)
+      (λ t cell is. (is.whole, is.distance g limits kept, is.cut)) targets cells row) sources by.0 by.1,
   by.2,
 )

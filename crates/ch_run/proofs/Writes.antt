@@ -1,5 +1,5 @@
 -- The ends of runs: in a fault that was met, or after their writes.
-use Rattle.std.proofs.Common.{◌≡◌, refl, sym, subst}
+use Rattle.std.proofs.Common.{◌≡◌, sym, subst}
 use Rattle.std.specs.Prelude.{Result, Ok, Err, IfErr, IsErrAnd}
 use Rattle.ch_run.specs.declared.fault.RunFault.{RunFault}
 
@@ -12,8 +12,3 @@ pub tells : {T : Type 0} (r : Result T RunFault) (e : RunFault) (P : RunFault �
     r ≡ Err fault → P fault
 tells (Ok x) e P fault is met same = absurd is
 tells (Err y) e P fault is met same = ends_in (Err y) P fault (subst P (sym is) met) same
-
--- a fault that is passed on is the one that was met
-pub passed_on : {S T : Type 0} (r : Result T RunFault) (e fault : RunFault) → IsErrAnd r (λ y. y ≡ e) → r ≡ Err fault →
-    ◌≡◌ {A = Result S RunFault} (Err e) (Err fault)
-passed_on {S} r e fault is same = tells r e (λ f. ◌≡◌ {A = Result S RunFault} (Err e) (Err f)) fault is refl same

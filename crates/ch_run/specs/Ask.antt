@@ -12,7 +12,7 @@ use Rattle.ch_read.specs.Requests.{told_by}
 use Rattle.ch_read.specs.RequestLaws.{went_by}
 use Rattle.ch_run.specs.declared.fault.Which.{Which}
 use Rattle.ch_run.specs.declared.fault.RunFault.{RunFault}
-use Rattle.ch_run.specs.declared.options.Options.{Options}
+use Rattle.ch_job.specs.declared.options.Options.{Options}
 use Rattle.ch_text.specs.Moves.{Took, TookUntilFault}
 use Rattle.ch_text.specs.declared.device.DeviceFault.{DeviceFault}
 use Rattle.ch_run.specs.Run.{Reading, ReadsAll, IsOf, IsWrite, SourceReading}
@@ -50,7 +50,8 @@ IsRequestText options g From places (Query s t) text = IsTextBy (writes_routes o
 IsRequestText options g From places (Route s t) text = IsTextBy true g From ((s, t) ∷ []) text
 IsRequestText options g From places (Table lists) text = IsTableText g (limit_of options lists.within) lists.sources lists.targets text
 IsRequestText options g From places (Places given) text = text ≡ []
-IsRequestText options g From places (Near s within) text = IsNearText g options.direction (limit_of options within) places.count (s ∷ []) places.nodes text
+IsRequestText options g From places (Near s within) text =
+    IsNearText g options.direction (limit_of options within) places.count (s ∷ []) places.nodes text
 
 -- the text of a request, by one hierarchy
 abbrev pub IsTextOfRequest : Options → Network → LevelsAndLegs → PlaceList → Request → List ℕ → Type 0
@@ -64,19 +65,24 @@ TextOf = PlaceList → Request → List ℕ → Type 0
 abbrev pub AreAnswered : TextOf → PlaceList → List Request → List ℕ → Type 0
 AreAnswered IsTextOf places [] text = text ≡ []
 AreAnswered IsTextOf places (request ∷ requests) text =
-    (first rest : List ℕ) × (text ≡ first ++ rest) × IsTextOf places request first × AreAnswered IsTextOf (places_then places request) requests rest
+    (first rest : List ℕ) × (text ≡ first ++ rest) × IsTextOf places request first
+    × AreAnswered IsTextOf (places_then places request) requests rest
 
 -- the output took the answers to these requests. `gives` says what one write may do
-abbrev pub TookAnswers : TextOf → {S : Type 0} → (gives : S → List ℕ → Result ℕ DeviceFault → S → Type 0) → PlaceList → (old new : S) → List Request → Type 0
+abbrev pub TookAnswers : TextOf → {S : Type 0} → (gives : S → List ℕ → Result ℕ DeviceFault → S → Type 0) → PlaceList →
+    (old new : S) → List Request → Type 0
 TookAnswers IsTextOf gives places old new requests = (text : List ℕ) × AreAnswered IsTextOf places requests text × Took gives old text new
 
 -- the output took the answers to the first of these requests, to any number of them
-abbrev pub TookFirstAnswers : TextOf → {S : Type 0} → (gives : S → List ℕ → Result ℕ DeviceFault → S → Type 0) → PlaceList → (old new : S) → List Request → Type 0
-TookFirstAnswers IsTextOf gives places old new requests = (first later : List Request) × (requests ≡ first ++ later) × TookAnswers IsTextOf gives places old new first
+abbrev pub TookFirstAnswers : TextOf → {S : Type 0} → (gives : S → List ℕ → Result ℕ DeviceFault → S → Type 0) → PlaceList →
+    (old new : S) → List Request → Type 0
+TookFirstAnswers IsTextOf gives places old new requests = (first later : List Request) × (requests ≡ first ++ later)
+    × TookAnswers IsTextOf gives places old new first
 
 -- the output took the beginning of the answers to the first of these requests, up to a write that failed. `count` is the number of its
 -- bytes and of the bytes `before`, up to 2^64 - 1
-abbrev pub TookBeginning : TextOf → {S : Type 0} → (gives : S → List ℕ → Result ℕ DeviceFault → S → Type 0) → PlaceList → (old new : S) → (before count : ℕ) → List Request → Type 0
+abbrev pub TookBeginning : TextOf → {S : Type 0} → (gives : S → List ℕ → Result ℕ DeviceFault → S → Type 0) → PlaceList →
+    (old new : S) → (before count : ℕ) → List Request → Type 0
 TookBeginning IsTextOf gives places old new before count requests =
     (first later : List Request) × (text : List ℕ) × (bytes : ℕ) × (requests ≡ first ++ later) × AreAnswered IsTextOf places first text
     × TookUntilFault gives old text bytes new × (count ≡ capped_number (before + bytes))
@@ -95,10 +101,12 @@ whole_in n bytes = (went_by n bytes).told.given
 
 -- how a run over requests on a graph of n nodes ends, and what the output took. At a failed read, all requests that were whole
 -- before it are answered. No run can know which read will fail. That is why it answers what is whole before each read
-abbrev pub Serves : {T S : Type 0} → TextOf → (gives : S → List ℕ → Result ℕ DeviceFault → S → Type 0) → ℕ → Reading → (old new : S) → Result T RunFault → Type 0
+abbrev pub Serves : {T S : Type 0} → TextOf → (gives : S → List ℕ → Result ℕ DeviceFault → S → Type 0) → ℕ → Reading →
+    (old new : S) → Result T RunFault → Type 0
 Serves IsTextOf gives n requests old new (Ok _) = ReadsAll requests (TellsThen n None (TookAnswers IsTextOf gives no_places old new))
 Serves IsTextOf gives n requests old new (Err (RunFault.Read which fault)) =
-    (which ≡ Which.Requests) × ReadsSome requests (λ read left. TellsThen n (Some (Line fault)) (TookAnswers IsTextOf gives no_places old new) (read ++ left))
+    (which ≡ Which.Requests) × ReadsSome requests
+    (λ read left. TellsThen n (Some (Line fault)) (TookAnswers IsTextOf gives no_places old new) (read ++ left))
 Serves IsTextOf gives n requests old new (Err (RunFault.CellsAt line)) =
     ReadsSome requests (λ read left. TellsThen n (Some (Cells line)) (TookAnswers IsTextOf gives no_places old new) (read ++ left))
 Serves IsTextOf gives n requests old new (Err RunFault.Memory) =
@@ -111,9 +119,11 @@ Serves IsTextOf gives n requests old new (Err _) = ⊥
 
 -- the graph was accepted, and so was the file for the hierarchy, if one is read. The run answered the requests by this hierarchy, or by
 -- the contraction hierarchy that it built
-abbrev pub ServesBy : {T S : Type 0} → Options → Reading → SourceReading → Reading → (gives : S → List ℕ → Result ℕ DeviceFault → S → Type 0) → (old new : S) → Result T RunFault → Type 0
+abbrev pub ServesBy : {T S : Type 0} → Options → Reading → SourceReading → Reading →
+    (gives : S → List ℕ → Result ℕ DeviceFault → S → Type 0) → (old new : S) → Result T RunFault → Type 0
 ServesBy options graph source requests gives old new result =
-    WithLoaded graph source (λ g h. Serves (IsRequestText options g (IsServing (order_built options) options.hops g h)) gives g.nodes requests old new result)
+    WithLoaded graph source (λ g h. Serves (IsRequestText options g (IsServing (order_built options) options.hops g h)) gives
+    g.nodes requests old new result)
 
 -- the faults that answering requests can end in: they are refused or can't be read, there is no memory, or a write failed
 abbrev pub IsOfServing : RunFault → Type 0

@@ -3,7 +3,7 @@ use Rattle.std.specs.Prelude.{◌⊎◌, ℕ, List}
 use Rattle.ch_read.specs.declared.fault.ReadFault.{ReadFault}
 use Rattle.ch_run.specs.declared.fault.Which.{Which}
 use Rattle.ch_run.specs.declared.fault.RunFault.{RunFault}
-use Rattle.ch_run.specs.declared.options.Options.{Options}
+use Rattle.ch_job.specs.declared.options.Options.{Options}
 use Rattle.ch_run.specs.Run.{Reading, ReadsQueries, IsQueriesRefused, IsOf, IsWrite, SourceReading}
 use Rattle.ch_run.specs.Source.{IsOfLoading, IsOfRoutes, WithLoaded}
 use Rattle.ch_run.specs.Text.{IsTextBy, writes_routes}
@@ -11,8 +11,8 @@ use Rattle.ch_run.specs.Text.{IsTextBy, writes_routes}
 -- the inputs name a graph and queries on it, and the text answers these with the options. A hierarchy that is loaded is
 -- right for the graph
 abbrev pub IsAnsweredBy : Options → Reading → SourceReading → Reading → List ℕ → Type 0
-IsAnsweredBy options graph source queries text =
-    WithLoaded graph source (λ g h. (pairs : List (ℕ × ℕ)) × ReadsQueries queries g.nodes pairs × IsTextBy (writes_routes options) g (IsOfRoutes options g h) pairs text)
+IsAnsweredBy options graph source queries text = WithLoaded graph source (λ g h.
+    (pairs : List (ℕ × ℕ)) × ReadsQueries queries g.nodes pairs × IsTextBy (writes_routes options) g (IsOfRoutes options g h) pairs text)
 
 -- the graph was accepted, and then the file for the hierarchy, if one is read, and then queries on the graph
 abbrev pub AcceptsQueries : Reading → SourceReading → Reading → Type 0

@@ -1,14 +1,15 @@
 -- The promises of a run that writes near rows.
-use Rattle.std.specs.Prelude.{◌≡◌, ◌⊎◌, ℕ, ◌<◌, ◌≤◌, List, length, All, Option, Some, None, Result, option_map}
+use Rattle.std.specs.Prelude.{◌≡◌, ◌⊎◌, ℕ, ◌<◌, ◌≤◌, List, length, All, Option, Some, None, Result}
 use Rattle.ch_graph.specs.declared.limits.TheConstants.{MOST_LISTED}
 use Rattle.ch_read.specs.declared.fault.ReadFault.{ReadFault}
 use Rattle.ch_text.specs.declared.device.DeviceFault.{DeviceFault}
 use Rattle.ch_run.specs.declared.fault.Which.{Which}
 use Rattle.ch_run.specs.declared.fault.RunFault.{RunFault}
-use Rattle.ch_run.specs.declared.options.Options.{Options}
-use Rattle.ch_run.specs.declared.sources.Sources.{Sources}
-use Rattle.ch_run.specs.declared.sources.Sources.TheVariants.{All as Each, Listed}
-use Rattle.ch_run.specs.Run.{Reading, ReadsAfter, ReadsNodes, IsListRefused, IsOf, IsWrite, reading_if, ReadingIf, NoInput, OneInput, SourceReading}
+use Rattle.ch_job.specs.declared.options.Options.{Options}
+use Rattle.ch_job.specs.declared.sources.Sources.{Sources}
+use Rattle.ch_job.specs.declared.sources.Sources.TheVariants.{All as Each, Listed}
+use Rattle.ch_run.specs.Run.{Reading, ReadsAfter, ReadsNodes, IsListRefused, IsOf, IsWrite, reading_if, ReadingIf, NoInput}
+use Rattle.ch_run.specs.Run.{OneInput, SourceReading}
 use Rattle.ch_run.specs.Source.{IsOfLoading, WithLoaded}
 use Rattle.ch_run.specs.Text.{IsNearTextFor}
 use Rattle.ch_text.specs.NearText.{nodes_in_order}
@@ -17,15 +18,6 @@ use Rattle.ch_text.specs.NearText.{nodes_in_order}
 abbrev pub listed_in : {J : Type 0} → Sources J → Option J
 listed_in Each = None
 listed_in (Listed input) = Some input
-
--- the number of failed reads of the list of sources, if one is read
-abbrev pub sources_failures : {J : Type 0} → (J → ℕ) → Sources J → ℕ
-sources_failures failed Each = 0
-sources_failures failed (Listed input) = failed input
-
--- the number of the input of the list of sources, if one is read
-abbrev pub sources_origin : {J : Type 0} → (J → ℕ) → Sources J → Option ℕ
-sources_origin origin sources = option_map origin (listed_in sources)
 
 -- the reading of the list of sources, if one is read
 abbrev pub sources_reading : {J : Type 0} → (gives : J → List ℕ → Result ℕ DeviceFault → J → Type 0) → Sources J → Sources J → ReadingIf
@@ -63,7 +55,8 @@ HaveNearTargetsRefused sources targets nodes fault = AcceptsAnySources sources n
 -- loaded is right for the graph
 abbrev pub IsNearBy : Options → Reading → SourceReading → ReadingIf → Reading → List ℕ → Type 0
 IsNearBy options graph source sources targets text =
-    WithLoaded graph source (λ g _. (from to : List ℕ) × ReadsNodeLists sources targets g.nodes from to × IsNearTextFor options g from to text)
+    WithLoaded graph source
+    (λ g _. (from to : List ℕ) × ReadsNodeLists sources targets g.nodes from to × IsNearTextFor options g from to text)
 
 -- the graph was accepted, and then the file for the hierarchy and the list of sources, if they are read
 abbrev pub AcceptsNearSources : Reading → SourceReading → ReadingIf → Type 0

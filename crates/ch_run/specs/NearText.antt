@@ -9,4 +9,5 @@ use Rattle.ch_text.specs.NearText.{near_row_text}
 -- the text has a line for each source, in order: the targets that are nearest to it in the graph
 abbrev pub IsNearText : Network → Direction → Option ℕ → Option ℕ → List ℕ → List ℕ → List ℕ → Type 0
 IsNearText g direction limit count sources targets text =
-    (rows : List (List (ℕ × ℕ))) × AllZip (IsNearestRow g direction limit count targets) sources rows × (text ≡ flat_map (near_row_text targets) (zip sources rows))
+    (rows : List (List (ℕ × ℕ))) × AllZip (IsNearestRow g direction limit count targets) sources rows
+    × (text ≡ flat_map (near_row_text targets) (zip sources rows))

@@ -22,7 +22,11 @@ pub record Reading : Type 1 where
 
 -- the reading of an input that is `old` before the run and `new` after it, where `gives` says what one read may do
 abbrev pub reading : {S : Type 0} → (gives : S → List ℕ → Result ℕ DeviceFault → S → Type 0) → (old new : S) → Reading
-reading gives old new = record { all = λ bytes. GaveAll gives old bytes new; some = λ bytes. Gave gives old bytes new; failed = λ bytes. GaveUntilFault gives old bytes new }
+reading gives old new = record {
+  all = λ bytes. GaveAll gives old bytes new;
+  some = λ bytes. Gave gives old bytes new;
+  failed = λ bytes. GaveUntilFault gives old bytes new;
+}
 
 -- what a run did with an input that only some runs have, if there is one
 pub data ReadingIf : Type 1 where
@@ -41,8 +45,8 @@ pub data SourceReading : Type 1 where
   NoFile : SourceReading
   -- the run reads a saved hierarchy
   SavedFile : (saved : Reading) → SourceReading
-  -- the run reads an order and builds the hierarchy in an order like it: this per cent of the nodes are ordered afresh, and a witness has at
-  -- most this many legs
+  -- the run reads an order and builds the hierarchy in an order like it: this per cent of the nodes are ordered afresh, and a witness has
+  -- at most this many legs
   OrderFile : (order : Reading) (fresh hops : ℕ) → SourceReading
 
 -- the input was read to its end, and P holds of its bytes
@@ -133,13 +137,15 @@ pub record ReadsOnce {T I : Type 0} (which : Which) (result : Result T RunFault)
   pub once : CountsAtMostOne (failed old) (failed new)
 
 -- the same holds, and the input is refused only for a fault that it has
-pub record ReadsOrRefuses {T I : Type 0} (which : Which) (result : Result T RunFault) (gives : I → List ℕ → Result ℕ DeviceFault → I → Type 0) (failed : I → ℕ) (old new : I) (IsRefused : Reading → ReadFault → Type 0) : Type 0 where
+pub record ReadsOrRefuses {T I : Type 0} (which : Which) (result : Result T RunFault) (gives : I → List ℕ → Result ℕ DeviceFault →
+    I → Type 0) (failed : I → ℕ) (old new : I) (IsRefused : Reading → ReadFault → Type 0) : Type 0 where
   pub refused : (fault : ReadFault) → result ≡ Err (RunFault.Read which fault) → IsRefused (reading gives old new) fault
   pub once : ReadsOnce which result failed old new
 
 -- the same holds, and the input is as it was unless the earlier inputs were accepted
 pub record ReadsAfter {T I : Type 0} (earlier : List Which) (accepted : Type 0) (which : Which) (result : Result T RunFault)
-    (gives : I → List ℕ → Result ℕ DeviceFault → I → Type 0) (failed : I → ℕ) (old new : I) (IsRefused : Reading → ReadFault → Type 0) : Type 0 where
+    (gives : I → List ℕ → Result ℕ DeviceFault → I → Type 0) (failed : I → ℕ) (old new : I)
+    (IsRefused : Reading → ReadFault → Type 0) : Type 0 where
   pub reads : ReadsOrRefuses which result gives failed old new IsRefused
   pub unread : (new ≡ old) ⊎ (GoesPastAll earlier result × accepted)
 

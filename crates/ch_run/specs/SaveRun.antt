@@ -1,7 +1,7 @@
 -- The promises of a run that saves a hierarchy.
 use Rattle.std.specs.Prelude.{◌⊎◌, ℕ, List}
 use Rattle.ch_run.specs.declared.fault.RunFault.{RunFault}
-use Rattle.ch_run.specs.declared.options.Options.{Options}
+use Rattle.ch_job.specs.declared.options.Options.{Options}
 use Rattle.ch_run.specs.Run.{IsWrite, Reading, SourceReading}
 use Rattle.ch_run.specs.Source.{IsOfLoading, IsOfRoutes, WithLoaded}
 use Rattle.ch_run.specs.Text.{IsSaveTextOf}

@@ -9,7 +9,7 @@ use Rattle.ch_hierarchy.specs.Saved.{NamesKept}
 use Rattle.ch_contract.specs.declared.measure.OrderBy.{OrderBy}
 use Rattle.ch_contract.specs.Legs.{IsHopBound}
 use Rattle.ch_contract.specs.Built.{IsHierarchyBy}
-use Rattle.ch_run.specs.declared.options.Options.{Options}
+use Rattle.ch_job.specs.declared.options.Options.{Options}
 use Rattle.ch_run.specs.Run.{GivesOnly, Reading, NoFile, OrderFile, SavedFile}
 use Rattle.ch_run.specs.DistRun.{IsAnsweredBy}
 use Rattle.ch_run.specs.SaveRun.{IsSavedBy}
@@ -25,17 +25,21 @@ SavedAnswersHaveOneText graph saved queries = (options : Options) (graph_bytes s
 
 -- two texts of the table of the same bytes, with the same options, are equal
 abbrev pub SavedTablesHaveOneText : (graph saved sources targets : Reading) → Type 0
-SavedTablesHaveOneText graph saved sources targets = (options : Options) (graph_bytes saved_bytes source_bytes target_bytes text other : List ℕ) →
+SavedTablesHaveOneText graph saved sources targets = (options : Options)
+    (graph_bytes saved_bytes source_bytes target_bytes text other : List ℕ) →
     GivesOnly graph graph_bytes → GivesOnly saved saved_bytes → GivesOnly sources source_bytes → GivesOnly targets target_bytes →
-    IsTabledBy options graph (SavedFile saved) sources targets text → IsTabledBy options graph (SavedFile saved) sources targets other → text ≡ other
+    IsTabledBy options graph (SavedFile saved) sources targets text →
+    IsTabledBy options graph (SavedFile saved) sources targets other → text ≡ other
 
 -- two texts of the hierarchy of the same bytes are equal
 abbrev pub HierarchiesHaveOneText : (graph : Reading) → Type 0
-HierarchiesHaveOneText graph = (options : Options) (graph_bytes text other : List ℕ) → GivesOnly graph graph_bytes → IsSavedBy options graph NoFile text → IsSavedBy options graph NoFile other → text ≡ other
+HierarchiesHaveOneText graph = (options : Options) (graph_bytes text other : List ℕ) → GivesOnly graph graph_bytes →
+    IsSavedBy options graph NoFile text → IsSavedBy options graph NoFile other → text ≡ other
 
 -- two texts of the hierarchy of the same bytes, in an order like that of the same bytes, are equal
 abbrev pub OrdersHaveOneText : (graph order : Reading) → Type 0
-OrdersHaveOneText graph order = (options : Options) (fresh hops : ℕ) (graph_bytes order_bytes text other : List ℕ) → GivesOnly graph graph_bytes → GivesOnly order order_bytes →
+OrdersHaveOneText graph order = (options : Options) (fresh hops : ℕ) (graph_bytes order_bytes text other : List ℕ) →
+    GivesOnly graph graph_bytes → GivesOnly order order_bytes →
     IsSavedBy options graph (OrderFile order fresh hops) text → IsSavedBy options graph (OrderFile order fresh hops) other → text ≡ other
 
 -- the bytes name an order and legs on the graph, and these name the hierarchy, which is right for the graph

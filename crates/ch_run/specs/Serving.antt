@@ -1,5 +1,6 @@
 -- The promises of the parts of a run over requests.
-use Rattle.std.specs.Prelude.{◌≡◌, ℕ, ◌+◌, ◌<◌, ◌≤◌, ◌⊎◌, Bool, true, false, if◌then◌else◌, List, [], length, take, map, All, Option, Some, None, Result, Ok, Err, OnOk, ⊤}
+use Rattle.std.specs.Prelude.{◌≡◌, ℕ, ◌+◌, ◌<◌, ◌≤◌, ◌⊎◌, Bool, true, false, if◌then◌else◌, List, [], length, take, map, All}
+use Rattle.std.specs.Prelude.{Option, Some, None, Result, Ok, Err, OnOk, ⊤}
 use Rattle.ch_graph.specs.declared.limits.TheConstants.{MOST_LISTED}
 use Rattle.ch_hierarchy.specs.Hierarchy.{nodes_of}
 use Rattle.ch_near.specs.declared.direction.Direction.{Direction}
@@ -22,26 +23,34 @@ use Rattle.ch_run.specs.Loaded.{GraphAndHierarchy, IsRight}
 use Rattle.ch_run.specs.Ask.{AreAnswered, TextOf, TookAnswers, TookFirstAnswers, TookBeginning, no_places, places_after}
 use Rattle.ch_text.specs.Moves.{Took, TookUntilFault}
 use Rattle.ch_text.specs.declared.device.DeviceFault.{DeviceFault}
-use Rattle.ch_run.specs.declared.options.Options.{Options}
+use Rattle.ch_job.specs.declared.options.Options.{Options}
 use Rattle.ch_run.specs.Run.{IsWrite}
 use Rattle.ch_run.specs.Text.{writes_routes}
 
 -- how a call that answers these requests ended, by the places that were given last before them. It answered all of them, or the
 -- first of them, each whole, or a write failed.
 -- The output had taken `before` bytes before the call, and `after` bytes after it
-abbrev pub AnswersInTurn : {T S : Type 0} → TextOf → (gives : S → List ℕ → Result ℕ DeviceFault → S → Type 0) → PlaceList → (old new : S) → (before after : ℕ) → List Request → Result T RunFault → Type 0
+abbrev pub AnswersInTurn : {T S : Type 0} → TextOf → (gives : S → List ℕ → Result ℕ DeviceFault → S → Type 0) → PlaceList →
+    (old new : S) → (before after : ℕ) → List Request → Result T RunFault → Type 0
 AnswersInTurn IsTextOf gives places old new before after requests (Ok _) =
     (text : List ℕ) × AreAnswered IsTextOf places requests text × Took gives old text new × (after ≡ capped_number (before + length text))
-AnswersInTurn IsTextOf gives places old new before after requests (Err RunFault.Memory) = TookFirstAnswers IsTextOf gives places old new requests
-AnswersInTurn IsTextOf gives places old new before after requests (Err (RunFault.Write count)) = TookBeginning IsTextOf gives places old new before count requests
-AnswersInTurn IsTextOf gives places old new before after requests (Err (RunFault.Read which fault)) = (which ≡ Which.Requests) × TookAnswers IsTextOf gives places old new requests
-AnswersInTurn IsTextOf gives places old new before after requests (Err (RunFault.CellsAt line)) = TookAnswers IsTextOf gives places old new requests
+AnswersInTurn IsTextOf gives places old new before after requests (Err RunFault.Memory) =
+    TookFirstAnswers IsTextOf gives places old new requests
+AnswersInTurn IsTextOf gives places old new before after requests (Err (RunFault.Write count)) =
+    TookBeginning IsTextOf gives places old new before count requests
+AnswersInTurn IsTextOf gives places old new before after requests (Err (RunFault.Read which fault)) = (which ≡ Which.Requests)
+    × TookAnswers IsTextOf gives places old new requests
+AnswersInTurn IsTextOf gives places old new before after requests (Err (RunFault.CellsAt line)) =
+    TookAnswers IsTextOf gives places old new requests
 AnswersInTurn IsTextOf gives places old new before after requests (Err _) = ⊥
 
--- the output took this text after `before` bytes, or the beginning of the text, up to a write that failed. Or it took nothing, for want of memory
-abbrev pub WritesMore : {T S : Type 0} → (gives : S → List ℕ → Result ℕ DeviceFault → S → Type 0) → (old new : S) → (before after : ℕ) → (text : List ℕ) → Result T RunFault → Type 0
+-- the output took this text after `before` bytes, or the beginning of the text, up to a write that failed. Or it took nothing, for want
+-- of memory
+abbrev pub WritesMore : {T S : Type 0} → (gives : S → List ℕ → Result ℕ DeviceFault → S → Type 0) → (old new : S) →
+    (before after : ℕ) → (text : List ℕ) → Result T RunFault → Type 0
 WritesMore gives old new before after text (Ok _) = Took gives old text new × (after ≡ capped_number (before + length text))
-WritesMore gives old new before after text (Err (RunFault.Write count)) = (bytes : ℕ) × TookUntilFault gives old text bytes new × (count ≡ capped_number (before + bytes))
+WritesMore gives old new before after text (Err (RunFault.Write count)) = (bytes : ℕ) × TookUntilFault gives old text bytes new
+    × (count ≡ capped_number (before + bytes))
 WritesMore gives old new before after text (Err RunFault.Memory) = new ≡ old
 WritesMore gives old new before after text (Err _) = ⊥
 
@@ -59,7 +68,8 @@ request_refusal NoMemory = RunFault.Memory
 -- fault of the requests, it is this fault. If not, it may be anything
 abbrev pub IsToldAfter : {T : Type 0} → Result T RunFault → (next rest : Told) → Type 0
 IsToldAfter (Ok _) next rest = rest ≡ next
-IsToldAfter (Err (RunFault.Read which fault)) next rest = (which ≡ Which.Requests) × (rest ≡ record { given = []; fault = Some (Line fault) })
+IsToldAfter (Err (RunFault.Read which fault)) next rest = (which ≡ Which.Requests)
+    × (rest ≡ record { given = []; fault = Some (Line fault) })
 IsToldAfter (Err (RunFault.CellsAt line)) next rest = rest ≡ record { given = []; fault = Some (Cells line) }
 IsToldAfter (Err RunFault.Memory) next rest = ⊤
 IsToldAfter (Err (RunFault.Write count)) next rest = ⊤
@@ -68,7 +78,8 @@ IsToldAfter (Err _) next rest = ⊥
 -- a reader in the standing `old` gave these requests. It is in the standing `new` if the call ended well
 abbrev pub GivesUntil : {T : Type 0} → Bool → (old new : Standing) → List Request → Result T RunFault → Type 0
 GivesUntil ended old new given result =
-    (more : List ℕ) → MayCome ended more → (rest : Told) × (ahead old more ≡ after_these given rest) × IsToldAfter result (ahead new more) rest
+    (more : List ℕ) → MayCome ended more →
+    (rest : Told) × (ahead old more ≡ after_these given rest) × IsToldAfter result (ahead new more) rest
 
 -- the result that a batch ends in
 abbrev pub end_of : Then → Result Unit RunFault

@@ -1,5 +1,6 @@
 -- Where the hierarchy of a run comes from, and the promises on a saved one and on an order.
-use Rattle.std.specs.Prelude.{◌≡◌, ◌⊎◌, ℕ, ◌≤◌, ◌||◌, nat_lt, if◌then◌else◌, [], ◌∷◌, Bool, true, false, List, Option, Some, None, is_some, IfSome, Result, Err, ⊤}
+use Rattle.std.specs.Prelude.{◌≡◌, ◌⊎◌, ℕ, ◌||◌, nat_lt, if◌then◌else◌, [], ◌∷◌, Bool, true, false, List, Option, Some, None}
+use Rattle.std.specs.Prelude.{is_some, IfSome, Result, Err, ⊤}
 use Rattle.ch_graph.specs.Graph.{Network, IsWithinLimits}
 use Rattle.ch_graph.specs.Saved.{OrderAndLegs}
 use Rattle.ch_read.specs.declared.fault.ReadFault.{ReadFault}
@@ -12,29 +13,17 @@ use Rattle.ch_hierarchy.specs.Kept.{IsKept}
 use Rattle.ch_hierarchy.specs.Saved.{NamesKept, IsFirstFault, IsOrderOf}
 use Rattle.ch_contract.specs.declared.measure.OrderBy.{OrderBy}
 use Rattle.ch_contract.specs.declared.measure.OrderBy.TheVariants.{Difference, Depth, Rounds}
-use Rattle.ch_contract.specs.Legs.{IsHopBound}
 use Rattle.ch_contract.specs.Built.{IsHierarchyBy}
 use Rattle.ch_contract.specs.Like.{IsHierarchyLike}
 use Rattle.ch_text.specs.declared.device.DeviceFault.{DeviceFault}
 use Rattle.ch_run.specs.declared.fault.Which.{Which}
 use Rattle.ch_run.specs.declared.fault.RunFault.{RunFault}
-use Rattle.ch_run.specs.declared.options.Options.{Options}
-use Rattle.ch_run.specs.declared.options.TheConstants.{ROUND_NODES}
-use Rattle.ch_run.specs.declared.source.Source.{Source}
-use Rattle.ch_run.specs.declared.source.Source.TheVariants.{Built, Saved, Like}
-use Rattle.ch_run.specs.Run.{AcceptsGraph, Reading, ReadsAfter, ReadsAll, ReadsGraph, IsOf, reading, SourceReading, NoFile, SavedFile, OrderFile}
-
--- the number of failed reads of the input of a saved hierarchy or of an order, if one is read
-abbrev pub source_failures : {S : Type 0} → (S → ℕ) → Source S → ℕ
-source_failures failed Built = 0
-source_failures failed (Saved input) = failed input
-source_failures failed (Like input fresh hops) = failed input
-
--- which input that is, and its number
-abbrev pub source_origin : {S : Type 0} → (S → ℕ) → Source S → Option (Which × ℕ)
-source_origin origin Built = None
-source_origin origin (Saved input) = Some (Which.Saved, origin input)
-source_origin origin (Like input fresh hops) = Some (Which.Order, origin input)
+use Rattle.ch_job.specs.declared.options.Options.{Options}
+use Rattle.ch_run.specs.declared.orders.TheConstants.{ROUND_NODES}
+use Rattle.ch_job.specs.declared.source.Source.{Source}
+use Rattle.ch_job.specs.declared.source.Source.TheVariants.{Built, Saved, Like}
+use Rattle.ch_run.specs.Run.{AcceptsGraph, Reading, ReadsAfter, ReadsAll, ReadsGraph, IsOf, reading, SourceReading, NoFile}
+use Rattle.ch_run.specs.Run.{SavedFile, OrderFile}
 
 -- the reading of that input. A run leaves it as what it is: a saved hierarchy or an order
 abbrev pub source_reading : {S : Type 0} → (gives : S → List ℕ → Result ℕ DeviceFault → S → Type 0) → Source S → Source S → SourceReading
@@ -42,12 +31,6 @@ source_reading gives Built new = NoFile
 source_reading gives (Saved old) (Saved new) = SavedFile (reading gives old new)
 source_reading gives (Like old fresh hops) (Like new fresh' hops') = OrderFile (reading gives old new) fresh hops
 source_reading gives _ _ = NoFile
-
--- the per cent of an order and its bound on the legs of a witness are within their limits
-abbrev pub IsSourceAllowed : {S : Type 0} → Source S → Type 0
-IsSourceAllowed Built = ⊤
-IsSourceAllowed (Saved input) = ⊤
-IsSourceAllowed (Like input fresh hops) = (fresh ≤ 100) × IsHopBound hops
 
 -- the input was read to its end and names this order and these legs, on a graph with this many nodes
 abbrev pub ReadsSaved : Reading → ℕ → OrderAndLegs → Type 0
@@ -77,7 +60,8 @@ ComesFromFile graph (SavedFile saved) g (Some H) = (s : OrderAndLegs) × AreChec
 ComesFromFile graph (OrderFile order fresh hops) g (Some H) = (s : OrderAndLegs) × AreBuiltLike graph order fresh hops g s H
 ComesFromFile graph _ g _ = ⊥
 
--- the input was read to its end and names this graph, which is within the limits. If a file is read for the hierarchy, this one comes from it
+-- the input was read to its end and names this graph, which is within the limits. If a file is read for the hierarchy, this one comes
+-- from it
 abbrev pub AreLoaded : (graph : Reading) → (source : SourceReading) → Network → Option LevelsAndLegs → Type 0
 AreLoaded graph NoFile g h = IsWithinLimits g × ReadsGraph graph g × (h ≡ None)
 AreLoaded graph source g h = ComesFromFile graph source g h
@@ -113,8 +97,8 @@ order_of_requests Rounds = Rounds
 abbrev pub order_built : Options → OrderBy
 order_built options = if options.routes then options.order else order_of_requests options.order
 
--- the order in which this many workers build a hierarchy of a graph with this many nodes, if no answer depends on the order. It is by rounds
--- if there are at least two workers and the graph is large, and otherwise by depth
+-- the order in which this many workers build a hierarchy of a graph with this many nodes, if no answer depends on the order. It is by
+-- rounds if there are at least two workers and the graph is large, and otherwise by depth
 abbrev pub quick_order : ℕ → ℕ → OrderBy
 quick_order workers nodes = if nat_lt workers 2 || nat_lt nodes ROUND_NODES then Depth else Rounds
 
@@ -136,24 +120,29 @@ HasSavedRefused graph saved fault = (g : Network) × ReadsGraph graph g × IsSav
 
 -- the graph was accepted and the saved hierarchy was read, but this is its first fault on the graph
 abbrev pub HasCheckRefused : Reading → Reading → CheckFault → Type 0
-HasCheckRefused graph saved fault = (g : Network) × (s : OrderAndLegs) × ReadsGraph graph g × ReadsSaved saved g.nodes s × IsFirstFault g s fault
+HasCheckRefused graph saved fault = (g : Network) × (s : OrderAndLegs) × ReadsGraph graph g × ReadsSaved saved g.nodes s
+    × IsFirstFault g s fault
 
 -- the graph was accepted and the order was read, but it does not have each node of the graph once
 abbrev pub HasOrderRefused : Reading → Reading → Type 0
-HasOrderRefused graph order = (g : Network) × (s : OrderAndLegs) × ReadsGraph graph g × ReadsSaved order g.nodes s × (IsOrderOf g.nodes s.order → ⊥)
+HasOrderRefused graph order = (g : Network) × (s : OrderAndLegs) × ReadsGraph graph g × ReadsSaved order g.nodes s
+    × (IsOrderOf g.nodes s.order → ⊥)
 
 -- a run reads a saved hierarchy after the graph. It refuses it only for a fault of its lines, or for its first fault on the graph
-pub record ReadsChecked {T S : Type 0} (graph : Reading) (result : Result T RunFault) (gives : S → List ℕ → Result ℕ DeviceFault → S → Type 0) (failed : S → ℕ) (old new : S) : Type 0 where
+pub record ReadsChecked {T S : Type 0} (graph : Reading) (result : Result T RunFault)
+    (gives : S → List ℕ → Result ℕ DeviceFault → S → Type 0) (failed : S → ℕ) (old new : S) : Type 0 where
   pub lines : ReadsAfter (Which.Graph ∷ []) (AcceptsGraph graph) Which.Saved result gives failed old new (HasSavedRefused graph)
   pub check : (fault : CheckFault) → result ≡ Err (RunFault.Check fault) → HasCheckRefused graph (reading gives old new) fault
 
 -- a run reads an order after the graph. It refuses it only for a fault of its lines, or if it does not have each node once
-pub record ReadsOrder {T S : Type 0} (graph : Reading) (result : Result T RunFault) (gives : S → List ℕ → Result ℕ DeviceFault → S → Type 0) (failed : S → ℕ) (old new : S) : Type 0 where
+pub record ReadsOrder {T S : Type 0} (graph : Reading) (result : Result T RunFault)
+    (gives : S → List ℕ → Result ℕ DeviceFault → S → Type 0) (failed : S → ℕ) (old new : S) : Type 0 where
   pub lines : ReadsAfter (Which.Graph ∷ []) (AcceptsGraph graph) Which.Order result gives failed old new (HasSavedRefused graph)
   pub order : result ≡ Err RunFault.Order → HasOrderRefused graph (reading gives old new)
 
 -- the promise of a run on the source of its hierarchy. A source without an input has none afterwards, and the others stay what they are
-abbrev pub ReadsSource : {T S : Type 0} → Reading → Result T RunFault → (gives : S → List ℕ → Result ℕ DeviceFault → S → Type 0) → (S → ℕ) → Source S → Source S → Type 0
+abbrev pub ReadsSource : {T S : Type 0} → Reading → Result T RunFault → (gives : S → List ℕ → Result ℕ DeviceFault → S → Type 0) →
+    (S → ℕ) → Source S → Source S → Type 0
 ReadsSource graph result gives failed Built new = new ≡ Built
 ReadsSource graph result gives failed (Saved old) (Saved new) = ReadsChecked graph result gives failed old new
 ReadsSource graph result gives failed (Like old fresh hops) (Like new fresh' hops') = ReadsOrder graph result gives failed old new

@@ -40,7 +40,8 @@ IsOrderFault g order fault = ((fault ≡ RunFault.Order) × (IsOrderOf g.nodes o
 
 -- the bytes name an order of the graph's nodes. This hierarchy is that of the graph in an order like it, and right for the graph
 abbrev pub NamesLike : Network → (fresh hops : ℕ) → List ℕ → LevelsAndLegs → Type 0
-NamesLike g fresh hops bytes H = (s : OrderAndLegs) × NamesSaved bytes g.nodes s × IsOrderOf g.nodes s.order × IsHierarchyLike g hops s.order fresh H × IsKept g H
+NamesLike g fresh hops bytes H = (s : OrderAndLegs) × NamesSaved bytes g.nodes s × IsOrderOf g.nodes s.order
+    × IsHierarchyLike g hops s.order fresh H × IsKept g H
 
 -- the run stopped at this input, for this fault: a read failed, and no read came after it. Or there was no memory. Or the input was read
 -- to its end, and its bytes are refused
@@ -51,28 +52,35 @@ EndsAt which input refuses fault = ReadsAll input (λ bytes. refuses bytes fault
 
 -- the run stopped at this input, and left what comes later as it was. Or it read the input to its end, its bytes name a value, and the
 -- run went on with that value
-abbrev pub Reads : {T V : Type 0} → Which → Reading → (names : List ℕ → V → Type 0) → (refuses : List ℕ → RunFault → Type 0) → Result T RunFault → (later : Type 0) → (next : V → Type 0) → Type 0
+abbrev pub Reads : {T V : Type 0} → Which → Reading → (names : List ℕ → V → Type 0) → (refuses : List ℕ → RunFault → Type 0) →
+    Result T RunFault → (later : Type 0) → (next : V → Type 0) → Type 0
 Reads {T} {V} which input names refuses result later next =
-    (IsErrAnd result (EndsAt which input refuses) × later) ⊎ ((bytes : List ℕ) × (value : V) × input.all bytes × names bytes value × next value)
+    (IsErrAnd result (EndsAt which input refuses) × later)
+    ⊎ ((bytes : List ℕ) × (value : V) × input.all bytes × names bytes value × next value)
 
 -- the same of an input that only some runs have
-abbrev pub ReadsIf : {T V : Type 0} → Which → ReadingIf → (names : List ℕ → V → Type 0) → (refuses : List ℕ → RunFault → Type 0) → Result T RunFault → (later : Type 0) → (next : Option V → Type 0) → Type 0
+abbrev pub ReadsIf : {T V : Type 0} → Which → ReadingIf → (names : List ℕ → V → Type 0) → (refuses : List ℕ → RunFault → Type 0) →
+    Result T RunFault → (later : Type 0) → (next : Option V → Type 0) → Type 0
 ReadsIf which NoInput names refuses result later next = next None
 ReadsIf which (OneInput input) names refuses result later next = Reads which input names refuses result later (λ value. next (Some value))
 
 -- the run read a saved hierarchy that is right for the graph, or an order and built the hierarchy in an order like it, if there is one of
 -- these
-abbrev pub LoadsSource : {T : Type 0} → Network → SourceReading → Result T RunFault → (later : Type 0) → (next : Option LevelsAndLegs → Type 0) → Type 0
+abbrev pub LoadsSource : {T : Type 0} → Network → SourceReading → Result T RunFault → (later : Type 0) →
+    (next : Option LevelsAndLegs → Type 0) → Type 0
 LoadsSource g NoFile result later next = next None
 LoadsSource g (SavedFile saved) result later next =
-    Reads Which.Saved saved (λ bytes H. (s : OrderAndLegs) × NamesSaved bytes g.nodes s × NamesKept g s H) (IsSavedRefusedOn g) result later (λ H. next (Some H))
+    Reads Which.Saved saved (λ bytes H. (s : OrderAndLegs) × NamesSaved bytes g.nodes s × NamesKept g s H) (IsSavedRefusedOn g)
+    result later (λ H. next (Some H))
 LoadsSource g (OrderFile order fresh hops) result later next =
     Reads Which.Order order (λ bytes H. NamesLike g fresh hops bytes H) (IsOrderRefusedOn g) result later (λ H. next (Some H))
 
 -- the run read a graph within the limits, and then what it needs for its hierarchy. `unread` says that this input is as it was
-abbrev pub Loads : {T : Type 0} → (graph : Reading) → (source : SourceReading) → (unread : Type 0) → Result T RunFault → (later : Type 0) → (next : Network → Option LevelsAndLegs → Type 0) → Type 0
+abbrev pub Loads : {T : Type 0} → (graph : Reading) → (source : SourceReading) → (unread : Type 0) → Result T RunFault →
+    (later : Type 0) → (next : Network → Option LevelsAndLegs → Type 0) → Type 0
 Loads graph source unread result later next =
-    Reads Which.Graph graph (λ bytes g. NamesGraph bytes g × IsWithinLimits g) (IsRefused Which.Graph Form.Graph) result (unread × later) (λ g.
+    Reads Which.Graph graph (λ bytes g. NamesGraph bytes g × IsWithinLimits g) (IsRefused Which.Graph Form.Graph) result
+    (unread × later) (λ g.
     LoadsSource g source result later (λ h. next g h))
 
 -- the lists make too many cells for a table, and the run ends for that. Or they don't, and it went on
@@ -80,7 +88,8 @@ abbrev pub Cells : {T : Type 0} → (from to : List ℕ) → Result T RunFault �
 Cells from to result later next = (HasTooManyCells from to × (result ≡ Err RunFault.Cells) × later) ⊎ ((HasTooManyCells from to → ⊥) × next)
 
 -- the run wrote an answer: all of it, or its first bytes up to a failed write. Or there was no memory, and it wrote nothing
-abbrev pub Writes : {T S : Type 0} → (takes : S → List ℕ → Result ℕ DeviceFault → S → Type 0) → (old new : S) → (answers : List ℕ → Type 0) → Result T RunFault → Type 0
+abbrev pub Writes : {T S : Type 0} → (takes : S → List ℕ → Result ℕ DeviceFault → S → Type 0) → (old new : S) →
+    (answers : List ℕ → Type 0) → Result T RunFault → Type 0
 Writes takes old new answers (Ok done) = (text : List ℕ) × answers text × Took takes old text new
 Writes takes old new answers (Err (RunFault.Write count)) = (text : List ℕ) × answers text × TookUntilFault takes old text count new
 Writes takes old new answers (Err RunFault.Memory) = new ≡ old

@@ -2,7 +2,7 @@
 use Rattle.std.specs.Prelude.{◌⊎◌, ℕ, List}
 use Rattle.ch_read.specs.declared.fault.ReadFault.{ReadFault}
 use Rattle.ch_run.specs.declared.fault.RunFault.{RunFault}
-use Rattle.ch_run.specs.declared.options.Options.{Options}
+use Rattle.ch_job.specs.declared.options.Options.{Options}
 use Rattle.ch_run.specs.Lists.{AcceptsList, HaveCellsRefused, HaveTargetsRefused, IsOfLists, ReadsLists}
 use Rattle.ch_run.specs.Run.{Reading, IsListRefused, IsWrite, SourceReading}
 use Rattle.ch_run.specs.Source.{IsOfLoading, WithLoaded}
@@ -12,7 +12,8 @@ use Rattle.ch_text.specs.TableText.{IsTableText}
 -- hierarchy that is loaded is right for the graph
 abbrev pub IsTabledBy : Options → Reading → SourceReading → Reading → Reading → List ℕ → Type 0
 IsTabledBy options graph source sources targets text =
-    WithLoaded graph source (λ g _. (from to : List ℕ) × ReadsLists sources targets g.nodes from to × IsTableText g options.within from to text)
+    WithLoaded graph source
+    (λ g _. (from to : List ℕ) × ReadsLists sources targets g.nodes from to × IsTableText g options.within from to text)
 
 -- the graph was accepted, and then the file for the hierarchy, if one is read, and then the sources
 abbrev pub AcceptsSources : Reading → SourceReading → Reading → Type 0

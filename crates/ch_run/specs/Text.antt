@@ -4,7 +4,7 @@ use Rattle.ch_graph.specs.Graph.{Network}
 use Rattle.ch_hierarchy.specs.Hierarchy.{LevelsAndLegs}
 use Rattle.ch_contract.specs.Built.{IsHierarchyBy}
 use Rattle.ch_contract.specs.declared.measure.OrderBy.{OrderBy}
-use Rattle.ch_run.specs.declared.options.Options.{Options}
+use Rattle.ch_job.specs.declared.options.Options.{Options}
 use Rattle.ch_text.specs.Distances.{IsDistanceText}
 use Rattle.ch_run.specs.NearText.{IsNearText}
 use Rattle.ch_text.specs.Routes.{IsRouteText}

@@ -1,15 +1,16 @@
 //! Laws of texts, of what is read, of the stories of runs and of a constant, each the contract of a function that does nothing.
-ghost use Rattle.ch_run.specs.declared.options.TheConstants.{ROUND_NODES};
+ghost use Rattle.ch_job.specs.Job.{source_map, sources_map};
+ghost use Rattle.ch_run.specs.declared.orders.TheConstants.{ROUND_NODES};
 ghost use Rattle.ch_run.specs.NearTextLaws.{AllNearRowsHaveOneText, NearRowsHaveOneText, SavedAllNearRowsAreThoseOfTheGraph, SavedNearRowsAreThoseOfTheGraph};
 ghost use Rattle.ch_run.specs.SavedTextLaws.{HierarchiesHaveOneText, HierarchyTextsReadBack, OrdersHaveOneText, SavedAnswersHaveOneText, SavedTablesHaveOneText, SavedTextsReadBack};
 ghost use Rattle.ch_run.specs.TextLaws.{AnswersHaveOneText, TablesHaveOneText};
 ghost use Rattle.ch_run.specs.declared.fault.RunFault.{RunFault as FaultOf};
-ghost use Rattle.ch_run.specs.declared.options.Options.{Options as OptionsOf};
-ghost use Rattle.ch_run.specs.declared.source.Source.{Source as SourceOf};
-ghost use Rattle.ch_run.specs.declared.sources.Sources.{Sources as SourcesOf};
-ghost use Rattle.ch_run.specs.NearRun.{sources_origin, sources_reading};
+ghost use Rattle.ch_job.specs.declared.options.Options.{Options as OptionsOf};
+ghost use Rattle.ch_job.specs.declared.source.Source.{Source as SourceOf};
+ghost use Rattle.ch_job.specs.declared.sources.Sources.{Sources as SourcesOf};
+ghost use Rattle.ch_run.specs.NearRun.{sources_reading};
 ghost use Rattle.ch_run.specs.Run.{GivesOnly, reading};
-ghost use Rattle.ch_run.specs.Source.{source_origin, source_reading};
+ghost use Rattle.ch_run.specs.Source.{source_reading};
 ghost use Rattle.ch_run.specs.Stories.{RunsAsk, RunsDist, RunsNear, RunsSave, RunsTable};
 ghost use Rattle.ch_run.specs.Told.{AskTells, DistTells, NearTells, SaveTells, TableTells};
 ghost use Rattle.std.specs.Prelude.{◌≡◌, ℕ, List, Result, Some};
@@ -67,7 +68,7 @@ pub fn known_bytes<I: Input>()
 /// all earlier inputs were accepted. Its `same` says that the source is still the same one.
 pub fn dist_tells<I: Input, S: Input, J: Input, O: Output>()
     ensures { (options : OptionsOf) → (graph graph' : I) → (source source' : SourceOf S) → (queries queries' : J) → (output output' : O) → (result : Result Unit FaultOf) →
-        source_origin S.origin source' ≡ source_origin S.origin source →
+        source_map S.origin source' ≡ source_map S.origin source →
         RunsDist options (reading I.read_gives graph graph') (source_reading S.read_gives source source') (reading J.read_gives queries queries') (source' ≡ source) (queries' ≡ queries) O.write_gives output output' result →
         DistTells I.read_gives I.failed graph graph' S.read_gives S.failed source source' J.read_gives J.failed queries queries' O.failed O.idle output output' result }
 {}
@@ -75,7 +76,7 @@ pub fn dist_tells<I: Input, S: Input, J: Input, O: Output>()
 /// Proves the same of [`run_table`](crate::run_table), which also refuses too many cells.
 pub fn table_tells<I: Input, S: Input, J: Input, L: Input, O: Output>()
     ensures { (options : OptionsOf) → (graph graph' : I) → (source source' : SourceOf S) → (sources sources' : J) → (targets targets' : L) → (output output' : O) → (result : Result Unit FaultOf) →
-        source_origin S.origin source' ≡ source_origin S.origin source →
+        source_map S.origin source' ≡ source_map S.origin source →
         RunsTable options (reading I.read_gives graph graph') (source_reading S.read_gives source source') (reading J.read_gives sources sources') (reading L.read_gives targets targets')
         (source' ≡ source) (sources' ≡ sources) (targets' ≡ targets) O.write_gives output output' result →
         TableTells I.read_gives I.failed graph graph' S.read_gives S.failed source source' J.read_gives J.failed sources sources' L.read_gives L.failed targets targets' O.failed O.idle output output' result }
@@ -84,7 +85,7 @@ pub fn table_tells<I: Input, S: Input, J: Input, L: Input, O: Output>()
 /// Proves the same of [`run_near`](crate::run_near), whose sources may be those of a list.
 pub fn near_tells<I: Input, S: Input, J: Input, L: Input, O: Output>()
     ensures { (options : OptionsOf) → (graph graph' : I) → (source source' : SourceOf S) → (sources sources' : SourcesOf J) → (targets targets' : L) → (output output' : O) → (result : Result Unit FaultOf) →
-        source_origin S.origin source' ≡ source_origin S.origin source → sources_origin J.origin sources' ≡ sources_origin J.origin sources →
+        source_map S.origin source' ≡ source_map S.origin source → sources_map J.origin sources' ≡ sources_map J.origin sources →
         RunsNear options (reading I.read_gives graph graph') (source_reading S.read_gives source source') (sources_reading J.read_gives sources sources') (reading L.read_gives targets targets')
         (source' ≡ source) (sources' ≡ sources) (targets' ≡ targets) O.write_gives output output' result →
         NearTells I.read_gives I.failed graph graph' S.read_gives S.failed source source' J.read_gives J.failed sources sources' L.read_gives L.failed targets targets' O.failed O.idle output output' result }
@@ -93,7 +94,7 @@ pub fn near_tells<I: Input, S: Input, J: Input, L: Input, O: Output>()
 /// Proves the same of [`run_save`](crate::run_save), which reads no more than a graph and a source.
 pub fn save_tells<I: Input, S: Input, O: Output>()
     ensures { (options : OptionsOf) → (graph graph' : I) → (source source' : SourceOf S) → (output output' : O) → (result : Result Unit FaultOf) →
-        source_origin S.origin source' ≡ source_origin S.origin source →
+        source_map S.origin source' ≡ source_map S.origin source →
         RunsSave options (reading I.read_gives graph graph') (source_reading S.read_gives source source') (source' ≡ source) O.write_gives output output' result →
         SaveTells I.read_gives I.failed graph graph' S.read_gives S.failed source source' O.failed O.idle output output' result }
 {}
@@ -101,7 +102,7 @@ pub fn save_tells<I: Input, S: Input, O: Output>()
 /// Proves the same of [`run_ask`](crate::run_ask), whose `served` says what it does with the requests and the output.
 pub fn ask_tells<I: Input, S: Input, J: Input, O: Output>()
     ensures { (options : OptionsOf) → (graph graph' : I) → (source source' : SourceOf S) → (requests requests' : J) → (output output' : O) → (result : Result Unit FaultOf) →
-        source_origin S.origin source' ≡ source_origin S.origin source →
+        source_map S.origin source' ≡ source_map S.origin source →
         RunsAsk options (reading I.read_gives graph graph') (source_reading S.read_gives source source') (reading J.read_gives requests requests') (source' ≡ source) (requests' ≡ requests) O.write_gives output output' result →
         AskTells I.read_gives I.failed graph graph' S.read_gives S.failed source source' J.failed requests requests' O.failed O.idle output output' result }
 {}

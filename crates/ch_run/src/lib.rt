@@ -1,7 +1,7 @@
 //! Runs: from the bytes of a graph and of queries, lists of nodes or requests, to the text of the
 //! answers.
 //!
-//! It stands on ch_contract, ch_graph, ch_hierarchy, ch_near, ch_order, ch_query, ch_read, ch_rounds,
+//! It stands on ch_contract, ch_graph, ch_hierarchy, ch_job, ch_near, ch_order, ch_query, ch_read, ch_rounds,
 //! ch_table, ch_text and ch_work. It knows no command line. Proved of it, for every plan and gate:
 //!
 //! - After [`run_dist`] and [`run_table`] the output has taken exactly the text that the definitions
@@ -23,19 +23,17 @@
 mod building;
 mod fault;
 pub mod laws;
-mod options;
+mod orders;
 mod plan;
 mod run;
-mod source;
-mod sources;
 
+pub use ch_job::{
+    Direction, MOST_COUNT, MOST_HOPS, MOST_WITHIN, Options, OrderBy, Source, Sources,
+};
 pub use ch_text::{
     DeviceFault, Input, MemoryInput, MemoryOutput, Output, ReadAllFault, ReadOnce, ReaderInput,
     WriteOnce, WriterOutput, read_all, write_all,
 };
 pub use fault::{RunFault, Which, fault_line, status};
-pub use options::{Direction, MOST_COUNT, MOST_HOPS, MOST_WITHIN, Options, OrderBy};
 pub use plan::{Crew, Gate, Open, Plan, Stage};
 pub use run::{run_ask, run_dist, run_near, run_save, run_table};
-pub use source::Source;
-pub use sources::Sources;

@@ -81,7 +81,8 @@ module _ (d : Deal) (some : 0 < d.nodes) (positive : 0 < d.piece) where
 
   -- the place of an item: it is an item of its piece, as far from the end as its round says
   module _ (rank : ℕ) (turn : ℕ × ℕ) (is : IsTurn b z d.piece rank turn) where
-    pub stands : (turn.0 * d.piece ≤ item_at d turn) × (item_at d turn < turn.0 * d.piece + d.piece) × (item_at d turn + turn.1 + 1 ≡ min ((turn.0 + 1) * d.piece) d.nodes) × (item_at d turn < d.nodes)
+    pub stands : (turn.0 * d.piece ≤ item_at d turn) × (item_at d turn < turn.0 * d.piece + d.piece)
+        × (item_at d turn + turn.1 + 1 ≡ min ((turn.0 + 1) * d.piece) d.nodes) × (item_at d turn < d.nodes)
     stands = elim (cases_lt turn.0 b) [
       | inl low ↦
           let all = sizes in
@@ -106,8 +107,10 @@ module _ (d : Deal) (some : 0 < d.nodes) (positive : 0 < d.piece) where
       let second = turn_is s low' in
       let at = stands r t first in
       let at' = stands s u second in
-      let split = same_from_place t.0 (item_at d t - t.0 * d.piece) u.0 (item_at d u - u.0 * d.piece) d.piece (let h = at.1 in omega arith) (let h = at'.1 in omega arith) (let h = at.0 in let h' = at'.0 in omega arith) in
-      let ends : min ((t.0 + 1) * d.piece) d.nodes ≡ min ((u.0 + 1) * d.piece) d.nodes = ap (λ q. min ((q + 1) * d.piece) d.nodes) split.0 in
+      let split = same_from_place t.0 (item_at d t - t.0 * d.piece) u.0 (item_at d u - u.0 * d.piece) d.piece
+      (let h = at.1 in omega arith) (let h = at'.1 in omega arith) (let h = at.0 in let h' = at'.0 in omega arith) in
+      let ends : min ((t.0 + 1) * d.piece) d.nodes ≡ min ((u.0 + 1) * d.piece) d.nodes =
+      ap (λ q. min ((q + 1) * d.piece) d.nodes) split.0 in
       let rounds : t.1 ≡ u.1 = (let h = at.2 in let h' = at'.2 in omega arith) in
       first.count ∙ (λ i. rounds i * b + min (rounds i) z + split.0 i) ∙ sym second.count
 
@@ -123,7 +126,8 @@ items_apart d positive r s low low' same = ranks_apart d (omega arith) positive 
 pub round_fits : (d : Deal) → 0 < d.piece → (rank : ℕ) → rank < d.nodes → (turn : ℕ × ℕ) → turn ≡ turn_of d rank →
     turn.1 ≤ min ((turn.0 + 1) * d.piece) d.nodes - 1
 round_fits d positive rank lt turn is =
-    let at = stands d (omega arith) positive rank turn (subst (IsTurn (before_last d) (last_size d) d.piece rank) (sym is) (turn_is d (omega arith) positive rank lt)) in
+    let at = stands d (omega arith) positive rank turn
+    (subst (IsTurn (before_last d) (last_size d) d.piece rank) (sym is) (turn_is d (omega arith) positive rank lt)) in
     let sum = at.2 in omega arith
 
 -- the numbers of nodes and items of a deal

@@ -1,11 +1,13 @@
 -- The entries of buckets, and the buckets that they make.
-use Rattle.std.proofs.Common.{◌≡◌, ℕ, ◌+◌, ◌<◌, ◌≤◌, List, [], ◌∷◌, ◌++◌, length, map, Contains, Option, get_or, refl, sym, ◌∙◌, ap, subst, arith, inl, inr}
+use Rattle.std.proofs.Common.{◌≡◌, ℕ, ◌+◌, ◌<◌, ◌≤◌, List, [], ◌∷◌, ◌++◌, length, map, Contains, Option, get_or, refl, sym, ◌∙◌, ap}
+use Rattle.std.proofs.Common.{subst, arith, inl, inr}
 use Rattle.std.specs.Prelude.{◌==◌, AllPairs, All, slice_index}
 use Rattle.std.specs.List.{filter}
 use Rattle.std.proofs.lemmas.Bool.{cases_lt, eqb-true}
 use Rattle.std.proofs.lemmas.Bool.Decides.{nat_tests}
 use Rattle.std.proofs.lemmas.List.{get_or_past}
-use Rattle.std.proofs.lemmas.List.Elements.{All-contains, All-get_or, Contains-append_left, Contains-append_right, Contains-append_cases, Contains-get_or, filter_passes}
+use Rattle.std.proofs.lemmas.List.Elements.{All-contains, All-get_or, Contains-append_left, Contains-append_right}
+use Rattle.std.proofs.lemmas.List.Elements.{Contains-append_cases, Contains-get_or, filter_passes}
 use Rattle.std.proofs.lemmas.List.Kept.{AllPairs-filter}
 use Rattle.ch_graph.specs.declared.cost.Cost.{Cost}
 use Rattle.ch_graph.specs.Rows.{AreRowsOf, values_of}
@@ -59,7 +61,8 @@ module _ (rows : List (List Leg)) (limit : Option ℕ) (nodes : List ℕ) where
         AreEntries rows limit nodes (k + 1) (entries ++ map (entry_at k) reached)
     entries_more entries h = record {
       order = pairs_append (λ a b. a.0 ≡ b.0 → a.1.0 < b.1.0) entries (map (entry_at k) reached) h.order
-          (pairs_map (entry_at k) (λ a b. a.0 ≡ b.0 → a.1.0 < b.1.0) reached (λ i j d lt within same. let apart = spread.order i j d lt within in absurd (omega arith)))
+          (pairs_map (entry_at k) (λ a b. a.0 ≡ b.0 → a.1.0 < b.1.0) reached
+          (λ i j d lt within same. let apart = spread.order i j d lt within in absurd (omega arith)))
           (λ a b here there _. let old = (h.sound a.0 a.1.0 a.1.1 here).0 in let new = (entry_of b.0 b.1.0 b.1.1 there).0 in omega arith);
       sound = λ v j x c. elim (Contains-append_cases entries (map (entry_at k) reached) (v, (j, x)) c) [
         | inl here ↦ let r = h.sound v j x here in let lt = r.0 in (omega arith, r.1, r.2, r.3, r.4)
@@ -79,7 +82,8 @@ module _ (rows : List (List Leg)) (limit : Option ℕ) (nodes : List ℕ) where
     module _ (H : LevelsAndLegs) (up : AreLegsUp H rows) (below : All (λ x. x < nodes_of H) nodes) where
       -- a node that a node of the list reaches is a node
       reached_within : (v j : ℕ) (c : Cost) → j < length nodes → IsLeastUpwardPath rows (slice_index nodes j) v c → v < nodes_of H
-      reached_within v j c lt p = path_within H rows up (slice_index nodes j) v p.path.0 (All-get_or (λ x. x < nodes_of H) nodes j 0 lt below) p.path.1
+      reached_within v j c lt p = path_within H rows up (slice_index nodes j) v p.path.0
+          (All-get_or (λ x. x < nodes_of H) nodes j 0 lt below) p.path.1
 
       -- each entry is of the bucket of a node
       pub keys_below : All (λ e. e.0 < nodes_of H) entries
@@ -107,7 +111,8 @@ module _ (rows : List (List Leg)) (limit : Option ℕ) (nodes : List ℕ) where
             let is : r.0 ≡ (v, (j, x)) = λ i. (eqb-true _ _ s.1 i, r.2 i) in
             h.sound v j x (subst (Contains entries) is s.0);
         whole = λ j c lt p low. contains_map (λ e. e.1) (filter (λ e. e.0 == v) entries) (v, (j, c.weight))
-            (contains_filter (λ e. e.0 == v) entries (v, (j, c.weight)) (h.whole v j c lt p low) (let e : v ≡ v = refl in grind (arith, nat_tests)));
+            (contains_filter (λ e. e.0 == v) entries (v, (j, c.weight)) (h.whole v j c lt p low)
+            (let e : v ≡ v = refl in grind (arith, nat_tests)));
       }
 
       -- past the last node the bucket is empty
@@ -124,7 +129,8 @@ module _ (rows : List (List Leg)) (limit : Option ℕ) (nodes : List ℕ) where
         count = made.count ∙ sym up.0;
         each = λ v. elim (cases_lt v (nodes_of H)) [
           | inl lt ↦ subst (IsBucket rows limit nodes v) (sym (made.each v lt)) (bucket v)
-          | inr ge ↦ subst (IsBucket rows limit nodes v) (sym (get_or_past buckets v [] (let e = made.count in omega arith))) (no_bucket v ge)
+          | inr ge ↦ subst (IsBucket rows limit nodes v) (sym (get_or_past buckets v [] (let e = made.count in omega arith)))
+              (no_bucket v ge)
         ];
       }
 

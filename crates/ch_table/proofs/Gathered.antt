@@ -15,16 +15,19 @@ module _ (H : LevelsAndLegs) (side : Side) (limit : Option ℕ) (nodes : List �
     (each : AllZip (λ node (space : Vec (ℕ × ℕ) Global). IsRankedSpace H side limit node space.items) nodes spaces) where
   -- there are at most as many lists as a list of nodes may be long
   pub lists_few : length nodes ≤ MOST_LISTED → length spaces ≤ MOST_LISTED
-  lists_few few = let size = zipped_length (λ node (space : Vec (ℕ × ℕ) Global). IsRankedSpace H side limit node space.items) nodes spaces each in omega (arith, size, few)
+  lists_few few = let size = zipped_length (λ node (space : Vec (ℕ × ℕ) Global). IsRankedSpace H side limit node space.items) nodes
+      spaces each in omega (arith, size, few)
 
   -- the ranks in the lists are below the number of nodes
   pub lists_within : IsLevelled H → (n : ℕ) → n ≡ nodes_of H →
       All (λ (space : Vec (ℕ × ℕ) Global). All (λ (entry : ℕ × ℕ). entry.0 < n) space.items) spaces
   lists_within levelled n is =
-      subst (λ n. All (λ (space : Vec (ℕ × ℕ) Global). All (λ (entry : ℕ × ℕ). entry.0 < n) space.items) spaces) (sym is) (spaces_within H side limit levelled nodes spaces each)
+      subst (λ n. All (λ (space : Vec (ℕ × ℕ) Global). All (λ (entry : ℕ × ℕ). entry.0 < n) space.items) spaces) (sym is)
+      (spaces_within H side limit levelled nodes spaces each)
 
   -- buckets that hold the lists hold the search spaces
-  pub spaces_held : (item : ℕ → ℕ) (n : ℕ) → n ≡ nodes_of H → (buckets : List (List (ℕ × ℕ))) → HoldLists n item (map (λ (space : Vec (ℕ × ℕ) Global). space.items) spaces) buckets →
+  pub spaces_held : (item : ℕ → ℕ) (n : ℕ) → n ≡ nodes_of H → (buckets : List (List (ℕ × ℕ))) →
+      HoldLists n item (map (λ (space : Vec (ℕ × ℕ) Global). space.items) spaces) buckets →
       HoldSearchSpaces H side limit item nodes buckets
   spaces_held item n is buckets held =
       let items : Vec (ℕ × ℕ) Global → List (ℕ × ℕ) = λ list. list.items in

@@ -1,5 +1,6 @@
 -- What is gathered from the rows of a table.
-use Rattle.std.proofs.Common.{◌≡◌, ℕ, ◌+◌, ◌*◌, ◌<◌, ◌≤◌, min, List, [], ◌∷◌, ◌++◌, length, map, take, take_all, drop, get_or, Option, Vec, sym, ◌∙◌, ap, subst, arith}
+use Rattle.std.proofs.Common.{◌≡◌, ℕ, ◌+◌, ◌*◌, ◌<◌, ◌≤◌, min, List, [], ◌∷◌, ◌++◌, length, map, take, take_all, drop, get_or}
+use Rattle.std.proofs.Common.{Option, Vec, sym, ◌∙◌, ap, subst, arith}
 use Rattle.std.specs.declared.alloc.Global.{Global}
 use Rattle.std.specs.List.{AllZip, flat_map, slice_range}
 use Rattle.std.proofs.lemmas.List.{append-nil, length-take, take_more, drop_all, map-append}
@@ -12,7 +13,8 @@ use Rattle.ch_table.specs.Table.{IsRowBy, IsGathered, AreGathered}
 
 module _ {X : Type 0} (R : List ℕ → X → Type 0) (items : List ℕ) (p : ℕ) where
   -- the values of the pieces from piece k on are those of parts, which together are the items from there on
-  parts_from : (k : ℕ) (values : List X) → length items ≤ (k + length values) * p → MeanEach (λ from to x. R (slice_range items from to) x) (length items) p k values →
+  parts_from : (k : ℕ) (values : List X) → length items ≤ (k + length values) * p →
+      MeanEach (λ from to x. R (slice_range items from to) x) (length items) p k values →
       (parts : List (List ℕ)) × (flat_map (λ part. part) parts ≡ drop (k * p) items) × AllZip R parts values
   parts_from k [] le h = ([], sym (drop_all (k * p) items (omega (arith, le))), tt)
   parts_from k (x ∷ values) le h =
@@ -23,7 +25,8 @@ module _ {X : Type 0} (R : List ℕ → X → Type 0) (items : List ℕ) (p : �
 
 -- the values of all pieces are those of parts of all items
 pub parts_of : {X : Type 0} (R : List ℕ → X → Type 0) (items : List ℕ) (n p : ℕ) (values : List X) → n ≡ length items → 0 < p →
-    AreValues (λ from to x. R (slice_range items from to) x) n p 0 (pieces_of n p) values → (parts : List (List ℕ)) × (flat_map (λ part. part) parts ≡ items) × AllZip R parts values
+    AreValues (λ from to x. R (slice_range items from to) x) n p 0 (pieces_of n p) values →
+    (parts : List (List ℕ)) × (flat_map (λ part. part) parts ≡ items) × AllZip R parts values
 parts_of {X = X} R items n p values count positive h =
     let start : 0 * p ≡ 0 = omega arith in
     let all : length items ≤ (0 + length values) * p = rw (h.0, sym count) (covers n p positive) in
@@ -31,31 +34,38 @@ parts_of {X = X} R items n p values count positive h =
     let found = parts_from R items p 0 values all (subst Each count h.1) in
     (found.0, found.1 ∙ ap (λ i. drop i items) start, found.2)
 
-module _ {X : Type 0} (M : List ℕ → List (List (Option ℕ)) → X → Type 0) (sources : List ℕ) (rows : List (List (Option ℕ))) (same : length rows ≡ length sources) where
+module _ {X : Type 0} (M : List ℕ → List (List (Option ℕ)) → X → Type 0) (sources : List ℕ) (rows : List (List (Option ℕ)))
+    (same : length rows ≡ length sources) where
   -- the row at one more place is gathered
   pub row_added : (i : ℕ) (before after : X) → i < length sources → M (take i sources) (take i rows) before →
-      ((some : List ℕ) (list : List (List (Option ℕ))) → length list ≡ length some → M some list before → M (some ++ get_or sources i 0 ∷ []) (list ++ get_or rows i [] ∷ []) after) → M (take (i + 1) sources) (take (i + 1) rows) after
+      ((some : List ℕ) (list : List (List (Option ℕ))) → length list ≡ length some → M some list before →
+      M (some ++ get_or sources i 0 ∷ []) (list ++ get_or rows i [] ∷ []) after) → M (take (i + 1) sources) (take (i + 1) rows) after
   row_added i before after within so_far add =
       let inside : i < length rows = omega arith in
       let few : length (take i rows) ≡ length (take i sources) = omega (arith, length-take i rows, length-take i sources) in
-      let both : M (take i sources ++ get_or sources i 0 ∷ []) (take i rows ++ get_or rows i [] ∷ []) after = add (take i sources) (take i rows) few so_far in
+      let both : M (take i sources ++ get_or sources i 0 ∷ []) (take i rows ++ get_or rows i [] ∷ []) after =
+      add (take i sources) (take i rows) few so_far in
       subst (λ list. M list (take (i + 1) rows) after) (sym (take_more sources i 0 within))
       (subst (λ list. M (take i sources ++ get_or sources i 0 ∷ []) list after) (sym (take_more rows i [] inside)) both)
 
   -- all rows are gathered
   pub all_added : (i : ℕ) (x : X) → length sources ≤ i → M (take i sources) (take i rows) x → M sources rows x
   all_added i x past so_far =
-      subst (λ list. M list rows x) (take_all i sources past) (subst (λ list. M (take i sources) list x) (take_all i rows (omega arith)) so_far)
+      subst (λ list. M list rows x) (take_all i sources past)
+      (subst (λ list. M (take i sources) list x) (take_all i rows (omega arith)) so_far)
 
 module _ {X : Type 0} (M : List ℕ → List (List (Option ℕ)) → X → Type 0) (H : LevelsAndLegs) (limit : Option ℕ) (targets : List ℕ) where
   -- one more row is gathered
-  pub one_more : (sources : List ℕ) (i : ℕ) (before after : X) (cells : List (Option ℕ)) → i < length sources → IsGathered M H limit targets (take i sources) before → IsRowBy H limit targets (get_or sources i 0) cells →
-      ((some : List ℕ) (rows : List (List (Option ℕ))) → length rows ≡ length some → M some rows before → M (some ++ get_or sources i 0 ∷ []) (rows ++ cells ∷ []) after) → IsGathered M H limit targets (take (i + 1) sources) after
+  pub one_more : (sources : List ℕ) (i : ℕ) (before after : X) (cells : List (Option ℕ)) → i < length sources →
+      IsGathered M H limit targets (take i sources) before → IsRowBy H limit targets (get_or sources i 0) cells →
+      ((some : List ℕ) (rows : List (List (Option ℕ))) → length rows ≡ length some → M some rows before →
+      M (some ++ get_or sources i 0 ∷ []) (rows ++ cells ∷ []) after) → IsGathered M H limit targets (take (i + 1) sources) after
   one_more sources i before after cells within so_far row add =
       let R = IsRowBy H limit targets in
       let some = take i sources in
       let added = add some so_far.0 (zipped_length R some so_far.0 so_far.1) so_far.2 in
-      subst (λ list. IsGathered M H limit targets list after) (sym (take_more sources i 0 within)) (so_far.0 ++ cells ∷ [], all_zipped_more R some so_far.0 (get_or sources i 0) cells so_far.1 row, added)
+      subst (λ list. IsGathered M H limit targets list after) (sym (take_more sources i 0 within))
+      (so_far.0 ++ cells ∷ [], all_zipped_more R some so_far.0 (get_or sources i 0) cells so_far.1 row, added)
 
   -- what is gathered from all rows at once is gathered in one part
   pub one_part : (sources : List ℕ) (rows : List (List (Option ℕ))) (x : X) → AllZip (IsRowBy H limit targets) sources rows →
@@ -70,8 +80,10 @@ module _ (H : LevelsAndLegs) (limit : Option ℕ) (targets : List ℕ) where
   AreKept sources rows kept = map items kept.items ≡ rows
 
   -- the rows that were kept in parts are, one after another, the rows of the sources
-  kept_parts : (parts : List (List ℕ)) (values : List (Vec (Vec (Option ℕ) Global) Global)) → AllZip (IsGathered AreKept H limit targets) parts values →
-      AllZip (IsRowBy H limit targets) (flat_map (λ part. part) parts) (map items (flat_map (λ (kept : Vec (Vec (Option ℕ) Global) Global). kept.items) values))
+  kept_parts : (parts : List (List ℕ)) (values : List (Vec (Vec (Option ℕ) Global) Global)) →
+      AllZip (IsGathered AreKept H limit targets) parts values →
+      AllZip (IsRowBy H limit targets) (flat_map (λ part. part) parts)
+      (map items (flat_map (λ (kept : Vec (Vec (Option ℕ) Global) Global). kept.items) values))
   kept_parts [] [] h = tt
   kept_parts [] (kept ∷ values) h = absurd h
   kept_parts (part ∷ parts) [] h = absurd h
@@ -79,9 +91,12 @@ module _ (H : LevelsAndLegs) (limit : Option ℕ) (targets : List ℕ) where
       let R = IsRowBy H limit targets in
       let rest = flat_map (λ (more : Vec (Vec (Option ℕ) Global) Global). more.items) values in
       let here = subst (AllZip R part) (sym h.0.2) h.0.1 in
-      subst (AllZip R (part ++ flat_map (λ more. more) parts)) (sym (map-append items kept.items rest)) (zipped_append R part (map items kept.items) (flat_map (λ more. more) parts) (map items rest) here (kept_parts parts values h.1))
+      subst (AllZip R (part ++ flat_map (λ more. more) parts)) (sym (map-append items kept.items rest))
+      (zipped_append R part (map items kept.items) (flat_map (λ more. more) parts) (map items rest) here (kept_parts parts values h.1))
 
-  pub kept_rows : (sources : List ℕ) (values : List (Vec (Vec (Option ℕ) Global) Global)) → AreGathered AreKept H limit targets sources values →
+  pub kept_rows : (sources : List ℕ) (values : List (Vec (Vec (Option ℕ) Global) Global)) →
+      AreGathered AreKept H limit targets sources values →
       AllZip (IsRowBy H limit targets) sources (map items (flat_map (λ (kept : Vec (Vec (Option ℕ) Global) Global). kept.items) values))
   kept_rows sources values h =
-      subst (λ list. AllZip (IsRowBy H limit targets) list (map items (flat_map (λ (kept : Vec (Vec (Option ℕ) Global) Global). kept.items) values))) h.1 (kept_parts h.0 values h.2)
+      subst (λ list. AllZip (IsRowBy H limit targets) list
+      (map items (flat_map (λ (kept : Vec (Vec (Option ℕ) Global) Global). kept.items) values))) h.1 (kept_parts h.0 values h.2)

@@ -1,11 +1,13 @@
 -- Lists of ranks and weights, their entries, and the buckets that hold them.
-use Rattle.std.proofs.Common.{◌≡◌, ℕ, zero, suc, ◌+◌, ◌<◌, List, [], ◌∷◌, ◌++◌, length, map, Contains, get_or, refl, sym, ap, subst, arith, inl, inr}
+use Rattle.std.proofs.Common.{◌≡◌, ℕ, zero, suc, ◌+◌, ◌<◌, List, [], ◌∷◌, ◌++◌, length, map, Contains, get_or, refl, sym, ap, subst}
+use Rattle.std.proofs.Common.{arith, inl, inr}
 use Rattle.std.specs.Prelude.{◌==◌, All, slice_index_or}
 use Rattle.std.specs.List.{filter}
 use Rattle.std.proofs.lemmas.Bool.{cases_lt, eqb-true}
 use Rattle.std.proofs.lemmas.Bool.Decides.{nat_tests}
 use Rattle.std.proofs.lemmas.List.{get_or_past}
-use Rattle.std.proofs.lemmas.List.Elements.{All-contains, Contains-append_left, Contains-append_right, Contains-append_cases, Contains-get_or}
+use Rattle.std.proofs.lemmas.List.Elements.{All-contains, Contains-append_left, Contains-append_right, Contains-append_cases}
+use Rattle.std.proofs.lemmas.List.Elements.{Contains-get_or}
 use Rattle.ch_graph.specs.Rows.{AreRowsOf, pairs_at, pairs_from, pairs_of}
 use Rattle.ch_graph.proofs.Lists.{contains_none, contains_map, contains_map_of, contains_filter, contains_filter_of}
 use Rattle.ch_table.specs.Buckets.{HoldLists}
@@ -19,13 +21,6 @@ held_within lists v x h = elim (cases_lt v (length lists)) [
 ]
 
 module _ (item : ℕ → ℕ) (lists : List (List (ℕ × ℕ))) where
-  -- without lists there are no entries
-  pub entries_of_none : AreEntriesOf item lists 0 []
-  entries_of_none = record {
-    sound = λ q j x h. absurd (contains_none (q, (j, x)) h);
-    whole = λ r j x lt h. absurd (omega arith);
-  }
-
   -- one more list
   pub entries_of_more : (k : ℕ) (entries : List (ℕ × (ℕ × ℕ))) → AreEntriesOf item lists k entries →
       AreEntriesOf item lists (k + 1) (entries ++ map (entry_of item k) (slice_index_or lists k []))
@@ -37,8 +32,12 @@ module _ (item : ℕ → ℕ) (lists : List (List (ℕ × ℕ))) where
               let r = contains_map_of (entry_of item k) next (q, (j, x)) now in
               let place : k ≡ j = ap (λ (e : ℕ × (ℕ × ℕ)). e.1.0) r.2 in
               let weight : r.0.1 ≡ x = ap (λ (e : ℕ × (ℕ × ℕ)). e.1.1) r.2 in
-              let here = subst (λ w. Contains next (r.0.0, w)) weight r.1 in
-              (omega arith, r.0.0, subst (λ p. Contains (slice_index_or lists p []) (r.0.0, x)) place here, ap (λ (e : ℕ × (ℕ × ℕ)). e.0) r.2)
+              let here = subst (λ w. Contains next (r.0.0, w)) weight r.1 in (
+                omega arith,
+                r.0.0,
+                subst (λ p. Contains (slice_index_or lists p []) (r.0.0, x)) place here,
+                ap (λ (e : ℕ × (ℕ × ℕ)). e.0) r.2,
+              )
         ];
         whole = λ r j x lt c. elim (cases_lt j k) [
           | inl before ↦ Contains-append_left entries (map (entry_of item k) next) (item r, (j, x)) (h.whole r j x before c)
@@ -46,11 +45,13 @@ module _ (item : ℕ → ℕ) (lists : List (List (ℕ × ℕ))) where
               let e : j ≡ k = omega arith in
               let here = subst (λ p. Contains (slice_index_or lists p []) (r, x)) e c in
               Contains-append_right entries (map (entry_of item k) next) (item r, (j, x))
-              (subst (λ p. Contains (map (entry_of item k) next) (item r, (p, x))) (sym e) (contains_map (entry_of item k) next (r, x) here))
+              (subst (λ p. Contains (map (entry_of item k) next) (item r, (p, x))) (sym e)
+              (contains_map (entry_of item k) next (r, x) here))
         ];
       }
 
-  module _ (n : ℕ) (entries : List (ℕ × (ℕ × ℕ))) (h : AreEntriesOf item lists (length lists) entries) (below : All (λ list. All (λ pair. item pair.0 < n) list) lists) where
+  module _ (n : ℕ) (entries : List (ℕ × (ℕ × ℕ))) (h : AreEntriesOf item lists (length lists) entries)
+      (below : All (λ list. All (λ pair. item pair.0 < n) list) lists) where
     -- the ranks of the lists have items
     entry_below : (r j x : ℕ) → j < length lists → Contains (slice_index_or lists j []) (r, x) → item r < n
     entry_below r j x lt c = All-contains (λ (pair : ℕ × ℕ). item pair.0 < n) (slice_index_or lists j []) (r, x) (below j [] lt) c
@@ -76,7 +77,8 @@ module _ (item : ℕ → ℕ) (lists : List (List (ℕ × ℕ))) where
           h.sound q j x (subst (Contains entries) is s.0);
       whole = λ r j x lt c. subst (λ l. Contains l (j, x)) (sym (made.each (item r) (entry_below r j x lt c)))
           (contains_map (λ (e : ℕ × (ℕ × ℕ)). e.1) (filter (λ e. e.0 == item r) entries) (item r, (j, x))
-          (contains_filter (λ e. e.0 == item r) entries (item r, (j, x)) (h.whole r j x lt c) (let e : item r ≡ item r = refl in grind (arith, nat_tests))));
+          (contains_filter (λ e. e.0 == item r) entries (item r, (j, x)) (h.whole r j x lt c)
+          (let e : item r ≡ item r = refl in grind (arith, nat_tests))));
     }
 
 -- a pair of the joined lists is a pair of one list, with its place

@@ -1,5 +1,6 @@
 -- Rows of words, lowered sum by sum.
-use Rattle.std.proofs.Common.{◌≡◌, ℕ, ◌+◌, ◌<◌, ◌≤◌, ◌⊎◌, min, List, [], ◌∷◌, ◌++◌, length, Contains, take, get_or, set, refl, sym, ◌∙◌, ap, subst, arith, inl, inr, length-set, get_or-set_same, get_or-set_other}
+use Rattle.std.proofs.Common.{◌≡◌, ℕ, ◌+◌, ◌<◌, ◌≤◌, ◌⊎◌, min, List, [], ◌∷◌, ◌++◌, length, Contains, take, get_or, set, refl, sym}
+use Rattle.std.proofs.Common.{◌∙◌, ap, subst, arith, inl, inr, length-set, get_or-set_same, get_or-set_other}
 use Rattle.std.specs.Prelude.{slice_index_or}
 use Rattle.std.proofs.lemmas.Bool.{cases_eq, cases_lt}
 use Rattle.std.proofs.lemmas.List.Elements.{Contains-append_left, Contains-push, Contains-push_cases}
@@ -42,7 +43,8 @@ lowered_one place weight row lt =
     either a b = elim (cases_lt b a) [ inl lt ↦ inr (omega arith) | inr le ↦ inl (omega arith) ]
 
 -- lowering by P and then by Q is lowering by both
-pub lowered_then : (P Q R : ℕ → ℕ → Type 0) (a b c : List ℕ) → ((j x : ℕ) → P j x → R j x) → ((j x : ℕ) → Q j x → R j x) → ((j x : ℕ) → R j x → P j x ⊎ Q j x) →
+pub lowered_then : (P Q R : ℕ → ℕ → Type 0) (a b c : List ℕ) → ((j x : ℕ) → P j x → R j x) → ((j x : ℕ) → Q j x → R j x) →
+    ((j x : ℕ) → R j x → P j x ⊎ Q j x) →
     AreLowered P a b → AreLowered Q b c → AreLowered R a c
 lowered_then P Q R a b c first second parts h k = record {
   size = k.size ∙ h.size;
@@ -67,12 +69,24 @@ pub bucket_none : (weight : ℕ) (row : List ℕ) → AreLowered (IsSumAt weight
 bucket_none weight row = lowered_none (IsSumAt weight []) row (λ j x sum. contains_none (j, sum.0) sum.1)
 
 -- one more entry
-pub bucket_more : (weight i : ℕ) (bucket : List (ℕ × ℕ)) (entry : ℕ × ℕ) → take (i + 1) bucket ≡ take i bucket ++ entry ∷ [] → (a b c : List ℕ) →
-    AreLowered (IsSumAt weight (take i bucket)) a b → AreLowered (IsOne entry.0 (weight + entry.1)) b c → AreLowered (IsSumAt weight (take (i + 1) bucket)) a c
+pub bucket_more : (weight i : ℕ) (bucket : List (ℕ × ℕ)) (entry : ℕ × ℕ) → take (i + 1) bucket ≡ take i bucket ++ entry ∷ [] →
+    (a b c : List ℕ) →
+    AreLowered (IsSumAt weight (take i bucket)) a b → AreLowered (IsOne entry.0 (weight + entry.1)) b c →
+    AreLowered (IsSumAt weight (take (i + 1) bucket)) a c
 bucket_more weight i bucket entry is a b c =
     lowered_then (IsSumAt weight (take i bucket)) (IsOne entry.0 (weight + entry.1)) (IsSumAt weight (take (i + 1) bucket)) a b c
-    (λ j x sum. (sum.0, subst (λ l. Contains l (j, sum.0)) (sym is) (Contains-append_left (take i bucket) (entry ∷ []) (j, sum.0) sum.1), sum.2))
-    (λ j x one. (entry.1, subst (λ l. Contains l (j, entry.1)) (sym is) (subst (λ q. Contains (take i bucket ++ entry ∷ []) (q, entry.1)) (sym one.0) (Contains-push (take i bucket) entry)), one.1))
+    (λ j x sum. (
+      sum.0,
+      subst (λ l. Contains l (j, sum.0)) (sym is)
+          (Contains-append_left (take i bucket) (entry ∷ []) (j, sum.0) sum.1),
+      sum.2,
+    ))
+    (λ j x one. (
+      entry.1,
+      subst (λ l. Contains l (j, entry.1)) (sym is)
+          (subst (λ q. Contains (take i bucket ++ entry ∷ []) (q, entry.1)) (sym one.0) (Contains-push (take i bucket) entry)),
+      one.1,
+    ))
     (λ j x sum. elim (Contains-push_cases (take i bucket) entry (j, sum.0) (subst (λ l. Contains l (j, sum.0)) is sum.1)) [
       | inl before ↦ inl (sum.0, before, sum.2)
       | inr here ↦
@@ -87,11 +101,20 @@ pub space_none : (buckets : List (List (ℕ × ℕ))) (row : List ℕ) → AreLo
 space_none buckets row = lowered_none (IsSumOf [] buckets) row (λ j x sum. contains_none (sum.0, sum.1) sum.2)
 
 -- one more entry, and the bucket of its rank
-pub space_more : (i : ℕ) (space : List (ℕ × ℕ)) (buckets : List (List (ℕ × ℕ))) (entry : ℕ × ℕ) → take (i + 1) space ≡ take i space ++ entry ∷ [] → (a b c : List ℕ) →
-    AreLowered (IsSumOf (take i space) buckets) a b → AreLowered (IsSumAt entry.1 (slice_index_or buckets entry.0 [])) b c → AreLowered (IsSumOf (take (i + 1) space) buckets) a c
+pub space_more : (i : ℕ) (space : List (ℕ × ℕ)) (buckets : List (List (ℕ × ℕ))) (entry : ℕ × ℕ) →
+    take (i + 1) space ≡ take i space ++ entry ∷ [] → (a b c : List ℕ) →
+    AreLowered (IsSumOf (take i space) buckets) a b → AreLowered (IsSumAt entry.1 (slice_index_or buckets entry.0 [])) b c →
+    AreLowered (IsSumOf (take (i + 1) space) buckets) a c
 space_more i space buckets entry is a b c =
-    lowered_then (IsSumOf (take i space) buckets) (IsSumAt entry.1 (slice_index_or buckets entry.0 [])) (IsSumOf (take (i + 1) space) buckets) a b c
-    (λ j x sum. (sum.0, sum.1, subst (λ l. Contains l (sum.0, sum.1)) (sym is) (Contains-append_left (take i space) (entry ∷ []) (sum.0, sum.1) sum.2), sum.3))
+    lowered_then (IsSumOf (take i space) buckets) (IsSumAt entry.1 (slice_index_or buckets entry.0 []))
+    (IsSumOf (take (i + 1) space) buckets) a b c
+    (λ j x sum. (
+      sum.0,
+      sum.1,
+      subst (λ l. Contains l (sum.0, sum.1)) (sym is)
+          (Contains-append_left (take i space) (entry ∷ []) (sum.0, sum.1) sum.2),
+      sum.3,
+    ))
     (λ j x sum. (entry.0, entry.1, subst (λ l. Contains l entry) (sym is) (Contains-push (take i space) entry), sum))
     (λ j x sum. elim (Contains-push_cases (take i space) entry (sum.0, sum.1) (subst (λ l. Contains l (sum.0, sum.1)) is sum.2)) [
       | inl before ↦ inl (sum.0, sum.1, before, sum.3)

@@ -1,5 +1,6 @@
 -- What the nodes of items owe, entry by entry and item by item.
-use Rattle.std.proofs.Common.{◌≡◌, ℕ, ◌+◌, ◌*◌, ◌<◌, ◌≤◌, Option, List, [], ◌∷◌, ◌++◌, Contains, take, get_or, sym, ap, subst, arith, inl, inr}
+use Rattle.std.proofs.Common.{◌≡◌, ℕ, ◌+◌, ◌*◌, ◌<◌, ◌≤◌, Option, List, [], ◌∷◌, ◌++◌, Contains, take, get_or, sym, ap, subst}
+use Rattle.std.proofs.Common.{arith, inl, inr}
 use Rattle.std.specs.Prelude.{All}
 use Rattle.std.proofs.lemmas.List.Elements.{Contains-append_left, Contains-push, Contains-push_cases}
 use Rattle.std.proofs.lemmas.Nat.{mul-add-lt}
@@ -21,11 +22,13 @@ pub row_none : (limit : Option ℕ) (first weight : ℕ) (v : Known) → HasPaid
 row_none limit first weight v = paid_none (IsOwedInRow limit first weight []) v (λ cell x o. contains_none (o.0, o.1) o.2)
 
 -- one more entry
-pub row_more : (limit : Option ℕ) (first weight i : ℕ) (targets : List (ℕ × ℕ)) (entry : ℕ × ℕ) → take (i + 1) targets ≡ take i targets ++ entry ∷ [] → (u v w : Known) →
+pub row_more : (limit : Option ℕ) (first weight i : ℕ) (targets : List (ℕ × ℕ)) (entry : ℕ × ℕ) →
+    take (i + 1) targets ≡ take i targets ++ entry ∷ [] → (u v w : Known) →
     HasPaid (IsOwedInRow limit first weight (take i targets)) u v → HasPaid (OneWithin limit (first + entry.0) (weight + entry.1)) v w →
     HasPaid (IsOwedInRow limit first weight (take (i + 1) targets)) u w
 row_more limit first weight i targets entry is u v w =
-    paid_then (IsOwedInRow limit first weight (take i targets)) (OneWithin limit (first + entry.0) (weight + entry.1)) (IsOwedInRow limit first weight (take (i + 1) targets)) u v w
+    paid_then (IsOwedInRow limit first weight (take i targets)) (OneWithin limit (first + entry.0) (weight + entry.1))
+    (IsOwedInRow limit first weight (take (i + 1) targets)) u v w
     (λ cell x o. elim (Contains-push_cases (take i targets) entry (o.0, o.1) (subst (λ l. Contains l (o.0, o.1)) is o.2)) [
       | inl before ↦ inl (o.0, o.1, before, o.3, o.4, o.5)
       | inr here ↦
@@ -35,23 +38,36 @@ row_more limit first weight i targets entry is u v w =
           let sum = o.4 in
           inr (omega arith, omega arith, o.5)
     ])
-    (λ cell x o. (o.0, o.1, subst (λ l. Contains l (o.0, o.1)) (sym is) (Contains-append_left (take i targets) (entry ∷ []) (o.0, o.1) o.2), o.3, o.4, o.5))
+    (λ cell x o. (
+      o.0,
+      o.1,
+      subst (λ l. Contains l (o.0, o.1)) (sym is)
+          (Contains-append_left (take i targets) (entry ∷ []) (o.0, o.1) o.2),
+      o.3,
+      o.4,
+      o.5,
+    ))
     (λ cell x o. (entry.0, entry.1, subst (λ l. Contains l entry) (sym is) (Contains-push (take i targets) entry), o.0, o.1, o.2))
 
--- without entries of sources nothing is owed
-pub item_none : (limit : Option ℕ) (columns : ℕ) (targets : List (ℕ × ℕ)) (v : Known) → HasPaid (IsOwedBy limit columns [] targets) v v
-item_none limit columns targets v = paid_none (IsOwedBy limit columns [] targets) v (λ cell x o. contains_none (o.0, o.1) o.2)
-
 -- one more entry, and its row
-pub item_more : (limit : Option ℕ) (columns i : ℕ) (sources targets : List (ℕ × ℕ)) (entry : ℕ × ℕ) → take (i + 1) sources ≡ take i sources ++ entry ∷ [] → (u v w : Known) →
-    HasPaid (IsOwedBy limit columns (take i sources) targets) u v → HasPaid (IsOwedInRow limit (entry.0 * columns) entry.1 targets) v w → HasPaid (IsOwedBy limit columns (take (i + 1) sources) targets) u w
+pub item_more : (limit : Option ℕ) (columns i : ℕ) (sources targets : List (ℕ × ℕ)) (entry : ℕ × ℕ) →
+    take (i + 1) sources ≡ take i sources ++ entry ∷ [] → (u v w : Known) →
+    HasPaid (IsOwedBy limit columns (take i sources) targets) u v → HasPaid (IsOwedInRow limit (entry.0 * columns) entry.1 targets)
+    v w → HasPaid (IsOwedBy limit columns (take (i + 1) sources) targets) u w
 item_more limit columns i sources targets entry is u v w =
-    paid_then (IsOwedBy limit columns (take i sources) targets) (IsOwedInRow limit (entry.0 * columns) entry.1 targets) (IsOwedBy limit columns (take (i + 1) sources) targets) u v w
+    paid_then (IsOwedBy limit columns (take i sources) targets) (IsOwedInRow limit (entry.0 * columns) entry.1 targets)
+    (IsOwedBy limit columns (take (i + 1) sources) targets) u v w
     (λ cell x o. elim (Contains-push_cases (take i sources) entry (o.0, o.1) (subst (λ l. Contains l (o.0, o.1)) is o.2)) [
       | inl before ↦ inl (o.0, o.1, before, o.3)
       | inr here ↦ inr (subst (λ (e : ℕ × ℕ). IsOwedInRow limit (e.0 * columns) e.1 targets cell x) (sym here) o.3)
     ])
-    (λ cell x o. (o.0, o.1, subst (λ l. Contains l (o.0, o.1)) (sym is) (Contains-append_left (take i sources) (entry ∷ []) (o.0, o.1) o.2), o.3))
+    (λ cell x o. (
+      o.0,
+      o.1,
+      subst (λ l. Contains l (o.0, o.1)) (sym is)
+          (Contains-append_left (take i sources) (entry ∷ []) (o.0, o.1) o.2),
+      o.3,
+    ))
     (λ cell x o. (entry.0, entry.1, subst (λ l. Contains l entry) (sym is) (Contains-push (take i sources) entry), o))
 
 -- no items owe nothing

@@ -1,5 +1,6 @@
 -- The cells of a row: the meaning of the least sums of a source's search space and the buckets of the targets.
-use Rattle.std.proofs.Common.{◌≡◌, ℕ, ◌-◌, ◌<◌, ◌≤◌, List, [], ◌++◌, length, map, replicate, take, take_all, Contains, Option, None, get_or, sym, ◌∙◌, ap, subst, arith, inl, inr}
+use Rattle.std.proofs.Common.{◌≡◌, ℕ, ◌-◌, ◌<◌, ◌≤◌, List, [], ◌++◌, length, map, replicate, take, take_all, Contains, Option, None}
+use Rattle.std.proofs.Common.{get_or, sym, ◌∙◌, ap, subst, arith, inl, inr}
 use Rattle.std.specs.Prelude.{All, slice_index, slice_index_or}
 use Rattle.std.proofs.lemmas.Bool.{cases_lt, le-leb, lt-leb}
 use Rattle.std.proofs.lemmas.List.{get_or-map, get_or-replicate, length-map, length-replicate}
@@ -21,18 +22,24 @@ pub refilled : (n x : ℕ) (row cleared : List ℕ) (len : ℕ) → row ≡ take
     row ≡ replicate n x
 refilled n x row cleared len is none zero =
     let whole : n - len ≡ n = omega arith in
-    is ∙ ap (λ l. take n l ++ replicate (n - len) x) none ∙ ap (λ l. l ++ replicate (n - len) x) (take_all n [] (omega arith)) ∙ ap (λ m. replicate m x) whole
+    is ∙ ap (λ l. take n l ++ replicate (n - len) x) none ∙ ap (λ l. l ++ replicate (n - len) x) (take_all n [] (omega arith))
+    ∙ ap (λ m. replicate m x) whole
 
 -- the entries of a search space have ranks of nodes and weights of paths
 pub space_among : (H : LevelsAndLegs) (limit : Option ℕ) → IsLevelled H → (s : ℕ) (space : List (ℕ × ℕ)) →
     IsRankedSpace H Up limit s space → All (λ entry. (entry.0 < nodes_of H) × (entry.1 ≤ MOST_WEIGHT)) space
 space_among H limit levelled s space up k d lt =
     let e = get_or space k d in
-    let path = (up.sound e.0 e.1 (Contains-get_or space k d lt)).3 in
-    (space_within H Up limit levelled s e.0 e.1 space up (Contains-get_or space k d lt), let w = path.1.weight in let same = path.2 in omega arith)
+    let path = (up.sound e.0 e.1 (Contains-get_or space k d lt)).3 in (
+      space_within H Up limit levelled s e.0 e.1 space up (Contains-get_or space k d lt),
+      let w = path.1.weight in
+          let same = path.2 in omega arith,
+    )
 
-module _ (H : LevelsAndLegs) (limit : Option ℕ) (targets : List ℕ) (buckets : List (List (ℕ × ℕ))) (are : AreTargetsOf H limit targets buckets) (s : ℕ) (space : List (ℕ × ℕ)) (up : IsRankedSpace H Up limit s space)
-    (row : List ℕ) (lowered : AreLowered (IsSumOf space buckets) (replicate (length targets) UNREACHED) row) (most : ℕ) (is_most : IsMostSum limit most) where
+module _ (H : LevelsAndLegs) (limit : Option ℕ) (targets : List ℕ) (buckets : List (List (ℕ × ℕ)))
+    (are : AreTargetsOf H limit targets buckets) (s : ℕ) (space : List (ℕ × ℕ)) (up : IsRankedSpace H Up limit s space)
+    (row : List ℕ) (lowered : AreLowered (IsSumOf space buckets) (replicate (length targets) UNREACHED) row) (most : ℕ)
+    (is_most : IsMostSum limit most) where
   module _ (j : ℕ) (column : j < length targets) where
     abbrev down : List (ℕ × ℕ)
     down = slice_index_or are.fall.spaces j []
@@ -80,8 +87,12 @@ module _ (H : LevelsAndLegs) (limit : Option ℕ) (targets : List ℕ) (buckets 
       | inl over ↦ rw (lt-leb (get_or row j 0) most over) (λ x sum low.
           let le = lowered.whole j x (shared_sum x sum) in
           let within = is_most.whole x (shared_low x sum) low in omega arith)
-      | inr low ↦ rw (le-leb (get_or row j 0) most low)
-          (sum_shared (get_or row j 0) (reached low), is_most.sound (get_or row j 0) low, λ y sum within. lowered.whole j y (shared_sum y sum))
+      | inr low ↦ rw (le-leb (get_or row j 0) most low) (
+        sum_shared (get_or row j 0) (reached low),
+        is_most.sound (get_or row j 0) low,
+        λ y sum within.
+            lowered.whole j y (shared_sum y sum),
+      )
     ]
 
     -- the cell is the distance within the limit
@@ -95,4 +106,5 @@ module _ (H : LevelsAndLegs) (limit : Option ℕ) (targets : List ℕ) (buckets 
       let places = length-replicate (length targets) UNREACHED in
       let count = length-map row (cell_of most) in
       all_zip_at (IsDistanceWithin H limit s) 0 None targets (map (cell_of most) row) (omega arith) (λ j column.
-      subst (IsDistanceWithin H limit s (slice_index targets j)) (sym (get_or-map (cell_of most) row j 0 None (omega arith))) (cell_is j column))
+      subst (IsDistanceWithin H limit s (slice_index targets j)) (sym (get_or-map (cell_of most) row j 0 None (omega arith)))
+      (cell_is j column))

@@ -1,5 +1,6 @@
 -- The cells of a table: the least sums that the nodes owe, and their meaning.
-use Rattle.std.proofs.Common.{◌≡◌, ℕ, zero, suc, ◌+◌, ◌*◌, ◌<◌, ◌≤◌, min, List, [], ◌∷◌, length, Contains, Option, Some, None, get_or, refl, sym, ◌∙◌, subst, arith}
+use Rattle.std.proofs.Common.{◌≡◌, ℕ, zero, suc, ◌+◌, ◌*◌, ◌<◌, ◌≤◌, min, List, [], ◌∷◌, length, Contains, Option, Some, None}
+use Rattle.std.proofs.Common.{get_or, refl, sym, ◌∙◌, subst, arith}
 use Rattle.std.specs.Prelude.{All, slice_index, slice_index_or, slice_range, Vec}
 use Rattle.std.specs.declared.alloc.Global.{Global}
 use Rattle.std.specs.List.{AllZip}
@@ -66,7 +67,8 @@ space_within H side limit levelled s rank x list space c =
     let node = space.sound rank x c in subst (λ q. q < nodes_of H) node.2 (rank_below H levelled node.0 node.1)
 
 -- the entries of the buckets are those of search spaces
-module _ (H : LevelsAndLegs) (side : Side) (limit : Option ℕ) (item : ℕ → ℕ) (nodes : List ℕ) (buckets : List (List (ℕ × ℕ))) (hold : HoldSearchSpaces H side limit item nodes buckets) where
+module _ (H : LevelsAndLegs) (side : Side) (limit : Option ℕ) (item : ℕ → ℕ) (nodes : List ℕ) (buckets : List (List (ℕ × ℕ)))
+    (hold : HoldSearchSpaces H side limit item nodes buckets) where
   pub spaces_count : length hold.spaces ≡ length nodes
   spaces_count = zipped_length (IsRankedSpace H side limit) nodes hold.spaces hold.each
 
@@ -89,7 +91,8 @@ module _ (H : LevelsAndLegs) (side : Side) (limit : Option ℕ) (item : ℕ → 
       (place, let w = path.1.weight in let same = path.2 in omega arith)
 
 -- the buckets of both sides fit the cells
-pub within : (H : LevelsAndLegs) (limit : Option ℕ) {item item' : ℕ → ℕ} (sources targets : List ℕ) (ups downs : List (List (ℕ × ℕ))) → HoldSearchSpaces H Up limit item sources ups →
+pub within : (H : LevelsAndLegs) (limit : Option ℕ) {item item' : ℕ → ℕ} (sources targets : List ℕ)
+    (ups downs : List (List (ℕ × ℕ))) → HoldSearchSpaces H Up limit item sources ups →
     HoldSearchSpaces H Down limit item' targets downs → length sources * length targets ≤ MOST_CELLS →
     AreWithin (record { ups = ups; downs = downs; rows = length sources; columns = length targets; limit = limit })
 within H limit {item} {item'} sources targets ups downs rise fall few = record {
@@ -99,13 +102,15 @@ within H limit {item} {item'} sources targets ups downs rise fall few = record {
   cells = few;
 }
 
-module _ (H : LevelsAndLegs) (limit : Option ℕ) (item : ℕ → ℕ) (sources targets : List ℕ) (ups downs : List (List (ℕ × ℕ))) (rise : HoldSearchSpaces H Up limit item sources ups)
+module _ (H : LevelsAndLegs) (limit : Option ℕ) (item : ℕ → ℕ) (sources targets : List ℕ) (ups downs : List (List (ℕ × ℕ)))
+    (rise : HoldSearchSpaces H Up limit item sources ups)
     (fall : HoldSearchSpaces H Down limit item targets downs) where
   -- the buckets of both sides
   abbrev sides : BothSides
   sides = record { ups = ups; downs = downs; rows = length sources; columns = length targets; limit = limit }
 
-  module _ (kept : IsKeptForSome H) (apart : (q r : ℕ) → q < nodes_of H → r < nodes_of H → item q ≡ item r → q ≡ r) (i j : ℕ) (row : i < length sources) (column : j < length targets) where
+  module _ (kept : IsKeptForSome H) (apart : (q r : ℕ) → q < nodes_of H → r < nodes_of H → item q ≡ item r → q ≡ r) (i j : ℕ)
+      (row : i < length sources) (column : j < length targets) where
     abbrev up : List (ℕ × ℕ)
     up = slice_index_or rise.spaces i []
 
@@ -153,7 +158,8 @@ module _ (H : LevelsAndLegs) (limit : Option ℕ) (item : ℕ → ℕ) (sources 
     cell_is p o positive h =
         let s = slice_index sources i in
         let t = slice_index targets j in
-        ranked_spaces_give_distance H kept limit s t up down (space_at H Up limit item sources ups rise i row) (space_at H Down limit item targets downs fall j column) o (shared o h)
+        ranked_spaces_give_distance H kept limit s t up down (space_at H Up limit item sources ups rise i row)
+        (space_at H Down limit item targets downs fall j column) o (shared o h)
       where
         shared : (q : Option ℕ) → IsLeastOwed (IsOwedAmong sides) (length ups) p cell q → IsLeastSharedSum limit up down q
         shared None least = λ x sum low. let r = shared_owed p x positive sum low in least r.0 x r.1 r.2
@@ -162,9 +168,11 @@ module _ (H : LevelsAndLegs) (limit : Option ℕ) (item : ℕ → ℕ) (sources 
             (owed.0, owed.1, λ y sum low. let r = shared_owed p y positive sum low in least.1 r.0 y r.1 r.2)
 
   -- the cells are the table
-  pub table_is : (p : ℕ) (cells : List (Option ℕ)) → 0 < p → IsKeptForSome H → ((q r : ℕ) → q < nodes_of H → r < nodes_of H → item q ≡ item r → q ≡ r) →
+  pub table_is : (p : ℕ) (cells : List (Option ℕ)) → 0 < p → IsKeptForSome H →
+      ((q r : ℕ) → q < nodes_of H → r < nodes_of H → item q ≡ item r → q ≡ r) →
       length cells ≡ length sources * length targets →
-      ((cell : ℕ) (d : Option ℕ) → cell < length sources * length targets → IsLeastOwed (IsOwedAmong sides) (length ups) p cell (slice_index_or cells cell d)) →
+      ((cell : ℕ) (d : Option ℕ) → cell < length sources * length targets →
+      IsLeastOwed (IsOwedAmong sides) (length ups) p cell (slice_index_or cells cell d)) →
       AllZip (IsRowBy H limit targets) sources (rows_of_cells (length sources) (length targets) cells)
   table_is p cells positive kept apart size least =
       let n = length sources in
@@ -175,15 +183,19 @@ module _ (H : LevelsAndLegs) (limit : Option ℕ) (item : ℕ → ℕ) (sources 
       let count : length part ≡ m = (let l = length-between cells (i * m) (i * m + m) (omega arith) in omega arith) in
       subst (IsRowBy H limit targets (slice_index sources i)) (sym (row_at n m cells i row))
       (all_zip_at (IsDistanceWithin H limit (slice_index sources i)) 0 None targets part count (λ j column.
-      subst (IsDistanceWithin H limit (slice_index sources i) (slice_index targets j)) (sym (get_or-between cells (i * m) (i * m + m) j None (omega arith)))
+      subst (IsDistanceWithin H limit (slice_index sources i) (slice_index targets j))
+      (sym (get_or-between cells (i * m) (i * m + m) j None (omega arith)))
       (cell_is kept apart i j row column p (slice_index_or cells (i * m + j) None) positive (least (i * m + j) None (omega arith))))))
 
 -- the ranks of search spaces are below the number of nodes
-pub spaces_within : (H : LevelsAndLegs) (side : Side) (limit : Option ℕ) → IsLevelled H → (nodes : List ℕ) (spaces : List (Vec (ℕ × ℕ) Global)) →
-    AllZip (λ node (space : Vec (ℕ × ℕ) Global). IsRankedSpace H side limit node space.items) nodes spaces → All (λ (space : Vec (ℕ × ℕ) Global). All (λ entry. entry.0 < nodes_of H) space.items) spaces
+pub spaces_within : (H : LevelsAndLegs) (side : Side) (limit : Option ℕ) → IsLevelled H →
+    (nodes : List ℕ) (spaces : List (Vec (ℕ × ℕ) Global)) →
+    AllZip (λ node (space : Vec (ℕ × ℕ) Global). IsRankedSpace H side limit node space.items) nodes spaces →
+    All (λ (space : Vec (ℕ × ℕ) Global). All (λ entry. entry.0 < nodes_of H) space.items) spaces
 spaces_within H side limit levelled nodes spaces each k d lt k' d' lt' =
     let size = zipped_length (λ node (space : Vec (ℕ × ℕ) Global). IsRankedSpace H side limit node space.items) nodes spaces each in
-    let space = zip_at (λ node (list : Vec (ℕ × ℕ) Global). IsRankedSpace H side limit node list.items) 0 d nodes spaces each k (omega arith) in
+    let space = zip_at (λ node (list : Vec (ℕ × ℕ) Global). IsRankedSpace H side limit node list.items) 0 d nodes spaces each k
+    (omega arith) in
     let list = (get_or spaces k d).items in
     let entry = get_or list k' d' in
     space_within H side limit levelled (get_or nodes k 0) entry.0 entry.1 list space (Contains-get_or list k' d' lt')

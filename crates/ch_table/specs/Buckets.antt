@@ -33,7 +33,8 @@ pub record HoldLists (n : ℕ) (item : ℕ → ℕ) (lists : List (List (ℕ × 
       Contains (slice_index_or buckets (item r) []) (j, x)
 
 -- the buckets hold a search space within the limit of each of the nodes, by ranks, with each entry at its rank's item
-pub record HoldSearchSpaces (H : LevelsAndLegs) (side : Side) (limit : Option ℕ) (item : ℕ → ℕ) (nodes : List ℕ) (buckets : List (List (ℕ × ℕ))) : Type 0 where
+pub record HoldSearchSpaces (H : LevelsAndLegs) (side : Side) (limit : Option ℕ) (item : ℕ → ℕ) (nodes : List ℕ)
+    (buckets : List (List (ℕ × ℕ))) : Type 0 where
   pub spaces : List (List (ℕ × ℕ))
   pub each : AllZip (IsRankedSpace H side limit) nodes spaces
   pub held : HoldLists (nodes_of H) item spaces buckets

@@ -1,5 +1,6 @@
 -- Rows of a table: the least sums of a source's search space and the buckets of the targets.
-use Rattle.std.specs.Prelude.{◌≡◌, ℕ, ◌+◌, ◌<◌, ◌≤◌, ◌⊎◌, nat_le, if◌then◌else◌, List, [], length, slice_index, slice_index_or, Contains, Option, Some, None}
+use Rattle.std.specs.Prelude.{◌≡◌, ℕ, ◌+◌, ◌<◌, ◌≤◌, ◌⊎◌, nat_le, if◌then◌else◌, List, [], length, slice_index, slice_index_or}
+use Rattle.std.specs.Prelude.{Contains, Option, Some, None}
 use Rattle.ch_graph.specs.declared.limits.TheConstants.{MOST_SUM}
 use Rattle.ch_hierarchy.specs.Hierarchy.{LevelsAndLegs}
 use Rattle.ch_query.specs.declared.side.Side.TheVariants.{Down}

@@ -37,8 +37,6 @@ pub(crate) fn table_by_cells<R: Threads + Sync, G: Gate>(
     let rows = sources.len() as u32;
     let columns = targets.len() as u32;
     let nodes = hierarchy.nodes();
-    // This call tells the proof that a piece has at least one item.
-    let _ = crew.plan.piece();
     crew.gate
         .watch(Stage::Answering, 0, crew.plan.pieces(nodes));
     let cells = run_cells(crew, nodes, rows * columns, &sums)?;

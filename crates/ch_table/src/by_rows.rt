@@ -11,10 +11,9 @@ ghost use Rattle.ch_table.specs.Table.{AreGathered, IsRowBy};
 use crate::cells::Table;
 use crate::row::{RowRoom, UNREACHED, lower_by_space, write_cells};
 use crate::row_job::RowJob;
-use crate::spaces::{Room, search_spaces};
 use ch_graph::{Rows, gather};
 use ch_hierarchy::Hierarchy;
-use ch_query::{Scratch, Side, ranked_space};
+use ch_query::{Scratch, Side, ranked_space, ranked_spaces, ranked_spaces_alone};
 use ch_work::{Crew, Gate, RoomJob, Stage, run_pieces_in};
 use std::alloc::{AllocError, Global};
 use std::marker::Model;
@@ -39,18 +38,17 @@ pub(crate) fn gather_by_rows<R: Threads + Sync, G: Gate, J: RowJob>(
     requires lists { (length sources.now ≤ MOST_LISTED) × (length targets.now ≤ MOST_LISTED) }
     ensures { IfOk result (λ values. AreGathered (J.meaning job.now) hierarchy.now within targets.now sources.now values.items) }
 {
-    let mut rooms = Vec::new(crew.alloc);
-    let spaces = search_spaces(crew, hierarchy, targets, Side::Down, within, &mut rooms)?;
+    let mut scratches = Vec::new(crew.alloc);
+    let down = Side::Down;
+    let spaces = ranked_spaces(crew, hierarchy, &mut scratches, targets, down, within)?;
     let rows = SourceRows::of(crew.alloc, hierarchy, targets, within, spaces)?;
     let count = sources.len() as u32;
     crew.gate
         .watch(Stage::Answering, 0, crew.plan.pieces(count));
-    // This call tells the proof that a piece has at least one item.
-    let _ = crew.plan.piece();
     run_pieces_in(
         crew,
         count,
-        &mut rooms,
+        &mut scratches,
         &GatheredRows { rows, sources, job },
     )
 }
@@ -77,32 +75,10 @@ pub fn table_alone(
     ensures table { IfOk result (AllZip (IsRowBy hierarchy.now within targets.now) sources.now) }
     ensures scratch { scratch.new ≡ scratch.old }
 {
-    let spaces = spaces_alone(alloc, hierarchy, scratch, targets, within)?;
+    let spaces = ranked_spaces_alone(alloc, hierarchy, scratch, targets, Side::Down, within)?;
     let source_rows = SourceRows::of(alloc, hierarchy, targets, within, spaces)?;
     let rows = source_rows.rows_alone(alloc, scratch, sources)?;
     Ok(Table { rows })
-}
-
-/// Returns the search spaces down to these targets within the limit, by ranks, one after the other.
-fn spaces_alone(
-    alloc: Global,
-    hierarchy: &Hierarchy,
-    scratch: &mut Scratch,
-    targets: &[u32],
-    within: Option<u64>,
-) -> Result<Vec<Vec<(u32, u64)>>, AllocError>
-    requires kept { IsKeptForSome hierarchy.now }
-    requires scratch { scratch.old ≡ nodes_of hierarchy.now }
-    requires targets { All (λ t. t < nodes_of hierarchy.now) targets.now }
-    ensures spaces { IfOk result (λ spaces. AllZip (λ node space. IsRankedSpace hierarchy.now Down within node space.items) targets.now spaces.items) }
-    ensures scratch { scratch.new ≡ scratch.old }
-{
-    let mut spaces = Vec::with_capacity(alloc, targets.len())?;
-    for target in targets {
-        let space = ranked_space(alloc, hierarchy, scratch, *target, Side::Down, within)?;
-        spaces.push_reserved(space);
-    }
-    Ok(spaces)
 }
 
 /// What the rows of all sources are made of: the buckets of the targets.
@@ -225,7 +201,7 @@ impl<'a, J: RowJob> RoomJob for GatheredRows<'a, J> {
     ghost use Rattle.ch_hierarchy.specs.Hierarchy.{nodes_of};
     ghost use Rattle.ch_table.specs.Table.{IsGathered};
 
-    type Room = Room;
+    type Room = Scratch;
 
     type Out = J::Out;
 
@@ -233,24 +209,24 @@ impl<'a, J: RowJob> RoomJob for GatheredRows<'a, J> {
 
     ghost meaning = { λ gathered from to x. IsGathered (J.meaning gathered.2) gathered.0.hierarchy gathered.0.limit gathered.0.targets (slice_range gathered.1 from to) x };
 
-    ghost clean = { λ gathered room. room.scratch ≡ nodes_of gathered.0.hierarchy };
+    ghost clean = { λ gathered scratch. scratch ≡ nodes_of gathered.0.hierarchy };
 
-    fn room(&self, alloc: Global) -> Result<Room, AllocError> {
-        Room::new(alloc, self.rows.hierarchy.nodes())
+    fn room(&self, alloc: Global) -> Result<Scratch, AllocError> {
+        Scratch::new(alloc, self.rows.hierarchy.nodes())
     }
 
     fn piece(
         &self,
         alloc: Global,
-        room: &mut Room,
+        room: &mut Scratch,
         from: u32,
         to: u32,
     ) -> Result<J::Out, AllocError> {
-        let Room { scratch, row } = room;
         let sources = &self.sources[from as usize..to as usize];
+        let mut row = RowRoom::new(alloc);
         let mut gathered = self.job.start(alloc);
         for source in sources {
-            self.rows.write_row(alloc, scratch, row, *source)?;
+            self.rows.write_row(alloc, room, &mut row, *source)?;
             self.job.add(alloc, &mut gathered, *source, &row.cells)?;
         }
         Ok(gathered)

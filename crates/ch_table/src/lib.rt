@@ -20,7 +20,6 @@ mod dealing;
 mod many_to_many;
 mod row;
 mod row_job;
-mod spaces;
 mod sums;
 
 pub use buckets::Buckets;

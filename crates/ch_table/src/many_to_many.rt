@@ -73,9 +73,9 @@ pub fn gather_rows<R: Threads + Sync, G: Gate, J: RowJob>(
     ensures { IfOk result (λ values. AreGathered (J.meaning job.now) hierarchy.now within targets.now sources.now values.items) }
 {
     let rows = sources.len();
-    let workers = crew.plan.workers() as usize;
-    let are_few = rows < workers || (1 < workers && rows * targets.len() <= FEW_CELLS);
-    if 0 < rows && are_few {
+    let cells = rows * targets.len();
+    let are_few = rows < crew.plan.workers() as usize || cells <= FEW_CELLS;
+    if are_few && crew.plan.shares(cells, 1) {
         let table = table_by_cells(crew, hierarchy, sources, targets, within)?;
         let whole = table.gathered(crew.alloc, sources, job)?;
         let mut values = Vec::with_capacity(crew.alloc, 1)?;

@@ -12,7 +12,7 @@ use std::alloc::{AllocError, Global};
 /// overflow.
 pub(crate) const UNREACHED: u64 = 2 * MOST_SUM;
 
-/// What a worker needs for one row after the other: a word for each target, and the cells that are made of
+/// What is needed for one row after the other: a word for each target, and the cells that are made of
 /// the words.
 #[derive(Drop)]
 pub(crate) struct RowRoom {

@@ -12,9 +12,8 @@ ghost use Rattle.ch_work.specs.Passes.{view_of, size_of, IsPassOf};
 
 use crate::buckets::Buckets;
 use crate::dealing::Dealing;
-use crate::spaces::search_spaces;
 use ch_hierarchy::Hierarchy;
-use ch_query::Side;
+use ch_query::{Side, ranked_spaces};
 use ch_work::{Board, CellJob, Crew, Gate, Pass, pay};
 use std::alloc::{AllocError, Global};
 use std::marker::Model;
@@ -86,10 +85,12 @@ impl Sums {
         ensures { IfOk result (AreSidesOf hierarchy.now within (item_of (deal_of hierarchy.now crew.now.plan.piece)) sources.now targets.now) }
     {
         let dealing = Dealing::new(hierarchy.nodes(), crew.plan.piece());
-        let mut rooms = Vec::new(crew.alloc);
-        let spaces_down = search_spaces(crew, hierarchy, targets, Side::Down, within, &mut rooms)?;
+        let mut scratches = Vec::new(crew.alloc);
+        let down = Side::Down;
+        let spaces_down = ranked_spaces(crew, hierarchy, &mut scratches, targets, down, within)?;
         let downs = Buckets::of_lists(crew.alloc, &dealing, spaces_down)?;
-        let spaces_up = search_spaces(crew, hierarchy, sources, Side::Up, within, &mut rooms)?;
+        let up = Side::Up;
+        let spaces_up = ranked_spaces(crew, hierarchy, &mut scratches, sources, up, within)?;
         let ups = Buckets::of_lists(crew.alloc, &dealing, spaces_up)?;
         Ok(Sums {
             sources: ups,

@@ -7,7 +7,8 @@ use Rattle.ch_text.specs.Calls.{AreInterrupted}
 
 -- one more call was interrupted
 pub AreInterrupted-more : {S T : Type 0} (gives : S → Result T Error → S → Type 0) (calls : ℕ) (old mid new : S) (error : Error)
-    → AreInterrupted gives calls old mid → gives mid (Err error) new → error_kind error ≡ Interrupted → AreInterrupted gives (calls + 1) old new
+    → AreInterrupted gives calls old mid → gives mid (Err error) new → error_kind error ≡ Interrupted →
+    AreInterrupted gives (calls + 1) old new
 AreInterrupted-more gives calls old mid new error before call kind =
     let next : calls + 1 ≡ suc calls = omega arith in
     rw next (mid, before, error, call, kind)

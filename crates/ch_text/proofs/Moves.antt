@@ -1,15 +1,17 @@
 -- Chains of reads and writes.
-use Rattle.std.proofs.Common.{◌≡◌, ◌⊎◌, inl, inr, refl, ℕ, zero, suc, ◌<◌, ◌≤◌, ◌+◌, ◌-◌, ◌++◌, List, [], Option, Some, None, Result, Ok, Err, IfOk, IfErr, IsErrAnd, length, take, drop, sym, ap, ◌∙◌, append_assoc, arith}
+use Rattle.std.proofs.Common.{◌≡◌, ◌⊎◌, inl, inr, refl, ℕ, zero, suc, ◌<◌, ◌≤◌, ◌+◌, ◌-◌, ◌++◌, List, [], Option, Some, None}
+use Rattle.std.proofs.Common.{Result, Ok, Err, IfOk, IfErr, IsErrAnd, length, take, drop, sym, ap, ◌∙◌, append_assoc, arith}
 use Rattle.std.proofs.lemmas.Bool.Decides.{nat_tests}
-use Rattle.std.proofs.lemmas.List.{append-nil, append_cancel_right, drop-append-le, drop-drop, length-append, length-drop, take-append-drop, take-append-le, take_rest}
+use Rattle.std.proofs.lemmas.List.{append-nil, append_cancel_right, drop-append-le, drop-drop, length-append, length-drop}
+use Rattle.std.proofs.lemmas.List.{take-append-drop, take-append-le, take_rest}
 use Rattle.std.proofs.Math.Seq.{drop-append-add}
 use Rattle.std.specs.Prelude.{⊤}
 use Rattle.ch_text.specs.Steps.{AreSteps, Leads}
-use Rattle.ch_text.specs.Device.{CountsFault, GivesBytes, HasGiven, HasTaken, TakesBytes, failed_reads, failures_in, idle_writes}
+use Rattle.ch_text.specs.Device.{CountsFault, GivesBytes, HasGiven, HasTaken, TakesBytes, failures_in, idle_writes}
 use Rattle.ch_text.specs.Moves.{Gave, GaveAll, GaveSome, GaveUntilFault, ReadsMore, Took, TookBefore, TookUntilFault, WritesMore}
 use Rattle.ch_text.specs.declared.device.DeviceFault.{DeviceFault}
 use Rattle.ch_text.specs.declared.device.ReadAllFault.{ReadAllFault}
-use Rattle.ch_text.specs.declared.device.ReadAllFault.TheVariants.{Device, Memory}
+use Rattle.ch_text.specs.declared.device.ReadAllFault.TheVariants.{Memory}
 use Rattle.ch_text.proofs.Bytes.{idle_writes-some}
 
 -- one more step
@@ -40,9 +42,11 @@ leads-keep Step P kept old new at (suc steps) (mid, before, step) = kept mid new
 module _ {S : Type 0} (gives : S → List ℕ → Result ℕ DeviceFault → S → Type 0) where
   -- one more read gave some bytes
   pub gave-more : (old mid new : S) (bytes bytes' buffer : List ℕ) (n : ℕ)
-      → Gave gives old bytes mid → gives mid buffer (Ok n) new → 0 < n → n ≤ length buffer → bytes' ≡ bytes ++ take n buffer → Gave gives old bytes' new
+      → Gave gives old bytes mid → gives mid buffer (Ok n) new → 0 < n → n ≤ length buffer → bytes' ≡ bytes ++ take n buffer →
+      Gave gives old bytes' new
   gave-more old mid new bytes bytes' buffer n before call some fits is =
-      leads-more (ReadsMore gives) _ (mid, bytes) _ before (record { buffer = buffer; count = n; some = some; fits = fits; call = call; more = is })
+      leads-more (ReadsMore gives) _ (mid, bytes) _ before
+      (record { buffer = buffer; count = n; some = some; fits = fits; call = call; more = is })
 
   -- there was no memory for more bytes
   pub gave-memory : {T : Type 0} (result : Result T ReadAllFault) (old new : S) (bytes : List ℕ) →
@@ -50,24 +54,29 @@ module _ {S : Type 0} (gives : S → List ℕ → Result ℕ DeviceFault → S �
   gave-memory (Ok value) old new bytes is gave = tt
   gave-memory (Err fault) old new bytes is gave = rw is (bytes, gave)
 
-  -- reads, and then more reads
-  pub gave-then : (old mid new : S) (first second : List ℕ) → Gave gives old first mid → Gave gives mid second new →
-      Gave gives old (first ++ second) new
-  gave-then old mid new first second before (steps, after) =
-      let behind : AreSteps (ReadsMore gives) steps (mid, first ++ []) (new, first ++ second) =
-      leads-map (λ (s : S × List ℕ). (s.0, first ++ s.1)) (ReadsMore gives) (ReadsMore gives)
-      (λ a b read. record { buffer = read.buffer; count = read.count; some = read.some; fits = read.fits; call = read.call; more = ap (λ bs. first ++ bs) read.more ∙ sym (append_assoc first a.1 (take read.count read.buffer)) })
-      (mid, []) (new, second) steps after in
-      leads-then (ReadsMore gives) (old, []) (mid, first) (new, first ++ second) before steps (rw (append-nil first) at behind)
-
   -- one more write took some bytes
   pub took-more : (old mid new : S) (text : List ℕ) (count n : ℕ)
-      → TookBefore gives old text (drop count text) mid → gives mid (take (length text - count) (drop count text)) (Ok n) new → 0 < n → n ≤ length (take (length text - count) (drop count text)) → TookBefore gives old text (drop (count + n) text) new
+      → TookBefore gives old text (drop count text) mid → gives mid (take (length text - count) (drop count text)) (Ok n) new →
+      0 < n → n ≤ length (take (length text - count) (drop count text)) → TookBefore gives old text (drop (count + n) text) new
   took-more old mid new text count n before call some fits =
       let rest : take (length text - count) (drop count text) ≡ drop count text = take_rest text count in
       let within : n ≤ length (drop count text) = rw rest at fits in
       leads-more (WritesMore gives) _ (mid, drop count text) _ before
-      (record { count = n; some = some; write = record { offered = drop count text; behind = []; front = sym (append-nil (drop count text)); tried = omega arith; fits = within; call = rw rest at call }; less = sym (drop-drop n count text) })
+      (record {
+        count = n;
+        some = some;
+        write =
+            record {
+              offered = drop count text;
+              behind = [];
+              front = sym (append-nil (drop count text));
+              tried = omega arith;
+              fits =
+                  within;
+              call = rw rest at call;
+            };
+        less = sym (drop-drop n count text);
+      })
 
   -- a write with another text behind the one that it writes
   pub writes-behind : (old new : S) (text left more : List ℕ) (steps : ℕ) → AreSteps (WritesMore gives) steps (old, text) (new, left) →
@@ -76,17 +85,28 @@ module _ {S : Type 0} (gives : S → List ℕ → Result ℕ DeviceFault → S �
       leads-map (λ (s : S × List ℕ). (s.0, s.1 ++ more)) (WritesMore gives) (WritesMore gives)
       (λ a b write.
       let w = write.write in
-      let fits : write.count ≤ length a.1 = let front = w.front in let sum = length-append w.offered w.behind in let at = w.fits in rw front (omega (arith, sum, at)) in
+      let fits : write.count ≤ length a.1 = let front = w.front in let sum = length-append w.offered w.behind in let at = w.fits in
+      rw front (omega (arith, sum, at)) in
       record {
         count = write.count;
         some = write.some;
-        write = record { offered = w.offered; behind = w.behind ++ more; front = ap (λ bs. bs ++ more) w.front ∙ append_assoc w.offered w.behind more; tried = w.tried; fits = w.fits; call = w.call };
+        write = record {
+          offered = w.offered;
+          behind = w.behind ++ more;
+          front = ap (λ bs. bs ++ more) w.front
+              ∙ append_assoc w.offered w.behind more;
+          tried = w.tried;
+          fits = w.fits;
+          call = w.call;
+        };
         less = ap (λ bs. bs ++ more) write.less ∙ sym (drop-append-le write.count a.1 more fits);
       })
       (old, text) (new, left) steps writes
 
   -- one more write failed, or took none of some bytes
-  pub took-fault : (old mid new : S) (text : List ℕ) (count : ℕ) (answer : Result ℕ DeviceFault) → TookBefore gives old text (drop count text) mid → gives mid (take (length text - count) (drop count text)) answer new → count < length text → IfOk answer (λ n. n ≡ 0)
+  pub took-fault : (old mid new : S) (text : List ℕ) (count : ℕ) (answer : Result ℕ DeviceFault) →
+      TookBefore gives old text (drop count text) mid → gives mid (take (length text - count) (drop count text)) answer new →
+      count < length text → IfOk answer (λ n. n ≡ 0)
       → TookUntilFault gives old text count new
   took-fault old mid new text count answer before call within none =
       let rest : take (length text - count) (drop count text) ≡ drop count text = take_rest text count in
@@ -97,7 +117,15 @@ module _ {S : Type 0} (gives : S → List ℕ → Result ℕ DeviceFault → S �
         writes = before;
         answer = answer;
         none = none;
-        write = record { offered = drop count text; behind = []; front = sym (append-nil (drop count text)); tried = omega arith; fits = at answer none; call = rw rest at call };
+        write = record {
+          offered = drop count text;
+          behind = [];
+          front = sym (append-nil (drop count text));
+          tried =
+              omega arith;
+          fits = at answer none;
+          call = rw rest at call;
+        };
       }
     where
       at : (answer : Result ℕ DeviceFault) → IfOk answer (λ n. n ≡ 0) → IfOk answer (λ n. n ≤ length (drop count text))
@@ -112,7 +140,8 @@ module _ {S : Type 0} (gives : S → List ℕ → Result ℕ DeviceFault → S �
   pub took-then : (old mid new : S) (first second left : List ℕ) → Took gives old first mid → TookBefore gives mid second left new →
       TookBefore gives old (first ++ second) left new
   took-then old mid new first second left (steps, before) (steps', after) =
-      leads-then (WritesMore gives) (old, first ++ second) (mid, second) (new, left) (steps, writes-behind old mid first [] second steps before) steps' after
+      leads-then (WritesMore gives) (old, first ++ second) (mid, second) (new, left)
+      (steps, writes-behind old mid first [] second steps before) steps' after
 
   -- a text, and then the beginning of another one
   pub took-fault-then : (old mid new : S) (first second : List ℕ) (count : ℕ) → Took gives old first mid →
@@ -144,7 +173,15 @@ module _ {S : Type 0} (gives : S → List ℕ → Result ℕ DeviceFault → S �
         writes = rw same (fault.writes.0, writes-behind old fault.last first (drop count first) more fault.writes.0 fault.writes.1);
         answer = fault.answer;
         none = fault.none;
-        write = rw same (record { offered = w.offered; behind = w.behind ++ more; front = ap (λ bs. bs ++ more) w.front ∙ append_assoc w.offered w.behind more; tried = w.tried; fits = w.fits; call = w.call });
+        write = rw same (record {
+          offered = w.offered;
+          behind = w.behind ++ more;
+          front = ap (λ bs. bs ++ more) w.front
+              ∙ append_assoc w.offered w.behind more;
+          tried = w.tried;
+          fits = w.fits;
+          call = w.call;
+        });
       }
 
 -- of the known bytes of an input, these were given so far, and the others are left
@@ -177,12 +214,14 @@ given-all (Some told) (Some left) (Some left') bytes buffer room before read =
 
 -- an input whose bytes are known had exactly the bytes that it gave
 pub gave-told : {S : Type 0} (gives : S → List ℕ → Result ℕ DeviceFault → S → Type 0) (left : S → Option (List ℕ))
-    → ((old : S) (buffer : List ℕ) (answer : Result ℕ DeviceFault) (new : S) → gives old buffer answer new → GivesBytes (left old) (left new) answer buffer)
+    → ((old : S) (buffer : List ℕ) (answer : Result ℕ DeviceFault) (new : S) → gives old buffer answer new →
+    GivesBytes (left old) (left new) answer buffer)
     → (old : S) (bytes : List ℕ) (new : S) → GaveAll gives old bytes new → HasGiven (left old) (left new) bytes
 gave-told {S} gives left tells old bytes new all =
     let so_far : GivenSoFar (left old) (left all.last) bytes =
     leads-keep (ReadsMore gives) (λ (s : S × List ℕ). GivenSoFar (left old) (left s.0) s.1)
-    (λ a b read at. given-more (left old) (left a.0) (left b.0) a.1 b.1 read.buffer read.count at (tells a.0 read.buffer (Ok read.count) b.0 read.call) read.more)
+    (λ a b read at. given-more (left old) (left a.0) (left b.0) a.1 b.1 read.buffer read.count at
+    (tells a.0 read.buffer (Ok read.count) b.0 read.call) read.more)
     (old, []) (all.last, bytes) (given-none (left old)) all.reads.0 all.reads.1 in
     given-all (left old) (left all.last) (left new) bytes all.buffer all.room so_far (tells all.last all.buffer (Ok 0) new all.call)
 
@@ -202,23 +241,28 @@ taken-more (Some old) (Some taken) (Some taken') took more offered n before writ
 
 -- an output whose bytes are known has taken exactly what the writes took
 pub took-told : {S : Type 0} (gives : S → List ℕ → Result ℕ DeviceFault → S → Type 0) (taken : S → Option (List ℕ))
-    → ((old : S) (bytes : List ℕ) (answer : Result ℕ DeviceFault) (new : S) → gives old bytes answer new → TakesBytes (taken old) (taken new) answer bytes)
-    → (old : S) (text left : List ℕ) (new : S) → TookBefore gives old text left new → (took : List ℕ) × (text ≡ took ++ left) × HasTaken (taken old) (taken new) took
+    → ((old : S) (bytes : List ℕ) (answer : Result ℕ DeviceFault) (new : S) → gives old bytes answer new →
+    TakesBytes (taken old) (taken new) answer bytes)
+    → (old : S) (text left : List ℕ) (new : S) → TookBefore gives old text left new →
+    (took : List ℕ) × (text ≡ took ++ left) × HasTaken (taken old) (taken new) took
 took-told {S} gives taken tells old text left new (steps, writes) =
     leads-keep (WritesMore gives) (λ (s : S × List ℕ). (took : List ℕ) × (text ≡ took ++ s.1) × HasTaken (taken old) (taken s.0) took)
     (λ a b write at.
     let w = write.write in
-    let front : take write.count w.offered ≡ take write.count a.1 = rw w.front (sym (take-append-le write.count w.offered w.behind w.fits)) in
+    let front : take write.count w.offered ≡ take write.count a.1 =
+    rw w.front (sym (take-append-le write.count w.offered w.behind w.fits)) in
     let parts : a.1 ≡ take write.count a.1 ++ b.1 = rw write.less (sym (take-append-drop write.count a.1)) in (
       at.0 ++ take write.count a.1,
       at.1 ∙ (ap (λ ls. at.0 ++ ls) parts ∙ sym (append_assoc at.0 (take write.count a.1) b.1)),
-      taken-more (taken old) (taken a.0) (taken b.0) at.0 (take write.count a.1) w.offered write.count at.2 (tells a.0 w.offered (Ok write.count) b.0 w.call) front,
+      taken-more (taken old) (taken a.0) (taken b.0) at.0 (take write.count a.1) w.offered write.count at.2
+          (tells a.0 w.offered (Ok write.count) b.0 w.call) front,
     ))
     (old, text) (new, left) ([], refl, taken-none (taken old)) steps writes
 
 -- an output whose bytes are known has taken the whole text
 pub whole-told : {S : Type 0} (gives : S → List ℕ → Result ℕ DeviceFault → S → Type 0) (taken : S → Option (List ℕ))
-    → ((old : S) (bytes : List ℕ) (answer : Result ℕ DeviceFault) (new : S) → gives old bytes answer new → TakesBytes (taken old) (taken new) answer bytes)
+    → ((old : S) (bytes : List ℕ) (answer : Result ℕ DeviceFault) (new : S) → gives old bytes answer new →
+    TakesBytes (taken old) (taken new) answer bytes)
     → (old : S) (text : List ℕ) (new : S) → Took gives old text new → HasTaken (taken old) (taken new) text
 whole-told gives taken tells old text new took =
     let told = took-told gives taken tells old text [] new took in
@@ -239,18 +283,23 @@ taken-kept (Some old) (Some taken) (Some taken') took offered (Err fault) before
 
 -- an output whose bytes are known has taken this many bytes of a text and no more, if a write failed after them
 pub fault-told : {S : Type 0} (gives : S → List ℕ → Result ℕ DeviceFault → S → Type 0) (taken : S → Option (List ℕ))
-    → ((old : S) (bytes : List ℕ) (answer : Result ℕ DeviceFault) (new : S) → gives old bytes answer new → TakesBytes (taken old) (taken new) answer bytes)
-    → (old : S) (text : List ℕ) (count : ℕ) (new : S) → TookUntilFault gives old text count new → (count < length text) × HasTaken (taken old) (taken new) (take count text)
+    → ((old : S) (bytes : List ℕ) (answer : Result ℕ DeviceFault) (new : S) → gives old bytes answer new →
+    TakesBytes (taken old) (taken new) answer bytes)
+    → (old : S) (text : List ℕ) (count : ℕ) (new : S) → TookUntilFault gives old text count new →
+    (count < length text) × HasTaken (taken old) (taken new) (take count text)
 fault-told gives taken tells old text count new fault =
     let told = took-told gives taken tells old text (drop count text) fault.last fault.writes in
-    let front : take count text ≡ told.0 = append_cancel_right (take count text) told.0 (drop count text) (take-append-drop count text ∙ told.1) in
+    let front : take count text ≡ told.0 =
+    append_cancel_right (take count text) told.0 (drop count text) (take-append-drop count text ∙ told.1) in
     let kept : HasTaken (taken old) (taken new) told.0 =
-    taken-kept (taken old) (taken fault.last) (taken new) told.0 fault.write.offered fault.answer told.2 fault.none (tells fault.last fault.write.offered fault.answer new fault.write.call) in
+    taken-kept (taken old) (taken fault.last) (taken new) told.0 fault.write.offered fault.answer told.2 fault.none
+    (tells fault.last fault.write.offered fault.answer new fault.write.call) in
     (fault.within, rw front kept)
 
 -- the count of an input
 module _ {S : Type 0} (gives : S → List ℕ → Result ℕ DeviceFault → S → Type 0) (failed : S → ℕ)
-    (counts : (old : S) (buffer : List ℕ) (answer : Result ℕ DeviceFault) (new : S) → gives old buffer answer new → failed new ≡ failed old + failures_in answer) where
+    (counts : (old : S) (buffer : List ℕ) (answer : Result ℕ DeviceFault) (new : S) → gives old buffer answer new →
+    failed new ≡ failed old + failures_in answer) where
   -- a read that gave some bytes raises it by none
   pub counted-none : (old : S) (buffer : List ℕ) (n : ℕ) (new : S) → gives old buffer (Ok n) new → failed new ≡ failed old
   counted-none old buffer n new call = let count : failed new ≡ failed old + 0 = counts old buffer (Ok n) new call in omega arith
@@ -258,7 +307,8 @@ module _ {S : Type 0} (gives : S → List ℕ → Result ℕ DeviceFault → S �
   -- nor do more of them
   pub gave-counts : (old : S) (bytes : List ℕ) (new : S) → Gave gives old bytes new → failed new ≡ failed old
   gave-counts old bytes new gave =
-      leads-keep (ReadsMore gives) (λ (s : S × List ℕ). failed s.0 ≡ failed old) (λ a b read at. counted-none a.0 read.buffer read.count b.0 read.call ∙ at) (old, []) (new, bytes) refl gave.0 gave.1
+      leads-keep (ReadsMore gives) (λ (s : S × List ℕ). failed s.0 ≡ failed old) (λ a b read at.
+      counted-none a.0 read.buffer read.count b.0 read.call ∙ at) (old, []) (new, bytes) refl gave.0 gave.1
 
   -- reads up to the end raise it by none
   pub all-counts : (old : S) (bytes : List ℕ) (new : S) → GaveAll gives old bytes new → failed new ≡ failed old
@@ -271,16 +321,10 @@ module _ {S : Type 0} (gives : S → List ℕ → Result ℕ DeviceFault → S �
       let count : failed new ≡ failed until.last + 1 = counts until.last until.buffer (Err until.fault) new until.call in
       omega arith
 
-  -- the count says exactly whether a read has failed
-  pub some-counts : {T : Type 0} (result : Result T ReadAllFault) (old new : S) → IfOk result (λ _. failed new ≡ failed old) →
-      IfErr result (GaveSome gives old new) → failed new ≡ failed old + failed_reads result
-  some-counts (Ok value) old new all some = let same : failed new ≡ failed old = all in omega arith
-  some-counts (Err Device) old new all some = until-counts old some.0 new some.1
-  some-counts (Err Memory) old new all some = let same : failed new ≡ failed old = gave-counts old some.0 new some.1 in omega arith
-
 -- the counts of an output
 module _ {S : Type 0} (gives : S → List ℕ → Result ℕ DeviceFault → S → Type 0) (failed idle : S → ℕ)
-    (counts : (old : S) (bytes : List ℕ) (answer : Result ℕ DeviceFault) (new : S) → gives old bytes answer new → (failed new ≡ failed old + failures_in answer) × (idle new ≡ idle old + idle_writes answer bytes)) where
+    (counts : (old : S) (bytes : List ℕ) (answer : Result ℕ DeviceFault) (new : S) → gives old bytes answer new →
+    (failed new ≡ failed old + failures_in answer) × (idle new ≡ idle old + idle_writes answer bytes)) where
   -- a write that took some bytes raises none
   pub counted-some : (old : S) (bytes : List ℕ) (n : ℕ) (new : S) → 0 < n → gives old bytes (Ok n) new →
       (failed new ≡ failed old) × (idle new ≡ idle old)
@@ -296,7 +340,8 @@ module _ {S : Type 0} (gives : S → List ℕ → Result ℕ DeviceFault → S �
       (failed new ≡ failed old) × (idle new ≡ idle old)
   took-counts old text left new took =
       leads-keep (WritesMore gives) (λ (s : S × List ℕ). (failed s.0 ≡ failed old) × (idle s.0 ≡ idle old))
-      (λ a b write at. let count = counted-some a.0 write.write.offered write.count b.0 write.some write.write.call in (count.0 ∙ at.0, count.1 ∙ at.1))
+      (λ a b write at. let count = counted-some a.0 write.write.offered write.count b.0 write.some write.write.call in
+      (count.0 ∙ at.0, count.1 ∙ at.1))
       (old, text) (new, left) (refl, refl) took.0 took.1
 
   -- a failed write raises one of them, by one
@@ -304,9 +349,11 @@ module _ {S : Type 0} (gives : S → List ℕ → Result ℕ DeviceFault → S �
       CountsFault {T = Unit} {E = ℕ} (failed old) (failed new) (idle old) (idle new) (Err count)
   fault-counts old text count new fault =
       let before = took-counts old text (drop count text) fault.last fault.writes in
-      one fault.answer fault.write.offered (failed fault.last) (idle fault.last) before.0 before.1 fault.none fault.write.tried (counts fault.last fault.write.offered fault.answer new fault.write.call)
+      one fault.answer fault.write.offered (failed fault.last) (idle fault.last) before.0 before.1 fault.none fault.write.tried
+      (counts fault.last fault.write.offered fault.answer new fault.write.call)
     where
-      one : (answer : Result ℕ DeviceFault) (bytes : List ℕ) (f i : ℕ) → f ≡ failed old → i ≡ idle old → IfOk answer (λ n. n ≡ 0) → 0 < length bytes → (failed new ≡ f + failures_in answer) × (idle new ≡ i + idle_writes answer bytes)
+      one : (answer : Result ℕ DeviceFault) (bytes : List ℕ) (f i : ℕ) → f ≡ failed old → i ≡ idle old → IfOk answer (λ n. n ≡ 0) →
+          0 < length bytes → (failed new ≡ f + failures_in answer) × (idle new ≡ i + idle_writes answer bytes)
           → ((failed new ≡ failed old + 1) × (idle new ≡ idle old)) ⊎ ((failed new ≡ failed old) × (idle new ≡ idle old + 1))
       one (Ok n) bytes f i same same' none long count =
           let raised : idle_writes {E = DeviceFault} (Ok n) bytes ≡ 1 = grind (arith, nat_tests) in

@@ -1,10 +1,10 @@
 -- The nodes of a hierarchy in order of level, and the legs of each.
-use Rattle.std.proofs.Common.{◌≡◌, ℕ, zero, suc, ◌+◌, ◌-◌, ◌<◌, ◌≤◌, List, [], ◌∷◌, ◌++◌, length, take, get_or, set, length-set, get_or-set_same, get_or-set_other, refl, sym, ◌∙◌, ap, subst, arith, inl, inr, length-append}
-use Rattle.std.specs.Prelude.{◌≢◌, All, slice_index, map, codes, decimal}
+use Rattle.std.proofs.Common.{◌≡◌, ℕ, zero, suc, ◌+◌, ◌-◌, ◌<◌, ◌≤◌, List, [], ◌∷◌, ◌++◌, length, take, get_or}
+use Rattle.std.proofs.Common.{refl, sym, ◌∙◌, ap, subst, arith, length-append}
+use Rattle.std.specs.Prelude.{All, slice_index, map, codes, decimal}
 use Rattle.std.specs.List.{flat_map}
 use Rattle.std.proofs.lemmas.List.{get_or_default, take_more, flat_map_more, length-map}
 use Rattle.std.proofs.lemmas.List.Concat.{flat_map-append}
-use Rattle.std.proofs.lemmas.Bool.{cases_eq}
 use Rattle.ch_graph.specs.declared.limits.TheConstants.{MOST_NODES}
 use Rattle.ch_graph.specs.declared.saved.SavedLeg.{SavedLeg}
 use Rattle.ch_hierarchy.specs.declared.leg.Leg.{Leg}
@@ -22,37 +22,6 @@ pub record HasPlaced (H : LevelsAndLegs) (order : List ℕ) (v : ℕ) : Type 0 w
   pub each : (u : ℕ) → u < v → slice_index order (slice_index H.level u - 1) ≡ u
 
 module _ (H : LevelsAndLegs) (is : IsLevelled H) where
-  -- levels are at least 1
-  pub level_within : (v : ℕ) → v < nodes_of H → (1 ≤ slice_index H.level v) × (slice_index H.level v ≤ nodes_of H)
-  level_within v lt = is.levels.0 v 0 lt
-
-  -- different nodes have different levels
-  levels_apart : (u v : ℕ) → u < v → v < nodes_of H → slice_index H.level u ≢ slice_index H.level v
-  levels_apart u v less lt = is.levels.1 u v 0 less lt
-
-  -- one more node is placed
-  pub one_placed : (order : List ℕ) (v place : ℕ) → HasPlaced H order v → v < nodes_of H → place ≡ slice_index H.level v - 1 →
-      HasPlaced H (set order place v) (v + 1)
-  one_placed order v place h lt at =
-      let within = level_within v lt in
-      let low = within.0 in
-      let high = within.1 in
-      let size = h.size in
-      let inside : place < length order = omega arith in
-      let here : slice_index (set order place v) place ≡ v = get_or-set_same order place v 0 inside in
-      record {
-        size = length-set order place v ∙ h.size;
-        each = λ u less. elim (cases_eq u v) [
-          | inl same ↦ subst (λ k. slice_index (set order place v) (slice_index H.level k - 1) ≡ k) (sym same) (subst (λ k. slice_index (set order place v) k ≡ v) at here)
-          | inr ne ↦
-              let before : u < v = omega arith in
-              let l = (level_within u (omega arith)).0 in
-              let apart = levels_apart u v before lt in
-              let other : slice_index H.level u - 1 ≢ place = (λ e. apart (omega arith)) in
-              get_or-set_other order place (slice_index H.level u - 1) v 0 other ∙ h.each u before
-        ];
-      }
-
   -- all nodes are placed
   pub all_placed : (order : List ℕ) (v : ℕ) → HasPlaced H order v → nodes_of H ≤ v → IsByLevel H order
   all_placed order v h end =
@@ -60,7 +29,8 @@ module _ (H : LevelsAndLegs) (is : IsLevelled H) where
         count = sym h.size;
         each = λ i lt. (
             let at = node_at H is i (let s = h.size in omega arith) in
-            let placed : slice_index order i ≡ at.0 = subst (λ k. slice_index order k ≡ at.0) (let e = at.2 in omega arith) (h.each at.0 (let l = at.1 in omega arith)) in
+            let placed : slice_index order i ≡ at.0 = subst (λ k. slice_index order k ≡ at.0) (let e = at.2 in omega arith)
+            (h.each at.0 (let l = at.1 in omega arith)) in
             ap (slice_index H.level) placed ∙ at.2
             );
       } in
@@ -88,13 +58,16 @@ module _ (H : LevelsAndLegs) (is : IsLevelled H) (rows : List (List Leg)) (are :
           omega arith
 
 -- the legs of one more node are counted
-pub counted : (H : LevelsAndLegs) (nodes : List ℕ) (i count v up down : ℕ) → i < length nodes → v ≡ get_or nodes i 0 → count ≡ length (flat_map (legs_at H) (take i nodes)) →
+pub counted : (H : LevelsAndLegs) (nodes : List ℕ) (i count v up down : ℕ) → i < length nodes → v ≡ get_or nodes i 0 →
+    count ≡ length (flat_map (legs_at H) (take i nodes)) →
     up ≡ length (row H.up v) → down ≡ length (row H.down v) → count + (up + down) ≡ length (flat_map (legs_at H) (take (i + 1) nodes))
 counted H nodes i count v up down lt is so_far ups downs =
     let f = legs_at H in
-    let whole : flat_map f (take i nodes) ++ f v ≡ flat_map f (take (i + 1) nodes) = ap (λ x. flat_map f (take i nodes) ++ f x) is ∙ flat_map_more f [] (take i nodes) (get_or nodes i 0) ∙ ap (flat_map f) (sym (take_more nodes i 0 lt)) in
+    let whole : flat_map f (take i nodes) ++ f v ≡ flat_map f (take (i + 1) nodes) = ap (λ x. flat_map f (take i nodes) ++ f x) is
+    ∙ flat_map_more f [] (take i nodes) (get_or nodes i 0) ∙ ap (flat_map f) (sym (take_more nodes i 0 lt)) in
     let size : length (f v) ≡ length (row H.up v) + length (row H.down v) = simp (length-append, length-map) in
-    let both : length (flat_map f (take i nodes) ++ f v) ≡ length (flat_map f (take i nodes)) + length (f v) = length-append (flat_map f (take i nodes)) (f v) in
+    let both : length (flat_map f (take i nodes) ++ f v) ≡ length (flat_map f (take i nodes)) + length (f v) =
+    length-append (flat_map f (take i nodes)) (f v) in
     let e : length (flat_map f (take i nodes) ++ f v) ≡ length (flat_map f (take (i + 1) nodes)) = ap length whole in
     omega arith
 
@@ -111,7 +84,8 @@ text_of_turned f g (y ∷ ys) = ap (λ t. f (g y) ++ t) (text_of_turned f g ys)
 
 -- the problem line, the order and the legs make the text
 pub whole_text : (order : List ℕ) (legs : List SavedLeg) (n m : ℕ) (headed ordered text : List ℕ) → n ≡ length order → m ≡ length legs →
-    headed ≡ codes "p ch " ++ decimal n ++ codes " " ++ decimal m ++ codes "\n" → ordered ≡ headed ++ flat_map order_text order → text ≡ ordered ++ flat_map leg_text legs →
+    headed ≡ codes "p ch " ++ decimal n ++ codes " " ++ decimal m ++ codes "\n" → ordered ≡ headed ++ flat_map order_text order →
+    text ≡ ordered ++ flat_map leg_text legs →
     text ≡ saved_text (record { order = order; legs = legs })
 whole_text order legs n m headed ordered text n_is m_is a b c = rw (c, b, a, n_is, m_is) refl
 

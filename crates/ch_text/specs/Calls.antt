@@ -13,7 +13,8 @@ AreInterrupted {S} gives (suc calls) old new =
 
 -- after some interrupted calls, one call gave this answer. It is no error, or an error that is no interruption, or the answer of
 -- the call after 2^64 - 1 others
-pub record IsMadeUntilDone {S T : Type 0} (gives : S → Result T Error → S → Type 0) (old : S) (result : Result T Error) (new : S) : Type 0 where
+pub record IsMadeUntilDone {S T : Type 0} (gives : S → Result T Error → S → Type 0) (old : S) (result : Result T Error)
+    (new : S) : Type 0 where
   pub calls : ℕ
   pub last : S
   pub before : AreInterrupted gives calls old last
@@ -49,14 +50,16 @@ device_answer (Ok count) = Ok count
 device_answer (Err error) = Err (record {})
 
 -- a read of a device is reads of its source until one is done
-pub record IsDeviceRead {S : Type 0} (gives : S → List ℕ → Result ℕ Error → S → Type 0) (old : S) (buffer : List ℕ) (result : Result ℕ DeviceFault) (new : S) : Type 0 where
+pub record IsDeviceRead {S : Type 0} (gives : S → List ℕ → Result ℕ Error → S → Type 0) (old : S) (buffer : List ℕ)
+    (result : Result ℕ DeviceFault) (new : S) : Type 0 where
   pub before : List ℕ
   pub answer : Result ℕ Error
   pub reads : IsReadOf gives old before answer new buffer
   pub is : result ≡ device_answer answer
 
 -- a write of a device is writes to its sink until one is done. Only a broken pipe closes the device
-pub record IsDeviceWrite {S : Type 0} (gives : S → List ℕ → Result ℕ Error → S → Type 0) (old : S) (closed : Bool) (bytes : List ℕ) (result : Result ℕ DeviceFault) (new : S) (closed' : Bool) : Type 0 where
+pub record IsDeviceWrite {S : Type 0} (gives : S → List ℕ → Result ℕ Error → S → Type 0) (old : S) (closed : Bool) (bytes : List ℕ)
+    (result : Result ℕ DeviceFault) (new : S) (closed' : Bool) : Type 0 where
   pub answer : Result ℕ Error
   pub writes : IsWriteOf gives old bytes answer new
   pub is : result ≡ device_answer answer

@@ -1,7 +1,6 @@
 -- The bytes that devices give and take, and the counts of their faults.
-use Rattle.std.specs.Prelude.{◌≡◌, ℕ, zero, suc, ◌+◌, ◌-◌, ◌^◌, ◌<◌, ◌++◌, ◌==◌, ◌&&◌, ◌⊎◌, if◌then◌else◌, nat_lt, Bool, true, List, [], Option, Some, None, ⊤, Result, Ok, Err, IsErr, length, take, MatchResult}
-use Rattle.ch_text.specs.declared.device.ReadAllFault.{ReadAllFault}
-use Rattle.ch_text.specs.declared.device.ReadAllFault.TheVariants.{Device, Memory}
+use Rattle.std.specs.Prelude.{◌≡◌, ℕ, zero, suc, ◌+◌, ◌-◌, ◌^◌, ◌<◌, ◌++◌, ◌==◌, ◌&&◌, ◌⊎◌, if◌then◌else◌, nat_lt, Bool, true, List}
+use Rattle.std.specs.Prelude.{[], Option, Some, None, ⊤, Result, Ok, Err, IsErr, length, take, MatchResult}
 
 -- a count of 64 bits can be raised by one more
 abbrev pub CanCountOneMore : ℕ → Type 0
@@ -25,12 +24,6 @@ CountsAtMostOne count count' = (count' ≡ count) ⊎ (count' ≡ count + 1)
 abbrev pub CountsAtMostOneOf : (failed failed' idle idle' : ℕ) → Type 0
 CountsAtMostOneOf failed failed' idle idle' =
     (CountsAtMostOne failed failed' × (idle' ≡ idle)) ⊎ ((failed' ≡ failed) × CountsAtMostOne idle idle')
-
--- the number of failed reads, by the answer of reading a whole input
-abbrev pub failed_reads : {T : Type 0} → Result T ReadAllFault → ℕ
-failed_reads (Ok _) = 0
-failed_reads (Err Device) = 1
-failed_reads (Err Memory) = 0
 
 -- known bytes of an input stay known, and nothing is said of unknown ones.
 -- A read takes its bytes from the front of those left. It takes none only at the end, or into a buffer without room.

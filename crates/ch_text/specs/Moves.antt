@@ -28,7 +28,8 @@ pub record GaveAll {S : Type 0} (gives : S → List ℕ → Result ℕ DeviceFau
   pub call : gives last buffer (Ok 0) new
 
 -- reads gave these bytes, and then a read failed
-pub record GaveUntilFault {S : Type 0} (gives : S → List ℕ → Result ℕ DeviceFault → S → Type 0) (old : S) (bytes : List ℕ) (new : S) : Type 0 where
+pub record GaveUntilFault {S : Type 0} (gives : S → List ℕ → Result ℕ DeviceFault → S → Type 0) (old : S) (bytes : List ℕ)
+    (new : S) : Type 0 where
   pub last : S
   pub reads : Gave gives old bytes last
   pub buffer : List ℕ
@@ -41,7 +42,8 @@ GaveSome gives old new Device = (bytes : List ℕ) × GaveUntilFault gives old b
 GaveSome gives old new Memory = (bytes : List ℕ) × Gave gives old bytes new
 
 -- a write was offered some bytes from the front of those that are left
-pub record Offers {S : Type 0} (gives : S → List ℕ → Result ℕ DeviceFault → S → Type 0) (old : S) (left : List ℕ) (answer : Result ℕ DeviceFault) (new : S) : Type 0 where
+pub record Offers {S : Type 0} (gives : S → List ℕ → Result ℕ DeviceFault → S → Type 0) (old : S) (left : List ℕ)
+    (answer : Result ℕ DeviceFault) (new : S) : Type 0 where
   pub offered : List ℕ
   pub behind : List ℕ
   pub front : left ≡ offered ++ behind
@@ -66,7 +68,8 @@ abbrev pub Took : {S : Type 0} → (gives : S → List ℕ → Result ℕ Device
 Took gives old text new = TookBefore gives old text [] new
 
 -- writes took this many bytes of the text and no more: then a write of some bytes failed, or took none of them
-pub record TookUntilFault {S : Type 0} (gives : S → List ℕ → Result ℕ DeviceFault → S → Type 0) (old : S) (text : List ℕ) (count : ℕ) (new : S) : Type 0 where
+pub record TookUntilFault {S : Type 0} (gives : S → List ℕ → Result ℕ DeviceFault → S → Type 0) (old : S) (text : List ℕ)
+    (count : ℕ) (new : S) : Type 0 where
   pub last : S
   pub within : count < length text
   pub writes : TookBefore gives old text (drop count text) last

@@ -9,7 +9,8 @@ near_pair_text targets e = codes " " ++ node_text (slice_index targets e.1) ++ c
 
 -- the text of a near row: the source, the number of targets, and the targets, each with its distance
 abbrev pub near_row_text : List ℕ → ℕ × List (ℕ × ℕ) → List ℕ
-near_row_text targets row = codes "n " ++ node_text row.0 ++ codes " " ++ decimal (length row.1) ++ flat_map (near_pair_text targets) row.1 ++ codes "\n"
+near_row_text targets row = codes "n " ++ node_text row.0 ++ codes " " ++ decimal (length row.1)
+    ++ flat_map (near_pair_text targets) row.1 ++ codes "\n"
 
 -- the nodes of a graph with this many nodes, in order
 abbrev pub nodes_in_order : ℕ → List ℕ

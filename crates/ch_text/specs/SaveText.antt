@@ -17,11 +17,13 @@ order_text v = codes "o " ++ node_text v ++ codes "\n"
 
 -- a leg: from, to, weight, arcs, middle
 abbrev pub leg_text : SavedLeg → List ℕ
-leg_text l = codes "l " ++ node_text l.from ++ codes " " ++ node_text l.to ++ codes " " ++ decimal l.cost.weight ++ codes " " ++ decimal l.cost.arcs ++ codes " " ++ middle_text l.middle ++ codes "\n"
+leg_text l = codes "l " ++ node_text l.from ++ codes " " ++ node_text l.to ++ codes " " ++ decimal l.cost.weight ++ codes " "
+    ++ decimal l.cost.arcs ++ codes " " ++ middle_text l.middle ++ codes "\n"
 
 -- the numbers of nodes and of legs, then the order, and then the legs
 abbrev pub saved_text : OrderAndLegs → List ℕ
-saved_text s = codes "p ch " ++ decimal (length s.order) ++ codes " " ++ decimal (length s.legs) ++ codes "\n" ++ flat_map order_text s.order ++ flat_map leg_text s.legs
+saved_text s = codes "p ch " ++ decimal (length s.order) ++ codes " " ++ decimal (length s.legs) ++ codes "\n"
+    ++ flat_map order_text s.order ++ flat_map leg_text s.legs
 
 -- the text of a hierarchy: its nodes and their legs, in order of level
 abbrev pub IsHierarchyText : LevelsAndLegs → List ℕ → Type 0

@@ -18,7 +18,8 @@ keeps_trans (Some xs) (Some ys) None first second = absurd second
 keeps_trans (Some xs) (Some ys) (Some zs) first second = second ∙ first
 
 -- interrupted calls keep the known bytes
-pub interrupted_keeps : {S T : Type 0} (gives : S → Result T Error → S → Type 0) (known : S → Option (List ℕ)) → ((old : S) (error : Error) (new : S) → gives old (Err error) new → Keeps (known old) (known new))
+pub interrupted_keeps : {S T : Type 0} (gives : S → Result T Error → S → Type 0) (known : S → Option (List ℕ)) →
+    ((old : S) (error : Error) (new : S) → gives old (Err error) new → Keeps (known old) (known new))
     → (calls : ℕ) (old new : S) → AreInterrupted gives calls old new → Keeps (known old) (known new)
 interrupted_keeps gives known law zero old new same = rw same (keeps_refl (known old))
 interrupted_keeps gives known law (suc calls) old new (mid, before, error, call, kind) =
@@ -46,18 +47,25 @@ writing (Some xs) (Some ys) (Some zs) bytes (Err error) kept write = write ∙ k
 
 -- a read of a device takes its bytes from the front of those that its source has left
 pub reader_tells : {S : Type 0} (gives : S → List ℕ → Result ℕ Error → S → Type 0) (known : S → Option (List ℕ))
-    → ((old : S) (buffer : List ℕ) (answer : Result ℕ Error) (new : S) → gives old buffer answer new → ReadConsumes (known old) (known new) answer buffer)
-    → (old : S) (buffer : List ℕ) (result : Result ℕ DeviceFault) (new : S) → IsDeviceRead gives old buffer result new → GivesBytes (known old) (known new) result buffer
+    → ((old : S) (buffer : List ℕ) (answer : Result ℕ Error) (new : S) → gives old buffer answer new →
+    ReadConsumes (known old) (known new) answer buffer)
+    → (old : S) (buffer : List ℕ) (result : Result ℕ DeviceFault) (new : S) → IsDeviceRead gives old buffer result new →
+    GivesBytes (known old) (known new) result buffer
 reader_tells {S} gives known law old buffer result new made =
     let done = made.reads in
-    let kept = interrupted_keeps (IsOneRead gives) (λ (s : S × List ℕ). known s.0) (λ before error after call. law before.0 after.1 (Err error) after.0 call) done.calls (old, made.before) done.last done.before in
-    rw made.is (reading (known old) (known done.last.0) (known new) buffer made.answer kept (law done.last.0 buffer made.answer new done.answer))
+    let kept = interrupted_keeps (IsOneRead gives) (λ (s : S × List ℕ). known s.0) (λ before error after call.
+    law before.0 after.1 (Err error) after.0 call) done.calls (old, made.before) done.last done.before in
+    rw made.is (reading (known old) (known done.last.0) (known new) buffer made.answer kept
+    (law done.last.0 buffer made.answer new done.answer))
 
 -- a write of a device puts its bytes behind those that its sink holds
 pub writer_tells : {S : Type 0} (gives : S → List ℕ → Result ℕ Error → S → Type 0) (known : S → Option (List ℕ))
-    → ((old : S) (bytes : List ℕ) (answer : Result ℕ Error) (new : S) → gives old bytes answer new → WriteAppends (known old) (known new) answer bytes)
-    → (old : S) (closed : Bool) (bytes : List ℕ) (result : Result ℕ DeviceFault) (new : S) (closed' : Bool) → IsDeviceWrite gives old closed bytes result new closed' → TakesBytes (known old) (known new) result bytes
+    → ((old : S) (bytes : List ℕ) (answer : Result ℕ Error) (new : S) → gives old bytes answer new →
+    WriteAppends (known old) (known new) answer bytes)
+    → (old : S) (closed : Bool) (bytes : List ℕ) (result : Result ℕ DeviceFault) (new : S) (closed' : Bool) →
+    IsDeviceWrite gives old closed bytes result new closed' → TakesBytes (known old) (known new) result bytes
 writer_tells gives known law old closed bytes result new closed' made =
     let done = made.writes in
-    let kept = interrupted_keeps (IsOneWrite gives bytes) known (λ before error after call. law before bytes (Err error) after call) done.calls old done.last done.before in
+    let kept = interrupted_keeps (IsOneWrite gives bytes) known (λ before error after call. law before bytes (Err error) after call)
+    done.calls old done.last done.before in
     rw made.is (writing (known old) (known done.last) (known new) bytes made.answer kept (law done.last bytes made.answer new done.answer))

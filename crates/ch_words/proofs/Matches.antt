@@ -1,11 +1,13 @@
 -- From clap's statements on its matches to the values that the words give.
-use Rattle.std.proofs.Common.{◌≡◌, ◌⊎◌, ℕ, List, [], Option, Some, None, Result, Ok, refl, ap, ap₂, sym, ◌∙◌, subst, inl, inr, codes, true, false, Bool, map, length, slice_index_or, ◌∷◌, if◌then◌else◌, unwrap_or, Bor, arith}
+use Rattle.std.proofs.Common.{◌≡◌, ◌⊎◌, ℕ, List, [], Option, Some, None, Result, Ok, refl, ap, ap₂, sym, ◌∙◌, subst, inl, inr}
+use Rattle.std.proofs.Common.{codes, true, false, Bool, map, length, slice_index_or, ◌∷◌, if◌then◌else◌, unwrap_or, Bor, arith}
 use Rattle.std.specs.Box.{box_value}
 use Rattle.std.specs.Prelude.{Box, option_map}
 use Rattle.std.specs.Str.Parse.{ParsesUnsigned}
 use Rattle.clap.specs.Matches.{subcommand_name_of}
 use Rattle.clap.specs.Simple.{app_of_fields, on_top}
-use Rattle.clap.specs.Words.{App, HasMatchesOf, IsAmong, Kinds, ReadsOne, Row, Text, TriesOne, app_of, fault_of, is_simple_and_free, new_app, one_text, rows_of, subcommand_rows, subcommand_rows_of, raw_values, matched_of}
+use Rattle.clap.specs.Words.{App, HasMatchesOf, IsAmong, Kinds, ReadsOne, Row, Text, TriesOne, app_of, fault_of, is_simple_and_free}
+use Rattle.clap.specs.Words.{new_app, one_text, rows_of, subcommand_rows, subcommand_rows_of, raw_values, matched_of}
 use Rattle.clap.specs.declared.builder.command.Command.{Command}
 use Rattle.clap.specs.declared.builder.command.Command.TheViews.{out-Command}
 use Rattle.clap.specs.declared.error.kind.ErrorKind.{ErrorKind}
@@ -16,7 +18,9 @@ use Rattle.clap.specs.declared.parser.matches.Found.{Found}
 use Rattle.clap.specs.declared.parser.matches.SubCommand.{SubCommand}
 use Rattle.std.proofs.lemmas.List.{length-map}
 use Rattle.clap.proofs.WalkLemmas.{one_text-rows, raw_values-rows}
-use Rattle.ch_words.specs.Line.{AreRefusedLists, AreRefusedOrders, HasOtherLists, HasTwoOrders, IsFaultOf, IsFlag, IsFlagIn, IsGivenBy, IsMixed, IsReadFrom, IsRefusedMix, IsToldOf, chtab_form, faults_of, given_by, name_of, number_in, number_of, lists_in, program_form}
+use Rattle.ch_words.specs.Line.{AreRefusedLists, AreRefusedOrders, HasOtherLists, HasTwoOrders, IsFaultOf, IsFlag, IsFlagIn}
+use Rattle.ch_words.specs.Line.{IsGivenBy, IsMixed, IsReadFrom, IsRefusedMix, IsToldOf, chtab_form, faults_of, given_by, name_of}
+use Rattle.ch_words.specs.Line.{number_in, number_of, lists_in, program_form}
 use Rattle.ch_words.specs.declared.line.Line.{Line}
 use Rattle.ch_words.specs.declared.fault.LineFault.{LineFault}
 
@@ -29,9 +33,12 @@ pub program_set : (named unnamed requiring helpless versioned : Command) (text :
 program_set named unnamed requiring helpless versioned text is first second third fourth =
     let with_first : app_of unnamed ≡ on_top (λ s. record s { no_binary_name = true }) (new_app (codes "chtab")) =
     ap app_of_fields first ∙ ap (on_top (λ s. record s { no_binary_name = true })) is in
-    let with_second : app_of requiring ≡ on_top (λ s. record s { no_binary_name = true; subcommand_required = true }) (new_app (codes "chtab")) =
+    let with_second : app_of requiring ≡ on_top (λ s. record s { no_binary_name = true; subcommand_required = true })
+    (new_app (codes "chtab")) =
     ap app_of_fields second ∙ ap (on_top (λ s. record s { subcommand_required = true })) with_first in
-    let with_third : app_of helpless ≡ on_top (λ s. record s { no_binary_name = true; subcommand_required = true; disable_help_subcommand = true }) (new_app (codes "chtab")) =
+    let with_third : app_of helpless
+    ≡ on_top (λ s. record s { no_binary_name = true; subcommand_required = true; disable_help_subcommand = true })
+    (new_app (codes "chtab")) =
     ap app_of_fields third ∙ ap (on_top (λ s. record s { disable_help_subcommand = true })) with_second in
     ap app_of_fields fourth ∙ ap (on_top (λ s. record s { has_version = true })) with_third
 
@@ -69,7 +76,8 @@ is_number {E} gives found name read number parses none value is =
         ap (λ n. Some n) parsed.1
 
 -- the limit that is read under a name is the number that the given text writes, or none if no text is given
-pub is_limit : {E : Type 0} (gives : List ℕ → Result ℕ E → Type 0) (found : Found) (name : Text) (read : Result (Option ℕ) E) (limit : Option ℕ)
+pub is_limit : {E : Type 0} (gives : List ℕ → Result ℕ E → Type 0) (found : Found) (name : Text) (read : Result (Option ℕ) E)
+    (limit : Option ℕ)
     → ((text : List ℕ) (r : Result ℕ E) → gives text r → ParsesUnsigned 64 10 text r) → (one_text found name ≡ None → read ≡ Ok None)
     → ((text : List ℕ) → one_text found name ≡ Some text → TriesOne gives text read) → read ≡ Ok limit
     → limit ≡ number_in (rows_of found) name
@@ -115,7 +123,8 @@ name_of_entry matches = go (out-ArgMatches matches).subcommand
 
 -- the matches of a command of this form, with the name beside them, are those that the words give
 pub given-by : (form : App) (words : List Text) (matches : ArgMatches) (name : Text) (given : List Row) → form ≡ chtab_form
-    → HasMatchesOf form words matches → Some name ≡ subcommand_name_of matches → Some given ≡ option_map (λ p. p.1) (subcommand_rows_of matches)
+    → HasMatchesOf form words matches → Some name ≡ subcommand_name_of matches →
+    Some given ≡ option_map (λ p. p.1) (subcommand_rows_of matches)
     → given_by words ≡ Some (name, given)
 given-by form words matches name given is matched is_name is_given =
     let P : App → Type 0 = λ f. HasMatchesOf f words matches in
@@ -133,15 +142,18 @@ fault-told words kind (LineFault.Refused text) told (inr among) = inl (kind, tol
 fault-told words kind LineFault.NoMemory told among = tt
 
 -- the lists that are read are those that `near` is given
-pub lists-read : (found : Found) (lists : List (Bor Text)) → Some (map (λ (v : Bor Text). v.now) lists) ≡ option_map raw_values (matched_of found (codes "LISTS"))
+pub lists-read : (found : Found) (lists : List (Bor Text)) →
+    Some (map (λ (v : Bor Text). v.now) lists) ≡ option_map raw_values (matched_of found (codes "LISTS"))
     → lists_in (rows_of found) ≡ map (λ (v : Bor Text). v.now) lists
 lists-read found lists named = sym (ap (λ given. unwrap_or given []) (named ∙ raw_values-rows found (codes "LISTS")))
 
 -- if the lists that are read have a wrong number, `near` is given a wrong number of lists
-pub other-lists : (found : Found) (lists : List (Bor Text)) (all : Bool) → Some (map (λ (v : Bor Text). v.now) lists) ≡ option_map raw_values (matched_of found (codes "LISTS"))
+pub other-lists : (found : Found) (lists : List (Bor Text)) (all : Bool) →
+    Some (map (λ (v : Bor Text). v.now) lists) ≡ option_map raw_values (matched_of found (codes "LISTS"))
     → IsFlagIn (rows_of found) (codes "all") all → (length lists ≡ (if all then 1 else 2) → ⊥) → HasOtherLists (rows_of found)
 other-lists found lists all named flag other =
-    let count : length (lists_in (rows_of found)) ≡ length lists = ap length (lists-read found lists named) ∙ length-map lists (λ (v : Bor Text). v.now) in
+    let count : length (lists_in (rows_of found)) ≡ length lists =
+    ap length (lists-read found lists named) ∙ length-map lists (λ (v : Bor Text). v.now) in
     (all, flag, λ same. other (sym count ∙ same))
 
 -- a list of one, and then a list of two, by its elements
@@ -166,24 +178,10 @@ refused-lists given (LineFault.Help text) (inr version) other = cc
 refused-lists given (LineFault.Refused text) told other = (refl, other)
 refused-lists given LineFault.NoMemory told other = tt
 
--- the fault that is reported for a conflict of arguments refuses both orders
-pub refused-orders : (given : List Row) (fault : LineFault) → IsToldOf ArgumentConflict fault → HasTwoOrders given →
-    AreRefusedOrders given fault
-refused-orders given (LineFault.Help text) (inl help) both = cc
-refused-orders given (LineFault.Help text) (inr version) both = cc
-refused-orders given (LineFault.Refused text) told both = both
-refused-orders given LineFault.NoMemory told both = tt
-
--- the fault that is reported for a conflict of arguments refuses options that don't go together
-pub refused-mix : (given : List Row) (fault : LineFault) → IsToldOf ArgumentConflict fault → IsMixed given → IsRefusedMix given fault
-refused-mix given (LineFault.Help text) (inl help) mixed = cc
-refused-mix given (LineFault.Help text) (inr version) mixed = cc
-refused-mix given (LineFault.Refused text) told mixed = mixed
-refused-mix given LineFault.NoMemory told mixed = tt
-
 -- if clap finds nothing wrong with the words, but the lists, the orders or other options are refused, that is the fault of the words
 pub refused-fault : (words : List Text) (name : Text) (given : List Row) (fault : LineFault) → faults_of words ≡ []
-    → given_by words ≡ Some (name, given) → AreRefusedLists name given fault ⊎ AreRefusedOrders given fault ⊎ IsRefusedMix given fault → IsFaultOf words fault
+    → given_by words ≡ Some (name, given) → AreRefusedLists name given fault ⊎ AreRefusedOrders given fault
+    ⊎ IsRefusedMix given fault → IsFaultOf words fault
 refused-fault words name given (LineFault.Help text) right matched (inl lists) = absurd lists
 refused-fault words name given (LineFault.Help text) right matched (inr (inl orders)) = absurd orders
 refused-fault words name given (LineFault.Help text) right matched (inr (inr mixed)) = absurd mixed
@@ -194,7 +192,7 @@ refused-fault words name given LineFault.NoMemory right matched refused = tt
 
 -- a line with the tool and the values that the words give is read from the words
 pub read-from : (line : Line) (words : List Text) (name : Text) (given : List Row) → faults_of words ≡ []
-    → given_by words ≡ Some (name, given) → name ≡ name_of line.tool → IsGivenBy given line → IsReadFrom words line
+    → given_by words ≡ Some (name, given) → name ≡ name_of line.job.question → IsGivenBy given line → IsReadFrom words line
 read-from line words name given right matched is_named read =
     let named = subst (λ (n : Text). given_by words ≡ Some (n, given)) is_named matched in
     record { right = right; given = given; matched = named; read = read }

@@ -8,7 +8,8 @@ use Rattle.ch_words.specs.declared.options.Row.{Row}
 
 -- the form with the rules of one more row
 pub with-one-more : (form : App) (rows : List Row) (i : ℕ) (d : Row) → i < length rows
-    → fold with_rule form (rules_of (take (i + 1) rows)) ≡ with_rule (fold with_rule form (rules_of (take i rows))) (row_rule (get_or rows i d))
+    → fold with_rule form (rules_of (take (i + 1) rows))
+    ≡ with_rule (fold with_rule form (rules_of (take i rows))) (row_rule (get_or rows i d))
 with-one-more form rows i d within =
     ap (λ some. fold with_rule form (rules_of some)) (take_more rows i d within)
     ∙ ap (fold with_rule form) (map-append row_rule (take i rows) (get_or rows i d ∷ []))

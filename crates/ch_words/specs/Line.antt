@@ -1,8 +1,10 @@
 -- The words of the command line, and the line that they give.
-use Rattle.std.specs.Prelude.{◌≡◌, ◌≢◌, ◌≤◌, ◌⊎◌, ℕ, pos, [], ◌∷◌, ◌++◌, Bool, IfSome, List, Option, Some, None, true, false, codes, fold, if◌then◌else◌, is_some, length, option_map, unwrap_or, ⊤}
+use Rattle.std.specs.Prelude.{◌≡◌, ◌≢◌, ◌⊎◌, ℕ, pos, [], ◌∷◌, ◌++◌, Bool, List, Option, Some, None, true, false, codes}
+use Rattle.std.specs.Prelude.{String, fold, if◌then◌else◌, is_some, length, option_map, unwrap_or, ⊤}
 use Rattle.std.specs.Str.Parse.{digits_value, without_leading_plus}
 use Rattle.std.specs.String.{string_bytes}
-use Rattle.clap.specs.Words.{App, IsAmong, Kinds, Row, Rule, Text, all_of, app_of, fault_of, first_of, new_app, new_rule, one_of, subcommand_of, with_rule, with_subcommand}
+use Rattle.clap.specs.Words.{App, IsAmong, Kinds, Row, Rule, Text, all_of, app_of, fault_of, first_of, new_app, new_rule, one_of}
+use Rattle.clap.specs.Words.{subcommand_of, with_rule, with_subcommand}
 use Rattle.clap.specs.Simple.{on_top}
 use Rattle.clap.specs.declared.builder.ArgAction.TheVariants.{Append, Set, SetTrue}
 use Rattle.clap.specs.declared.builder.command.Command.{Command}
@@ -12,35 +14,29 @@ use Rattle.clap.specs.declared.error.kind.ErrorKind.{ErrorKind}
 use Rattle.clap.specs.declared.error.kind.ErrorKind.TheVariants.{DisplayHelp, DisplayVersion, OutOfMemory}
 use Rattle.ch_graph.specs.declared.limits.TheConstants.{MOST_HOPS, MOST_LISTED, MOST_WEIGHT}
 use Rattle.ch_work.specs.declared.limits.TheConstants.{MOST_WORKERS, MOST_PIECE}
-use Rattle.ch_work.specs.Plan.{Division, IsWithinLimits}
+use Rattle.ch_work.specs.Plan.{Division}
 use Rattle.ch_words.specs.declared.fault.LineFault.{LineFault}
-use Rattle.ch_words.specs.declared.options.Choices.{Choices}
+use Rattle.std.specs.declared.alloc.Global.{Global}
+use Rattle.ch_contract.specs.declared.measure.OrderBy.{OrderBy}
+use Rattle.ch_near.specs.declared.direction.Direction.{Direction}
+use Rattle.ch_job.specs.Job.{IsAllowed as IsJobAllowed}
+use Rattle.ch_job.specs.declared.job.Question.{Question}
+use Rattle.ch_job.specs.declared.options.Options.{Options}
+use Rattle.ch_job.specs.declared.source.Source.{Source}
+use Rattle.ch_job.specs.declared.sources.Sources.{Sources}
 use Rattle.ch_words.specs.declared.line.Line.{Line}
-use Rattle.ch_words.specs.declared.options.Order.{Order}
-use Rattle.ch_words.specs.declared.line.Tool.{Tool}
-use Rattle.ch_words.specs.declared.line.Tool.TheVariants.{Ask, Dist, Near, NearAll, Save, Table}
-
--- a near row may have this number as the most targets
-abbrev pub IsCount : ℕ → Type 0
-IsCount most = (1 ≤ most) × (most ≤ MOST_LISTED)
 
 -- the numbers of a line are within the program's limits
-pub record IsAllowed (line : Line) : Type 0 where
-  pub some_hops : 1 ≤ line.choices.hops
-  pub few_hops : line.choices.hops ≤ MOST_HOPS
-  pub limit : IfSome line.choices.within (λ most. most ≤ MOST_WEIGHT)
-  pub count : IfSome line.choices.count IsCount
-  pub fresh : line.choices.fresh ≤ 100
-  pub plan : IsWithinLimits line.plan
+abbrev pub IsAllowed : Line → Type 0
+IsAllowed line = IsJobAllowed line.job
 
--- the word that names a tool
-abbrev pub name_of : Tool → Text
-name_of (Dist graph queries) = codes "dist"
-name_of (Table graph sources targets) = codes "table"
-name_of (Near graph sources targets) = codes "near"
-name_of (NearAll graph targets) = codes "near"
-name_of (Save graph) = codes "save"
-name_of (Ask graph) = codes "ask"
+-- the word that names the tool for a question
+abbrev pub name_of : {F : Type 0} → Question F → Text
+name_of (Question.Queries queries) = codes "dist"
+name_of (Question.Table sources targets) = codes "table"
+name_of (Question.Near sources targets) = codes "near"
+name_of Question.Hierarchy = codes "save"
+name_of Question.Requests = codes "ask"
 
 -- a flag
 abbrev pub flag_rule : Text → Rule
@@ -64,7 +60,8 @@ file_rule name = record (new_rule name) { required = true; action = Some Set }
 
 -- the lists of `near`: one or two
 abbrev pub lists_rule : Rule
-lists_rule = record (new_rule (codes "LISTS")) { required = true; action = Some Append; range = Some (record { start_inclusive = 1; end_inclusive = 2 }) }
+lists_rule = record (new_rule (codes "LISTS"))
+    { required = true; action = Some Append; range = Some (record { start_inclusive = 1; end_inclusive = 2 }) }
 
 -- `[--routes]`
 abbrev pub routes_rule : Rule
@@ -100,10 +97,11 @@ progress_rule = flag_rule (codes "progress")
 
 -- `[--workers N] [--piece K] [--hops H]`
 abbrev pub number_rules : List Rule
-number_rules = number_rule (codes "workers") MOST_WORKERS (codes "1") ∷ number_rule (codes "piece") MOST_PIECE (codes "64") ∷ number_rule (codes "hops") MOST_HOPS (codes "5") ∷ []
+number_rules = number_rule (codes "workers") MOST_WORKERS (codes "1") ∷ number_rule (codes "piece") MOST_PIECE (codes "64")
+    ∷ number_rule (codes "hops") MOST_HOPS (codes "5") ∷ []
 
--- `[--like FILE [--fresh P]] [--workers N] [--piece K] [--hops H] [--progress]`, which each tool reads. Clap's form accepts `--like` beside `--saved`, `--deep` and
--- `--rounds`, and the line refuses them
+-- `[--like FILE [--fresh P]] [--workers N] [--piece K] [--hops H] [--progress]`, which each tool reads. Clap's form accepts `--like`
+-- beside `--saved`, `--deep` and `--rounds`, and the line refuses them
 abbrev pub shared_rules : List Rule
 shared_rules = like_rules ++ number_rules ++ progress_rule ∷ []
 
@@ -129,7 +127,8 @@ table_rules = within_rule ∷ saved_rule ∷ []
 
 -- `table [--within R] [--saved FILE] .. GRAPH SOURCES TARGETS`
 abbrev pub table_form : App
-table_form = tool_form (codes "table") table_rules (file_rule (codes "GRAPH") ∷ file_rule (codes "SOURCES") ∷ file_rule (codes "TARGETS") ∷ [])
+table_form = tool_form (codes "table") table_rules
+    (file_rule (codes "GRAPH") ∷ file_rule (codes "SOURCES") ∷ file_rule (codes "TARGETS") ∷ [])
 
 -- `[--count K] [--within R] [--from] [--all] [--saved FILE]`
 abbrev pub near_rules : List Rule
@@ -157,7 +156,13 @@ ask_form = tool_form (codes "ask") ask_rules (file_rule (codes "GRAPH") ∷ [])
 
 -- the program's own words, before its tools are added
 abbrev pub program_form : App
-program_form = on_top (λ s. record s { no_binary_name = true; subcommand_required = true; disable_help_subcommand = true; has_version = true }) (new_app (codes "chtab"))
+program_form = on_top (λ s. record s {
+  no_binary_name = true;
+  subcommand_required = true;
+  disable_help_subcommand =
+      true;
+  has_version = true;
+}) (new_app (codes "chtab"))
 
 -- the words after the program's name: a tool, and its words
 abbrev pub chtab_form : App
@@ -196,15 +201,17 @@ IsFileIn given name file = Some file ≡ first_of name given
 abbrev pub lists_in : List Row → List Text
 lists_in given = unwrap_or (all_of (codes "LISTS") given) []
 
--- the files of a tool are those given for their names. `near` takes a list of sources and one of targets, and with `--all` only
+-- the files of a question are those given for their names. `near` takes a list of sources and one of targets, and with `--all` only
 -- one of targets
-abbrev pub AreFilesIn : List Row → Tool → Type 0
-AreFilesIn given (Dist graph queries) = IsFileIn given (codes "GRAPH") (string_bytes graph) × IsFileIn given (codes "QUERIES") (string_bytes queries)
-AreFilesIn given (Table graph sources targets) = IsFileIn given (codes "GRAPH") (string_bytes graph) × IsFileIn given (codes "SOURCES") (string_bytes sources) × IsFileIn given (codes "TARGETS") (string_bytes targets)
-AreFilesIn given (Near graph sources targets) = IsFileIn given (codes "GRAPH") (string_bytes graph) × IsFlagIn given (codes "all") false × (lists_in given ≡ string_bytes sources ∷ string_bytes targets ∷ [])
-AreFilesIn given (NearAll graph targets) = IsFileIn given (codes "GRAPH") (string_bytes graph) × IsFlagIn given (codes "all") true × (lists_in given ≡ string_bytes targets ∷ [])
-AreFilesIn given (Save graph) = IsFileIn given (codes "GRAPH") (string_bytes graph)
-AreFilesIn given (Ask graph) = IsFileIn given (codes "GRAPH") (string_bytes graph)
+abbrev pub AreFilesIn : List Row → Question (String Global) → Type 0
+AreFilesIn given (Question.Queries queries) = IsFileIn given (codes "QUERIES") (string_bytes queries)
+AreFilesIn given (Question.Table sources targets) = IsFileIn given (codes "SOURCES") (string_bytes sources)
+    × IsFileIn given (codes "TARGETS") (string_bytes targets)
+AreFilesIn given (Question.Near (Sources.Listed sources) targets) = IsFlagIn given (codes "all") false
+    × (lists_in given ≡ string_bytes sources ∷ string_bytes targets ∷ [])
+AreFilesIn given (Question.Near Sources.All targets) = IsFlagIn given (codes "all") true × (lists_in given ≡ string_bytes targets ∷ [])
+AreFilesIn given Question.Hierarchy = ⊤
+AreFilesIn given Question.Requests = ⊤
 
 -- the file of a saved hierarchy, if one is given. Plain distances take none
 abbrev pub saved_in : List Row → Bool → Option Text
@@ -218,6 +225,14 @@ like_in given plain = if plain then None else first_of (codes "like") given
 abbrev pub fresh_in : List Row → ℕ
 fresh_in given = unwrap_or (number_in given (codes "fresh")) 5
 
+-- the file for the hierarchy is the given one: a saved hierarchy, or an order with the given per cent and the bound on hops of these
+-- options, or none
+abbrev pub IsSourceIn : List Row → Options → Source (String Global) → Type 0
+IsSourceIn given options Source.Built = (saved_in given options.plain ≡ None) × (like_in given options.plain ≡ None)
+IsSourceIn given options (Source.Saved saved) = Some (string_bytes saved) ≡ saved_in given options.plain
+IsSourceIn given options (Source.Like order fresh hops) = (saved_in given options.plain ≡ None)
+    × (Some (string_bytes order) ≡ like_in given options.plain) × (fresh ≡ fresh_in given) × (hops ≡ options.hops)
+
 -- whether a value is given for this name
 abbrev pub is_given : List Row → Text → Bool
 is_given given name = is_some (first_of name given)
@@ -226,23 +241,33 @@ is_given given name = is_some (first_of name given)
 abbrev pub IsUnmixed : List Row → Type 0
 IsUnmixed given =
     ((is_given given (codes "like") ≡ false) × (is_given given (codes "fresh") ≡ false))
-    ⊎ ((is_given given (codes "like") ≡ true) × (is_given given (codes "saved") ≡ false) × IsFlagIn given (codes "deep") false × IsFlagIn given (codes "rounds") false)
+    ⊎ ((is_given given (codes "like") ≡ true) × (is_given given (codes "saved") ≡ false) × IsFlagIn given (codes "deep") false
+    × IsFlagIn given (codes "rounds") false)
 
 -- the order that the words choose: by the difference without a word, and otherwise the one that the only given word names
-abbrev pub IsOrderIn : List Row → Order → Type 0
-IsOrderIn given Order.Difference = IsFlagIn given (codes "deep") false × IsFlagIn given (codes "rounds") false
-IsOrderIn given Order.Depth = IsFlagIn given (codes "deep") true × IsFlagIn given (codes "rounds") false
-IsOrderIn given Order.Rounds = IsFlagIn given (codes "deep") false × IsFlagIn given (codes "rounds") true
+abbrev pub IsOrderIn : List Row → OrderBy → Type 0
+IsOrderIn given OrderBy.Difference = IsFlagIn given (codes "deep") false × IsFlagIn given (codes "rounds") false
+IsOrderIn given OrderBy.Depth = IsFlagIn given (codes "deep") true × IsFlagIn given (codes "rounds") false
+IsOrderIn given OrderBy.Rounds = IsFlagIn given (codes "deep") false × IsFlagIn given (codes "rounds") true
 
--- the flags and the order of the tool are as given. The other flags are off, and a tool without the words of orders has no order but
--- the difference
-abbrev pub AreFlagsIn : List Row → Tool → Choices → Type 0
-AreFlagsIn given (Dist graph queries) choices = IsFlagIn given (codes "plain") choices.plain × IsFlagIn given (codes "routes") choices.routes × IsOrderIn given choices.order × (choices.from ≡ false)
-AreFlagsIn given (Table graph sources targets) choices = (choices.plain ≡ false) × (choices.routes ≡ false) × (choices.order ≡ Order.Difference) × (choices.from ≡ false)
-AreFlagsIn given (Near graph sources targets) choices = (choices.plain ≡ false) × (choices.routes ≡ false) × (choices.order ≡ Order.Difference) × IsFlagIn given (codes "from") choices.from
-AreFlagsIn given (NearAll graph targets) choices = (choices.plain ≡ false) × (choices.routes ≡ false) × (choices.order ≡ Order.Difference) × IsFlagIn given (codes "from") choices.from
-AreFlagsIn given (Save graph) choices = (choices.plain ≡ false) × (choices.routes ≡ false) × IsOrderIn given choices.order × (choices.from ≡ false)
-AreFlagsIn given (Ask graph) choices = (choices.plain ≡ false) × IsFlagIn given (codes "routes") choices.routes × IsOrderIn given choices.order × (choices.from ≡ false)
+-- the direction that the words choose: `--from` chooses the distances from the targets
+abbrev pub IsDirectionIn : List Row → Direction → Type 0
+IsDirectionIn given Direction.To = IsFlagIn given (codes "from") false
+IsDirectionIn given Direction.From = IsFlagIn given (codes "from") true
+
+-- the flags, the order and the direction of the tool are as given. The other flags are off, a tool without the words of orders has no
+-- order but the difference, and only near rows have another direction than that to the targets
+abbrev pub AreFlagsIn : {F : Type 0} → List Row → Question F → Options → Type 0
+AreFlagsIn given (Question.Queries queries) options = IsFlagIn given (codes "plain") options.plain
+    × IsFlagIn given (codes "routes") options.routes × IsOrderIn given options.order × (options.direction ≡ Direction.To)
+AreFlagsIn given (Question.Table sources targets) options = (options.plain ≡ false) × (options.routes ≡ false)
+    × (options.order ≡ OrderBy.Difference) × (options.direction ≡ Direction.To)
+AreFlagsIn given (Question.Near sources targets) options = (options.plain ≡ false) × (options.routes ≡ false)
+    × (options.order ≡ OrderBy.Difference) × IsDirectionIn given options.direction
+AreFlagsIn given Question.Hierarchy options = (options.plain ≡ false) × (options.routes ≡ false) × IsOrderIn given options.order
+    × (options.direction ≡ Direction.To)
+AreFlagsIn given Question.Requests options = (options.plain ≡ false) × IsFlagIn given (codes "routes") options.routes
+    × IsOrderIn given options.order × (options.direction ≡ Direction.To)
 
 -- the workers and the size of pieces are as given. While a hierarchy is built, workers share a job only if it has at least 64 nodes
 pub record IsPlanIn (given : List Row) (plan : Division) : Type 0 where
@@ -252,23 +277,23 @@ pub record IsPlanIn (given : List Row) (plan : Division) : Type 0 where
 
 -- the line holds the values that its tool's arguments are given
 pub record IsGivenBy (given : List Row) (line : Line) : Type 0 where
-  pub flags : AreFlagsIn given line.tool line.choices
-  pub hops : Some line.choices.hops ≡ number_in given (codes "hops")
-  pub limit : line.choices.within ≡ number_in given (codes "within")
-  pub count : line.choices.count ≡ number_in given (codes "count")
-  pub fresh : line.choices.fresh ≡ fresh_in given
-  pub plan : IsPlanIn given line.plan
+  pub graph : IsFileIn given (codes "GRAPH") (string_bytes line.job.graph)
+  pub files : AreFilesIn given line.job.question
+  pub source : IsSourceIn given line.job.options line.job.source
+  pub flags : AreFlagsIn given line.job.question line.job.options
+  pub hops : Some line.job.options.hops ≡ number_in given (codes "hops")
+  pub limit : line.job.options.within ≡ number_in given (codes "within")
+  pub count : line.job.options.count ≡ number_in given (codes "count")
+  pub plan : IsPlanIn given line.job.plan
   pub progress : IsFlagIn given (codes "progress") line.progress
-  pub saved : option_map string_bytes line.saved ≡ saved_in given line.choices.plain
-  pub like : option_map string_bytes line.like ≡ like_in given line.choices.plain
   pub unmixed : IsUnmixed given
-  pub named : AreFilesIn given line.tool
 
--- clap finds nothing wrong with the words. They name the line's tool, and give it the values that the line holds
+-- clap finds nothing wrong with the words. They name the tool for the question of the line, and give it the values that
+-- the line holds
 pub record IsReadFrom (words : List Text) (line : Line) : Type 0 where
   pub right : faults_of words ≡ []
   pub given : List Row
-  pub matched : given_by words ≡ Some (name_of line.tool, given)
+  pub matched : given_by words ≡ Some (name_of line.job.question, given)
   pub read : IsGivenBy given line
 
 -- an error of this kind is no fault: the words ask for help or for the version
@@ -325,7 +350,8 @@ AreRefusedOrders given LineFault.NoMemory = ⊤
 -- `--like` is given beside `--saved`, `--deep` or `--rounds`, or `--fresh` is given without `--like`
 abbrev pub IsMixed : List Row → Type 0
 IsMixed given =
-    ((is_given given (codes "like") ≡ true) × ((is_given given (codes "saved") ≡ true) ⊎ IsFlagIn given (codes "deep") true ⊎ IsFlagIn given (codes "rounds") true))
+    ((is_given given (codes "like") ≡ true) × ((is_given given (codes "saved") ≡ true) ⊎ IsFlagIn given (codes "deep") true
+    ⊎ IsFlagIn given (codes "rounds") true))
     ⊎ ((is_given given (codes "fresh") ≡ true) × (is_given given (codes "like") ≡ false))
 
 -- the words name a tool, with options that don't go together
@@ -343,7 +369,9 @@ IsRefusedMix given LineFault.NoMemory = ⊤
 -- none and the lists of `near` are wrong, both orders are given, or an order is mixed with other options
 abbrev pub IsFaultOf : List Text → LineFault → Type 0
 IsFaultOf words (LineFault.Help _) = (kind : ErrorKind) × AsksForText kind × IsAmong kind (faults_of words)
-IsFaultOf words (LineFault.Refused _) = ((kind : ErrorKind) × (kind ≢ DisplayHelp) × (kind ≢ DisplayVersion) × IsAmong kind (faults_of words)) ⊎ ((faults_of words ≡ []) × (NamesOtherLists (given_by words) ⊎ NamesTwoOrders (given_by words) ⊎ NamesMixed (given_by words)))
+IsFaultOf words (LineFault.Refused _) =
+    ((kind : ErrorKind) × (kind ≢ DisplayHelp) × (kind ≢ DisplayVersion) × IsAmong kind (faults_of words))
+    ⊎ ((faults_of words ≡ []) × (NamesOtherLists (given_by words) ⊎ NamesTwoOrders (given_by words) ⊎ NamesMixed (given_by words)))
 IsFaultOf words LineFault.NoMemory = ⊤
 
 -- the exit status if no line is read: 0 for help and for the version, 2 for words that are refused, 3 for a lack of memory

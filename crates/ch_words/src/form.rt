@@ -7,10 +7,10 @@ ghost use Rattle.ch_words.specs.Line.{HasForm, ask_form, chtab_form, dist_form, 
 ghost use Rattle.ch_words.specs.Options.{rules_of};
 
 use crate::arguments::{argument, file, graph, lists};
-use crate::line::Tool;
 use crate::options::{
     Row, ask_options, dist_options, near_options, save_options, shared_options, table_options,
 };
+use ch_job::Question;
 use clap::{Arg, Command};
 use std::alloc::{AllocError, Global};
 
@@ -187,14 +187,17 @@ fn shown_as<'a>(
     command?.bin_name(name)
 }
 
-/// Makes the command of a tool. Its errors then show the usage of that tool.
-pub(crate) fn tool_command<'a>(alloc: Global, tool: &Tool) -> Result<Command<'a>, AllocError> {
-    match tool {
-        Tool::Dist { .. } => shown_as(dist_command(alloc), "chtab dist"),
-        Tool::Table { .. } => shown_as(table_command(alloc), "chtab table"),
-        Tool::Near { .. } | Tool::NearAll { .. } => shown_as(near_command(alloc), "chtab near"),
-        Tool::Save { .. } => shown_as(save_command(alloc), "chtab save"),
-        Tool::Ask { .. } => shown_as(ask_command(alloc), "chtab ask"),
+/// Makes the command of the tool for a question. Its errors then show the usage of that tool.
+pub(crate) fn tool_command<'a>(
+    alloc: Global,
+    question: &Question<String>,
+) -> Result<Command<'a>, AllocError> {
+    match question {
+        Question::Queries(_) => shown_as(dist_command(alloc), "chtab dist"),
+        Question::Table { .. } => shown_as(table_command(alloc), "chtab table"),
+        Question::Near { .. } => shown_as(near_command(alloc), "chtab near"),
+        Question::Hierarchy => shown_as(save_command(alloc), "chtab save"),
+        Question::Requests => shown_as(ask_command(alloc), "chtab ask"),
     }
 }
 

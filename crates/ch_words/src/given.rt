@@ -4,15 +4,17 @@ ghost use Rattle.std.specs.Prelude.{◌≡◌, ◌≤◌, ◌⊎◌, IfErr, IfOk
 ghost use Rattle.std.specs.String.{string_bytes};
 ghost use Rattle.clap.specs.Words.{first_of, found_of, kind_of, rows_of};
 ghost use Rattle.clap.specs.declared.error.kind.ErrorKind.TheVariants.{ArgumentConflict, WrongNumberOfValues};
-ghost use Rattle.ch_graph.specs.declared.limits.TheConstants.{MOST_HOPS, MOST_WEIGHT};
+ghost use Rattle.ch_graph.specs.declared.limits.TheConstants.{MOST_WEIGHT};
 ghost use Rattle.ch_work.specs.Plan.{IsWithinLimits};
-ghost use Rattle.ch_words.specs.Line.{AreFilesIn, AreFlagsIn, AreRefusedLists, AreRefusedOrders, IsAllowed, IsCount, IsFileIn, IsFlagIn, IsGivenBy, IsMixed, IsOrderIn, IsPlanIn, IsRefusedMix, IsToldOf, IsUnmixed, fresh_in, is_given, like_in, name_of, number_in, saved_in};
+ghost use Rattle.ch_contract.specs.Legs.{IsHopBound};
+ghost use Rattle.ch_job.specs.Job.{IsCount, IsSourceAllowed};
+ghost use Rattle.ch_words.specs.Line.{AreFilesIn, AreFlagsIn, AreRefusedLists, AreRefusedOrders, IsAllowed, IsDirectionIn, IsFlagIn, IsGivenBy, IsMixed, IsOrderIn, IsPlanIn, IsRefusedMix, IsSourceIn, IsToldOf, IsUnmixed, fresh_in, is_given, name_of, number_in};
 
 use crate::fault::{LineFault, fault_of};
 use crate::form::{near_command, tool_command};
-use crate::line::{Line, Tool};
-use crate::options::{Choices, Order};
+use crate::line::Line;
 use ch_graph::limits::{MOST_HOPS, MOST_LISTED, MOST_WEIGHT};
+use ch_job::{Direction, Job, Options, OrderBy, Question, Source, Sources};
 use ch_work::Plan;
 use ch_work::limits::{MOST_PIECE, MOST_WORKERS};
 use clap::ArgMatches;
@@ -46,42 +48,40 @@ fn file_of(alloc: Global, matches: &ArgMatches<'_>, name: &str) -> Result<String
     }
 }
 
-/// Returns the tool of this name, with the files that its arguments are given. Clap has refused words
+/// Returns the question of the tool of this name, with the files that its arguments are given. Clap has refused words
 /// that name no tool.
 ///
 /// # Errors
 /// `Refused` for lists that `near` doesn't read; `NoMemory`.
-fn tool_of(alloc: Global, name: &str, matches: &ArgMatches<'_>) -> Result<Tool, LineFault>
-    ensures named { IfOk result (λ tool. name.now ≡ name_of tool) }
+fn question_of(
+    alloc: Global,
+    name: &str,
+    matches: &ArgMatches<'_>,
+) -> Result<Question<String>, LineFault>
+    ensures named { IfOk result (λ question. name.now ≡ name_of question) }
     ensures files { IfOk result (AreFilesIn (rows_of (found_of matches.now))) }
     ensures refused { IfErr result (AreRefusedLists name.now (rows_of (found_of matches.now))) }
 {
-    let graph = file_of(alloc, matches, "GRAPH")?;
     match name {
-        "dist" => Ok(Tool::Dist {
-            graph,
-            queries: file_of(alloc, matches, "QUERIES")?,
-        }),
-        "table" => Ok(Tool::Table {
-            graph,
+        "dist" => Ok(Question::Queries(file_of(alloc, matches, "QUERIES")?)),
+        "table" => Ok(Question::Table {
             sources: file_of(alloc, matches, "SOURCES")?,
             targets: file_of(alloc, matches, "TARGETS")?,
         }),
-        "near" => near_of(alloc, graph, matches),
-        "save" => Ok(Tool::Save { graph }),
-        "ask" => Ok(Tool::Ask { graph }),
+        "near" => near_of(alloc, matches),
+        "save" => Ok(Question::Hierarchy),
+        "ask" => Ok(Question::Requests),
         _ => Err(LineFault::NoMemory),
     }
 }
 
-/// Returns the tool of near rows of this graph: from a list of sources, or with `--all` from each node.
+/// Returns the question of near rows: from a list of sources, or with `--all` from each node.
 ///
 /// # Errors
 /// `Refused` for a wrong number of lists: `--all` needs one, and otherwise two are needed. Clap only
 /// knows that there are one or two. `NoMemory`.
-fn near_of(alloc: Global, graph: String, matches: &ArgMatches<'_>) -> Result<Tool, LineFault>
-    requires graph { IsFileIn (rows_of (found_of matches.now)) (codes "GRAPH") (string_bytes graph) }
-    ensures named { IfOk result (λ tool. codes "near" ≡ name_of tool) }
+fn near_of(alloc: Global, matches: &ArgMatches<'_>) -> Result<Question<String>, LineFault>
+    ensures named { IfOk result (λ question. codes "near" ≡ name_of question) }
     ensures files { IfOk result (AreFilesIn (rows_of (found_of matches.now))) }
     ensures refused { IfErr result (AreRefusedLists (codes "near") (rows_of (found_of matches.now))) }
 {
@@ -94,18 +94,16 @@ fn near_of(alloc: Global, graph: String, matches: &ArgMatches<'_>) -> Result<Too
             return Err(other_lists(alloc));
         }
         let targets = String::from_str(alloc, lists[0])?;
-        return Ok(Tool::NearAll { graph, targets });
+        let sources = Sources::All;
+        return Ok(Question::Near { sources, targets });
     }
     if lists.len() != 2 {
         return Err(other_lists(alloc));
     }
     let sources = String::from_str(alloc, lists[0])?;
     let targets = String::from_str(alloc, lists[1])?;
-    Ok(Tool::Near {
-        graph,
-        sources,
-        targets,
-    })
+    let sources = Sources::Listed(sources);
+    Ok(Question::Near { sources, targets })
 }
 
 /// Returns the fault for lists that `near` doesn't read.
@@ -187,20 +185,24 @@ fn flag_of(matches: &ArgMatches<'_>, name: &str) -> bool
 ///
 /// # Errors
 /// `Refused` if both orders are given; `NoMemory`.
-fn order_of(alloc: Global, tool: &Tool, matches: &ArgMatches<'_>) -> Result<Order, LineFault>
+fn order_of(
+    alloc: Global,
+    question: &Question<String>,
+    matches: &ArgMatches<'_>,
+) -> Result<OrderBy, LineFault>
     ensures given { IfOk result (IsOrderIn (rows_of (found_of matches.now))) }
     ensures refused { IfErr result (AreRefusedOrders (rows_of (found_of matches.now))) }
 {
     match (flag_of(matches, "deep"), flag_of(matches, "rounds")) {
-        (false, false) => Ok(Order::Difference),
-        (true, false) => Ok(Order::Depth),
-        (false, true) => Ok(Order::Rounds),
-        (true, true) => Err(two_orders(alloc, tool, matches)),
+        (false, false) => Ok(OrderBy::Difference),
+        (true, false) => Ok(OrderBy::Depth),
+        (false, true) => Ok(OrderBy::Rounds),
+        (true, true) => Err(two_orders(alloc, question, matches)),
     }
 }
 
 /// Returns the fault for both orders. Like clap, it names first the one that is given first.
-fn two_orders(alloc: Global, tool: &Tool, matches: &ArgMatches<'_>) -> LineFault
+fn two_orders(alloc: Global, question: &Question<String>, matches: &ArgMatches<'_>) -> LineFault
     ensures { IsToldOf ArgumentConflict result }
 {
     let message = match (matches.index_of("deep"), matches.index_of("rounds")) {
@@ -209,24 +211,28 @@ fn two_orders(alloc: Global, tool: &Tool, matches: &ArgMatches<'_>) -> LineFault
         }
         _ => "the argument '--deep' cannot be used with '--rounds'",
     };
-    conflict(alloc, tool, message)
+    conflict(alloc, question, message)
 }
 
 /// Returns the fault for arguments that don't go together, as this message says.
-fn conflict(alloc: Global, tool: &Tool, message: &str) -> LineFault
+fn conflict(alloc: Global, question: &Question<String>, message: &str) -> LineFault
     ensures { IsToldOf ArgumentConflict result }
 {
-    match conflict_error(alloc, tool, message) {
+    match conflict_error(alloc, question, message) {
         Ok(error) => fault_of(alloc, &error),
         Err(_) => LineFault::NoMemory,
     }
 }
 
 /// Makes clap's error for arguments that don't go together, with this message.
-fn conflict_error(alloc: Global, tool: &Tool, message: &str) -> Result<clap::Error, AllocError>
+fn conflict_error(
+    alloc: Global,
+    question: &Question<String>,
+    message: &str,
+) -> Result<clap::Error, AllocError>
     ensures { IfOk result (λ error. kind_of error ≡ ArgumentConflict) }
 {
-    tool_command(alloc, tool)?.error(ErrorKind::ArgumentConflict, message)
+    tool_command(alloc, question)?.error(ErrorKind::ArgumentConflict, message)
 }
 
 /// Returns whether a value is given for this name.
@@ -270,91 +276,99 @@ fn plan_of(matches: &ArgMatches<'_>) -> Result<Plan, AllocError>
     Ok(Plan::new(workers, piece, WIDE))
 }
 
-/// Returns the choices for a tool. A tool has some of the flags, and the others are off.
+/// Returns the direction that the words choose for near rows.
+fn direction_of(matches: &ArgMatches<'_>) -> Direction
+    ensures { IsDirectionIn (rows_of (found_of matches.now)) result }
+{
+    if flag_of(matches, "from") {
+        Direction::From
+    } else {
+        Direction::To
+    }
+}
+
+/// Returns the options for a question. A tool has some of the flags, and the others are off.
 ///
 /// # Errors
 /// `Refused` if both orders are given; `NoMemory`.
-fn choices_of(alloc: Global, tool: &Tool, matches: &ArgMatches<'_>) -> Result<Choices, LineFault>
-    ensures range { IfOk result (λ choices. (1 ≤ choices.hops) × (choices.hops ≤ MOST_HOPS)) }
-    ensures hops { IfOk result (λ choices. Some choices.hops ≡ number_in (rows_of (found_of matches.now)) (codes "hops")) }
-    ensures flags { IfOk result (AreFlagsIn (rows_of (found_of matches.now)) tool.now) }
-    ensures limit { IfOk result (λ choices. choices.within ≡ number_in (rows_of (found_of matches.now)) (codes "within")) }
-    ensures small_limit { IfOk result (λ choices. IfSome choices.within (λ most. most ≤ MOST_WEIGHT)) }
-    ensures count { IfOk result (λ choices. choices.count ≡ number_in (rows_of (found_of matches.now)) (codes "count")) }
-    ensures small_count { IfOk result (λ choices. IfSome choices.count IsCount) }
-    ensures fresh { IfOk result (λ choices. choices.fresh ≡ fresh_in (rows_of (found_of matches.now))) }
-    ensures small_fresh { IfOk result (λ choices. choices.fresh ≤ 100) }
+fn options_of(
+    alloc: Global,
+    question: &Question<String>,
+    matches: &ArgMatches<'_>,
+) -> Result<Options, LineFault>
+    ensures range { IfOk result (λ options. IsHopBound options.hops) }
+    ensures hops { IfOk result (λ options. Some options.hops ≡ number_in (rows_of (found_of matches.now)) (codes "hops")) }
+    ensures flags { IfOk result (AreFlagsIn (rows_of (found_of matches.now)) question.now) }
+    ensures limit { IfOk result (λ options. options.within ≡ number_in (rows_of (found_of matches.now)) (codes "within")) }
+    ensures small_limit { IfOk result (λ options. IfSome options.within (λ most. most ≤ MOST_WEIGHT)) }
+    ensures count { IfOk result (λ options. options.count ≡ number_in (rows_of (found_of matches.now)) (codes "count")) }
+    ensures small_count { IfOk result (λ options. IfSome options.count IsCount) }
     ensures refused { IfErr result (AreRefusedOrders (rows_of (found_of matches.now))) }
 {
-    let (plain, routes, order, from) = match tool {
-        Tool::Dist { .. } => (
+    let (plain, routes, order, direction) = match question {
+        Question::Queries(_) => (
             flag_of(matches, "plain"),
             flag_of(matches, "routes"),
-            order_of(alloc, tool, matches)?,
-            false,
+            order_of(alloc, question, matches)?,
+            Direction::To,
         ),
-        Tool::Table { .. } => (false, false, Order::Difference, false),
-        Tool::Near { .. } | Tool::NearAll { .. } => (
+        Question::Table { .. } => (false, false, OrderBy::Difference, Direction::To),
+        Question::Near { .. } => (false, false, OrderBy::Difference, direction_of(matches)),
+        Question::Hierarchy => (
             false,
             false,
-            Order::Difference,
-            flag_of(matches, "from"),
+            order_of(alloc, question, matches)?,
+            Direction::To,
         ),
-        Tool::Save { .. } => (false, false, order_of(alloc, tool, matches)?, false),
-        Tool::Ask { .. } => (
+        Question::Requests => (
             false,
             flag_of(matches, "routes"),
-            order_of(alloc, tool, matches)?,
-            false,
+            order_of(alloc, question, matches)?,
+            Direction::To,
         ),
     };
-    Ok(Choices {
+    Ok(Options {
         plain,
         routes,
-        order,
         hops: number_of(matches, "hops", MOST_HOPS)?,
+        order,
         within: limit_given(matches, "within", MOST_WEIGHT)?,
         count: count_given(matches)?,
-        from,
-        fresh: fresh_given(matches)?,
+        direction,
     })
 }
 
-/// Returns the file of a saved hierarchy, if one is given. Plain distances take none.
-fn saved_of(
-    alloc: Global,
-    choices: &Choices,
-    matches: &ArgMatches<'_>,
-) -> Result<Option<String>, AllocError>
-    ensures { IfOk result (λ saved. option_map string_bytes saved ≡ saved_in (rows_of (found_of matches.now)) choices.now.plain) }
-{
-    if choices.plain {
-        return Ok(None);
-    }
-    file_given(alloc, matches, "saved")
-}
-
-/// Returns the file of an order, if one is given. Plain distances take none.
+/// Returns where the hierarchy comes from: the file that is given, or the graph alone. Plain distances take no file.
 ///
 /// # Errors
 /// `Refused` if an order is mixed with other options; `NoMemory`.
-fn like_of(
+fn source_of(
     alloc: Global,
-    tool: &Tool,
-    choices: &Choices,
+    question: &Question<String>,
+    options: &Options,
     matches: &ArgMatches<'_>,
-) -> Result<Option<String>, LineFault>
-    ensures file { IfOk result (λ like. option_map string_bytes like ≡ like_in (rows_of (found_of matches.now)) choices.now.plain) }
+) -> Result<Source<String>, LineFault>
+    requires hops { IsHopBound options.now.hops }
+    ensures allowed { IfOk result IsSourceAllowed }
+    ensures given { IfOk result (IsSourceIn (rows_of (found_of matches.now)) options.now) }
     ensures unmixed { IfOk result (λ _. IsUnmixed (rows_of (found_of matches.now))) }
     ensures refused { IfErr result (IsRefusedMix (rows_of (found_of matches.now))) }
 {
     if let Some(message) = mix_of(matches) {
-        return Err(conflict(alloc, tool, message));
+        return Err(conflict(alloc, question, message));
     }
-    if !choices.plain {
-        return Ok(file_given(alloc, matches, "like")?);
+    if options.plain {
+        return Ok(Source::Built);
     }
-    Ok(None)
+    if let Some(saved) = file_given(alloc, matches, "saved")? {
+        return Ok(Source::Saved(saved));
+    }
+    let Some(order) = file_given(alloc, matches, "like")? else {
+        return Ok(Source::Built);
+    };
+    let fresh = fresh_given(matches)?;
+    let hops = options.hops;
+    Ok(Source::Like { order, fresh, hops })
 }
 
 /// Returns the line of the tool of this name, with the values of its arguments.
@@ -363,21 +377,24 @@ fn like_of(
 /// `Refused` for lists that `near` doesn't read, if both orders are given, and if an order is mixed with other options;
 /// `NoMemory`.
 pub fn line_of(alloc: Global, name: &str, matches: &ArgMatches<'_>) -> Result<Line, LineFault>
-    ensures named { IfOk result (λ line. name.now ≡ name_of line.tool) }
+    ensures named { IfOk result (λ line. name.now ≡ name_of line.job.question) }
     ensures allowed { IfOk result IsAllowed }
     ensures given { IfOk result (IsGivenBy (rows_of (found_of matches.now))) }
     ensures refused { IfErr result (λ fault. AreRefusedLists name.now (rows_of (found_of matches.now)) fault
         ⊎ AreRefusedOrders (rows_of (found_of matches.now)) fault ⊎ IsRefusedMix (rows_of (found_of matches.now)) fault) }
 {
-    let tool = tool_of(alloc, name, matches)?;
-    let choices = choices_of(alloc, &tool, matches)?;
-    let like = like_of(alloc, &tool, &choices, matches)?;
+    let graph = file_of(alloc, matches, "GRAPH")?;
+    let question = question_of(alloc, name, matches)?;
+    let options = options_of(alloc, &question, matches)?;
+    let source = source_of(alloc, &question, &options, matches)?;
     Ok(Line {
-        tool,
-        saved: saved_of(alloc, &choices, matches)?,
-        like,
-        choices,
-        plan: plan_of(matches)?,
+        job: Job {
+            graph,
+            source,
+            question,
+            options,
+            plan: plan_of(matches)?,
+        },
         progress: flag_of(matches, "progress"),
     })
 }

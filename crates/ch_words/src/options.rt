@@ -1,4 +1,4 @@
-//! The options of the tools, each once, and the choices that their values make.
+//! The options of the tools, each once.
 //!
 //! Clap's arguments and `--help` are made from these rows, and completion and manual pages from `--help`.
 //! `packaging/options.py` makes from them what docs/REFERENCE.md and packaging/telling say of options. The comment of a
@@ -150,14 +150,14 @@ const SAVED: Row = Row {
         Options on how to build one then have no effect [default: none]",
 };
 
-/// Build the hierarchy in an order [like that of FILE](#orders), which takes two thirds of the time. Cannot be combined
-/// with `--saved`, `--deep` or `--rounds`.
+/// Build the hierarchy in an order [like that of FILE](#orders), which takes half to two thirds of the time. Cannot be
+/// combined with `--saved`, `--deep` or `--rounds`.
 const LIKE: Row = Row {
     name: "like",
     value: Value::File,
-    help: "Build the hierarchy in an order like that of FILE, which takes two thirds of the time. FILE is a saved \
-        hierarchy of a graph with as many nodes and any arcs, or only its lines `p` and `o`. Cannot be combined \
-        with --saved, --deep or --rounds [default: none]",
+    help: "Build the hierarchy in an order like that of FILE, which takes half to two thirds of the time. FILE is a \
+        saved hierarchy of a graph with as many nodes and any arcs, or only its lines `p` and `o`. Cannot be \
+        combined with --saved, --deep or --rounds [default: none]",
 };
 
 /// With `--like` alone: order the last P per cent of the nodes afresh, in depth order.
@@ -254,41 +254,4 @@ pub(crate) fn shared_options() -> [Row; 6]
     ensures { rules_of result ≡ shared_rules }
 {
     [LIKE, FRESH, WORKERS, PIECE, HOPS, PROGRESS]
-}
-
-/// The order of contraction that the words choose.
-#[derive(Clone, Copy, Debug, PartialEq, Eq)]
-pub enum Order {
-    /// By the difference between shortcuts and legs, without a word.
-    Difference,
-    /// By depth, with `--deep`.
-    Depth,
-    /// By rounds, with `--rounds`.
-    Rounds,
-}
-
-/// The choices of the words on how a tool works.
-#[derive(Clone, Copy, Debug, PartialEq, Eq)]
-pub struct Choices {
-    /// Whether distances come from rounds of relaxation over all arcs, and not from a hierarchy.
-    pub plain: bool,
-    /// Whether the arcs of a shortest path follow each distance.
-    pub routes: bool,
-    /// The order in which `save`, and `dist` and `ask` with routes, build a hierarchy. `ask` without routes
-    /// builds by rounds if this says so, and otherwise by depth. The other runs build in the order that takes
-    /// the least time.
-    pub order: Order,
-    /// The most legs of a witness, from 1 to [`MOST_HOPS`](ch_graph::limits::MOST_HOPS).
-    pub hops: u32,
-    /// The greatest distance that a table or a near row reports, if there is a limit.
-    pub within: Option<u64>,
-    /// The most targets of a near row, from 1 to [`MOST_LISTED`](ch_graph::limits::MOST_LISTED), if
-    /// there is a limit.
-    pub count: Option<u32>,
-    /// Whether the distances of near rows go from the targets to the source. If not, they go to the
-    /// targets.
-    pub from: bool,
-    /// How many per cent of the nodes are ordered afresh if the hierarchy is built in an order like that of a
-    /// file, from 0 to 100.
-    pub fresh: u32,
 }

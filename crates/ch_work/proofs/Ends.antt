@@ -1,5 +1,6 @@
 -- Looks, views that are split off and joined, and what a view of all passes knows.
-use Rattle.std.proofs.Common.{◌^◌, ◌≡◌, ◌≢◌, ℕ, zero, suc, ◌+◌, ◌-◌, ◌<◌, ◌==◌, ◌&&◌, nat_lt, min, List, [], ◌∷◌, ◌++◌, set, refl, sym, ap, ◌∙◌, subst, inl, inr, ⊎_elim, arith, add-one, replicate}
+use Rattle.std.proofs.Common.{◌^◌, ◌≡◌, ◌≢◌, ℕ, zero, suc, ◌+◌, ◌-◌, ◌<◌, ◌==◌, ◌&&◌, nat_lt, min, List, [], ◌∷◌, ◌++◌, set, refl}
+use Rattle.std.proofs.Common.{sym, ap, ◌∙◌, subst, inl, inr, ⊎_elim, arith, add-one, replicate}
 use Rattle.std.specs.Prelude.{slice_index}
 use Rattle.std.proofs.lemmas.List.{set-get_or, length-replicate, get_or-replicate}
 use mathlib.Core.Logic.{dite}
@@ -13,10 +14,12 @@ use Rattle.ch_work.specs.declared.board.known.Size.{Size}
 use Rattle.ch_work.specs.Counts.{bit, total, times, times_at}
 use Rattle.ch_work.specs.Rule.{none_yet, Fits, AllFit, Holds, Kept, IsWhole}
 use Rattle.ch_work.specs.Steps.{nothing_known, with_look, Looks, less_one, one_part, both}
-use Rattle.ch_work.proofs.Totals.{total_grow, total_append, total_push, total_split, total_join, total_whole, pair_cases, bit_one, none_below}
+use Rattle.ch_work.proofs.Totals.{total_grow, total_append, total_push, total_split, total_join, total_whole, pair_cases, bit_one}
+use Rattle.ch_work.proofs.Totals.{none_below}
 use Rattle.ch_work.proofs.Moves.{fits_set, numbers_same, cells_same, knows_below}
 
-module _ (k : Size) (c : ℕ) (ws : List ℕ) (views : List Known) (h : Holds k c ws views) (id : ℕ) (v : Known) (at : get_elem? views id ≡ some v) (cell : ℕ) where
+module _ (k : Size) (c : ℕ) (ws : List ℕ) (views : List Known) (h : Holds k c ws views) (id : ℕ) (v : Known)
+    (at : get_elem? views id ≡ some v) (cell : ℕ) where
   -- a look keeps the rule
   pub looks_holds : cell < k.cells → slice_index ws cell < none_yet → 0 < v.parts →
       Holds k c ws (set views id (with_look v cell (slice_index ws cell)))
@@ -25,8 +28,10 @@ module _ (k : Size) (c : ℕ) (ws : List ℕ) (views : List Known) (h : Holds k 
       let w = with_look v cell x in
       let o : (i y : ℕ) → total (λ (u : Known). times_at i y u.offers) (set views id w) ≡ total (λ (u : Known). times_at i y u.offers) views
       = λ i y. let e = total_grow (λ (u : Known). times_at i y u.offers) views id v w 0 at (omega arith) in omega arith in
-      let s : (i y : ℕ) → total (λ (u : Known). times_at i y u.shown) (set views id w) ≡ total (λ (u : Known). times_at i y u.shown) views + bit ((cell == i) && (x == y))
-      = λ i y. total_grow (λ (u : Known). times_at i y u.shown) views id v w (bit ((cell == i) && (x == y))) at (total_push (λ (p : ℕ × ℕ). bit ((p.0 == i) && (p.1 == y))) v.shown (cell, x)) in record {
+      let s : (i y : ℕ) → total (λ (u : Known). times_at i y u.shown) (set views id w)
+      ≡ total (λ (u : Known). times_at i y u.shown) views + bit ((cell == i) && (x == y))
+      = λ i y. total_grow (λ (u : Known). times_at i y u.shown) views id v w (bit ((cell == i) && (x == y))) at
+      (total_push (λ (p : ℕ × ℕ). bit ((p.0 == i) && (p.1 == y))) v.shown (cell, x)) in record {
         room = h.room;
         cells = h.cells;
         numbers = numbers_same k c views (set views id w) h.numbers
@@ -40,11 +45,13 @@ module _ (k : Size) (c : ℕ) (ws : List ℕ) (views : List Known) (h : Holds k 
           shown = λ i y p. let e = o i y in let e' = s i y in
               ⊎_elim
               (λ (t : (cell ≡ i) × (x ≡ y)). let q : 0 < total (λ (u : Known). times_at i y u.offers) views
-              = (let P : ℕ × ℕ → Type 0 = λ z. 0 < total (λ (u : Known). times_at z.0 z.1 u.offers) views in subst P (λ j. (t.0 j, t.1 j)) (h.values.hit cell inside less)) in omega arith)
+              = (let P : ℕ × ℕ → Type 0 = λ z. 0 < total (λ (u : Known). times_at z.0 z.1 u.offers) views in
+              subst P (λ j. (t.0 j, t.1 j)) (h.values.hit cell inside less)) in omega arith)
               (λ (z : bit ((cell == i) && (x == y)) ≡ 0). let q = h.values.shown i y (omega arith) in omega arith)
               (pair_cases cell x i y);
         };
-        fits = fits_set k views id w (let f = h.fits id v at in record { pieces = f.pieces; ended = f.ended; idle = λ z. absurd (omega arith) }) h.fits;
+        fits = fits_set k views id w (let f = h.fits id v at in
+            record { pieces = f.pieces; ended = f.ended; idle = λ z. absurd (omega arith) }) h.fits;
       }
 
 -- the step of a look at these words
@@ -63,7 +70,8 @@ looks k slots id v c cell part inside s kept homes at fits =
     let ws = kept.values in
     let h = kept.holds in
     let n = slice_index ws cell in
-    let fits' : n < 2 ^ 64 = (let P : ℕ × List ℕ → Type 0 = λ z. slice_index z.1 z.0 < 2 ^ 64 in subst P (λ i. (add-one cell i, kept.words i)) fits) in
+    let fits' : n < 2 ^ 64 = (let P : ℕ × List ℕ → Type 0 = λ z. slice_index z.1 z.0 < 2 ^ 64 in
+    subst P (λ i. (add-one cell i, kept.words i)) fits) in
     let again : set ws cell n ≡ ws = set-get_or ws cell 0 in
     let e : suc cell - 1 ≡ cell = omega arith in
     let here : LooksAt k slots id v c (suc cell) s.homes s.views (x ∷ ws) =
@@ -72,14 +80,35 @@ looks k slots id v c cell part inside s kept homes at fits =
       with_look v cell n,
       keeps,
       tt,
-      record { counter = x; values = set ws cell n; words = refl; holds = subst (λ (l : List ℕ). Holds k x l (set s.views id (with_look v cell n))) (sym again) (looks_holds k x ws s.views h id v at cell inside less part) },
-      (refl, inl ((h.values.small cell n (h.values.hit cell inside less)).1, ap (λ (i : ℕ). with_look v i n) (sym e), λ y p. (knows_below k x ws s.views h id v at cell y (rw e at p)).0)),
+      record {
+        counter = x;
+        values = set ws cell n;
+        words = refl;
+        holds =
+            subst (λ (l : List ℕ). Holds k x l (set s.views id (with_look v cell n))) (sym again)
+            (looks_holds k x ws s.views h id v at cell inside less part);
+      },
+      (
+        refl,
+        inl (
+          (h.values.small cell n (h.values.hit cell inside less)).1,
+          ap (λ (i : ℕ). with_look v i n) (sym e),
+          λ y p.
+              (knows_below k x ws s.views h id v at cell y (rw e at p)).0,
+        ),
+      ),
     ))
     (λ more. (
       v,
       keeps,
       tt,
-      record { counter = x; values = set ws cell n; words = refl; holds = subst (λ (z : List ℕ × List Known). Holds k x z.0 z.1) (λ i. (sym again i, sym (set_again s.views id v at) i)) h },
+      record {
+        counter = x;
+        values = set ws cell n;
+        words = refl;
+        holds = subst (λ (z : List ℕ × List Known). Holds k x z.0 z.1)
+            (λ i. (sym again i, sym (set_again s.views id v at) i)) h;
+      },
       (refl, inr (omega arith, refl, λ y p. let b = knows_below k x ws s.views h id v at cell y (rw e at p) in omega arith)),
     )) in
     subst (λ (l : ℕ × List ℕ). LooksAt k slots id v c l.0 s.homes s.views l.1) (λ i. (sym (add-one cell) i, sym kept.words i)) here
@@ -120,8 +149,14 @@ splits k id p n some_part s kept at =
           (λ i x. total_split (λ (u : Known). times_at i x u.offers) s.views id v l r at refl)
           (λ i x. total_split (λ (u : Known). times_at i x u.shown) s.views id v l r at refl)
           (λ j u e. ⊎_elim
-          (λ (there : get_elem? (set s.views id l) j ≡ some u). fits_set k s.views id l record { pieces = λ q. f.pieces some_part; ended = omega arith; idle = λ z. (refl, refl, refl) } h.fits j u there)
-          (λ (t : r ≡ u). subst (λ (y : Known). Fits k y) t record { pieces = λ q. f.pieces some_part; ended = omega arith; idle = λ z. (refl, refl, refl) })
+          (λ (there : get_elem? (set s.views id l) j ≡ some u). fits_set k s.views id l record {
+            pieces =
+                λ q. f.pieces some_part;
+            ended = omega arith;
+            idle = λ z. (refl, refl, refl);
+          } h.fits j u there)
+          (λ (t : r ≡ u). subst (λ (y : Known). Fits k y) t
+          record { pieces = λ q. f.pieces some_part; ended = omega arith; idle = λ z. (refl, refl, refl) })
           (at_snoc (set s.views id l) r u j e));
     }
 
@@ -132,7 +167,9 @@ joins k id v other w some_w s kept at apart there =
     let h = kept.holds in
     let b = both v w in
     let z = nothing_known 0 0 in
-    let theirs : Fits k w = ⊎_elim (λ (t : (other ≡ id) × (b ≡ w)). absurd (apart t.0)) (λ (t : (other ≢ id) × (get_elem? s.views other ≡ some w)). h.fits other w t.1) (at_set s.views id other b w there) in
+    let theirs : Fits k w =
+    ⊎_elim (λ (t : (other ≡ id) × (b ≡ w)). absurd (apart t.0)) (λ (t : (other ≢ id) × (get_elem? s.views other ≡ some w)).
+    h.fits other w t.1) (at_set s.views id other b w there) in
     let mine : Fits k v = h.fits id v at in
     record {
       counter = kept.counter;
@@ -140,12 +177,18 @@ joins k id v other w some_w s kept at apart there =
       words = kept.words;
       holds = same_totals k kept.counter kept.values s.views (set (set s.views id b) other z) h
           (total_join (λ (u : Known). u.ended) s.views id other v w b z at there refl refl)
-          (λ x. total_join (λ (u : Known). times x u.claims) s.views id other v w b z at there (total_append (λ (y : ℕ). bit (y == x)) v.claims w.claims) refl)
+          (λ x. total_join (λ (u : Known). times x u.claims) s.views id other v w b z at there
+          (total_append (λ (y : ℕ). bit (y == x)) v.claims w.claims) refl)
           (total_join (λ (u : Known). u.parts) s.views id other v w b z at there refl refl)
-          (λ i x. total_join (λ (u : Known). times_at i x u.offers) s.views id other v w b z at there (total_append (λ (p : ℕ × ℕ). bit ((p.0 == i) && (p.1 == x))) v.offers w.offers) refl)
-          (λ i x. total_join (λ (u : Known). times_at i x u.shown) s.views id other v w b z at there (total_append (λ (p : ℕ × ℕ). bit ((p.0 == i) && (p.1 == x))) v.shown w.shown) refl)
-          (fits_set k (set s.views id b) other z record { pieces = λ q. absurd (omega arith); ended = omega arith; idle = λ e. (refl, refl, refl) }
-          (fits_set k s.views id b (let a = mine.ended in let a' = theirs.ended in record { pieces = λ q. theirs.pieces some_w; ended = omega arith; idle = λ e. absurd (omega arith) }) h.fits));
+          (λ i x. total_join (λ (u : Known). times_at i x u.offers) s.views id other v w b z at there
+          (total_append (λ (p : ℕ × ℕ). bit ((p.0 == i) && (p.1 == x))) v.offers w.offers) refl)
+          (λ i x. total_join (λ (u : Known). times_at i x u.shown) s.views id other v w b z at there
+          (total_append (λ (p : ℕ × ℕ). bit ((p.0 == i) && (p.1 == x))) v.shown w.shown) refl)
+          (fits_set k (set s.views id b) other z
+          record { pieces = λ q. absurd (omega arith); ended = omega arith; idle = λ e. (refl, refl, refl) }
+          (fits_set k s.views id b
+          (let a = mine.ended in let a' = theirs.ended in
+          record { pieces = λ q. theirs.pieces some_w; ended = omega arith; idle = λ e. absurd (omega arith) }) h.fits));
     }
 
 -- making a view that stands for no pass keeps the rule
@@ -165,7 +208,8 @@ enters k slots s kept homes fits =
             (λ i x. let t = total_push (λ (u : Known). times_at i x u.offers) s.views z in omega arith)
             (λ i x. let t = total_push (λ (u : Known). times_at i x u.shown) s.views z in omega arith)
             (λ j u e. ⊎_elim (λ (there : get_elem? s.views j ≡ some u). h.fits j u there)
-            (λ (t : z ≡ u). subst (λ (y : Known). Fits k y) t record { pieces = λ q. absurd (omega arith); ended = omega arith; idle = λ e. (refl, refl, refl) })
+            (λ (t : z ≡ u). subst (λ (y : Known). Fits k y) t
+            record { pieces = λ q. absurd (omega arith); ended = omega arith; idle = λ e. (refl, refl, refl) })
             (at_snoc s.views z u j e));
       },
       refl,
@@ -173,7 +217,8 @@ enters k slots s kept homes fits =
 
 -- a new board keeps the rule
 pub opens : (pieces cells passes : ℕ) → pieces + passes + 1 < 2 ^ 64 →
-    Kept record { pieces = pieces; cells = cells; passes = passes } (opening (0 ∷ replicate cells none_yet) [] (nothing_known pieces passes))
+    Kept record { pieces = pieces; cells = cells; passes = passes }
+    (opening (0 ∷ replicate cells none_yet) [] (nothing_known pieces passes))
 opens pieces cells passes room =
     let k : Size = record { pieces = pieces; cells = cells; passes = passes } in
     let v = nothing_known pieces passes in record {
@@ -183,7 +228,12 @@ opens pieces cells passes room =
       holds = record {
         room = room;
         cells = length-replicate cells none_yet;
-        numbers = record { counted = omega arith; claimed = λ x. let e : min 0 pieces ≡ 0 = omega arith in rw e (sym (none_below x)); parts = omega arith };
+        numbers = record {
+          counted = omega arith;
+          claimed = λ x. let e : min 0 pieces ≡ 0 = omega arith in
+              rw e (sym (none_below x));
+          parts = omega arith;
+        };
         values = record {
           hit = λ i lt less. let e = get_or-replicate cells i none_yet 0 lt in absurd (omega arith);
           low = λ i x p. absurd (omega arith);
@@ -196,7 +246,8 @@ opens pieces cells passes room =
   where
     one : (j : ℕ) (u : Known) → get_elem? (nothing_known pieces passes ∷ []) j ≡ some u →
         Fits record { pieces = pieces; cells = cells; passes = passes } u
-    one zero u e = let k : Size = record { pieces = pieces; cells = cells; passes = passes } in subst (λ (y : Known). Fits k y) (some-injective _ _ e) record { pieces = λ q. refl; ended = omega arith; idle = λ z. (refl, refl, refl) }
+    one zero u e = let k : Size = record { pieces = pieces; cells = cells; passes = passes } in subst (λ (y : Known). Fits k y)
+        (some-injective _ _ e) record { pieces = λ q. refl; ended = omega arith; idle = λ z. (refl, refl, refl) }
     one (suc j) u e = absurd (some-ne-none u (sym e))
 
 -- a view that stands for all passes knows all that was done
@@ -205,16 +256,21 @@ pub settles : (k : Size) (c : ℕ) (ws : List ℕ) (views : List Known) → Hold
 settles k c ws views h id v at all =
     let whole : total (λ (u : Known). u.parts) views ≡ v.parts = h.numbers.parts ∙ sym all in
     let claims : (x : ℕ) → total (λ (u : Known). times x u.claims) views ≡ times x v.claims
-    = λ x. total_whole (λ (u : Known). times x u.claims) (λ (u : Known). u.parts) views id v at whole (λ j u e z. let n = ((h.fits j u e).idle z).0 in ap (λ (l : List ℕ). times x l) n) in
+    = λ x. total_whole (λ (u : Known). times x u.claims) (λ (u : Known). u.parts) views id v at whole
+    (λ j u e z. let n = ((h.fits j u e).idle z).0 in ap (λ (l : List ℕ). times x l) n) in
     let ended : total (λ (u : Known). u.ended) views ≡ v.ended
-    = total_whole (λ (u : Known). u.ended) (λ (u : Known). u.parts) views id v at whole (λ j u e z. let n = (h.fits j u e).ended in omega arith) in
+    = total_whole (λ (u : Known). u.ended) (λ (u : Known). u.parts) views id v at whole
+    (λ j u e z. let n = (h.fits j u e).ended in omega arith) in
     let offers : (i x : ℕ) → total (λ (u : Known). times_at i x u.offers) views ≡ times_at i x v.offers
-    = λ i x. total_whole (λ (u : Known). times_at i x u.offers) (λ (u : Known). u.parts) views id v at whole (λ j u e z. let n = ((h.fits j u e).idle z).1 in ap (λ (l : List (ℕ × ℕ)). times_at i x l) n) in
+    = λ i x. total_whole (λ (u : Known). times_at i x u.offers) (λ (u : Known). u.parts) views id v at whole
+    (λ j u e z. let n = ((h.fits j u e).idle z).1 in ap (λ (l : List (ℕ × ℕ)). times_at i x l) n) in
     let shown : (i x : ℕ) → total (λ (u : Known). times_at i x u.shown) views ≡ times_at i x v.shown
-    = λ i x. total_whole (λ (u : Known). times_at i x u.shown) (λ (u : Known). u.parts) views id v at whole (λ j u e z. let n = ((h.fits j u e).idle z).2 in ap (λ (l : List (ℕ × ℕ)). times_at i x l) n) in record {
+    = λ i x. total_whole (λ (u : Known). times_at i x u.shown) (λ (u : Known). u.parts) views id v at whole
+    (λ j u e z. let n = ((h.fits j u e).idle z).2 in ap (λ (l : List (ℕ × ℕ)). times_at i x l) n) in record {
       cells = h.cells;
       once = λ x. let e = claims x in let q = h.numbers.claimed x in let b = bit_one (nat_lt x (min c k.pieces)) in omega arith;
-      below = λ x p. let e = claims x in let q = h.numbers.claimed x in let b = Rattle.ch_work.proofs.Totals.below_is x (min c k.pieces) (omega arith) in omega arith;
+      below = λ x p. let e = claims x in let q = h.numbers.claimed x in
+          let b = Rattle.ch_work.proofs.Totals.below_is x (min c k.pieces) (omega arith) in omega arith;
       every = λ some_end x lt. let e = claims x in let q = h.numbers.claimed x in let n = h.numbers.counted in
           let b = Rattle.ch_work.proofs.Totals.below_true x (min c k.pieces) (omega arith) in omega arith;
       hit = λ i lt less. let e = offers i (slice_index ws i) in let q = h.values.hit i lt less in omega arith;

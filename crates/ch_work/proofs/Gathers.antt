@@ -1,5 +1,7 @@
 -- Views that are joined one after the other.
-use Rattle.std.proofs.Common.{◌^◌, ◌≡◌, ℕ, zero, suc, ◌+◌, ◌<◌, ◌==◌, ◌&&◌, List, [], ◌∷◌, ◌++◌, map, length, refl, sym, ◌∙◌, subst, arith, slice_index_or, Bool, true, false, cond, ◌≢◌, add-one, Option, Some, None, Result, Ok, Err, IfOk}
+use Rattle.std.proofs.Common.{◌^◌, ◌≡◌, ℕ, zero, suc, ◌+◌, ◌<◌, ◌==◌, ◌&&◌, List, [], ◌∷◌, ◌++◌, map, length, refl, sym, ◌∙◌, subst}
+use Rattle.std.proofs.Common.{arith, slice_index_or, Bool, true, false, cond, ◌≢◌, add-one, Option, Some, None, Result, Ok, Err}
+use Rattle.std.proofs.Common.{IfOk}
 use Rattle.std.specs.Prelude.{slice_index}
 use Rattle.std.proofs.lemmas.Bool.Decides.{nat_tests}
 use native.Mathlib.Decide.{dec_lt}
@@ -25,9 +27,12 @@ pub sums_push : (v : Known) (vs : List Known) (w : Known) → Sums v vs → Sums
 sums_push v vs w s = record {
   parts = let t = total_push (λ (u : Known). u.parts) vs w in let e = s.parts in omega arith;
   ended = let t = total_push (λ (u : Known). u.ended) vs w in let e = s.ended in omega arith;
-  claims = λ x. let t = total_push (λ (u : Known). times x u.claims) vs w in let e = s.claims x in let a = total_append (λ (y : ℕ). bit (y == x)) v.claims w.claims in omega arith;
-  offers = λ i x. let t = total_push (λ (u : Known). times_at i x u.offers) vs w in let e = s.offers i x in let a = total_append (λ (p : ℕ × ℕ). bit ((p.0 == i) && (p.1 == x))) v.offers w.offers in omega arith;
-  shown = λ i x. let t = total_push (λ (u : Known). times_at i x u.shown) vs w in let e = s.shown i x in let a = total_append (λ (p : ℕ × ℕ). bit ((p.0 == i) && (p.1 == x))) v.shown w.shown in omega arith;
+  claims = λ x. let t = total_push (λ (u : Known). times x u.claims) vs w in let e = s.claims x in
+      let a = total_append (λ (y : ℕ). bit (y == x)) v.claims w.claims in omega arith;
+  offers = λ i x. let t = total_push (λ (u : Known). times_at i x u.offers) vs w in let e = s.offers i x in
+      let a = total_append (λ (p : ℕ × ℕ). bit ((p.0 == i) && (p.1 == x))) v.offers w.offers in omega arith;
+  shown = λ i x. let t = total_push (λ (u : Known). times_at i x u.shown) vs w in let e = s.shown i x in
+      let a = total_append (λ (p : ℕ × ℕ). bit ((p.0 == i) && (p.1 == x))) v.shown w.shown in omega arith;
 }
 
 -- each pass counts as one
@@ -42,7 +47,8 @@ is_least k v views ws s h i lt fits = go (slice_index ws i == none_yet) refl
   where
     none_here : slice_index ws i ≡ none_yet → (x : ℕ) → Dec (0 < total (λ (u : Known). times_at i x u.offers) views) →
         total (λ (u : Known). times_at i x u.offers) views ≡ 0
-    none_here e x (yes p) = let t = s.offers i x in let l = h.low i x (omega arith) in let m = (h.small i x (omega arith)).1 in absurd (omega arith)
+    none_here e x (yes p) = let t = s.offers i x in let l = h.low i x (omega arith) in let m = (h.small i x (omega arith)).1 in
+        absurd (omega arith)
     none_here e x (no n) = omega arith
 
     go : (b : Bool) → (slice_index ws i == none_yet) ≡ b → IsLeast views i (cond b None (Some (slice_index ws i)))
@@ -53,7 +59,8 @@ is_least k v views ws s h i lt fits = go (slice_index ws i == none_yet) refl
         (omega arith, λ y p. let t' = s.offers i y in h.low i y (omega arith))
 
 -- what is known of the view of all passes is known of the passes together
-pub settled : (k : Size) (v : Known) (views : List Known) (ws : List ℕ) (cells : List (Option ℕ)) → Sums v views → IsWhole k v ws → length cells ≡ k.cells
+pub settled : (k : Size) (v : Known) (views : List Known) (ws : List ℕ) (cells : List (Option ℕ)) → Sums v views → IsWhole k v ws →
+    length cells ≡ k.cells
     → ((i : ℕ) (d : Option ℕ) → i < k.cells → IsRead (slice_index ws i) (slice_index_or cells i d)) → Settled k views cells
 settled k v views ws cells s h len each = record {
   count = len;
@@ -65,7 +72,8 @@ settled k v views ws cells s h len each = record {
 }
 
 -- what a closed table gives for the view of all passes
-pub whole : (k : Size) (id : ℕ) (v : Known) (words : List ℕ) (slots : List (Unit {0})) (ps : List Pass) → Final (Seen (Kept k) id v) words slots → Sums v (map view_of ps) → length ps ≡ k.passes
+pub whole : (k : Size) (id : ℕ) (v : Known) (words : List ℕ) (slots : List (Unit {0})) (ps : List Pass) →
+    Final (Seen (Kept k) id v) words slots → Sums v (map view_of ps) → length ps ≡ k.passes
     → (c : ℕ) × (ws : List ℕ) × (words ≡ c ∷ ws) × IsWhole k v ws
 whole k id v words slots ps f s len =
     let kept = f.1.0 in
@@ -76,11 +84,13 @@ whole k id v words slots ps f s len =
 -- what is known of a closed board, from its words
 pub settled_words : (k : Size) (id : ℕ) (v : Known) (words : List ℕ) (slots : List (Unit {0})) (ps : List Pass) (cells : List (Option ℕ))
     → Final (Seen (Kept k) id v) words slots → Sums v (map view_of ps) → length ps ≡ k.passes → length cells ≡ k.cells
-    → ((i : ℕ) (d : Option ℕ) → i < k.cells → IsRead (slice_index words (i + 1)) (slice_index_or cells i d)) → Settled k (map view_of ps) cells
+    → ((i : ℕ) (d : Option ℕ) → i < k.cells → IsRead (slice_index words (i + 1)) (slice_index_or cells i d)) →
+    Settled k (map view_of ps) cells
 settled_words k id v words slots ps cells f s len count each =
     let w = whole k id v words slots ps f s len in
     settled k v (map view_of ps) w.1 cells s w.3 count
-    (λ i d lt. let P : ℕ × List ℕ → Type 0 = λ z. IsRead (slice_index z.1 z.0) (slice_index_or cells i d) in subst P (λ j. (add-one i j, w.2 j)) (each i d lt))
+    (λ i d lt. let P : ℕ × List ℕ → Type 0 = λ z. IsRead (slice_index z.1 z.0) (slice_index_or cells i d) in
+    subst P (λ j. (add-one i j, w.2 j)) (each i d lt))
 
 -- the word at a place of a list
 pub index_is : (l : List ℕ) (i x : ℕ) → get_elem? l i ≡ some x → slice_index l i ≡ x

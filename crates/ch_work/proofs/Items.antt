@@ -1,5 +1,6 @@
 -- Lists that are taken apart item by item, and lists that grow.
-use Rattle.std.proofs.Common.{All, append-nil, slice_index_or, append_assoc, ◌∙◌, ◌≡◌, ℕ, ◌+◌, ◌<◌, List, [], ◌∷◌, ◌++◌, length, map, ap, subst, sym, refl, arith, length-append}
+use Rattle.std.proofs.Common.{All, append-nil, slice_index_or, append_assoc, ◌∙◌, ◌≡◌, ℕ, ◌+◌, ◌<◌, List, [], ◌∷◌, ◌++◌, length}
+use Rattle.std.proofs.Common.{map, ap, subst, sym, refl, arith, length-append}
 use Rattle.std.proofs.lemmas.List.{get_or_append_left}
 use mathlib.Core.Logic.{dite}
 use native.Mathlib.Decide.{dec_lt}
@@ -43,7 +44,10 @@ module _ {A : Type 0} (Q : ℕ → A → Type 0) where
       (j : ℕ) (d : A) → j < n + 1 → Q j (slice_index_or (xs ++ x ∷ []) j d)
   each_push xs n x len each mine j d lt = dite (dec_lt j n)
       (λ l. subst (λ (y : A). Q j y) (sym (get_or_append_left xs (x ∷ []) d j (omega arith))) (each j d l))
-      (λ ge. let e : length xs ≡ j = omega arith in subst (λ (y : A). Q j y) (sym (item_here xs [] x (xs ++ x ∷ []) d refl) ∙ ap (λ (m : ℕ). slice_index_or (xs ++ x ∷ []) m d) e) (let e' : n ≡ j = omega arith in subst (λ (m : ℕ). Q m x) e' mine))
+      (λ ge. let e : length xs ≡ j = omega arith in
+      subst (λ (y : A). Q j y)
+      (sym (item_here xs [] x (xs ++ x ∷ []) d refl) ∙ ap (λ (m : ℕ). slice_index_or (xs ++ x ∷ []) m d) e)
+      (let e' : n ≡ j = omega arith in subst (λ (m : ℕ). Q m x) e' mine))
 
 module _ {A B : Type 0} (f : A → B) where
   -- the map of a list with one more item

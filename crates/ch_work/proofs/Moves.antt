@@ -1,5 +1,6 @@
 -- Each step keeps the rule.
-use Rattle.std.proofs.Common.{◌^◌, ◌≡◌, ◌≢◌, ℕ, suc, ◌+◌, ◌-◌, ◌%◌, ◌<◌, ◌≤◌, ◌==◌, ◌&&◌, nat_lt, min, List, ◌∷◌, length, set, refl, sym, ap, ◌∙◌, subst, inl, inr, ⊎_elim, arith, get_or-set_same, get_or-set_other, length-set, add-one}
+use Rattle.std.proofs.Common.{◌^◌, ◌≡◌, ◌≢◌, ℕ, suc, ◌+◌, ◌-◌, ◌%◌, ◌<◌, ◌≤◌, ◌==◌, ◌&&◌, nat_lt, min, List, ◌∷◌, length, set, refl}
+use Rattle.std.proofs.Common.{sym, ap, ◌∙◌, subst, inl, inr, ⊎_elim, arith, get_or-set_same, get_or-set_other, length-set, add-one}
 use Rattle.std.specs.Prelude.{slice_index}
 use mathlib.Core.Logic.{dite}
 use mathlib.Core.Option.{Option, some, none}
@@ -17,7 +18,8 @@ use Rattle.ch_work.proofs.Totals.{total_grow, total_push, total_at, total_le, be
 
 -- all views fit after one of them is replaced by a view that fits
 pub fits_set : (k : Size) (views : List Known) (i : ℕ) (w : Known) → Fits k w → AllFit k views → AllFit k (set views i w)
-fits_set k views i w mine others j u e = ⊎_elim (λ (t : (j ≡ i) × (w ≡ u)). subst (λ (y : Known). Fits k y) t.1 mine) (λ (t : (j ≢ i) × (get_elem? views j ≡ some u)). others j u t.1) (at_set views i j w u e)
+fits_set k views i w mine others j u e = ⊎_elim (λ (t : (j ≡ i) × (w ≡ u)). subst (λ (y : Known). Fits k y) t.1 mine)
+    (λ (t : (j ≢ i) × (get_elem? views j ≡ some u)). others j u t.1) (at_set views i j w u e)
 
 -- the facts about the counter hold of changed views if the totals of claims, ends and parts are the same
 pub numbers_same : (k : Size) (c : ℕ) (views now : List Known) → Numbers k c views
@@ -40,10 +42,12 @@ cells_same k ws views now h o s = record {
   shown = λ i x some_now. let e = o i x in let e' = s i x in let q = h.shown i x (omega arith) in omega arith;
 }
 
-module _ (k : Size) (c : ℕ) (ws : List ℕ) (views : List Known) (h : Holds k c ws views) (id : ℕ) (v : Known) (at : get_elem? views id ≡ some v) where
+module _ (k : Size) (c : ℕ) (ws : List ℕ) (views : List Known) (h : Holds k c ws views) (id : ℕ) (v : Known)
+    (at : get_elem? views id ≡ some v) where
   -- each number that a pass claimed is below the counter
   pub claims_below : (x : ℕ) → 0 < times x v.claims → x < min c k.pieces
-  claims_below x p = let t = total_at (λ (u : Known). times x u.claims) views id v at in let e = h.numbers.claimed x in below_is x (min c k.pieces) (omega arith)
+  claims_below x p = let t = total_at (λ (u : Known). times x u.claims) views id v at in let e = h.numbers.claimed x in
+      below_is x (min c k.pieces) (omega arith)
 
   -- claiming a number below the pieces keeps the rule
   pub claims_holds : c < k.pieces → 0 < v.parts → Holds k (c + 1) ws (set views id (with_claim v c))
@@ -55,14 +59,16 @@ module _ (k : Size) (c : ℕ) (ws : List ℕ) (views : List Known) (h : Holds k 
         cells = h.cells;
         numbers = record {
           counted = let e = total_grow (λ (u : Known). u.ended) views id v w 0 at (omega arith) in let n = h.numbers.counted in omega arith;
-          claimed = λ x. rw m' (total_grow (λ (u : Known). times x u.claims) views id v w (bit (c == x)) at (total_push (λ (y : ℕ). bit (y == x)) v.claims c)
+          claimed = λ x. rw m' (total_grow (λ (u : Known). times x u.claims) views id v w (bit (c == x)) at
+              (total_push (λ (y : ℕ). bit (y == x)) v.claims c)
               ∙ ap (λ (n : ℕ). n + bit (c == x)) (h.numbers.claimed x ∙ ap (λ (n : ℕ). bit (nat_lt x n)) m) ∙ below_next x c);
           parts = total_grow (λ (u : Known). u.parts) views id v w 0 at (omega arith) ∙ (let p = h.numbers.parts in omega arith);
         };
         values = cells_same k ws views (set views id w) h.values
             (λ i x. let e = total_grow (λ (u : Known). times_at i x u.offers) views id v w 0 at (omega arith) in omega arith)
             (λ i x. let e = total_grow (λ (u : Known). times_at i x u.shown) views id v w 0 at (omega arith) in omega arith);
-        fits = fits_set k views id w (let f = h.fits id v at in record { pieces = f.pieces; ended = f.ended; idle = λ z. absurd (omega arith) }) h.fits;
+        fits = fits_set k views id w (let f = h.fits id v at in
+            record { pieces = f.pieces; ended = f.ended; idle = λ z. absurd (omega arith) }) h.fits;
       }
 
   -- claiming a number past the pieces ends the pass, and keeps the rule
@@ -73,18 +79,22 @@ module _ (k : Size) (c : ℕ) (ws : List ℕ) (views : List Known) (h : Holds k 
         cells = h.cells;
         numbers = record {
           counted = let e = total_grow (λ (u : Known). u.ended) views id v w 1 at refl in let n = h.numbers.counted in omega arith;
-          claimed = λ x. let m : min (c + 1) k.pieces ≡ min c k.pieces = omega arith in rw m (let e = total_grow (λ (u : Known). times x u.claims) views id v w 0 at (omega arith) in let q = h.numbers.claimed x in omega arith);
+          claimed = λ x. let m : min (c + 1) k.pieces ≡ min c k.pieces = omega arith in
+              rw m (let e = total_grow (λ (u : Known). times x u.claims) views id v w 0 at (omega arith) in
+              let q = h.numbers.claimed x in omega arith);
           parts = let e = total_grow (λ (u : Known). u.parts) views id v w 0 at (omega arith) in let p = h.numbers.parts in omega arith;
         };
         values = cells_same k ws views (set views id w) h.values
             (λ i x. let e = total_grow (λ (u : Known). times_at i x u.offers) views id v w 0 at (omega arith) in omega arith)
             (λ i x. let e = total_grow (λ (u : Known). times_at i x u.shown) views id v w 0 at (omega arith) in omega arith);
-        fits = fits_set k views id w (let f = h.fits id v at in record { pieces = f.pieces; ended = omega arith; idle = λ z. absurd (omega arith) }) h.fits;
+        fits = fits_set k views id w (let f = h.fits id v at in
+            record { pieces = f.pieces; ended = omega arith; idle = λ z. absurd (omega arith) }) h.fits;
       }
 
   -- at most all passes have ended
   total_ended_le : total (λ (u : Known). u.ended) views ≤ k.passes
-  total_ended_le = let t = total_le (λ (u : Known). u.ended) (λ (u : Known). u.parts) views (λ j u e. (h.fits j u e).ended) in let p = h.numbers.parts in omega arith
+  total_ended_le = let t = total_le (λ (u : Known). u.ended) (λ (u : Known). u.parts) views (λ j u e. (h.fits j u e).ended) in
+      let p = h.numbers.parts in omega arith
 
   -- the counter does not wrap
   pub fits_next : c + 1 < 2 ^ 64
@@ -127,14 +137,26 @@ claims k slots id v c part opn s kept homes at fits =
       with_claim v x,
       keeps,
       tt,
-      record { counter = (x + 1) % 2 ^ 64; values = ws; words = refl; holds = subst (λ (n : ℕ). Holds k n ws (set s.views id (with_claim v x))) (sym m) (claims_holds k x ws s.views h id v at lt part) },
+      record {
+        counter = (x + 1) % 2 ^ 64;
+        values = ws;
+        words = refl;
+        holds =
+            subst (λ (n : ℕ). Holds k n ws (set s.views id (with_claim v x))) (sym m) (claims_holds k x ws s.views h id v at lt part);
+      },
       (refl, inl (omega arith, refl, λ y p. let b = claims_below k x ws s.views h id v at y p in omega arith)),
     ))
     (λ ge. (
       with_end v,
       keeps,
       tt,
-      record { counter = (x + 1) % 2 ^ 64; values = ws; words = refl; holds = subst (λ (n : ℕ). Holds k n ws (set s.views id (with_end v))) (sym m) (ends_holds k x ws s.views h id v at (omega arith) opn) },
+      record {
+        counter = (x + 1) % 2 ^ 64;
+        values = ws;
+        words = refl;
+        holds =
+            subst (λ (n : ℕ). Holds k n ws (set s.views id (with_end v))) (sym m) (ends_holds k x ws s.views h id v at (omega arith) opn);
+      },
       (refl, inr (omega arith, refl)),
     )) in
     subst (λ (l : List ℕ). ClaimsAt k slots id v c s.homes s.views l) (sym kept.words) here
@@ -150,15 +172,19 @@ module _ (ws : List ℕ) (cell : ℕ) (y : ℕ) (inside : cell < length ws) wher
       (λ e. let P : ℕ → Type 0 = λ j. slice_index (set ws cell y) j ≤ slice_index ws j in subst P (sym e) (rw put_here le))
       (λ n. let e : slice_index (set ws cell y) i ≡ slice_index ws i = get_or-set_other ws cell i y 0 n in omega arith)
 
-module _ (k : Size) (c : ℕ) (ws : List ℕ) (views : List Known) (h : Holds k c ws views) (id : ℕ) (v : Known) (at : get_elem? views id ≡ some v) (cell weight : ℕ) (inside : cell < k.cells) where
+module _ (k : Size) (c : ℕ) (ws : List ℕ) (views : List Known) (h : Holds k c ws views) (id : ℕ) (v : Known)
+    (at : get_elem? views id ≡ some v) (cell weight : ℕ) (inside : cell < k.cells) where
   -- the offers of all passes after one more offer
   more_offers : (i x : ℕ) →
-      total (λ (u : Known). times_at i x u.offers) (set views id (with_offer v cell weight)) ≡ total (λ (u : Known). times_at i x u.offers) views + bit ((cell == i) && (weight == x))
-  more_offers i x = total_grow (λ (u : Known). times_at i x u.offers) views id v (with_offer v cell weight) (bit ((cell == i) && (weight == x))) at (total_push (λ (p : ℕ × ℕ). bit ((p.0 == i) && (p.1 == x))) v.offers (cell, weight))
+      total (λ (u : Known). times_at i x u.offers) (set views id (with_offer v cell weight))
+      ≡ total (λ (u : Known). times_at i x u.offers) views + bit ((cell == i) && (weight == x))
+  more_offers i x = total_grow (λ (u : Known). times_at i x u.offers) views id v (with_offer v cell weight)
+      (bit ((cell == i) && (weight == x))) at (total_push (λ (p : ℕ × ℕ). bit ((p.0 == i) && (p.1 == x))) v.offers (cell, weight))
 
   -- an offer shows nothing
   same_shown : (i x : ℕ) →
-      total (λ (u : Known). times_at i x u.shown) (set views id (with_offer v cell weight)) ≡ total (λ (u : Known). times_at i x u.shown) views
+      total (λ (u : Known). times_at i x u.shown) (set views id (with_offer v cell weight))
+      ≡ total (λ (u : Known). times_at i x u.shown) views
   same_shown i x =
       let e = total_grow (λ (u : Known). times_at i x u.shown) views id v (with_offer v cell weight) 0 at (omega arith) in omega arith
 
@@ -167,8 +193,10 @@ module _ (k : Size) (c : ℕ) (ws : List ℕ) (views : List Known) (h : Holds k 
     hit_after : (i : ℕ) → i < k.cells → slice_index (set ws cell new) i < none_yet →
         0 < total (λ (u : Known). times_at i (slice_index (set ws cell new) i) u.offers) (set views id (with_offer v cell weight))
     hit_after i lt less = dite (ℕ_discrete i cell)
-        (λ e. let P : ℕ → Type 0 = λ j. 0 < total (λ (u : Known). times_at j (slice_index (set ws cell new) j) u.offers) (set views id (with_offer v cell weight)) in
-        subst P (sym e) (let Q : ℕ → Type 0 = λ z. 0 < total (λ (u : Known). times_at cell z u.offers) (set views id (with_offer v cell weight)) in
+        (λ e. let P : ℕ → Type 0 = λ j. 0 < total (λ (u : Known). times_at j (slice_index (set ws cell new) j) u.offers)
+        (set views id (with_offer v cell weight)) in
+        subst P (sym e) (let Q : ℕ → Type 0 =
+        λ z. 0 < total (λ (u : Known). times_at cell z u.offers) (set views id (with_offer v cell weight)) in
         subst Q (sym (put_here ws cell new (rw h.cells inside))) (here (rw (e, put_here ws cell new (rw h.cells inside)) at less))))
         (λ n. let e : slice_index (set ws cell new) i ≡ slice_index ws i = get_or-set_other ws cell i new 0 n in
         let Q : ℕ → Type 0 = λ z. 0 < total (λ (u : Known). times_at i z u.offers) (set views id (with_offer v cell weight)) in
@@ -178,7 +206,8 @@ module _ (k : Size) (c : ℕ) (ws : List ℕ) (views : List Known) (h : Holds k 
         here less' = dite (dec_lt (slice_index ws cell) weight)
             (λ lt'. let e : new ≡ slice_index ws cell = omega arith in
             let Q : ℕ → Type 0 = λ z. 0 < total (λ (u : Known). times_at cell z u.offers) (set views id (with_offer v cell weight)) in
-            subst Q (sym e) (let m = more_offers cell (slice_index ws cell) in let was = h.values.hit cell inside (omega arith) in omega arith))
+            subst Q (sym e) (let m = more_offers cell (slice_index ws cell) in let was = h.values.hit cell inside (omega arith) in
+            omega arith))
             (λ ge. let e : new ≡ weight = omega arith in
             let Q : ℕ → Type 0 = λ z. 0 < total (λ (u : Known). times_at cell z u.offers) (set views id (with_offer v cell weight)) in
             subst Q (sym e) (let m = more_offers cell weight in let o = pair_same cell weight in omega arith))
@@ -191,7 +220,8 @@ module _ (k : Size) (c : ℕ) (ws : List ℕ) (views : List Known) (h : Holds k 
         let less = put_less ws cell new in_ws (omega arith) i in
         let m = more_offers i x in
         ⊎_elim
-        (λ (t : (cell ≡ i) × (weight ≡ x)). let P : ℕ × ℕ → Type 0 = λ z. (slice_index (set ws cell new) z.0 ≤ z.1) × (z.0 < k.cells) × (z.1 ≤ MOST_OFFER) in
+        (λ (t : (cell ≡ i) × (weight ≡ x)). let P : ℕ × ℕ →
+        Type 0 = λ z. (slice_index (set ws cell new) z.0 ≤ z.1) × (z.0 < k.cells) × (z.1 ≤ MOST_OFFER) in
         subst P (λ j. (t.0 j, t.1 j)) (rw (put_here ws cell new in_ws) (omega arith), inside, bound))
         (λ (z : bit ((cell == i) && (weight == x)) ≡ 0). let was : 0 < total (λ (u : Known). times_at i x u.offers) views = omega arith in
         let l = h.values.low i x was in let s = h.values.small i x was in (omega arith, s.0, s.1))
@@ -212,7 +242,8 @@ module _ (k : Size) (c : ℕ) (ws : List ℕ) (views : List Known) (h : Holds k 
         small = λ i x p. ((low_after i x p).1, (low_after i x p).2);
         shown = λ i x p. let e = same_shown i x in let m = more_offers i x in let was = h.values.shown i x (omega arith) in omega arith;
       };
-      fits = fits_set k views id w (let f = h.fits id v at in record { pieces = f.pieces; ended = f.ended; idle = λ z. absurd (omega arith) }) h.fits;
+      fits = fits_set k views id w (let f = h.fits id v at in
+          record { pieces = f.pieces; ended = f.ended; idle = λ z. absurd (omega arith) }) h.fits;
     }
 
 -- the step of an offer at these words
@@ -223,7 +254,8 @@ OffersAt k slots id v c word weight homes views words =
     × Offers (step slots word weight 0 none) (v, c) (slice_index words word) (w, carried_after c a)
 
 -- an offer of a pass is a step that the rule allows
-pub offers : (k : Size) (slots id : ℕ) (v : Known) (c : List (ℕ × Unit {0})) (cell weight : ℕ) → 0 < v.parts → cell < k.cells → weight ≤ MOST_OFFER
+pub offers : (k : Size) (slots id : ℕ) (v : Known) (c : List (ℕ × Unit {0})) (cell weight : ℕ) → 0 < v.parts → cell < k.cells →
+    weight ≤ MOST_OFFER
     → Allows (Kept k) slots id (v, c) (cell + 1) (λ n. min n weight) (Offers (step slots (cell + 1) weight 0 none) (v, c))
 unfolding OffersAt
 offers k slots id v c cell weight part inside bound s kept homes at fits =
@@ -234,7 +266,13 @@ offers k slots id v c cell weight part inside bound s kept homes at fits =
       with_offer v cell weight,
       keeps,
       tt,
-      record { counter = x; values = set ws cell (min (slice_index ws cell) weight); words = refl; holds = offers_holds k x ws s.views h id v at cell weight inside (min (slice_index ws cell) weight) refl bound part },
+      record {
+        counter = x;
+        values = set ws cell (min (slice_index ws cell) weight);
+        words = refl;
+        holds =
+            offers_holds k x ws s.views h id v at cell weight inside (min (slice_index ws cell) weight) refl bound part;
+      },
       (refl, let e : suc cell - 1 ≡ cell = omega arith in ap (λ (n : ℕ). with_offer v n weight) (sym e)),
     ) in
     subst (λ (l : ℕ × List ℕ). OffersAt k slots id v c l.0 weight s.homes s.views l.1) (λ i. (sym (add-one cell) i, sym kept.words i)) here

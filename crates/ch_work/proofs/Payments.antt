@@ -1,5 +1,6 @@
 -- One weight that is paid, and payments one after another.
-use Rattle.std.proofs.Common.{◌≡◌, ◌⊎◌, ℕ, ◌+◌, ◌≤◌, ◌==◌, ◌&&◌, List, [], ◌∷◌, ◌++◌, refl, sym, ap, ◌∙◌, subst, arith, ⊎_elim, inl, inr, Option, Some, None, IfSome, IfNone}
+use Rattle.std.proofs.Common.{◌≡◌, ◌⊎◌, ℕ, ◌+◌, ◌≤◌, ◌==◌, ◌&&◌, List, [], ◌∷◌, ◌++◌, refl, sym, ap, ◌∙◌, subst, arith, ⊎_elim, inl}
+use Rattle.std.proofs.Common.{inr, Option, Some, None, IfSome, IfNone}
 use Rattle.ch_work.specs.declared.limits.TheConstants.{MOST_OFFER}
 use Rattle.ch_work.specs.declared.board.known.Known.{Known}
 use Rattle.ch_work.specs.Counts.{bit, times_at}
@@ -62,7 +63,8 @@ offers_it v u cell weight shows = (
         (λ (z : bit ((cell == i) && (weight == y)) ≡ 0). inl (omega arith))
         (pair_cases cell weight i y);
   },
-  covers_one (with_offer u cell weight) cell weight weight (let m = more u.offers cell weight cell weight in let o = pair_same cell weight in omega arith) (omega arith),
+  covers_one (with_offer u cell weight) cell weight weight
+      (let m = more u.offers cell weight cell weight in let o = pair_same cell weight in omega arith) (omega arith),
 )
 
 -- if nothing is owed, nothing has to be paid
@@ -73,7 +75,8 @@ paid_none owed v none = (
 )
 
 -- two payments one after another pay what either owes
-pub paid_then : (P Q R : ℕ → ℕ → Type 0) (u v w : Known) → ((i x : ℕ) → R i x → P i x ⊎ Q i x) → ((i x : ℕ) → P i x → R i x) → ((i x : ℕ) → Q i x → R i x) →
+pub paid_then : (P Q R : ℕ → ℕ → Type 0) (u v w : Known) → ((i x : ℕ) → R i x → P i x ⊎ Q i x) → ((i x : ℕ) → P i x → R i x) →
+    ((i x : ℕ) → Q i x → R i x) →
     HasPaid P u v → HasPaid Q v w → HasPaid R u w
 paid_then P Q R u v w split first second h k = (
   record {

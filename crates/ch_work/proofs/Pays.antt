@@ -1,5 +1,6 @@
 -- Workers that pay what their pieces owe, and the cells at the end.
-use Rattle.std.proofs.Common.{◌≡◌, ℕ, suc, ◌+◌, ◌-◌, ◌<◌, ◌≤◌, ◌==◌, List, [], ◌∷◌, length, refl, sym, ap, ◌∙◌, subst, arith, ⊎_elim, All, map, slice_index_or, Option, Some, None}
+use Rattle.std.proofs.Common.{◌≡◌, ℕ, suc, ◌+◌, ◌-◌, ◌<◌, ◌≤◌, ◌==◌, List, [], ◌∷◌, length, refl, sym, ap, ◌∙◌, subst, arith}
+use Rattle.std.proofs.Common.{⊎_elim, All, map, slice_index_or, Option, Some, None}
 use Rattle.std.proofs.lemmas.Bool.Decides.{nat_tests}
 use mathlib.Core.Logic.{dite}
 use native.Mathlib.Decide.{dec_lt}
@@ -8,7 +9,7 @@ use Rattle.ch_work.specs.declared.board.known.Size.{Size}
 use Rattle.ch_work.specs.declared.board.Board.{Board}
 use Rattle.ch_work.specs.declared.board.Pass.{Pass}
 use Rattle.ch_work.specs.Counts.{bit, total, times, times_at}
-use Rattle.ch_work.specs.Owed.{HasOffered, OffersOwed, Covers, owed_by, Pays, Paying, IsLeastOwed, HasPaidOff}
+use Rattle.ch_work.specs.Owed.{HasOffered, OffersOwed, Covers, owed_by, Paying, IsLeastOwed, HasPaidOff}
 use Rattle.ch_work.specs.Passes.{view_of}
 use Rattle.ch_work.specs.Pieces.{pieces_of}
 use Rattle.ch_work.specs.Rule.{Settled, IsLeast}
@@ -35,7 +36,8 @@ module _ (owes : ℕ → ℕ → ℕ → ℕ → Type 0) (n p : ℕ) where
       OffersOwed (owed_by owes n p k) u w → Covers (owed_by owes n p k) w → Paying owes n p w (k + 1)
   pays_on v u w next k h lt e offers covers =
       let o : OffersOwed (owed_by owes n p k) (with_claim v k) w = subst (λ (z : Known). OffersOwed (owed_by owes n p k) z w) e offers in
-      let t : (j : ℕ) → times j w.claims ≡ times j v.claims + bit (k == j) = λ j. ap (λ (l : List ℕ). times j l) o.claims ∙ total_push (λ (y : ℕ). bit (y == j)) v.claims k in record {
+      let t : (j : ℕ) → times j w.claims ≡ times j v.claims + bit (k == j) =
+      λ j. ap (λ (l : List ℕ). times j l) o.claims ∙ total_push (λ (y : ℕ). bit (y == j)) v.claims k in record {
         pieces = o.pieces ∙ h.pieces;
         next_in = omega arith;
         last = λ q. let s : k + 1 - 1 ≡ k = omega arith in let a = t k in let b = one_same k in rw s (omega arith);
@@ -50,31 +52,17 @@ module _ (owes : ℕ → ℕ → ℕ → ℕ → Type 0) (n p : ℕ) where
         };
       }
 
-  -- a claim that finds no piece leaves all paid
-  pub pays_still : (v w : Known) → w.claims ≡ v.claims → w.offers ≡ v.offers → w.shown ≡ v.shown → Pays owes n p v → Pays owes n p w
-  pays_still v w claims offers shown h = record {
-    owed = λ i x q.
-        let o : times_at i x w.offers ≡ times_at i x v.offers = ap (λ (l : List (ℕ × ℕ)). times_at i x l) offers in
-        let a = h.owed i x (omega arith) in
-        let c : times a.0 w.claims ≡ times a.0 v.claims = ap (λ (l : List ℕ). times a.0 l) claims in
-        (a.0, (let d = a.1 in omega arith), a.2);
-    covers = λ k q i x owed.
-        let c : times k w.claims ≡ times k v.claims = ap (λ (l : List ℕ). times k l) claims in
-        let a = h.covers k (omega arith) i x owed in
-        let o : times_at i a.0 w.offers ≡ times_at i a.0 v.offers = ap (λ (l : List (ℕ × ℕ)). times_at i a.0 l) offers in
-        let s : times_at i a.0 w.shown ≡ times_at i a.0 v.shown = ap (λ (l : List (ℕ × ℕ)). times_at i a.0 l) shown in
-        (a.0, (let d = a.1 in omega arith), a.2);
-  }
-
 -- if f is positive in total, f is positive at one of the passes
 some_pass : (P : Pass → Type 0) (f : Known → ℕ) (passes : List Pass) → All P passes → 0 < total f (map view_of passes) →
     (pass : Pass) × P pass × (0 < f (view_of pass)) × ((g : Known → ℕ) → g (view_of pass) ≤ total g (map view_of passes))
 some_pass P f [] all some_one = absurd (omega arith)
 some_pass P f (q ∷ qs) all some_one = dite (dec_lt 0 (f (view_of q)))
     (λ here. (q, all 0 q (omega arith), here, λ g. omega arith))
-    (λ no. let r = some_pass P f qs (λ k d lt. all (suc k) d (omega arith)) (omega arith) in (r.0, r.1, r.2, λ g. let l = r.3 g in omega arith))
+    (λ no. let r = some_pass P f qs (λ k d lt. all (suc k) d (omega arith)) (omega arith) in
+    (r.0, r.1, r.2, λ g. let l = r.3 g in omega arith))
 
-module _ (owes : ℕ → ℕ → ℕ → ℕ → Type 0) (n p : ℕ) (board : Board) (k : Size) (passes : List Pass) (cells : List (Option ℕ)) (s : Settled k (map view_of passes) cells) (count : k.pieces ≡ pieces_of n p)
+module _ (owes : ℕ → ℕ → ℕ → ℕ → Type 0) (n p : ℕ) (board : Board) (k : Size) (passes : List Pass) (cells : List (Option ℕ))
+    (s : Settled k (map view_of passes) cells) (count : k.pieces ≡ pieces_of n p)
     (all : All (HasPaidOff owes n p board) passes) (some_one : 0 < length passes) where
   -- for each weight that a piece owes, a weight that is no greater was offered
   covered : (j i x : ℕ) → j < pieces_of n p → owed_by owes n p j i x →

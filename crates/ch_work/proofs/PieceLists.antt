@@ -1,5 +1,6 @@
 -- The lists of consecutive pieces, one after another, are a list for all items.
-use Rattle.std.proofs.Common.{◌≡◌, ℕ, zero, suc, ◌+◌, ◌-◌, ◌*◌, ◌/◌, ◌%◌, ◌<◌, ◌≤◌, min, List, [], ◌∷◌, ◌++◌, length, drop, subst, sym, arith, inl, inr}
+use Rattle.std.proofs.Common.{◌≡◌, ℕ, zero, suc, ◌+◌, ◌-◌, ◌*◌, ◌/◌, ◌%◌, ◌<◌, ◌≤◌, min, List, [], ◌∷◌, ◌++◌, length, drop, subst}
+use Rattle.std.proofs.Common.{sym, arith, inl, inr}
 use Rattle.std.specs.Prelude.{Vec}
 use Rattle.std.specs.List.{AllZip, flat_map, slice_range}
 use Rattle.std.specs.declared.alloc.Global.{Global}
@@ -62,7 +63,8 @@ all_zipped {B = B} P items n p lists count positive h =
     let start : 0 * p ≡ 0 = omega arith in
     let all : length items ≤ (0 + length lists) * p = rw (h.0, sym count) (covers n p positive) in
     let each : MeanEach (Zipped P items p) (length items) p 0 lists = subst (λ i. MeanEach (Zipped P items p) i p 0 lists) count h.1 in
-    subst (λ i. AllZip P (drop i items) (flat_map (λ (list : Vec B Global). list.items) lists)) start (zipped_from P items p 0 lists all each)
+    subst (λ i. AllZip P (drop i items) (flat_map (λ (list : Vec B Global). list.items) lists)) start
+    (zipped_from P items p 0 lists all each)
 
 -- each item is in a piece
 pub piece_of : (n p v : ℕ) → 0 < p → v < n → (k : ℕ) × (k < pieces_of n p) × (k * p ≤ v) × (v < min (k * p + p) n)

@@ -1,5 +1,6 @@
 -- Totals over views when one view changes, is split in two, or is joined to another.
-use Rattle.std.proofs.Common.{◌≡◌, ◌≢◌, ◌⊎◌, ℕ, zero, suc, ◌+◌, ◌<◌, ◌≤◌, ◌==◌, ◌&&◌, nat_lt, List, [], ◌∷◌, ◌++◌, set, refl, sym, ap, true, false, Bool, arith}
+use Rattle.std.proofs.Common.{◌≡◌, ◌≢◌, ◌⊎◌, ℕ, zero, suc, ◌+◌, ◌<◌, ◌≤◌, ◌==◌, ◌&&◌, nat_lt, List, [], ◌∷◌, ◌++◌, set, refl, sym}
+use Rattle.std.proofs.Common.{ap, true, false, Bool, arith}
 use mathlib.Core.Option.{some, some-ne-none, some-injective}
 use lib.ListN.{get_elem?}
 use Rattle.std.proofs.lemmas.Bool.Decides.{nat_tests}
@@ -52,7 +53,8 @@ module _ {A : Type 0} (f : A → ℕ) where
   total_none : (g : A → ℕ) (views : List A) → total g views ≡ 0 → ((j : ℕ) (u : A) → get_elem? views j ≡ some u → g u ≡ 0 → f u ≡ 0) →
       total f views ≡ 0
   total_none g [] e none = refl
-  total_none g (x ∷ xs) e none = let a : f x ≡ 0 = none 0 x refl (omega arith) in let b = total_none g xs (omega arith) (λ j u at z. none (suc j) u at z) in omega arith
+  total_none g (x ∷ xs) e none = let a : f x ≡ 0 = none 0 x refl (omega arith) in
+      let b = total_none g xs (omega arith) (λ j u at z. none (suc j) u at z) in omega arith
 
   -- if one view has the whole total of g, and f is 0 wherever g is, that view has the whole total of f
   pub total_whole : (g : A → ℕ) (views : List A) (i : ℕ) (v : A) → get_elem? views i ≡ some v → total g views ≡ g v →

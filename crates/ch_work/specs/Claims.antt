@@ -35,10 +35,12 @@ IsHand clean n p board hand = IsPassOf board hand.0 × (view_of hand.0 ≡ nothi
 abbrev pub HasWorked : {X R E : Type 0} → (ℕ → ℕ → X → Type 0) → (R → Type 0) → ℕ → ℕ → Board → Pass → Result (R × Vec (Done X) Global) E →
     Type 0
 HasWorked meaning clean n p board pass outcome =
-    IsPassOf board pass × IfOk outcome (λ w. HasEnded pass × ((view_of pass).claims ≡ numbers w.1.items) × All (IsDone meaning n p) w.1.items × clean w.0)
+    IsPassOf board pass × IfOk outcome
+    (λ w. HasEnded pass × ((view_of pass).claims ≡ numbers w.1.items) × All (IsDone meaning n p) w.1.items × clean w.0)
 
 -- the passes have ended, and the pieces that they claimed are done
-pub record AreGathered {X : Type 0} (meaning : ℕ → ℕ → X → Type 0) (n p : ℕ) (board : Board) (passes : List Pass) (done : List (Done X)) : Type 0 where
+pub record AreGathered {X : Type 0} (meaning : ℕ → ℕ → X → Type 0) (n p : ℕ) (board : Board) (passes : List Pass)
+    (done : List (Done X)) : Type 0 where
   pub board_of : All (IsPassOf board) passes
   pub ended : All HasEnded passes
   pub claims : (number : ℕ) → times number (numbers done) ≡ total (λ view. times number view.claims) (map view_of passes)

@@ -1,5 +1,6 @@
 -- The rule that a board keeps between any two steps.
-use Rattle.std.specs.Prelude.{◌-◌, ◌^◌, MatchOption, slice_index_or, ◌≡◌, ℕ, ◌+◌, ◌<◌, ◌≤◌, min, cond, nat_lt, List, [], ◌∷◌, length, slice_index}
+use Rattle.std.specs.Prelude.{◌-◌, ◌^◌, MatchOption, slice_index_or, ◌≡◌, ℕ, ◌+◌, ◌<◌, ◌≤◌, min, cond, nat_lt, List, [], ◌∷◌}
+use Rattle.std.specs.Prelude.{length, slice_index}
 use Rattle.std.specs.Prelude.{Option, Some, None, ◌==◌}
 use mathlib.Core.Option.{some}
 use lib.ListN.{get_elem?}
@@ -58,7 +59,8 @@ pub record Kept (k : Size) (s : State (Unit {0}) Known) : Type 0 where
 
 -- the value of a closed cell: the least weight that was offered to it, or none
 abbrev pub IsLeast : List Known → ℕ → Option ℕ → Type 0
-IsLeast views i o = MatchOption o ((x : ℕ) → total (λ v. times_at i x v.offers) views ≡ 0) (λ x. (0 < total (λ v. times_at i x v.offers) views) × ((y : ℕ) → 0 < total (λ v. times_at i y v.offers) views → x ≤ y))
+IsLeast views i o = MatchOption o ((x : ℕ) → total (λ v. times_at i x v.offers) views ≡ 0)
+    (λ x. (0 < total (λ v. times_at i x v.offers) views) × ((y : ℕ) → 0 < total (λ v. times_at i y v.offers) views → x ≤ y))
 
 -- what is known of a closed board with these cells, given the views of all its passes
 pub record Settled (k : Size) (views : List Known) (cells : List (Option ℕ)) : Type 0 where

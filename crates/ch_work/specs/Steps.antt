@@ -59,7 +59,15 @@ one_part v = nothing_known v.pieces 1
 
 -- the views of two passes together
 abbrev pub both : Known → Known → Known
-both v w = record { pieces = w.pieces; parts = v.parts + w.parts; ended = v.ended + w.ended; claims = v.claims ++ w.claims; offers = v.offers ++ w.offers; shown = v.shown ++ w.shown }
+both v w = record {
+  pieces = w.pieces;
+  parts = v.parts + w.parts;
+  ended = v.ended + w.ended;
+  claims = v.claims ++ w.claims;
+  offers =
+      v.offers ++ w.offers;
+  shown = v.shown ++ w.shown;
+}
 
 -- a new view that stands for no pass
 abbrev pub Enters : Step (Unit {0}) → Me (Unit {0}) Known → ℕ → Me (Unit {0}) Known → Type 0

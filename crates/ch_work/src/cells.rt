@@ -71,7 +71,7 @@ pub fn run_cells<R: Threads + Sync, G: Gate, J: CellJob>(
 {
     let piece = crew.plan.piece();
     let pieces = items.div_ceil(piece);
-    let workers = crew.plan.workers().min(pieces).max(1);
+    let workers = crew.plan.workers_for(pieces);
     let (board, passes) = Board::new(crew.alloc, pieces, cells, workers)?;
     let payments = Payments {
         gate: crew.gate,

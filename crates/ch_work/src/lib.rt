@@ -4,7 +4,7 @@
 //! four kinds of jobs:
 //!
 //! - A [`Job`] makes a value of each piece ([`run_pieces`]).
-//! - A [`RoomJob`] does so in a room that each worker has ([`run_pieces_with_rooms`]).
+//! - A [`RoomJob`] does so in a room that each worker has ([`run_pieces_in`]).
 //! - A [`ListJob`] makes a value of each item of a list ([`run_list`]).
 //! - A [`CellJob`] owes weights to the cells of a board, and [`run_cells`] gives the least weight owed to
 //!   each cell.
@@ -53,6 +53,6 @@ pub use list_job::{ListJob, run_list, run_list_in};
 pub use lists::{joined, length_of};
 pub use pair::both;
 pub use paying::pay;
-pub use pieces::{run_pieces, run_pieces_in, run_pieces_with_rooms};
+pub use pieces::{run_pieces, run_pieces_in};
 pub use plan::Plan;
 pub use test_gates::{CountingGate, MeetingGate};

@@ -58,7 +58,7 @@ pub trait ListJob: Sync {
 }
 
 /// Returns the values of the items, in their order. Workers share the items as
-/// [`run_pieces_with_rooms`](crate::run_pieces_with_rooms) says for pieces, each with a room of its own.
+/// [`run_pieces_in`] says for pieces, each with a room of its own.
 ///
 /// # Errors
 /// `AllocError` if the call, a room or any value is refused memory. All workers are joined before it
@@ -95,8 +95,6 @@ pub fn run_list_in<R: Threads + Sync, G: Gate, J: ListJob>(
     ensures clean { All (J.clean job.now) rooms.new.items }
 {
     let pieces = ListPieces { job, items };
-    // This call tells the proof that a piece has at least one item.
-    let _ = crew.plan.piece();
     let lists = run_pieces_in(crew, items.len() as u32, rooms, &pieces)?;
     joined(crew.alloc, lists)
 }

@@ -17,7 +17,7 @@ pub fn both<R: Threads, G, A: Send, B, F: FnOnce() -> A + Send, H: FnOnce() -> B
     ensures first { F.post first result.0 }
     ensures second { H.post second result.1 }
 {
-    if crew.plan.workers() < 2 {
+    if !crew.plan.shares(2, 2) {
         let one = first();
         return (one, second());
     }

@@ -1,11 +1,13 @@
 //! Jobs done in pieces, by one worker or several.
 ghost use Rattle.std.specs.Prelude.{◌≡◌, All, IfOk};
 ghost use Rattle.ch_work.specs.Pieces.{pieces_of, AreValues};
+ghost use Rattle.ch_work.specs.Plan.{IsWithinLimits};
 
+use crate::board::Board;
 use crate::crew::Crew;
 use crate::gate::Gate;
 use crate::job::{Job, RoomJob, WithoutRoom};
-use crate::shared::values_by_workers;
+use crate::shared::{gathered, hands_of, in_order, worked_off_by_all};
 use crate::work::Work;
 use std::alloc::AllocError;
 use std::thread::Threads;
@@ -30,28 +32,11 @@ pub fn run_pieces<R: Threads + Sync, G: Gate, J: Job>(
     requires { items ≡ J.size job.now }
     ensures { IfOk result (λ v. AreValues (J.meaning job.now) items crew.now.plan.piece 0 (pieces_of items crew.now.plan.piece) v.items) }
 {
-    run_pieces_with_rooms(crew, items, &WithoutRoom { job })
-}
-
-/// Like [`run_pieces`], for a job whose pieces are done in a room. Each worker makes its room before its
-/// first piece. The rooms are dropped when the call ends.
-///
-/// # Errors
-/// `AllocError` if the call, a room or any piece is refused memory. All workers are joined before it
-/// returns.
-pub fn run_pieces_with_rooms<R: Threads + Sync, G: Gate, J: RoomJob>(
-    crew: &Crew<'_, R, G>,
-    items: u32,
-    job: &J,
-) -> Result<Vec<J::Out>, AllocError>
-    requires { items ≡ J.size job.now }
-    ensures { IfOk result (λ v. AreValues (J.meaning job.now) items crew.now.plan.piece 0 (pieces_of items crew.now.plan.piece) v.items) }
-{
     let mut rooms = Vec::new(crew.alloc);
-    run_pieces_in(crew, items, &mut rooms, job)
+    run_pieces_in(crew, items, &mut rooms, &WithoutRoom { job })
 }
 
-/// Like [`run_pieces_with_rooms`], but the rooms stay in `rooms` for further calls.
+/// Like [`run_pieces`], for a job whose pieces are done in a room, which stays in `rooms` for further calls.
 ///
 /// Each worker takes one of the rooms, and makes a new one only if none is left. After `Ok` all rooms are
 /// in `rooms` and clean, the new ones too. A further call with as many workers makes none.
@@ -69,6 +54,7 @@ pub fn run_pieces_in<R: Threads + Sync, G: Gate, J: RoomJob>(
     requires clean { All (J.clean job.now) rooms.old.items }
     ensures values { IfOk result (λ v. AreValues (J.meaning job.now) items crew.now.plan.piece 0 (pieces_of items crew.now.plan.piece) v.items) }
     ensures clean { All (J.clean job.now) rooms.new.items }
+    ensures limits { IsWithinLimits crew.now.plan }
 {
     let work = Work {
         gate: crew.gate,
@@ -76,9 +62,14 @@ pub fn run_pieces_in<R: Threads + Sync, G: Gate, J: RoomJob>(
         items,
         piece: crew.plan.piece(),
     };
-    let workers = crew.plan.workers().min(work.count());
-    if workers <= 1 {
+    let workers = crew.plan.workers_for(work.count());
+    if workers == 1 {
         return work.values(crew.alloc, rooms);
     }
-    values_by_workers(crew.rt, crew.alloc, &work, workers, rooms)
+    let (board, passes) = Board::new(crew.alloc, work.count(), 0, workers)?;
+    let hands = hands_of(crew.alloc, &work, &board, passes, rooms)?;
+    let worked = worked_off_by_all(crew.rt, crew.alloc, &work, &board, hands)?;
+    let (passes, done) = gathered(crew.alloc, &work, &board, worked, rooms)?;
+    board.close(passes)?;
+    in_order(crew.alloc, &work, done)
 }

@@ -1,5 +1,6 @@
 //! How work is cut.
-ghost use Rattle.std.specs.Prelude.{◌≡◌};
+ghost use Rattle.std.specs.Prelude.{◌≡◌, ◌↔◌, ◌<◌, ◌≤◌, max, min, IsTrue};
+ghost use Rattle.ch_work.specs.declared.limits.TheConstants.{MOST_WORKERS};
 ghost use Rattle.ch_work.specs.Pieces.{pieces_of};
 ghost use Rattle.ch_work.specs.Plan.{IsWithinLimits};
 
@@ -60,7 +61,8 @@ impl Plan {
 
     /// Returns the number of pieces that `items` items are cut into.
     pub fn pieces(&self, items: u32) -> u32
-        ensures { result ≡ pieces_of items self.now.piece }
+        ensures pieces { result ≡ pieces_of items self.now.piece }
+        ensures limits { IsWithinLimits self.now }
     {
         let Plan { piece, .. } = *self;
         items.div_ceil(piece)
@@ -71,5 +73,27 @@ impl Plan {
         ensures { result ≡ self.now.wide }
     {
         self.wide
+    }
+    /// Whether the workers share a job of `items` items. They do if there are several workers, and at least
+    /// `least` items. Otherwise the caller does the job alone.
+    pub fn shares(&self, items: usize, least: usize) -> bool
+        ensures { IsTrue result ↔ (1 < self.now.workers) × (least ≤ items) }
+    {
+        let Plan { workers, .. } = *self;
+        workers > 1 && items >= least
+    }
+
+    /// Returns the number of workers for a job of `pieces` pieces. No worker is without a piece, but one is
+    /// always there: the caller itself.
+    pub fn workers_for(&self, pieces: u32) -> u32
+        ensures workers { result ≡ max 1 (min self.now.workers pieces) }
+        ensures limits { (1 ≤ result) × (result ≤ MOST_WORKERS) }
+    {
+        let Plan { workers, .. } = *self;
+        if self.shares(pieces as usize, 2) {
+            workers.min(pieces)
+        } else {
+            1
+        }
     }
 }

@@ -16,33 +16,8 @@ use std::alloc::{AllocError, Global};
 use std::thread;
 use std::thread::Threads;
 
-/// Returns the values of all pieces in order, made by `workers` workers. Each worker takes one of the
-/// rooms, or makes a new one if none is left.
-///
-/// The rooms are in `rooms` afterwards. If a worker was refused memory, its room and the rooms of the
-/// workers after it are dropped.
-pub(crate) fn values_by_workers<R: Threads + Sync, G: Gate, J: RoomJob>(
-    rt: &R,
-    alloc: Global,
-    work: &Work<'_, G, J>,
-    workers: u32,
-    rooms: &mut Vec<J::Room>,
-) -> Result<Vec<J::Out>, AllocError>
-    requires workers { (0 < workers) × (workers ≤ MOST_WORKERS) }
-    requires clean { All (J.clean work.now.job.now) rooms.old.items }
-    ensures values { IfOk result (λ v. AreValues (J.meaning work.now.job.now) work.now.items work.now.piece 0 (pieces_of work.now.items work.now.piece) v.items) }
-    ensures clean { All (J.clean work.now.job.now) rooms.new.items }
-{
-    let (board, passes) = Board::new(alloc, work.count(), 0, workers)?;
-    let hands = hands_of(alloc, work, &board, passes, rooms)?;
-    let worked = worked_off_by_all(rt, alloc, work, &board, hands)?;
-    let (passes, done) = gathered(alloc, work, &board, worked, rooms)?;
-    board.close(passes)?;
-    in_order(alloc, work, done)
-}
-
 /// Pairs each pass with a room while there are rooms, and the other passes with none.
-fn hands_of<G: Gate, J: RoomJob>(
+pub(crate) fn hands_of<G: Gate, J: RoomJob>(
     alloc: Global,
     work: &Work<'_, G, J>,
     board: &Board,
@@ -63,7 +38,7 @@ fn hands_of<G: Gate, J: RoomJob>(
 }
 
 /// Returns the pass of each worker and what it did, in the order of the passes.
-fn worked_off_by_all<R: Threads + Sync, G: Gate, J: RoomJob>(
+pub(crate) fn worked_off_by_all<R: Threads + Sync, G: Gate, J: RoomJob>(
     rt: &R,
     alloc: Global,
     work: &Work<'_, G, J>,
@@ -81,13 +56,17 @@ fn worked_off_by_all<R: Threads + Sync, G: Gate, J: RoomJob>(
     )
         requires { IsHand (J.clean work.now.job.now) work.now.items work.now.piece board.now hand }
         ensures { HasWorked (J.meaning work.entry.now.job.now) (J.clean work.entry.now.job.now) work.entry.now.items work.entry.now.piece board.entry.now result.0 result.1 }
-    { work.worked_off(alloc, board, hand.0, hand.1) };
+    {
+        let (mut pass, given) = hand;
+        let done = work.claimed(alloc, board, &mut pass, given);
+        (pass, done)
+    };
     thread::map_vec(rt, hands, &by_hand)
 }
 
 /// Returns all passes, and the pieces that they did. The rooms go back to `rooms`, up to the first worker
 /// that was refused memory.
-fn gathered<G: Gate, J: RoomJob>(
+pub(crate) fn gathered<G: Gate, J: RoomJob>(
     alloc: Global,
     work: &Work<'_, G, J>,
     board: &Board,
@@ -113,7 +92,7 @@ fn gathered<G: Gate, J: RoomJob>(
 }
 
 /// Returns the values of the pieces, in the order of their numbers.
-fn in_order<G: Gate, J: RoomJob>(
+pub(crate) fn in_order<G: Gate, J: RoomJob>(
     alloc: Global,
     work: &Work<'_, G, J>,
     done: Vec<Done<J::Out>>,

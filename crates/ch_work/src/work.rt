@@ -72,28 +72,10 @@ impl<'a, G: Gate, J: RoomJob> Work<'a, G, J> {
         Ok(values)
     }
 
-    /// Does the pieces that a pass claims. Returns the pass, and the room with the pieces that were done.
+    /// Claims pieces until none is left, and does them. Returns the room and the pieces.
     ///
     /// The worker uses the given room, or makes a new one.
-    pub(crate) fn worked_off(
-        &self,
-        alloc: Global,
-        board: &Board,
-        pass: Pass,
-        given: Option<J::Room>,
-    ) -> (Pass, Result<(J::Room, Vec<Done<J::Out>>), AllocError>)
-        requires board { IsPassOf board.now pass }
-        requires fresh { view_of pass ≡ nothing_known (pieces_of self.now.items self.now.piece) 1 }
-        requires room { IfSome given (J.clean self.now.job.now) }
-        ensures { HasWorked (J.meaning self.now.job.now) (J.clean self.now.job.now) self.now.items self.now.piece board.now result.0 result.1 }
-    {
-        let mut pass = pass;
-        let done = self.claimed(alloc, board, &mut pass, given);
-        (pass, done)
-    }
-
-    /// Claims pieces until none is left, and does them in a room. Returns the room and the pieces.
-    fn claimed(
+    pub(crate) fn claimed(
         &self,
         alloc: Global,
         board: &Board,

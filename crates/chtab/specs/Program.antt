@@ -35,7 +35,8 @@ abbrev pub CanCountWrites : {O : Type 0} → (failed idle : O → ℕ) → O →
 CanCountWrites failed idle output = CanCountOneMore (failed output) × CanCountOneMore (idle output)
 
 -- an output took a text: the whole text, or its first bytes up to a write that failed. `takes` says what one write may do
-pub record IsWritten {O : Type 0} (takes : O → List ℕ → Result ℕ DeviceFault → O → Type 0) (text : List ℕ) (old new : O) (result : Result Unit ℕ) : Type 0 where
+pub record IsWritten {O : Type 0} (takes : O → List ℕ → Result ℕ DeviceFault → O → Type 0) (text : List ℕ) (old new : O)
+    (result : Result Unit ℕ) : Type 0 where
   pub whole : OnOk result (Took takes old text new)
   pub part : IfErr result (λ count. TookUntilFault takes old text count new)
 
@@ -59,11 +60,15 @@ AnswersFault takes LineFault.NoMemory old new answer = (answer ≡ Err (ProgramF
 
 -- the words give a line, and the answer is the answer of its run. Or the words have a fault, and the program answers it. Then it opens no
 -- file, and the requests are unchanged
-abbrev pub IsAnswer : {F I J O : Type 0} → (F → List ℕ → Result I OpenFault → F → Type 0) → (F → I → F → Type 0) → (gives : I → List ℕ → Result ℕ DeviceFault → I → Type 0) → (I → ℕ)
-    → (gives_requests : J → List ℕ → Result ℕ DeviceFault → J → Type 0) → (J → ℕ) → (takes : O → List ℕ → Result ℕ DeviceFault → O → Type 0) → (O → ℕ) → (O → ℕ) → List (List ℕ) → F → F → J → J → O → O → Result Unit ProgramFault → Type 0
+abbrev pub IsAnswer : {F I J O : Type 0} → (F → List ℕ → Result I OpenFault → F → Type 0) → (F → I → F → Type 0) →
+    (gives : I → List ℕ → Result ℕ DeviceFault → I → Type 0) → (I → ℕ)
+    → (gives_requests : J → List ℕ → Result ℕ DeviceFault → J → Type 0) → (J → ℕ) →
+    (takes : O → List ℕ → Result ℕ DeviceFault → O → Type 0) → (O → ℕ) → (O → ℕ) → List (List ℕ) → F → F → J → J → O → O →
+    Result Unit ProgramFault → Type 0
 IsAnswer opens closes gives origin gives_requests failed_requests takes failed idle words files files' requests requests' old new answer =
     ((line : Line) × (result : Result Unit RunFault) × IsReadFrom words line
-    × IsRunOf opens closes gives origin gives_requests failed_requests takes failed idle line files files' requests requests' old new result × (answer ≡ answer_of result))
+    × IsRunOf opens closes gives origin gives_requests failed_requests takes failed idle line files files' requests requests' old
+    new result × (answer ≡ answer_of result))
     ⊎ ((fault : LineFault) × IsFaultOf words fault × (files' ≡ files) × (requests' ≡ requests) × AnswersFault takes fault old new answer)
 
 -- the errors took this text, or its first bytes if a write failed

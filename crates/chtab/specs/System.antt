@@ -25,4 +25,5 @@ AreWords (Ok told) (Ok words) = map string_bytes words.items ≡ drop 1 (map str
 AreWords (Ok told) (Err fault) = ⊥
 AreWords (Err error) (Ok words) = ⊥
 AreWords (Err error) (Err fault) =
-    ((error_kind error ≡ OutOfMemory) × (fault ≡ LineFault.NoMemory)) ⊎ ((error_kind error ≢ OutOfMemory) × IsRefusedFor (codes "chtab: a word is not UTF-8\n") fault)
+    ((error_kind error ≡ OutOfMemory) × (fault ≡ LineFault.NoMemory))
+    ⊎ ((error_kind error ≢ OutOfMemory) × IsRefusedFor (codes "chtab: a word is not UTF-8\n") fault)

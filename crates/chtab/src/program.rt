@@ -66,7 +66,7 @@ pub fn run<R: Threads + Sync, F: Files, J: Input, O: Output, E: Output, G: Watch
     end(errors, &answer, output.is_closed())
 }
 
-/// Answers the words, or answers why there are none.
+/// Runs the line that the words give, or answers their fault, or why there are no words.
 fn answer_to<R: Threads + Sync, F: Files, J: Input, O: Output, G: Watch>(
     system: &System<'_, R>,
     files: &mut F,
@@ -81,27 +81,12 @@ fn answer_to<R: Threads + Sync, F: Files, J: Input, O: Output, G: Watch>(
         (map string_bytes list.items) files.old files.new requests.old requests.new output.old output.new result)
         (λ fault. (files.new ≡ files.old) × (requests.new ≡ requests.old) × AnswersFault O.write_gives fault output.old output.new result) }
 {
-    match words {
-        Ok(words) => answer_words(system, files, requests, output, &words, gate),
-        Err(fault) => answer_fault(output, fault),
-    }
-}
-
-/// Runs the line that the words give, or answers their fault.
-fn answer_words<R: Threads + Sync, F: Files, J: Input, O: Output, G: Watch>(
-    system: &System<'_, R>,
-    files: &mut F,
-    requests: &mut J,
-    output: &mut O,
-    words: &[String],
-    gate: &G,
-) -> Result<(), ProgramFault>
-    requires output { CanCountWrites O.failed O.idle output.old }
-    ensures { IsAnswer F.opens F.closes F.Input.read_gives F.Input.origin J.read_gives J.failed O.write_gives O.failed O.idle
-        (map string_bytes words.now) files.old files.new requests.old requests.new output.old output.new result }
-{
     let System { rt, alloc } = *system;
-    match line_of(alloc, words) {
+    let words = match words {
+        Ok(words) => words,
+        Err(fault) => return answer_fault(output, fault),
+    };
+    match line_of(alloc, &words) {
         Ok(line) => {
             gate.begin(line.progress);
             program_answer(run_line(rt, alloc, files, requests, output, &line, gate))

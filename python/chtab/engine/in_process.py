@@ -29,6 +29,8 @@ if TYPE_CHECKING:
 TOGETHER, WIDTH = 1 << 13, 1 << 13
 # The most routes that one call gives, and how many nodes of routes have room at first.
 ROUTES, ROOM = 1 << 11, 1 << 16
+# In a network of fewer nodes than this so many searches take as long as one in a large network.
+SMALL, SEARCHES = 1 << 16, 1 << 4
 # No places: keeping these frees the places that a handle has.
 NO_PLACES = numpy.zeros(0, numpy.uint32)
 
@@ -219,7 +221,7 @@ class InProcess:
     def call(self, searches: int, call: Callable[..., Value], *words: Any) -> Value:
         """Returns the value of a call that makes that many searches, if there is time left for it."""
         self.of_thread.deadline.milliseconds()
-        return interruptible(searches, call, *words)
+        return interruptible(searches if self.nodes >= SMALL else searches // SEARCHES, call, *words)
 
     def few_distances(self, sources: Sequence[int], targets: Sequence[int]) -> list[int] | None:
         """The distances of at most `library.FEW` pairs of nodes from 1 to `nodes`, given as two lists; None if this needs arrays."""

@@ -25,6 +25,8 @@ FAR = numpy.iinfo(numpy.int64).max
 NOWHERE = 1 << 61
 # How many totals of a table are compared together.
 CELLS = 1 << 20
+# Up to this many nodes of spots are asked for as they are, though a node may occur twice: to find that out takes longer than a search.
+FEW = 128
 
 
 def ways_between(starts: Spots, ends: Spots) -> tuple[Integers, Integers]:
@@ -75,12 +77,15 @@ class Traces(NamedTuple):
 
 class Pieces(NamedTuple):
     """What legs lead along, one leg after the other: roads from one part to another, and their weights. An arc that leads along no road has
-    the road `NONE`. Those of leg k are from `firsts[k]` to before `firsts[k + 1]`."""
+    the road `NONE`. Those of leg k are from `firsts[k]` to before `firsts[k + 1]`. `arcs` has the arc of each, `NONE` if it is a part of a road at
+    the start or the end of a leg, and `heads` the node at its end, 0 at the end of a leg."""
 
     roads: Integers
     starts: Floats
     ends: Floats
     weights: Integers
+    arcs: Integers
+    heads: Integers
     firsts: Integers
 
 
@@ -123,18 +128,21 @@ class Legs:
         firsts = numpy.cumsum(counts) - counts
         lasts, walked = (firsts + counts - 1)[is_walk], which[is_walk]
         roads, weights = numpy.empty((2, counts.sum()), numpy.int64)
+        own, heads = numpy.full(len(roads), NONE), numpy.zeros(len(roads), numpy.int64)
         starts, ends = numpy.empty((2, len(roads)))
         roads[firsts], starts[firsts] = self.starts.roads[which], self.starts.parts[which]
         ends[firsts] = numpy.where(is_walk, self.leaves[which], self.ends.parts[which])
         weights[firsts] = numpy.where(is_walk, self.out_weights[which], self.weights[which])
         roads[lasts], starts[lasts], ends[lasts] = self.ends.roads[walked], self.arrives[walked], self.ends.parts[walked]
         weights[lasts] = self.in_weights[walked]
+        heads[firsts] = self.first_nodes[which]
         between, along = ranges(firsts + 1, arc_counts), ranges(self.walks.firsts[which], arc_counts)
         arcs = self.arcs[along]
         roads[between], weights[between] = self.roads.road_of[arcs], self.walks.arc_weights[along]
         starts[between] = self.roads.is_back[arcs]
         ends[between] = ~self.roads.is_back[arcs]
-        return Pieces(roads, starts, ends, weights, numpy.append(firsts, len(roads)))
+        own[between], heads[between] = arcs, self.walks.heads[along]
+        return Pieces(roads, starts, ends, weights, own, heads, numpy.append(firsts, len(roads)))
 
     def traces(self, which: Sequence[int]) -> Traces:
         """The lines of some legs, each of which has a way."""
@@ -183,12 +191,8 @@ def best_ways(trips: Trips, starts: Spots, ends: Spots) -> tuple[Integers, Integ
 
 def table_ways(trips: Trips, starts: Spots, ends: Spots, within: int | None = None) -> tuple[Integers, Integers]:
     """The least weights of the ways from each spot to each (k, l), `FAR` where there is none (of at most `within`), and which way this is."""
-    (outs, out_place), (ins, in_place) = (numpy.unique(nodes, return_inverse=True) for nodes in (starts.out_nodes, ends.in_nodes))
-    is_out, is_in = outs > 0, ins > 0
-    found = trips.queries.table(outs[is_out], ins[is_in], within)
-    nodes = numpy.full((len(outs), len(ins)), NOWHERE)
-    nodes[numpy.ix_(is_out, is_in)] = numpy.where(found >= 0, found, NOWHERE)
-    out_place, in_place = out_place.reshape(starts.out_nodes.shape), in_place.reshape(ends.in_nodes.shape)
+    (outs, out_place), (ins, in_place) = different_nodes(starts.out_nodes), different_nodes(ends.in_nodes)
+    nodes = node_weights(trips, outs, ins, within)
     best, ways = numpy.empty((2, len(starts), len(ends)), numpy.int64)
     # Where turns are restricted few roads have nodes beside the first one of each end.
     out, into = ((column > 0).any(axis=0).nonzero()[0] for column in (starts.out_nodes, ends.in_nodes))
@@ -202,7 +206,28 @@ def table_ways(trips: Trips, starts: Spots, ends: Spots, within: int | None = No
         totals += behind
         best[rows], ways[rows] = least_of(totals, len(ends), len(out), numbers)
     stay_on_roads(trips.roads, starts, ends, best, ways)
-    return numpy.where(best <= (NOWHERE // 2 if within is None else within), best, FAR), ways
+    best[best > (NOWHERE // 2 if within is None else within)] = FAR
+    return best, ways
+
+
+def different_nodes(nodes: Integers) -> tuple[Integers, Integers]:
+    """The nodes of spots (n, m) in one column, where each occurs once if there are many, and the place of each node there (n, m)."""
+    if nodes.size <= FEW:
+        return nodes.reshape(-1), numpy.arange(nodes.size).reshape(nodes.shape)
+    found, places = numpy.unique(nodes, return_inverse=True)
+    return found, places.reshape(nodes.shape)
+
+
+def node_weights(trips: Trips, outs: Integers, ins: Integers, within: int | None) -> Integers:
+    """The weights from each node of one column to each of another, `NOWHERE` if there is no way, or if one of them is missing."""
+    is_out, is_in = outs > 0, ins > 0
+    if is_out.all() and is_in.all():
+        found = trips.queries.table(outs, ins, within)
+    else:
+        found = numpy.full((len(outs), len(ins)), -1)
+        found[numpy.ix_(is_out, is_in)] = trips.queries.table(outs[is_out], ins[is_in], within)
+    found[found < 0] = NOWHERE
+    return found
 
 
 def least_of(totals: Integers, width: int, outs: int, numbers: Integers) -> tuple[Integers, Integers]:
@@ -212,8 +237,7 @@ def least_of(totals: Integers, width: int, outs: int, numbers: Integers) -> tupl
     if not (height and width and len(numbers)):
         return numpy.full((1, 1), FAR), numpy.zeros((1, 1), numpy.int64)
     cells = totals.reshape(height, outs, width, -1).transpose(1, 3, 0, 2).reshape(len(numbers), height, width)
-    which = cells.argmin(axis=0)
-    return numpy.take_along_axis(cells, which[None], 0)[0], numbers[which]
+    return cells.min(axis=0), numbers.take(cells.argmin(axis=0))
 
 
 def stay_on_roads(roads: Roads, starts: Spots, ends: Spots, best: Integers, ways: Integers) -> None:
@@ -267,19 +291,20 @@ class Between(NamedTuple):
             raise unasked()
 
 
-def between_nodes(starts: Spots, ends: Spots, best: Integers, ways: Integers) -> Between:
-    """What these ways from spot to spot, of these weights, lead over."""
-    legs, half, width = numpy.arange(len(best)), starts.out_nodes.shape[1] // 2, ends.in_nodes.shape[1]
+def between_nodes(starts: Spots, rows: Integers, ends: Spots, columns: Integers, best: Integers, ways: Integers) -> Between:
+    """What these ways from some of the spots `starts` to as many of `ends`, of these weights, lead over."""
+    half, width = starts.out_nodes.shape[1] // 2, ends.in_nodes.shape[1]
     is_walk = (best < FAR) & (ways < starts.out_nodes.shape[1] * width)
-    outs, intos = numpy.divmod(numpy.where(is_walk, ways, 0), width)
-    pairs = numpy.column_stack([starts.out_nodes[legs, outs], ends.in_nodes[legs, intos]])
+    outs, intos = numpy.divmod(ways if is_walk.all() else numpy.where(is_walk, ways, 0), width)
+    pairs = numpy.column_stack([starts.out_nodes[rows, outs], ends.in_nodes[columns, intos]])
     sides = (outs >= half).astype(int), (2 * intos >= width).astype(int)
-    return Between(is_walk, *sides, pairs, starts.out_weights[legs, outs], ends.in_weights[legs, intos])
+    return Between(is_walk, *sides, pairs, starts.out_weights[rows, outs], ends.in_weights[columns, intos])
 
 
 def walked(trips: Trips, starts: Spots, ends: Spots, best: Integers, ways: Integers) -> Walked:
     """The walks of these ways from spot to spot, of these weights. A route that weighs something else is no answer to what was asked."""
-    over = between_nodes(starts, ends, best, ways)
+    legs = numpy.arange(len(best))
+    over = between_nodes(starts, legs, ends, legs, best, ways)
     counts, arcs = numpy.zeros(len(best), numpy.int64), numpy.zeros(0, numpy.int64)
     between = numpy.zeros(len(best), numpy.int64)
     if over.is_walk.any():
@@ -293,28 +318,32 @@ def walked(trips: Trips, starts: Spots, ends: Spots, best: Integers, ways: Integ
 
 def legs_by(trips: Trips, starts: Spots, ends: Spots, best: Integers, ways: Integers) -> Legs:
     """The legs by these ways, of these weights."""
-    roads, found = trips.roads, walked(trips, starts, ends, best, ways)
+    roads, found, legs = trips.roads, walked(trips, starts, ends, best, ways), numpy.arange(len(best))
     weights, arcs = numpy.where(best < FAR, best, NO_WALK), found.arcs
     walks = Walks(weights, numpy.append(0, numpy.cumsum(found.counts)), roads.tails[arcs], roads.heads[arcs], roads.weights[arcs])
-    metres = metres_of(roads, starts, ends, found, found.sums(roads.nanometres[arcs].view(numpy.int64)) * NANOMETRE)
+    metres = metres_of(roads, starts, legs, ends, legs, found, found.sums(roads.nanometres[arcs].view(numpy.int64)) * NANOMETRE)
     return Legs(
         roads, starts, ends, weights, found.is_walk, found.first_nodes, walks, arcs, found.leaves, found.arrives, found.out_weights, found.in_weights, metres
     )
 
 
-def metres_by(trips: Trips, starts: Spots, ends: Spots, best: Integers, ways: Integers) -> Floats:
-    """How long these ways are."""
-    over = between_nodes(starts, ends, best, ways)
-    between, lengths = numpy.zeros(len(best), numpy.int64), numpy.zeros(len(best), numpy.uint64)
-    if over.is_walk.any():
-        between[over.is_walk], lengths[over.is_walk] = trips.queries.sums(over.pairs[over.is_walk], trips.roads.nanometres, trips.roads.arcs_of)
+def metres_by(trips: Trips, starts: Spots, rows: Integers, ends: Spots, columns: Integers, best: Integers, ways: Integers) -> Floats:
+    """How long these ways from some of the spots `starts` to as many of `ends` are."""
+    over = between_nodes(starts, rows, ends, columns, best, ways)
+    if over.is_walk.all():
+        between, lengths = trips.queries.sums(over.pairs, trips.roads.nanometres, trips.roads.arcs_of)
+    else:
+        between, lengths = numpy.zeros(len(best), numpy.int64), numpy.zeros(len(best), numpy.uint64)
+        if over.is_walk.any():
+            between[over.is_walk], lengths[over.is_walk] = trips.queries.sums(over.pairs[over.is_walk], trips.roads.nanometres, trips.roads.arcs_of)
     over.see_that_right(between, best)
-    return metres_of(trips.roads, starts, ends, over, lengths * NANOMETRE)
+    return metres_of(trips.roads, starts, rows, ends, columns, over, lengths * NANOMETRE)
 
 
-def metres_of(roads: Roads, starts: Spots, ends: Spots, found: Walked | Between, middle: Floats) -> Floats:
-    """The lengths of legs, whose walks are `middle` metres long. The length of a leg without a way has no meaning."""
-    of_road = roads.lines.metres
-    first = abs(found.leaves - starts.parts) * of_road[starts.roads]
-    last = abs(found.arrives - ends.parts) * of_road[ends.roads]
-    return numpy.where(found.is_walk, first + middle + last, abs(ends.parts - starts.parts) * of_road[starts.roads])
+def metres_of(roads: Roads, starts: Spots, rows: Integers, ends: Spots, columns: Integers, found: Walked | Between, middle: Floats) -> Floats:
+    """The lengths of legs from some of the spots `starts` to as many of `ends`, whose walks are `middle` metres long. The length of a leg without a
+    way has no meaning."""
+    of_first, of_last = roads.lines.metres[starts.roads], roads.lines.metres[ends.roads]
+    first, last = starts.parts[rows], ends.parts[columns]
+    metres = abs(found.leaves - first) * of_first[rows] + middle + abs(found.arrives - last) * of_last[columns]
+    return metres if found.is_walk.all() else numpy.where(found.is_walk, metres, abs(last - first) * of_first[rows])

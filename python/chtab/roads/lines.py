@@ -22,7 +22,7 @@ STEEPEST = 89.9
 # A place is on a line if it is at most this far from it in the plane, which is 6 mm at the equator.
 ON_LINE = 1e-9
 # Pieces of lines whose middles are nearest to a place, among which its nearest step is looked for first.
-NEIGHBOURS = 12
+NEIGHBOURS = 16
 
 
 def mercator(longitudes: ArrayLike, latitudes: ArrayLike) -> Floats:

@@ -92,6 +92,8 @@ class Row:
     def __init__(self, row: Integers) -> None:
         counts, self.micros, ranges, self.refusals, self.states = numpy.split(row, numpy.cumsum(PARTS)[:-1])
         self.counts, self.ranges = counts.reshape(len(SERVICES), -1), ranges.reshape(len(SERVICES), -1)
+        # Views on the same numbers, one of which is changed in a fifth of the time there.
+        self.each_count, self.each_micros, self.each_range = counts.data, self.micros.data, ranges.data
         self.services, self.statuses, self.reasons, self.names = (
             {name: place for place, name in enumerate(names)} for names in (SERVICES, STATUSES, REASONS, STATES)
         )
@@ -99,9 +101,9 @@ class Row:
     def add(self, service: str, status: int, seconds: float) -> None:
         """Counts an answer."""
         place = self.services[service]
-        self.counts[place, self.statuses.get(status, len(STATUSES))] += 1
-        self.micros[place] += int(seconds * 1e6)
-        self.ranges[place, bisect.bisect_left(EDGES, seconds)] += 1
+        self.each_count[place * (len(STATUSES) + 1) + self.statuses.get(status, len(STATUSES))] += 1
+        self.each_micros[place] += int(seconds * 1e6)
+        self.each_range[place * (len(EDGES) + 1) + bisect.bisect_left(EDGES, seconds)] += 1
 
     def refuse(self, reason: str) -> None:
         """Counts a refusal."""

@@ -9,9 +9,11 @@ from __future__ import annotations
 import asyncio
 import collections
 import concurrent.futures
+import functools
+import math
 import time
 from collections.abc import Callable, Sequence
-from dataclasses import dataclass, field
+from dataclasses import dataclass
 from typing import Any, NamedTuple, TypeAlias
 
 from chtab.errors import ProgramFault
@@ -19,9 +21,11 @@ from chtab.errors import ProgramFault
 
 # A call that answers a list of questions.
 Call: TypeAlias = Callable[[list[Any]], Sequence[Any]]
-# The CPU seconds in which the loop may answer questions itself, while it does nothing else; and the weight of the last answers in the
-# estimate for the next ones.
-MOMENT, LATEST = 0.02, 0.25
+# The CPU seconds in which the loop may answer questions itself, while it does nothing else; the part of them for which questions are taken
+# together, because the next ones may take longer; and the weight of the last answers in the estimate for the next ones.
+MOMENT, MARGIN, LATEST = 0.02, 0.5, 0.25
+# By how much more may be done together at most than the last time, and the least seconds that can be measured.
+GROWTH, SHORTEST = 1.25, 1e-6
 # Turns of the loop without a further request after which those are there that came at the same time.
 TURNS = 3
 
@@ -35,42 +39,59 @@ class Gone(Exception):
 
 
 class Pace(NamedTuple):
-    """How long the last answers of a call took together, in CPU seconds, and the size of their questions."""
+    """How long the last answers of a call took together, in CPU seconds, how much work they were, and how much may be done together. What a call
+    does once for all questions makes this more than the pace says."""
 
     seconds: float
-    size: float
+    work: float
+    most: float
 
-    def after(self, seconds: float, size: float) -> Pace:
-        """The pace after further answers."""
-        return Pace(self.seconds + LATEST * (seconds - self.seconds), self.size + LATEST * (size - self.size))
+    def after(self, seconds: float, work: float) -> Pace:
+        """The pace after further answers. If they took too long, less is done together from now on, and more if much was done in less time."""
+        most, share = self.most, MARGIN * MOMENT / max(seconds, SHORTEST)
+        if share < 1:
+            most = work * share
+        elif work > most / 2:
+            most *= min(share, GROWTH)
+        return Pace(self.seconds + LATEST * (seconds - self.seconds), self.work + LATEST * (work - self.work), most)
 
-    def reckoned(self, size: int) -> float:
-        """The seconds for a question of this size, with those that are answered together with it."""
-        return self.seconds * max(1, size / self.size)
+    def reckoned(self, work: float) -> float:
+        """The seconds for questions that are so much work."""
+        return self.seconds * work / self.work
+
+
+class Asked(NamedTuple):
+    """What is asked. `call` answers a list of questions by a list, in which a fault is the answer to its question. Questions of one call that
+    `is_shared` may be answered together, as far as their sizes go. The loop may answer one that `is_quick` itself; how long that takes is
+    reckoned by the work that questions of its call are."""
+
+    call: Call
+    question: Any
+    is_shared: bool = False
+    size: int = 1
+    is_quick: bool = False
+    work: float = 1.0
 
 
 @dataclass(eq=False)
 class Job:
-    """A question that waits. `call` answers a list of questions by a list, in which a fault is the answer to its question; questions of one
-    call that `is_shared` may be answered together, as far as their sizes go. The loop may answer one that `is_quick` itself."""
+    """A question that waits for the client at an address. `told` gets its answer, or the error."""
 
     address: str
-    call: Call
-    question: Any
+    asked: Asked
     is_gone: Callable[[], bool]
-    is_shared: bool = False
-    size: int = 1
-    is_quick: bool = False
-    answer: asyncio.Future = field(default_factory=lambda: asyncio.get_running_loop().create_future())
+    told: Callable[[Any], object]
+    is_ended: bool = False
 
-    def end(self, found: Any) -> None:
-        """Passes the answer, or the error, to the waiting client."""
-        if self.answer.done():
-            return
-        if isinstance(found, BaseException):
-            self.answer.set_exception(found)
-        else:
-            self.answer.set_result(found)
+
+def settle(waiting: asyncio.Future[Any], found: Any) -> None:
+    """Passes an answer, or an error, to whoever waits for it."""
+    if waiting.done():
+        return
+    if isinstance(found, BaseException):
+        waiting.set_exception(found)
+    else:
+        waiting.set_result(found)
 
 
 def answers_to(call: Call, questions: list[Any]) -> tuple[Sequence[Any], float]:
@@ -115,22 +136,36 @@ class Turns:
     def close(self) -> None:
         self.threads.shutdown(wait=False, cancel_futures=True)
 
-    async def answer(self, job: Job) -> Any:
-        """Waits for the turn of a job, and returns its answer."""
-        if self.is_full:
-            self.make_room(job.address)
-        self.unanswered += 1
-        self.turns = 0
-        self.lines.setdefault(job.address, collections.deque()).append(job)
+    async def answer(self, address: str, asked: Asked, is_gone: Callable[[], bool]) -> Any:
+        """Waits for the turn of a client, and returns the answer to its question."""
+        waiting: asyncio.Future[Any] = asyncio.get_running_loop().create_future()
+        job = Job(address, asked, is_gone, functools.partial(settle, waiting))
+        self.take(job)
         try:
-            self.begin_soon()
-            return await job.answer
+            return await waiting
         except BaseException:
             # A job whose client no longer waits may not have had its turn.
             self.forget(job)
             raise
-        finally:
+
+    def take(self, job: Job) -> None:
+        """Takes a job, which gets its answer once it had its turn. Raises a `Busy` if too many wait."""
+        if self.is_full:
+            self.make_room(job.address)
+        self.unanswered += 1
+        self.turns = 0
+        line = self.lines.get(job.address)
+        if line is None:
+            self.lines[job.address] = line = collections.deque()
+        line.append(job)
+        self.begin_soon()
+
+    def end(self, job: Job, found: Any) -> None:
+        """Tells a job its answer, or the error, unless it has ended."""
+        if not job.is_ended:
+            job.is_ended = True
             self.unanswered -= 1
+            job.told(found)
 
     def make_room(self, address: str) -> None:
         """Rejects the newest request of the address with the most waiting requests, if it has more than this address."""
@@ -139,7 +174,7 @@ class Turns:
             raise Busy
         job = line.pop()
         self.drop_line(greedy)
-        job.end(Busy())
+        self.end(job, Busy())
 
     def forget(self, job: Job) -> None:
         """Removes a waiting job whose client no longer waits."""
@@ -147,6 +182,9 @@ class Turns:
         if line and job in line:
             line.remove(job)
             self.drop_line(job.address)
+        if not job.is_ended:
+            job.is_ended = True
+            self.unanswered -= 1
 
     def drop_line(self, address: str) -> None:
         if not self.lines[address]:
@@ -154,8 +192,8 @@ class Turns:
 
     def is_moment(self, address: str) -> bool:
         """Whether the first job of an address takes a moment."""
-        job = self.lines[address][0]
-        return job.is_quick and job.call in self.paces and self.paces[job.call].reckoned(job.size) < MOMENT
+        asked = self.lines[address][0].asked
+        return asked.is_quick and asked.call in self.paces and self.paces[asked.call].reckoned(asked.work) < MOMENT
 
     def may_begin(self, address: str) -> bool:
         """Whether an address may use another thread. One thread is always kept for the other addresses."""
@@ -196,17 +234,17 @@ class Turns:
         if not jobs:
             return
         try:
-            found = self.noted(jobs, *answers_to(jobs[0].call, [job.question for job in jobs]))
+            found = self.noted(jobs, *answers_to(jobs[0].asked.call, [job.asked.question for job in jobs]))
         except Exception as fault:
             found = [fault] * len(jobs)
         self.answered = len(jobs)
         for job, each in zip(jobs, found):
-            job.end(each)
+            self.end(job, each)
 
     def noted(self, jobs: list[Job], found: Sequence[Any], seconds: float) -> Sequence[Any]:
         """The answers to jobs. It is noted how long they took."""
-        call, size = jobs[0].call, sum(job.size for job in jobs)
-        self.paces[call] = self.paces.get(call, Pace(seconds, size)).after(seconds, size)
+        call, work = jobs[0].asked.call, sum(job.asked.work for job in jobs)
+        self.paces[call] = self.paces.get(call, Pace(seconds, work, work)).after(seconds, work)
         return found
 
     def taken(self, address: str) -> list[Job]:
@@ -214,16 +252,25 @@ class Turns:
         first = self.next_of(address)
         if first is None:
             return []
-        jobs, size = [first], first.size
-        while first.is_shared and size < self.together:
-            other = next((name for name, line in self.lines.items() if line[0].is_shared and line[0].call == first.call), None)
-            if other is None or size + self.lines[other][0].size > self.together:
+        jobs, asked = [first], first.asked
+        size, work, most = asked.size, asked.work, self.most_work(asked)
+        while asked.is_shared and size < self.together:
+            other = next((name for name, line in self.lines.items() if line[0].asked.is_shared and line[0].asked.call == asked.call), None)
+            if other is None:
+                break
+            more = self.lines[other][0].asked
+            if size + more.size > self.together or work + more.work > most:
                 break
             job = self.next_of(other)
             if job is not None:
                 jobs.append(job)
-                size += job.size
+                size, work = size + more.size, work + more.work
         return jobs
+
+    def most_work(self, asked: Asked) -> float:
+        """How much work questions that are answered together may be, so that the loop does something else before the moment is over."""
+        pace = self.paces.get(asked.call) if asked.is_quick else None
+        return math.inf if pace is None else pace.most
 
     def next_of(self, address: str) -> Job | None:
         """Takes the next job of an address, whose next turn then comes after those of all others; None if its client has gone."""
@@ -231,7 +278,7 @@ class Turns:
         self.lines.move_to_end(address)
         self.drop_line(address)
         if job.is_gone():
-            job.end(Gone())
+            self.end(job, Gone())
             return None
         return job
 
@@ -239,13 +286,13 @@ class Turns:
         """Answers jobs in a thread."""
         loop = asyncio.get_running_loop()
         try:
-            told = await loop.run_in_executor(self.threads, answers_to, jobs[0].call, [job.question for job in jobs])
-            found = self.noted(jobs, *told) if jobs[0].is_quick else told[0]
+            told = await loop.run_in_executor(self.threads, answers_to, jobs[0].asked.call, [job.asked.question for job in jobs])
+            found = self.noted(jobs, *told) if jobs[0].asked.is_quick else told[0]
         except BaseException as fault:
             found = [fault] * len(jobs)
         finally:
             self.underway[address] -= 1
             self.underway += collections.Counter()
         for job, each in zip(jobs, found):
-            job.end(each)
+            self.end(job, each)
         self.begin_soon()

@@ -58,7 +58,9 @@ class Recorder:
     def note(self, request: web.BaseRequest, response: web.StreamResponse, seconds: float) -> None:
         """Records an answered request. `request["refused"]` has the reason and the message of a refusal."""
         reason, why = request.get("refused", ("", ""))
-        self.row.add(service_of(request.path), response.status, seconds)
+        # Most requests name a service of OSRM, also before the address is taken apart and its escapes are read.
+        path = request.raw_path if request.raw_path.startswith(web_policy.QUICK) else request.path
+        self.row.add(service_of(path), response.status, seconds)
         if reason:
             self.row.refuse(reason)
         if ACCESS.handlers:

@@ -6,6 +6,8 @@ never a traceback.
 from __future__ import annotations
 
 import asyncio
+import contextlib
+import importlib
 import json
 import math
 import pathlib
@@ -26,7 +28,7 @@ from chtab.server.faults import fault_of
 from chtab.server.metrics import Metrics
 from chtab.server.osrm import answering, url
 from chtab.server.osrm.options import Refusal
-from chtab.server.queue import Job, Turns
+from chtab.server.queue import Asked, Turns
 from chtab.server.requests import Limits, Refused, bytes_in, fields_of, number_in, place_in, places_in
 from chtab.server.sending import JsonAnswer, lines_of
 from chtab.server.tiles import Tiles
@@ -38,7 +40,6 @@ if TYPE_CHECKING:
     from chtab.server.connections import Connections
     from chtab.server.networks import Networks
     from chtab.server.osrm.answering import Answers
-    from chtab.server.queue import Call
     from chtab.server.recording import Recorder
     from chtab.typing import Geojson, Point
 
@@ -88,9 +89,11 @@ class Service:
             answering.Answers(each.network, (each.name,) if each.name else choices.profiles, choices.osrm, each.streets, each.numbers) for each in networks
         ]
         self.by_name = {each.name: answers for each, answers in zip(networks, self.osrm) if each.name}
-        # The index of roads is made now, and not while the first client waits.
+        # The index of roads is made now, and what simplifies lines is loaded, and not while the first client waits.
         for each in networks:
             each.network.roads.find_any([0.0], [0.0])
+        with contextlib.suppress(ImportError):
+            importlib.import_module("shapely.geometry")
         self.turns = Turns(self.limits.at_once, self.limits.waiting, self.limits.together)
         self.headers, self.longest_address = web_policy.headers(choices.tiles), choices.osrm.address
         self.lines = lines_of(dict([*self.headers.items(), web_policy.CACHING]))
@@ -169,16 +172,13 @@ class Service:
     async def close(self, app: web.Application) -> None:
         self.turns.close()
 
-    async def answer(
-        self, request: web.Request, call: Call, question: Any, is_shared: bool = False, size: int = 1, is_quick: bool = False,
-    ) -> Any:
-        """Waits for the client's turn, and returns the answer to its question. `call` answers a list of questions."""
-        job = Job(client_of(request, self.proxy), call, question, lambda: is_gone(request), is_shared, size, is_quick)
-        return await self.turns.answer(job)
+    async def answer(self, request: web.Request, asked: Asked) -> Any:
+        """Waits for the client's turn, and returns the answer to its question."""
+        return await self.turns.answer(client_of(request, self.proxy), asked, lambda: is_gone(request))
 
     async def answer_alone(self, request: web.Request, call: Callable[..., Any], *words: Any) -> Any:
         """The value of a call, made in a thread once it is the client's turn."""
-        return await self.answer(request, lambda questions: [call(*words)], None)
+        return await self.answer(request, alone(call, *words))
 
     async def body_of(self, request: web.Request) -> bytes:
         """The bytes of a request, once all are there."""
@@ -200,22 +200,27 @@ class Service:
         """Answers a request for a route, together with others that are waiting: one question to the engine serves them all."""
         fields = fields_of(await self.body_of(request), ("from", "to"))
         places = [place_in(fields[name], name) for name in ("from", "to")]
-        return self.json_of(await self.answer(request, self.route_texts, places, is_shared=True))
+        return self.json_of(await self.answer(request, Asked(self.route_texts, places, is_shared=True)))
 
     async def answer_osrm(self, request: web.Request) -> JsonAnswer:
-        """Answers a request of OSRM's interface; routes, and the nearest roads, together with those that wait beside them. What the library in this
-        process answers may be answered in the loop."""
-        words = url.words_of(request.raw_path, self.longest_address)
+        """Answers a request of OSRM's interface."""
+        return self.json_of(await self.answer(request, self.asked(request.raw_path)))
+
+    def asked(self, target: str) -> Asked:
+        """What a request of OSRM's interface asks. Routes, and the nearest roads, are answered together with those that wait beside them. What the
+        library in this process answers may be answered in the loop."""
+        words = url.words_of(target, self.longest_address)
         answers = self.answers_for(words.profile)
         question = answers.question(words)
         is_quick = answers.network.answers_by == "library"
         if question.service == "route":
-            return self.json_of(await self.answer(request, answers.routes, question, True, len(question.coordinates) - 1, is_quick))
+            legs = len(question.coordinates) - 1
+            return Asked(answers.routes, question, True, legs, is_quick, legs * question.own.work)
         if question.service == "nearest" and question.own == 1:
-            return self.json_of(await self.answer(request, answers.nearest_ones, question, True, 1, is_quick))
+            return Asked(answers.nearest_ones, question, True, 1, is_quick)
         if question.service == "table":
-            return self.json_of(await self.answer(request, answers.tables, question, False, question.own.size, is_quick))
-        return self.json_of(await self.answer_alone(request, getattr(answers, question.service), question))
+            return Asked(answers.tables, question, False, 1, is_quick, question.own.size)
+        return alone(getattr(answers, question.service), question)
 
     def answers_for(self, profile: str) -> Answers:
         """The answers of the network that a profile names. If there is only one network, its answers check the name."""
@@ -333,6 +338,11 @@ class Service:
         limits = [int(number_in(limit, 1, 2**60, "a limit")) for limit in limits]
         spot = self.near_spots([place_in(fields["from"], "from")], ENDS)
         return {**self.network.isochrones(spot, limits), "unit": self.network.unit, "from": spot_of(spot, 0)}
+
+
+def alone(call: Callable[..., Any], *words: Any) -> Asked:
+    """The question that a call answers, in a thread and without others."""
+    return Asked(lambda questions: [call(*words)], None)
 
 
 def spot_of(spots: Spots, place: int) -> dict[str, Any]:

@@ -4,7 +4,7 @@ ghost use Rattle.std.specs.List.{AllZip};
 
 use crate::again::again;
 use crate::crew::crew;
-use ch_work::{ListJob, Open, Plan, RoomJob, run_list, run_list_in, run_pieces_with_rooms};
+use ch_work::{ListJob, Open, Plan, RoomJob, run_list, run_list_in, run_pieces_in};
 use std::alloc::{AllocError, Global};
 use std::sync::atomic::{AtomicU64, Ordering};
 use std::test::Fail;
@@ -61,7 +61,8 @@ fn run_ends<R: Threads + Sync>(
     requires job { job.now.items ≡ 10 }
 {
     let plan = Plan::new(workers, 3, 64);
-    run_pieces_with_rooms(&crew(rt, alloc, &plan, &Open), 10, job)
+    let mut rooms = Vec::new(alloc);
+    run_pieces_in(&crew(rt, alloc, &plan, &Open), 10, &mut rooms, job)
 }
 
 /// Makes a job that has memory for `most` rooms and has made none yet.

@@ -1,5 +1,6 @@
 -- The searches for the shortcuts of a node, one for each leg to it.
-use Rattle.std.proofs.Common.{◌≡◌, ℕ, ◌+◌, ◌-◌, ◌^◌, ◌<◌, ◌≤◌, List, [], ◌∷◌, ◌++◌, length, get_or, All, Option, Some, None, Contains, refl, sym, ◌∙◌, ap, subst, arith, inl, inr}
+use Rattle.std.proofs.Common.{◌≡◌, ℕ, ◌+◌, ◌-◌, ◌<◌, ◌≤◌, List, [], ◌∷◌, ◌++◌, length, get_or, All, Option, Some, None}
+use Rattle.std.proofs.Common.{Contains, refl, sym, ◌∙◌, ap, subst, arith, inl, inr}
 use Rattle.std.specs.Prelude.{◌≢◌, ◌↔◌, Result, Ok, Err, OnOk, min, ◌⊎◌, MatchOption}
 use Rattle.std.specs.declared.alloc.AllocError.{AllocError}
 use Rattle.ch_contract.specs.Candidates.{IsKnown, IsCandidate, IsMostFor, AreBounded}
@@ -21,7 +22,7 @@ use Rattle.ch_hierarchy.proofs.theory.NoLeg.{no_leg}
 use Rattle.ch_contract.proofs.theory.RowLemmas.{leg_from_at}
 use Rattle.std.proofs.lemmas.Bool.{cases_eq, cases_lt}
 use Rattle.std.proofs.lemmas.Option.{same_Some}
-use Rattle.ch_graph.specs.declared.limits.TheConstants.{MOST_NODES, MOST_WEIGHT, MOST_SUM, MOST_HOPS}
+use Rattle.ch_graph.specs.declared.limits.TheConstants.{MOST_NODES, MOST_WEIGHT, MOST_HOPS}
 use Rattle.ch_contract.specs.declared.held_cost.TheConstants.{MOST_CHAIN_ARCS, NEVER_ARCS}
 use Rattle.ch_contract.specs.declared.shortcut.Shortcut.{Shortcut}
 use Rattle.ch_contract.specs.Rounds.{IsShortcutAmong}
@@ -50,14 +51,23 @@ module _ (n : ℕ) (outs ins : List (List Leg)) (within : IsWithinLimits n outs 
 
   -- the cost of each leg may be added to a known cost
   pub ins_light : (limit : ℕ) → AreLegsUpTo limit (legs_from outs) → AreListsWithin limit n ins
-  ins_light limit up_to x = All-from_get_or (IsLegLight limit n) (row ins x) no_leg (λ i lt. light _ (Contains-get_or (row ins x) i no_leg lt))
+  ins_light limit up_to x =
+      All-from_get_or (IsLegLight limit n) (row ins x) no_leg (λ i lt. light _ (Contains-get_or (row ins x) i no_leg lt))
     where
       light : (l : Leg) → Contains (row ins x) l → IsLegLight limit n l
       light l c =
           let leg = within.agree l.node x ∙ row_has (row ins x) l (within.rows.1 x) c in
           let is = within.legs l.node x (label_of l) leg in
           let count = within.nodes in
-          record { node = is.ends.0; cost = record { limited = up_to l.node x (label_of l) leg; weight = is.weight; arcs = omega (arith, is.arcs) } }
+          record {
+            node = is.ends.0;
+            cost = record {
+              limited = up_to l.node x (label_of l) leg;
+              weight = is.weight;
+              arcs =
+                  omega (arith, is.arcs);
+            };
+          }
 
   -- the known costs are small enough for one more leg
   pub known_small : (limit : ℕ) (s : Wanted) (k : ℕ) (h : Known) → k ≤ MOST_HOPS → s.end < n → IsHeld limit s.most →
@@ -76,39 +86,25 @@ module _ (n : ℕ) (outs ins : List (List Leg)) (within : IsWithinLimits n outs 
       let turned = turned_witness (legs_from outs) s.avoided s.end w most hops in
       ((λ m. turned.0 (met.0 m)), λ x. met.1 (turned.1 x))
 
-  -- the sum of two legs may be added to a known cost
-  pub legs_sum : (u v x w : ℕ) (a b : Leg) → legs_from outs u v ≡ Some (label_of a) → legs_from outs x w ≡ Some (label_of b) →
-      (a.cost.weight + b.cost.weight ≤ MOST_SUM) × (a.cost.arcs + b.cost.arcs < 2 ^ 64)
-  legs_sum u v x w a b e f =
-      let p = within.legs u v (label_of a) e in
-      let q = within.legs x w (label_of b) f in
-      let count = within.nodes in
-      (omega (arith, p.weight, q.weight), omega (arith, p.arcs, q.arcs))
-
-  -- the leg at a place of a list is a leg from its node
-  pub out_at : (v i : ℕ) (d : Leg) → i < length (row outs v) →
-      legs_from outs v (get_or (row outs v) i d).node ≡ Some (label_of (get_or (row outs v) i d))
-  out_at v i d lt = row_has (row outs v) (get_or (row outs v) i d) (within.rows.0 v) (Contains-get_or (row outs v) i d lt)
-
-  -- a leg leads from one node to another node
-  pub leg_ends : (u v : ℕ) (a : Leg) → legs_from outs u v ≡ Some (label_of a) → (u < n) × (v < n) × (u ≢ v)
-  leg_ends u v a e = (within.legs u v (label_of a) e).ends
-
   -- after a search the costs of chains of at most `hops` - 2 legs are known
   pub known_after : (ups downs : List (List Leg)) (s : Wanted) (hops k : ℕ) (h : Known) (o : Result (Unit {0}) AllocError) → k ≡ hops - 2 →
-      OnOk o (length h.costs ≡ length outs) → OnOk o (AreLeastCosts (legs_into outs) s k h) → OnOk o (IsKnown (record { nodes = n; rows = outs; ups = ups; downs = downs }) s hops h)
+      OnOk o (length h.costs ≡ length outs) → OnOk o (AreLeastCosts (legs_into outs) s k h) →
+      OnOk o (IsKnown (record { nodes = n; rows = outs; ups = ups; downs = downs }) s hops h)
   known_after ups downs s hops k h (Ok x) e size least =
       record { size = size ∙ within.sizes.0; least = subst (λ j. AreLeastCosts (legs_into outs) s j h) e least }
   known_after ups downs s hops k h (Err x) e size least = least
 
 -- a candidate of a list is also one of a longer list
-more_candidate : (n : ℕ) (first l : Leg) (up : List Leg) (most : Cost) → ((k : Leg) × Contains up k × IsCandidate n first k × (most ≡ cost_sum first.cost k.cost)) →
+more_candidate : (n : ℕ) (first l : Leg) (up : List Leg) (most : Cost) →
+    ((k : Leg) × Contains up k × IsCandidate n first k × (most ≡ cost_sum first.cost k.cost)) →
     (k : Leg) × Contains (up ++ l ∷ []) k × IsCandidate n first k × (most ≡ cost_sum first.cost k.cost)
 more_candidate n first l up most is = (is.0, Contains-append_left up _ _ is.1, is.2, is.3)
 
 -- the greatest cost of the candidates after one more leg that makes a candidate
-pub bounded_more : (n : ℕ) (first l : Leg) (up : List Leg) (so_far : Option Cost) (cost most : Cost) → cost ≡ cost_sum first.cost l.cost → IsCandidate n first l →
-    IsAtMost cost most → MatchOption so_far (most ≡ cost) (λ c. IsAtMost c most × ((most ≡ cost) ⊎ (most ≡ c))) → AreBounded n first up so_far → AreBounded n first (up ++ l ∷ []) (Some most)
+pub bounded_more : (n : ℕ) (first l : Leg) (up : List Leg) (so_far : Option Cost) (cost most : Cost) →
+    cost ≡ cost_sum first.cost l.cost → IsCandidate n first l →
+    IsAtMost cost most → MatchOption so_far (most ≡ cost) (λ c. IsAtMost c most × ((most ≡ cost) ⊎ (most ≡ c))) →
+    AreBounded n first up so_far → AreBounded n first (up ++ l ∷ []) (Some most)
 bounded_more n first l up None cost most is can le same none = (
   (l, Contains-push up l, can, same ∙ is),
   All-push (IsMostFor n first most) up l (λ k d lt other. absurd (none k d lt other)) (λ it. subst (λ z. IsAtMost z most) is le),
@@ -116,9 +112,11 @@ bounded_more n first l up None cost most is can le same none = (
 bounded_more n first l up (Some c) cost most is can le more all = (
   elim more.1 [
     | inl same ↦ (l, Contains-push up l, can, same ∙ is)
-    | inr same ↦ more_candidate n first l up most (subst (λ (z : Cost). (k : Leg) × Contains up k × IsCandidate n first k × (z ≡ cost_sum first.cost k.cost)) (sym same) all.0)
+    | inr same ↦ more_candidate n first l up most
+        (subst (λ (z : Cost). (k : Leg) × Contains up k × IsCandidate n first k × (z ≡ cost_sum first.cost k.cost)) (sym same) all.0)
   ],
-  All-push (IsMostFor n first most) up l (λ k d lt other. IsAtMost_trans _ c most (all.1 k d lt other) more.0) (λ it. subst (λ z. IsAtMost z most) is le),
+  All-push (IsMostFor n first most) up l (λ k d lt other. IsAtMost_trans _ c most (all.1 k d lt other) more.0)
+      (λ it. subst (λ z. IsAtMost z most) is le),
 )
 
 -- the greatest cost of the candidates after one more leg that makes none
@@ -134,19 +132,24 @@ pub candidate_held : (limit n : ℕ) (first l : Leg) → n ≤ MOST_NODES → fi
 candidate_held limit n first l small a b is = record { limited = omega arith; weight = is.weight; arcs = omega (arith, is.arcs) }
 
 -- the greatest cost of the candidates is a bound that a search can hold
-pub bound_held : (limit n v : ℕ) (L : Legs) (first : Leg) (up : List Leg) (most : Cost) → n ≤ MOST_NODES → AreLegsUpTo limit L → L first.node v ≡ Some (label_of first) → AreLegsFrom L v up →
+pub bound_held : (limit n v : ℕ) (L : Legs) (first : Leg) (up : List Leg) (most : Cost) → n ≤ MOST_NODES → AreLegsUpTo limit L →
+    L first.node v ≡ Some (label_of first) → AreLegsFrom L v up →
     AreBounded n first up (Some most) → IsHeld limit most
 bound_held limit n v L first up most small light here row bounded =
     let is = bounded.0 in
     let l = is.0 in
     let leg = sym (row.1 l.node) ∙ row_has up l row.0 is.1 in
-    subst (IsHeld limit) (sym is.3) (candidate_held limit n first l small (light first.node v (label_of first) here) (light v l.node (label_of l) leg) is.2)
+    subst (IsHeld limit) (sym is.3) (candidate_held limit n first l small (light first.node v (label_of first) here)
+    (light v l.node (label_of l) leg) is.2)
 
 -- if no leg from a node makes a candidate with this leg to it, no shortcut begins with this leg
-pub before_no_candidate : (n h : ℕ) (L W : Legs) (v : ℕ) (first : Leg) (up : List Leg) (list : List Shortcut) → L first.node v ≡ Some (label_of first) → AreLegsFrom L v up →
-    All (λ l. IsCandidate n first l → ⊥) up → AreShortcutsBefore n h L W v first.node 0 list → AreShortcutsBefore n h L W v (first.node + 1) 0 list
+pub before_no_candidate : (n h : ℕ) (L W : Legs) (v : ℕ) (first : Leg) (up : List Leg) (list : List Shortcut) →
+    L first.node v ≡ Some (label_of first) → AreLegsFrom L v up →
+    All (λ l. IsCandidate n first l → ⊥) up → AreShortcutsBefore n h L W v first.node 0 list →
+    AreShortcutsBefore n h L W v (first.node + 1) 0 list
 before_no_candidate n h L W v first up list here row none are =
-    before_raise n h L W v first.node 0 (first.node + 1) 0 list are (omega arith, λ e. absurd (omega arith)) (λ s is e. early s is e (cases_eq first.node s.from))
+    before_raise n h L W v first.node 0 (first.node + 1) 0 list are (omega arith, λ e. absurd (omega arith))
+    (λ s is e. early s is e (cases_eq first.node s.from))
   where
     early : (s : Shortcut) → IsShortcutAmong n h L W v s → EndsBefore s (first.node + 1) 0 → (first.node ≡ s.from) ⊎ (first.node ≢ s.from) →
         EndsBefore s first.node 0
@@ -174,11 +177,21 @@ up_light n L v up limits small row = All-from_get_or (λ l. (l.cost.weight ≤ M
     (λ i lt. let is = limits v (get_or up i no_leg).node _ (leg_from_at L v up i no_leg row lt) in (is.weight, omega (arith, is.arcs)))
 
 -- a witness stands for at most MOST_CHAIN_ARCS arcs, so a greater bound on its arcs may be lowered to that
-pub capped_witness : (n : ℕ) (L : Legs) (v u w hops : ℕ) (cost : Cost) (arcs : ℕ) → AreLegsWithin n L → n ≤ MOST_NODES → hops ≤ MOST_HOPS → arcs ≡ min cost.arcs MOST_CHAIN_ARCS →
+pub capped_witness : (n : ℕ) (L : Legs) (v u w hops : ℕ) (cost : Cost) (arcs : ℕ) → AreLegsWithin n L → n ≤ MOST_NODES →
+    hops ≤ MOST_HOPS → arcs ≡ min cost.arcs MOST_CHAIN_ARCS →
     HasWitness L v u w (record { weight = cost.weight; arcs = arcs }) hops ↔ HasWitness L v u w cost hops
 capped_witness n L v u w hops cost arcs limits small few is = (
   λ x. (x.0, record { chain = x.1.chain; hops = x.1.hops; away = x.1.away; cheap = loose (chain_cost L u x.0) x.1.cheap }),
-  λ x. (x.0, record { chain = x.1.chain; hops = x.1.hops; away = x.1.away; cheap = tight (chain_cost L u x.0) (chain_small n L u w x.0 limits small (omega (arith, x.1.hops.1)) x.1.chain) x.1.cheap }),
+  λ x. (
+    x.0,
+    record {
+      chain = x.1.chain;
+      hops = x.1.hops;
+      away = x.1.away;
+      cheap =
+          tight (chain_cost L u x.0) (chain_small n L u w x.0 limits small (omega (arith, x.1.hops.1)) x.1.chain) x.1.cheap;
+    },
+  ),
 )
   where
     loose : (d : Cost) → IsAtMost d (record { weight = cost.weight; arcs = arcs }) → IsAtMost d cost

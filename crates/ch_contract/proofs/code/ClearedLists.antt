@@ -1,5 +1,6 @@
 -- The lists after a node is taken out, and the lists after shortcuts are put in.
-use Rattle.std.proofs.Common.{◌≡◌, ℕ, ◌<◌, Bool, true, false, List, [], length, set, Option, None, All, Contains, refl, sym, ◌∙◌, ap, subst, arith, inl, inr}
+use Rattle.std.proofs.Common.{◌≡◌, ℕ, ◌<◌, Bool, true, false, List, [], length, set, Option, None, All, Contains, refl, sym, ◌∙◌}
+use Rattle.std.proofs.Common.{ap, subst, arith, inl, inr}
 use Rattle.std.specs.Prelude.{◌≢◌, ◌==◌, ◌||◌, if◌then◌else◌}
 use Rattle.std.proofs.lemmas.Bool.{cases_eq, eqb-true, eqb-false}
 use Rattle.std.proofs.lemmas.Bool.Decides.{nat_tests}
@@ -67,14 +68,17 @@ module _ (v : ℕ) (old mid : List (List Leg)) (inside : v < length old) (is : m
     legs = λ x y. legs_at x y (x == v) (y == v) refl refl;
   }
     where
-      legs_at : (x y : ℕ) (p q : Bool) → (x == v) ≡ p → (y == v) ≡ q → row_leg (row new x) y ≡ (if p || q then None else row_leg (row old x) y)
+      legs_at : (x y : ℕ) (p q : Bool) → (x == v) ≡ p → (y == v) ≡ q →
+          row_leg (row new x) y ≡ (if p || q then None else row_leg (row old x) y)
       legs_at x y p true e f = let same : (v == y) ≡ true = grind (arith, nat_tests) in w.legs x y ∙ rw same (at p)
         where
           at : (b : Bool) → ◌≡◌ {A = Option Label} None (if b || true then None else row_leg (row old x) y)
           at true = refl
           at false = refl
-      legs_at x y true false e f = let differs : (v == y) ≡ false = grind (arith, nat_tests) in w.legs x y ∙ rw differs (ap (λ z. row_leg z y) (aside_here x (eqb-true x v e)))
-      legs_at x y false false e f = let differs : (v == y) ≡ false = grind (arith, nat_tests) in w.legs x y ∙ rw differs (ap (λ z. row_leg z y) (aside_there x (eqb-false x v e)))
+      legs_at x y true false e f = let differs : (v == y) ≡ false = grind (arith, nat_tests) in
+          w.legs x y ∙ rw differs (ap (λ z. row_leg z y) (aside_here x (eqb-true x v e)))
+      legs_at x y false false e f = let differs : (v == y) ≡ false = grind (arith, nat_tests) in
+          w.legs x y ∙ rw differs (ap (λ z. row_leg z y) (aside_there x (eqb-false x v e)))
 
 module _ (n : ℕ) (outs ins : List (List Leg)) (within : IsWithinLimits n outs ins) (v : ℕ) where
   -- the nodes with a leg to v are the nodes of the row of v on the other side
@@ -86,16 +90,20 @@ module _ (n : ℕ) (outs ins : List (List Leg)) (within : IsWithinLimits n outs 
 
   -- the nodes of the legs from v have lists on the other side
   pub outs_within : All (λ l. l.node < length ins) (row outs v)
-  outs_within = All-from_get_or (λ (l : Leg). l.node < length ins) (row outs v) no_leg (λ i lt. node _ (Contains-get_or (row outs v) i no_leg lt))
+  outs_within = All-from_get_or (λ (l : Leg). l.node < length ins) (row outs v) no_leg
+      (λ i lt. node _ (Contains-get_or (row outs v) i no_leg lt))
     where
       node : (l : Leg) → Contains (row outs v) l → l.node < length ins
-      node l c = let lt = (within.legs v l.node (label_of l) (row_has (row outs v) l (within.rows.0 v) c)).ends.1 in omega (arith, within.sizes.1)
+      node l c = let lt = (within.legs v l.node (label_of l) (row_has (row outs v) l (within.rows.0 v) c)).ends.1 in
+          omega (arith, within.sizes.1)
 
   pub ins_within : All (λ l. l.node < length outs) (row ins v)
-  ins_within = All-from_get_or (λ (l : Leg). l.node < length outs) (row ins v) no_leg (λ i lt. node _ (Contains-get_or (row ins v) i no_leg lt))
+  ins_within = All-from_get_or (λ (l : Leg). l.node < length outs) (row ins v) no_leg
+      (λ i lt. node _ (Contains-get_or (row ins v) i no_leg lt))
     where
       node : (l : Leg) → Contains (row ins v) l → l.node < length outs
-      node l c = let lt = (within.legs l.node v (label_of l) (within.agree l.node v ∙ row_has (row ins v) l (within.rows.1 v) c)).ends.0 in omega (arith, within.sizes.0)
+      node l c = let lt = (within.legs l.node v (label_of l)
+          (within.agree l.node v ∙ row_has (row ins v) l (within.rows.1 v) c)).ends.0 in omega (arith, within.sizes.0)
 
   -- both sides when no leg touches v
   module _ (new_outs new_ins : List (List Leg)) (from : AreCleared v outs new_outs) (into : AreCleared v ins new_ins) where
@@ -115,11 +123,13 @@ module _ (n : ℕ) (outs ins : List (List Leg)) (within : IsWithinLimits n outs 
       sizes = (from.size ∙ within.sizes.0, into.size ∙ within.sizes.1);
       rows = (from.rows, into.rows);
       agree = λ u w. from.legs u w ∙ sym (ins_cleared u w);
-      legs = same_within n (legs_from new_outs) (legs_after_contraction (legs_from outs) v []) from.legs (contracted_within n (legs_from outs) v [] within.legs (λ s c. absurd (contains_none s c)));
+      legs = same_within n (legs_from new_outs) (legs_after_contraction (legs_from outs) v []) from.legs
+          (contracted_within n (legs_from outs) v [] within.legs (λ s c. absurd (contains_none s c)));
     }
 
 -- both sides after a node is taken out, call after call
-pub clearing_leaves : (n : ℕ) (outs ins : List (List Leg)) → IsWithinLimits n outs ins → (v : ℕ) → v < n → (mid_outs mid_ins new_outs new_ins : List (List Leg)) →
+pub clearing_leaves : (n : ℕ) (outs ins : List (List Leg)) → IsWithinLimits n outs ins → (v : ℕ) → v < n →
+    (mid_outs mid_ins new_outs new_ins : List (List Leg)) →
     mid_outs ≡ set outs v [] → mid_ins ≡ set ins v [] → AreWithout v mid_outs new_outs → AreWithout v mid_ins new_ins →
     IsWithinLimits n new_outs new_ins × SameLegs (legs_from new_outs) (legs_after_contraction (legs_from outs) v [])
 clearing_leaves n outs ins within v inside mid_outs mid_ins new_outs new_ins e f a b =
@@ -128,7 +138,8 @@ clearing_leaves n outs ins within v inside mid_outs mid_ins new_outs new_ins e f
     (within_cleared n outs ins within v new_outs new_ins from into, λ u w. from.legs u w)
 
 -- both sides after shortcuts are put in
-pub putting_leaves : (n : ℕ) (outs ins : List (List Leg)) → IsWithinLimits n outs ins → (v : ℕ) (list : List Shortcut) → All (λ s. IsLegWithin n s.from s.to (shortcut_label v s)) list → (new_outs new_ins : List (List Leg)) →
+pub putting_leaves : (n : ℕ) (outs ins : List (List Leg)) → IsWithinLimits n outs ins → (v : ℕ) (list : List Shortcut) →
+    All (λ s. IsLegWithin n s.from s.to (shortcut_label v s)) list → (new_outs new_ins : List (List Leg)) →
     AreOverridden legs_from v list outs new_outs → AreOverridden legs_into v list ins new_ins → IsWithinLimits n new_outs new_ins
 putting_leaves n outs ins within v list are new_outs new_ins put put_turned = record {
   nodes = within.nodes;
@@ -140,6 +151,8 @@ putting_leaves n outs ins within v list are new_outs new_ins put put_turned = re
     | inr s ↦
         let is = All-contains (λ (t : Shortcut). IsLegWithin n t.from t.to (shortcut_label v t)) list s.0 are s.1 in
         let label = same_Some _ _ (sym s.4 ∙ sym (put.legs u w) ∙ e) in
-        subst (IsLegWithin n u w) label (subst (λ z. IsLegWithin n z w (shortcut_label v s.0)) s.2 (subst (λ z. IsLegWithin n s.0.from z (shortcut_label v s.0)) s.3 is))
+        subst (IsLegWithin n u w) label
+        (subst (λ z. IsLegWithin n z w (shortcut_label v s.0)) s.2
+        (subst (λ z. IsLegWithin n s.0.from z (shortcut_label v s.0)) s.3 is))
   ];
 }

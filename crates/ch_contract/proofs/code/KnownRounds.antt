@@ -1,5 +1,6 @@
 -- The rounds of a search: after k rounds the least costs of chains of at most k legs are known.
-use Rattle.std.proofs.Common.{◌≡◌, ℕ, suc, ◌+◌, ◌*◌, ◌<◌, ◌≤◌, List, [], ◌∷◌, length, get_or, All, rules, Some, Contains, refl, sym, ◌∙◌, ap, subst, arith, inl, inr}
+use Rattle.std.proofs.Common.{◌≡◌, ℕ, suc, ◌+◌, ◌*◌, ◌<◌, ◌≤◌, List, [], ◌∷◌, length, get_or, All, rules, Some, Contains, refl, sym}
+use Rattle.std.proofs.Common.{◌∙◌, ap, subst, arith, inl, inr}
 use Rattle.std.specs.Prelude.{◌⊎◌, ◌≢◌}
 use Rattle.std.specs.List.{AllByRecursion}
 use Rattle.std.proofs.lemmas.List.Elements.{All-from_get_or, All-contains, Contains-get_or}
@@ -15,7 +16,9 @@ use Rattle.ch_hierarchy.specs.Rows.{row}
 use Rattle.ch_contract.specs.LegRows.{label_of}
 use Rattle.ch_contract.specs.LegLists.{AreRows, legs_into}
 use Rattle.ch_contract.specs.HeldCosts.{never, IsHeld}
-use Rattle.ch_contract.specs.KnownCosts.{Known, ChainStart, known_in, known_at, Lowers, IsOnly, IsClean, IsAfterRounds, IsRoomFor, IsLegLight, AreTouched, IsOneMoreOf, step_to, IsWanted, AreLeastCosts, IsSpread, AreSteps, IsFront, AreLegsUpTo}
+use Rattle.ch_contract.specs.KnownCosts.{Known, ChainStart, known_in, known_at, Lowers, IsOnly, IsClean, IsAfterRounds, IsRoomFor}
+use Rattle.ch_contract.specs.KnownCosts.{IsLegLight, AreTouched, IsOneMoreOf, step_to, IsWanted, AreLeastCosts, IsSpread, AreSteps}
+use Rattle.ch_contract.specs.KnownCosts.{IsFront, AreLegsUpTo}
 use Rattle.ch_contract.proofs.theory.RowLegs.{row_has, row_member, leg_at}
 use Rattle.ch_hierarchy.proofs.theory.NoLeg.{no_leg}
 use Rattle.ch_contract.proofs.theory.ReferenceSearch.{some_of}
@@ -42,7 +45,8 @@ one_more_wanted lists s k front x d rows steps m =
     let l = more.0 in
     let rest = (steps f m.1).0 in
     let short = rest.short in
-    let leg : L x f.node ≡ Some (label_of l) = subst (λ z. L z f.node ≡ Some (label_of l)) more.2 (listed_leg lists f.node l rows more.1) in (
+    let leg : L x f.node ≡ Some (label_of l) =
+    subst (λ z. L z f.node ≡ Some (label_of l)) more.2 (listed_leg lists f.node l rows more.1) in (
       record {
         nodes = f.node ∷ rest.nodes;
         chain = (rw leg refl, rest.chain);
@@ -55,7 +59,8 @@ one_more_wanted lists s k front x d rows steps m =
 
 -- a round: the front is spread, and the nodes with lowered costs are the next front
 module _ (lists : List (List Leg)) (s : Wanted) (k : ℕ) (front : List ChainStart) (old new : Known) (rows : AreRows lists)
-    (least : AreLeastCosts (legs_into lists) s k old) (steps : AreSteps (legs_into lists) s k front) (whole : IsFront (legs_into lists) s old front)
+    (least : AreLeastCosts (legs_into lists) s k old) (steps : AreSteps (legs_into lists) s k front)
+    (whole : IsFront (legs_into lists) s old front)
     (low : Lowers (IsOneMoreOf lists front s) old new) where
   abbrev pub L : Legs
   L = legs_into lists
@@ -93,8 +98,10 @@ module _ (lists : List (List Leg)) (s : Wanted) (k : ℕ) (front : List ChainSta
       let sum : cost_sum l.0.cost rest ≡ d = ap (λ o. cost_sum (leg_cost o) rest) (sym l.1) ∙ cost in
       let part : IsAtMost rest (cost_sum l.0.cost rest) = (omega arith, λ e. omega arith) in
       let light : IsAtMost rest s.most = IsAtMost_trans rest d s.most (subst (IsAtMost rest) sum part) le in
-      let known : IsAtMost (known_at old y) rest = least.whole y rest (record { nodes = ys; chain = chain.1; short = omega arith; away = away; cost = refl }, light) in
-      let less : IsAtMost (cost_sum l.0.cost (known_at old y)) d = subst (IsAtMost (cost_sum l.0.cost (known_at old y))) sum (IsAtMost-cost_sum l.0.cost l.0.cost (known_at old y) rest (IsAtMost_refl l.0.cost) known) in
+      let known : IsAtMost (known_at old y) rest = least.whole y rest
+      (record { nodes = ys; chain = chain.1; short = omega arith; away = away; cost = refl }, light) in
+      let less : IsAtMost (cost_sum l.0.cost (known_at old y)) d = subst (IsAtMost (cost_sum l.0.cost (known_at old y))) sum
+      (IsAtMost-cost_sum l.0.cost l.0.cost (known_at old y) rest (IsAtMost_refl l.0.cost) known) in
       let spread = reached_spread y (IsAtMost_trans (known_at old y) rest s.most known light) in
       IsAtMost_trans (known_at new x) (cost_sum l.0.cost (known_at old y)) d (spread x l.0 l.1 off (IsAtMost_trans _ d s.most less le)) less
 
@@ -120,7 +127,8 @@ module _ (lists : List (List Leg)) (s : Wanted) (k : ℕ) (front : List ChainSta
 touched_next : (P : ℕ → Cost → Type 0) (old new : Known) → AreTouched old → Lowers P old new → AreTouched new
 touched_next P old new t low = record {
   each = λ x. each x (low.fresh x) (t.each x);
-  within = All-from_get_or (λ x. x < length new.costs) new.touched 0 (λ i lt. within _ (low.touched _ (Contains-get_or new.touched i 0 lt)));
+  within = All-from_get_or (λ x. x < length new.costs) new.touched 0
+      (λ i lt. within _ (low.touched _ (Contains-get_or new.touched i 0 lt)));
 }
   where
     each : (x : ℕ) → (known_at new x ≡ known_at old x) ⊎ (Contains new.next (step_to x (known_at new x)) × Contains new.touched x) →
@@ -137,7 +145,8 @@ not_among : {X : Type 0} (xs : List X) (x : X) → xs ≡ [] → Contains xs x �
 not_among xs x none c = let at = (subst (λ z. Contains z x) none c).1 in omega arith
 
 -- at first only the empty chain is known
-pub rounds_start : (n : ℕ) (L : Legs) (s : Wanted) (old new : Known) → s.end ≢ s.avoided → (s.most.weight ≤ MOST_WEIGHT) × (s.most.arcs < NEVER_ARCS) →
+pub rounds_start : (n : ℕ) (L : Legs) (s : Wanted) (old new : Known) → s.end ≢ s.avoided →
+    (s.most.weight ≤ MOST_WEIGHT) × (s.most.arcs < NEVER_ARCS) →
     s.end < n → IsClean n old → old.next ≡ [] → Lowers (IsOnly s.end no_cost) old new → IsAfterRounds n L s 0 new
 rounds_start n L s old new off most inside clean none low = record {
   size = low.size ∙ clean.size;
@@ -147,11 +156,15 @@ rounds_start n L s old new off most inside clean none low = record {
     | inr m ↦ only f.node f.cost m
   ];
   front = λ x le. front x le (low.fresh x);
-  touched = touched_next (IsOnly s.end no_cost) old new (record { each = λ x. inl (clean.rest x); within = subst (All (λ x. x < length old.costs)) (sym clean.touched) (search rules) }) low;
+  touched = touched_next (IsOnly s.end no_cost) old new
+      (record { each = λ x. inl (clean.rest x); within = subst (All (λ x. x < length old.costs)) (sym clean.touched) (search rules) }) low;
 }
   where
     only : (x : ℕ) (d : Cost) → IsOnly s.end no_cost x d → IsWanted L s 0 x d
-    only x d m = (record { nodes = []; chain = m.0; short = omega arith; away = ((λ e. off (sym m.0 ∙ e)), tt); cost = sym m.1 }, subst (λ z. IsAtMost z s.most) (sym m.1) (IsAtMost-no_cost s.most))
+    only x d m = (
+      record { nodes = []; chain = m.0; short = omega arith; away = ((λ e. off (sym m.0 ∙ e)), tt); cost = sym m.1 },
+      subst (λ z. IsAtMost z s.most) (sym m.1) (IsAtMost-no_cost s.most),
+    )
 
     sound : (x : ℕ) → (known_at new x ≡ known_at old x) ⊎ IsOnly s.end no_cost x (known_at new x) →
         (known_at new x ≡ never) ⊎ IsWanted L s 0 x (known_at new x)
@@ -163,7 +176,8 @@ rounds_start n L s old new off most inside clean none low = record {
     whole x d [] chain short cost = low.whole x d (chain, sym cost)
     whole x d (y ∷ ys) chain short cost = absurd (omega arith)
 
-    front : (x : ℕ) → IsAtMost (known_at new x) s.most → (known_at new x ≡ known_at old x) ⊎ (Contains new.next (step_to x (known_at new x)) × Contains new.touched x) →
+    front : (x : ℕ) → IsAtMost (known_at new x) s.most →
+        (known_at new x ≡ known_at old x) ⊎ (Contains new.next (step_to x (known_at new x)) × Contains new.touched x) →
         Contains new.next (step_to x (known_at new x)) ⊎ IsSpread L s new x (known_at new x)
     front x le (inr at) = inl at.0
     front x le (inl e) =
@@ -175,21 +189,28 @@ rounds_start n L s old new off most inside clean none low = record {
 -- the state after one more round
 pub rounds_next : (lists : List (List Leg)) (n : ℕ) (s : Wanted) (k : ℕ) (before mid new : Known) → AreRows lists →
     mid.costs ≡ before.costs → mid.touched ≡ before.touched → mid.next ≡ [] →
-    IsAfterRounds n (legs_into lists) s k before → Lowers (IsOneMoreOf lists before.next s) mid new → IsAfterRounds n (legs_into lists) s (k + 1) new
+    IsAfterRounds n (legs_into lists) s k before → Lowers (IsOneMoreOf lists before.next s) mid new →
+    IsAfterRounds n (legs_into lists) s (k + 1) new
 rounds_next lists n s k before mid new rows costs touched none u low =
     let least : AreLeastCosts (legs_into lists) s k mid = record {
-      sound = λ x. subst (λ (z : List Cost). (known_in z x ≡ never) ⊎ IsWanted (legs_into lists) s k x (known_in z x)) (sym costs) (u.least.sound x);
+      sound = λ x. subst (λ (z : List Cost). (known_in z x ≡ never) ⊎ IsWanted (legs_into lists) s k x (known_in z x)) (sym costs)
+          (u.least.sound x);
       whole = λ x d w. subst (λ (z : List Cost). IsAtMost (known_in z x) d) (sym costs) (u.least.whole x d w);
     } in
-    let front : IsFront (legs_into lists) s mid before.next = λ x le. subst (λ (z : List Cost). IsAtMost (known_in z x) s.most → Contains before.next (step_to x (known_in z x)) ⊎ ((y : ℕ) (l : Label) → legs_into lists y x ≡ Some l → y ≢ s.avoided → IsAtMost (cost_sum l.cost (known_in z x)) s.most → IsAtMost (known_in z y) (cost_sum l.cost (known_in z x)))) (sym costs) (u.front x) le in
+    let front : IsFront (legs_into lists) s mid before.next =
+    λ x le. subst (λ (z : List Cost). IsAtMost (known_in z x) s.most → Contains before.next (step_to x (known_in z x))
+    ⊎ ((y : ℕ) (l : Label) → legs_into lists y x ≡ Some l → y ≢ s.avoided → IsAtMost (cost_sum l.cost (known_in z x)) s.most →
+    IsAtMost (known_in z y) (cost_sum l.cost (known_in z x)))) (sym costs) (u.front x) le in
     record {
       size = low.size ∙ ap length costs ∙ u.size;
       least = next_costs lists s k before.next mid new rows least u.steps front low;
       steps = next_steps lists s k before.next mid new rows least u.steps front low none;
       front = next_front lists s k before.next mid new rows least u.steps front low;
       touched = touched_next _ mid new (record {
-        each = λ x. subst (λ (z : List Cost). (known_in z x ≡ never) ⊎ Contains mid.touched x) (sym costs) (subst (λ z. (known_at before x ≡ never) ⊎ Contains z x) (sym touched) (u.touched.each x));
-        within = subst (λ (z : List Cost). All (λ x. x < length z) mid.touched) (sym costs) (subst (λ z. All (λ x. x < length before.costs) z) (sym touched) u.touched.within);
+        each = λ x. subst (λ (z : List Cost). (known_in z x ≡ never) ⊎ Contains mid.touched x) (sym costs)
+            (subst (λ z. (known_at before x ≡ never) ⊎ Contains z x) (sym touched) (u.touched.each x));
+        within = subst (λ (z : List Cost). All (λ x. x < length z) mid.touched) (sym costs)
+            (subst (λ z. All (λ x. x < length before.costs) z) (sym touched) u.touched.within);
       }) low;
     }
 
@@ -200,7 +221,8 @@ chain_arcs n L u w (x ∷ xs) limits chain =
     let l = some_of (L u x) chain.0 in
     let leg = (limits u x l.0 l.1).arcs in
     let rest = chain_arcs n L x w xs limits chain.1 in
-    let is : (chain_cost L u (x ∷ xs)).arcs ≡ l.0.cost.arcs + (chain_cost L x xs).arcs = ap (λ o. (cost_sum (leg_cost o) (chain_cost L x xs)).arcs) l.1 in
+    let is : (chain_cost L u (x ∷ xs)).arcs ≡ l.0.cost.arcs + (chain_cost L x xs).arcs =
+    ap (λ o. (cost_sum (leg_cost o) (chain_cost L x xs)).arcs) l.1 in
     subst (λ z. z ≤ suc (length xs) * n) (sym is) (omega arith)
 
 -- at most MOST_HOPS legs of at most n arcs each have at most MOST_CHAIN_ARCS arcs
@@ -215,9 +237,11 @@ chain_small n L u w xs limits small few chain =
     let bound = product (length xs) n few small in omega arith
 
 -- a wanted chain is among the n nodes, and its cost is small
-pub wanted_small : (limit n : ℕ) (L : Legs) (s : Wanted) (k x : ℕ) (d : Cost) → AreLegsWithin n L → n ≤ MOST_NODES → k ≤ MOST_HOPS → s.end < n → IsHeld limit s.most →
+pub wanted_small : (limit n : ℕ) (L : Legs) (s : Wanted) (k x : ℕ) (d : Cost) → AreLegsWithin n L → n ≤ MOST_NODES → k ≤ MOST_HOPS →
+    s.end < n → IsHeld limit s.most →
     IsWanted L s k x d → (x < n) × IsHeld limit d
-wanted_small limit n L s k x d limits small few inside most w = (node w.0.nodes w.0.chain, record { limited = limited; weight = weight; arcs = arcs })
+wanted_small limit n L s k x d limits small few inside most w =
+    (node w.0.nodes w.0.chain, record { limited = limited; weight = weight; arcs = arcs })
   where
     node : (xs : List ℕ) → IsChain L x s.end xs → x < n
     node [] chain = subst (λ z. z < n) (sym chain) inside
@@ -235,23 +259,35 @@ wanted_small limit n L s k x d limits small few inside most w = (node w.0.nodes 
         subst (λ z. z.arcs ≤ MOST_CHAIN_ARCS) w.0.cost (chain_small n L x s.end w.0.nodes limits small (omega arith) w.0.chain)
 
 -- one more leg may be put in front of each step
-pub steps_room : (limit : ℕ) (lists : List (List Leg)) (n : ℕ) (s : Wanted) (k : ℕ) (front : List ChainStart) → AreRows lists → AreLegsWithin n (legs_into lists) → AreLegsUpTo limit (legs_into lists) →
-    n ≤ MOST_NODES → k ≤ MOST_HOPS → s.end < n → IsHeld limit s.most → AreSteps (legs_into lists) s k front → All (λ f. (f.node < n) × IsRoomFor limit n (row lists f.node) f) front
+pub steps_room : (limit : ℕ) (lists : List (List Leg)) (n : ℕ) (s : Wanted) (k : ℕ) (front : List ChainStart) → AreRows lists →
+    AreLegsWithin n (legs_into lists) → AreLegsUpTo limit (legs_into lists) →
+    n ≤ MOST_NODES → k ≤ MOST_HOPS → s.end < n → IsHeld limit s.most → AreSteps (legs_into lists) s k front →
+    All (λ f. (f.node < n) × IsRoomFor limit n (row lists f.node) f) front
 steps_room limit lists n s k front rows limits light small few inside most steps =
-    All-from_get_or (λ f. (f.node < n) × IsRoomFor limit n (row lists f.node) f) front (step_to 0 no_cost) (λ i lt. room (get_or front i (step_to 0 no_cost)) (Contains-get_or front i (step_to 0 no_cost) lt))
+    All-from_get_or (λ f. (f.node < n) × IsRoomFor limit n (row lists f.node) f) front (step_to 0 no_cost)
+    (λ i lt. room (get_or front i (step_to 0 no_cost)) (Contains-get_or front i (step_to 0 no_cost) lt))
   where
     leg : (x : ℕ) (l : Leg) → Contains (row lists x) l → IsLegLight limit n l
     leg x l c =
         let is = listed_leg lists x l rows c in
         let within = limits l.node x (label_of l) is in
-        record { node = within.ends.0; cost = record { limited = light l.node x (label_of l) is; weight = within.weight; arcs = omega (arith, within.arcs) } }
+        record {
+          node = within.ends.0;
+          cost = record {
+            limited = light l.node x (label_of l) is;
+            weight = within.weight;
+            arcs =
+                omega (arith, within.arcs);
+          };
+        }
 
     room : (f : ChainStart) → Contains front f → (f.node < n) × IsRoomFor limit n (row lists f.node) f
     room f c =
         let is = wanted_small limit n (legs_into lists) s k f.node f.cost limits small few inside most (steps f c) in (
           is.0,
           record {
-            within = All-from_get_or (IsLegLight limit n) (row lists f.node) no_leg (λ i lt. leg f.node _ (Contains-get_or (row lists f.node) i no_leg lt));
+            within = All-from_get_or (IsLegLight limit n) (row lists f.node) no_leg
+                (λ i lt. leg f.node _ (Contains-get_or (row lists f.node) i no_leg lt));
             held = is.1;
           },
         )

@@ -29,7 +29,8 @@ turned_light limit lists light u w = light w u
 pub opened_light : (limit : ℕ) (g : Network) (L : Legs) → All (λ a. a.weight ≤ limit) g.arcs → SameLegs L (opening g) → AreLegsUpTo limit L
 opened_light limit g L light same u w l e =
     let is = opening_leg g u w l (sym (same u w) ∙ e) in
-    subst (λ (z : Label). z.cost.weight ≤ limit) (sym is.label) (All-contains (λ (a : InArc). a.weight ≤ limit) g.arcs (arc u w is.weight) light is.arc_is)
+    subst (λ (z : Label). z.cost.weight ≤ limit) (sym is.label)
+    (All-contains (λ (a : InArc). a.weight ≤ limit) g.arcs (arc u w is.weight) light is.arc_is)
 
 -- light legs stay light when a node is taken out
 pub cleared_light : (limit : ℕ) (L : Legs) (v : ℕ) (M : Legs) → AreLegsUpTo limit L → SameLegs M (legs_after_contraction L v []) →
@@ -44,5 +45,6 @@ pub put_light : (limit : ℕ) (L : Legs) (v : ℕ) (list : List Shortcut) (M : L
     All (λ s. s.cost.weight ≤ limit) list → ((u w : ℕ) → M u w ≡ leg_after_shortcuts v list u w (L u w)) → AreLegsUpTo limit M
 put_light limit L v list M before light same u w l e = elim (override_cases v list u w (L u w)) [
   | inl stays ↦ before u w l (sym stays ∙ sym (same u w) ∙ e)
-  | inr s ↦ subst (λ (z : Label). z.cost.weight ≤ limit) (same_Some _ _ (sym s.4 ∙ sym (same u w) ∙ e)) (All-contains (λ (t : Shortcut). t.cost.weight ≤ limit) list s.0 light s.1)
+  | inr s ↦ subst (λ (z : Label). z.cost.weight ≤ limit) (same_Some _ _ (sym s.4 ∙ sym (same u w) ∙ e))
+      (All-contains (λ (t : Shortcut). t.cost.weight ≤ limit) list s.0 light s.1)
 ]

@@ -1,5 +1,6 @@
 -- Changes to one of many lists.
-use Rattle.std.proofs.Common.{◌≡◌, ℕ, ◌+◌, ◌<◌, Bool, true, false, List, [], ◌∷◌, ◌++◌, length, set, get_or, take, drop, Option, Some, None, Contains, inl, inr, refl, sym, ◌∙◌, ap, subst, arith}
+use Rattle.std.proofs.Common.{◌≡◌, ℕ, ◌+◌, ◌<◌, Bool, true, false, List, [], ◌∷◌, ◌++◌, length, set, get_or, take, drop, Option}
+use Rattle.std.proofs.Common.{Some, None, Contains, inl, inr, refl, sym, ◌∙◌, ap, subst, arith}
 use Rattle.std.specs.Prelude.{◌⊎◌, ◌≢◌, ◌==◌, ◌&&◌, if◌then◌else◌, AllPairs}
 use Rattle.std.proofs.lemmas.Bool.{cases_eq, eqb-true, eqb-false}
 use Rattle.std.proofs.lemmas.Bool.Decides.{nat_tests}
@@ -9,7 +10,8 @@ use Rattle.ch_contract.specs.Contraction.{IsPairBefore, shortcut_label}
 use Rattle.ch_contract.specs.declared.leg_lists.End.{End}
 use Rattle.ch_contract.specs.declared.shortcut.Shortcut.{Shortcut}
 use Rattle.ch_contract.proofs.code.Puts.{next_shortcut}
-use Rattle.ch_contract.specs.LegLists.{AreRows, IsAmong, HaveAll, IsEdited, IsSet, AreTaken, AreOverridden, end_of, legs_at, legs_from, legs_into, other_of}
+use Rattle.ch_contract.specs.LegLists.{AreRows, IsAmong, HaveAll, IsEdited, IsSet, AreTaken, AreOverridden, end_of, legs_at}
+use Rattle.ch_contract.specs.LegLists.{legs_from, legs_into, other_of}
 use Rattle.std.proofs.Math.Seq.{take-set-lt}
 use Rattle.std.proofs.lemmas.List.{get_or-set_other, get_or-take, drop-set-lt, length-set, length-take}
 use Rattle.ch_hierarchy.specs.declared.leg.Leg.{Leg}
@@ -34,7 +36,8 @@ set_row node other label old new inside rows is row_is legs = record {
     rows_at x (inr ne) = subst IsRow (sym (elsewhere x ne)) (rows x)
 
     legs_at : (x y : ℕ) (b : Bool) → (node == x) ≡ b → row_leg (row new x) y ≡ (if b && other == y then label else row_leg (row old x) y)
-    legs_at x y true e = let same = eqb-true node x e in subst (λ z. row_leg (row new z) y ≡ (if other == y then label else row_leg (row old z) y)) same (legs y)
+    legs_at x y true e = let same = eqb-true node x e in
+        subst (λ z. row_leg (row new z) y ≡ (if other == y then label else row_leg (row old z) y)) same (legs y)
     legs_at x y false e = let ne = eqb-false node x e in ap (λ z. row_leg z y) (elsewhere x (λ same. ne (sym same)))
 
 -- the first n of these lists are the lists of the nodes, and `node` is one of the nodes
@@ -64,7 +67,8 @@ module _ (n node : ℕ) (all rows : List (List Leg)) (are : take n all ≡ rows)
         IsSet node other label rows (take n new)
     edited_set other label ordered is legs =
         set_row node other label rows (take n new) inside ordered
-        (ap (take n) edited ∙ take-set-lt n all node (row new node) below ∙ ap (λ l. set l node (row new node)) are ∙ ap (set rows node) (sym here))
+        (ap (take n) edited ∙ take-set-lt n all node (row new node) below ∙ ap (λ l. set l node (row new node)) are
+        ∙ ap (set rows node) (sym here))
         (subst IsRow (sym here) is)
         (λ y. ap (λ l. row_leg l y) here ∙ legs y ∙ ap (λ l. if other == y then label else row_leg l y) list_row)
 
@@ -134,7 +138,8 @@ taken_all v others old new t all x y = at (v == y) refl
     none (Some m) e (inl same) = t.here x (all x m e)
 
     at : (b : Bool) → (v == y) ≡ b → row_leg (row new x) y ≡ (if b then None else row_leg (row old x) y)
-    at true e = let same : v ≡ y = grind (arith, nat_tests) in subst (λ z. row_leg (row new x) z ≡ None) same (none (row_leg (row old x) v) refl (t.there x))
+    at true e = let same : v ≡ y = grind (arith, nat_tests) in
+        subst (λ z. row_leg (row new x) z ≡ None) same (none (row_leg (row old x) v) refl (t.there x))
     at false e = t.kept x y (let differs : y ≢ v = grind (arith, nat_tests) in differs)
 
 -- at first no shortcut is put in
@@ -143,9 +148,11 @@ pub overridden_none : (read : List (List Leg) → Legs) (v : ℕ) (lists : List 
 overridden_none read v lists rows = record { size = refl; rows = rows; legs = λ u w. refl }
 
 -- the legs after the next shortcut is put in
-overridden_more : (read : List (List Leg) → Legs) (v : ℕ) (xs : List Shortcut) (i : ℕ) (d : Shortcut) (old mid new : List (List Leg)) → i < length xs →
+overridden_more : (read : List (List Leg) → Legs) (v : ℕ) (xs : List Shortcut) (i : ℕ) (d : Shortcut)
+    (old mid new : List (List Leg)) → i < length xs →
     AllPairs IsPairBefore xs → AreOverridden read v (take i xs) old mid → length new ≡ length mid → AreRows new →
-    ((u w : ℕ) → read new u w ≡ (if (get_or xs i d).from == u && (get_or xs i d).to == w then Some (shortcut_label v (get_or xs i d)) else read mid u w)) →
+    ((u w : ℕ) → read new u w ≡ (if (get_or xs i d).from == u && (get_or xs i d).to == w
+    then Some (shortcut_label v (get_or xs i d)) else read mid u w)) →
     AreOverridden read v (take (i + 1) xs) old new
 overridden_more read v xs i d old mid new lt ordered so_far size rows legs = record {
   size = size ∙ so_far.size;
@@ -163,22 +170,26 @@ turn false false a b = refl
 -- the next shortcut is put into the list of its first node
 overridden_from : (v : ℕ) (xs : List Shortcut) (i : ℕ) (d : Shortcut) (old mid new : List (List Leg)) → i < length xs →
     AllPairs IsPairBefore xs → AreOverridden legs_from v (take i xs) old mid →
-    IsSet (get_or xs i d).from (get_or xs i d).to (Some (shortcut_label v (get_or xs i d))) mid new → AreOverridden legs_from v (take (i + 1) xs) old new
+    IsSet (get_or xs i d).from (get_or xs i d).to (Some (shortcut_label v (get_or xs i d))) mid new →
+    AreOverridden legs_from v (take (i + 1) xs) old new
 overridden_from v xs i d old mid new lt ordered so_far s =
     overridden_more legs_from v xs i d old mid new lt ordered so_far s.size s.rows s.legs
 
 -- the next shortcut is put into the list of its second node
 overridden_into : (v : ℕ) (xs : List Shortcut) (i : ℕ) (d : Shortcut) (old mid new : List (List Leg)) → i < length xs →
     AllPairs IsPairBefore xs → AreOverridden legs_into v (take i xs) old mid →
-    IsSet (get_or xs i d).to (get_or xs i d).from (Some (shortcut_label v (get_or xs i d))) mid new → AreOverridden legs_into v (take (i + 1) xs) old new
+    IsSet (get_or xs i d).to (get_or xs i d).from (Some (shortcut_label v (get_or xs i d))) mid new →
+    AreOverridden legs_into v (take (i + 1) xs) old new
 overridden_into v xs i d old mid new lt ordered so_far s =
     overridden_more legs_into v xs i d old mid new lt ordered so_far s.size s.rows
-    (λ u w. s.legs w u ∙ turn ((get_or xs i d).to == w) ((get_or xs i d).from == u) (Some (shortcut_label v (get_or xs i d))) (legs_into mid u w))
+    (λ u w. s.legs w u ∙ turn ((get_or xs i d).to == w) ((get_or xs i d).from == u) (Some (shortcut_label v (get_or xs i d)))
+    (legs_into mid u w))
 
 -- the next shortcut is put into the list of its node at this end
 pub overridden_at : (end : End) (v : ℕ) (xs : List Shortcut) (i : ℕ) (d : Shortcut) (old mid new : List (List Leg)) → i < length xs →
     AllPairs IsPairBefore xs → AreOverridden (legs_at end) v (take i xs) old mid →
-    IsSet (end_of end (get_or xs i d)) (other_of end (get_or xs i d)) (Some (shortcut_label v (get_or xs i d))) mid new → AreOverridden (legs_at end) v (take (i + 1) xs) old new
+    IsSet (end_of end (get_or xs i d)) (other_of end (get_or xs i d)) (Some (shortcut_label v (get_or xs i d))) mid new →
+    AreOverridden (legs_at end) v (take (i + 1) xs) old new
 overridden_at End.First = overridden_from
 overridden_at End.Second = overridden_into
 

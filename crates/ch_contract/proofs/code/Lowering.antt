@@ -9,7 +9,8 @@ use Rattle.ch_graph.specs.Cost.{IsAtMost, cost_sum}
 use Rattle.ch_hierarchy.specs.declared.leg.Leg.{Leg}
 use Rattle.ch_contract.specs.declared.witness_search.Wanted.{Wanted}
 use Rattle.ch_contract.specs.HeldCosts.{never}
-use Rattle.ch_contract.specs.KnownCosts.{Known, ChainStart, known_in, known_at, Lowers, IsOnly, IsOnlyWhere, IsOneMore, IsOneMoreOf, step_to}
+use Rattle.ch_contract.specs.KnownCosts.{Known, ChainStart, known_in, known_at, Lowers, IsOnly, IsOnlyWhere, IsOneMore, IsOneMoreOf}
+use Rattle.ch_contract.specs.KnownCosts.{step_to}
 use Rattle.ch_hierarchy.specs.Rows.{row}
 use Rattle.ch_graph.proofs.CostOrder.{IsAtMost_refl, IsAtMost_trans, IsAtMost_or_IsBelow, IsBelow-IsAtMost}
 
@@ -51,7 +52,8 @@ lowers_as P Q a b there back p = record {
     next f (inr m) = inr (there f.node f.cost m)
 
 -- lowering to the costs with P and then to the costs with Q lowers to the costs with R, if R is their union
-pub lowers_then : (P Q R : ℕ → Cost → Type 0) (a b c : Known) → ((x : ℕ) (d : Cost) → P x d → R x d) → ((x : ℕ) (d : Cost) → Q x d → R x d) →
+pub lowers_then : (P Q R : ℕ → Cost → Type 0) (a b c : Known) → ((x : ℕ) (d : Cost) → P x d → R x d) →
+    ((x : ℕ) (d : Cost) → Q x d → R x d) →
     ((x : ℕ) (d : Cost) → R x d → P x d ⊎ Q x d) → Lowers P a b → Lowers Q b c → Lowers R a c
 lowers_then P Q R a b c first second either p q = record {
   size = q.size ∙ p.size;
@@ -102,7 +104,8 @@ lowers_here node cost old new inside less costs next touched = record {
   size = ap length costs ∙ length-set old.costs node cost;
   sound = λ x. sound x (cases_eq x node);
   lower = λ x. lower x (cases_eq x node);
-  whole = λ x d m. subst (λ z. IsAtMost (known_at new z) d) (sym m.0) (subst (λ z. IsAtMost z d) (sym here) (subst (IsAtMost cost) (sym m.1) (IsAtMost_refl cost)));
+  whole = λ x d m. subst (λ z. IsAtMost (known_at new z) d) (sym m.0)
+      (subst (λ z. IsAtMost z d) (sym here) (subst (IsAtMost cost) (sym m.1) (IsAtMost_refl cost)));
   fresh = λ x. fresh x (cases_eq x node);
   next = λ f m. from f (Contains-push_cases old.next (step_to node cost) f (subst (λ z. Contains z f) next m));
   next_kept = λ f m. subst (λ z. Contains z f) (sym next) (Contains-append_left old.next _ _ m);
@@ -121,12 +124,15 @@ lowers_here node cost old new inside less costs next touched = record {
     sound x (inr ne) = inl (there x ne)
 
     lower : (x : ℕ) → (x ≡ node) ⊎ (x ≢ node) → IsAtMost (known_at new x) (known_at old x)
-    lower x (inl e) = subst (λ z. IsAtMost (known_at new z) (known_at old z)) (sym e) (subst (λ z. IsAtMost z (known_at old node)) (sym here) less)
+    lower x (inl e) = subst (λ z. IsAtMost (known_at new z) (known_at old z)) (sym e)
+        (subst (λ z. IsAtMost z (known_at old node)) (sym here) less)
     lower x (inr ne) = subst (IsAtMost (known_at new x)) (there x ne) (IsAtMost_refl (known_at new x))
 
     stands : Contains new.next (step_to node (known_at new node)) × Contains new.touched node
     stands = (
-      subst (λ z. Contains z (step_to node (known_at new node))) (sym next) (subst (λ z. Contains (old.next ++ step_to node cost ∷ []) (step_to node z)) (sym here) (Contains-push old.next (step_to node cost))),
+      subst (λ z. Contains z (step_to node (known_at new node))) (sym next)
+          (subst (λ z. Contains (old.next ++ step_to node cost ∷ []) (step_to node z)) (sym here)
+          (Contains-push old.next (step_to node cost))),
       subst (λ z. Contains z node) (sym touched) (Contains-push old.touched node),
     )
 
@@ -148,12 +154,21 @@ pub no_more : (f : ChainStart) (s : Wanted) (x : ℕ) (d : Cost) → IsOneMore [
 no_more f s x d m = let at = m.1.1 in omega arith
 
 -- one leg lowers the known costs if its chain is wanted
-pub leg_where : (l : Leg) (f : ChainStart) (s : Wanted) (is_wanted : Bool) (a b : Known) → (IsTrue is_wanted ↔ (IsAtMost (cost_sum l.cost f.cost) s.most × (l.node ≢ s.avoided))) →
+pub leg_where : (l : Leg) (f : ChainStart) (s : Wanted) (is_wanted : Bool) (a b : Known) →
+    (IsTrue is_wanted ↔ (IsAtMost (cost_sum l.cost f.cost) s.most × (l.node ≢ s.avoided))) →
     Lowers (IsOnlyWhere is_wanted l.node (cost_sum l.cost f.cost)) a b → Lowers (IsOneMore (l ∷ []) f s) a b
-leg_where l f s is_wanted a b tells = lowers_as (IsOnlyWhere is_wanted l.node (cost_sum l.cost f.cost)) (IsOneMore (l ∷ []) f s) a b there back
+leg_where l f s is_wanted a b tells =
+    lowers_as (IsOnlyWhere is_wanted l.node (cost_sum l.cost f.cost)) (IsOneMore (l ∷ []) f s) a b there back
   where
     there : (x : ℕ) (d : Cost) → IsOnlyWhere is_wanted l.node (cost_sum l.cost f.cost) x d → IsOneMore (l ∷ []) f s x d
-    there x d m = (l, Contains-push [] l, sym m.1.0, (λ e. (tells.0 m.0).1 (sym m.1.0 ∙ e)), m.1.1, subst (λ z. IsAtMost z s.most) (sym m.1.1) (tells.0 m.0).0)
+    there x d m = (
+      l,
+      Contains-push [] l,
+      sym m.1.0,
+      (λ e. (tells.0 m.0).1 (sym m.1.0 ∙ e)),
+      m.1.1,
+      subst (λ z. IsAtMost z s.most) (sym m.1.1) (tells.0 m.0).0,
+    )
 
     back : (x : ℕ) (d : Cost) → IsOneMore (l ∷ []) f s x d → IsOnlyWhere is_wanted l.node (cost_sum l.cost f.cost) x d
     back x d m = elim (Contains-push_cases [] l m.0 m.1) [
@@ -168,7 +183,8 @@ leg_where l f s is_wanted a b tells = lowers_as (IsOnlyWhere is_wanted l.node (c
 pub legs_more : (taken : List Leg) (l : Leg) (f : ChainStart) (s : Wanted) (a b c : Known) → Lowers (IsOneMore taken f s) a b →
     Lowers (IsOneMore (l ∷ []) f s) b c → Lowers (IsOneMore (taken ++ l ∷ []) f s) a c
 legs_more taken l f s a b c = lowers_then (IsOneMore taken f s) (IsOneMore (l ∷ []) f s) (IsOneMore (taken ++ l ∷ []) f s) a b c
-    (λ x d m. (m.0, Contains-append_left taken _ _ m.1, m.2, m.3, m.4, m.5)) (λ x d m. (m.0, Contains-append_right taken _ _ m.1, m.2, m.3, m.4, m.5)) either
+    (λ x d m. (m.0, Contains-append_left taken _ _ m.1, m.2, m.3, m.4, m.5))
+    (λ x d m. (m.0, Contains-append_right taken _ _ m.1, m.2, m.3, m.4, m.5)) either
   where
     either : (x : ℕ) (d : Cost) → IsOneMore (taken ++ l ∷ []) f s x d → IsOneMore taken f s x d ⊎ IsOneMore (l ∷ []) f s x d
     either x d m = elim (Contains-push_cases taken l m.0 m.1) [
@@ -178,8 +194,10 @@ legs_more taken l f s a b c = lowers_then (IsOneMore taken f s) (IsOneMore (l �
 
 -- the known costs after one more step
 pub one_step_more : (lists : List (List Leg)) (taken : List ChainStart) (f : ChainStart) (s : Wanted) (a b c : Known) →
-    Lowers (IsOneMoreOf lists taken s) a b → Lowers (IsOneMore (row lists f.node) f s) b c → Lowers (IsOneMoreOf lists (taken ++ f ∷ []) s) a c
-one_step_more lists taken f s a b c = lowers_then (IsOneMoreOf lists taken s) (IsOneMore (row lists f.node) f s) (IsOneMoreOf lists (taken ++ f ∷ []) s) a b c
+    Lowers (IsOneMoreOf lists taken s) a b → Lowers (IsOneMore (row lists f.node) f s) b c →
+    Lowers (IsOneMoreOf lists (taken ++ f ∷ []) s) a c
+one_step_more lists taken f s a b c =
+    lowers_then (IsOneMoreOf lists taken s) (IsOneMore (row lists f.node) f s) (IsOneMoreOf lists (taken ++ f ∷ []) s) a b c
     (λ x d m. (m.0, Contains-append_left taken _ _ m.1, m.2)) (λ x d m. (f, Contains-push taken f, m)) either
   where
     either : (x : ℕ) (d : Cost) → IsOneMoreOf lists (taken ++ f ∷ []) s x d →

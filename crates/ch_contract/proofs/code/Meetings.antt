@@ -1,5 +1,6 @@
 -- A search meets the last legs of a chain exactly if there is a witness.
-use Rattle.std.proofs.Common.{◌≡◌, ℕ, ◌+◌, ◌-◌, ◌<◌, ◌≤◌, List, [], ◌∷◌, length, get_or, take, Some, Contains, refl, sym, ◌∙◌, ap, subst, arith, inl, inr}
+use Rattle.std.proofs.Common.{◌≡◌, ℕ, ◌+◌, ◌-◌, ◌<◌, ◌≤◌, List, [], ◌∷◌, length, get_or, take, Some, Contains, refl, sym, ◌∙◌, ap}
+use Rattle.std.proofs.Common.{subst, arith, inl, inr}
 use Rattle.std.specs.Prelude.{◌⊎◌, ◌≢◌, ◌↔◌}
 use Rattle.std.proofs.lemmas.List.{take_all, take_more}
 use Rattle.std.proofs.lemmas.List.Elements.{Contains-push_cases}
@@ -25,7 +26,8 @@ never_most : (a c : Cost) → (c.weight ≤ MOST_WEIGHT) × (c.arcs < NEVER_ARCS
 never_most a c small le = let weight = le.0 in let arcs = le.1 (omega arith) in omega arith
 
 module _ (n : ℕ) (L : Legs) (lists : List (List Leg)) (s : Wanted) (hops : ℕ) (h : Known) (start : ℕ) (most : Cost)
-    (from : (x : ℕ) → AreLegsFrom L x (row lists x)) (least : AreLeastCosts L s (hops - 2) h) (small : (most.weight ≤ MOST_WEIGHT) × (most.arcs < NEVER_ARCS))
+    (from : (x : ℕ) → AreLegsFrom L x (row lists x)) (least : AreLeastCosts L s (hops - 2) h)
+    (small : (most.weight ≤ MOST_WEIGHT) × (most.arcs < NEVER_ARCS))
     (wanted : IsAtMost most s.most) (one : 1 ≤ hops) (off : start ≢ s.avoided) (apart : start ≢ s.end) where
   -- a leg of a list is a leg of the graph
   leg_of : (x : ℕ) (l : Leg) → Contains (row lists x) l → L x l.node ≡ Some (label_of l)
@@ -44,7 +46,9 @@ module _ (n : ℕ) (L : Legs) (lists : List (List Leg)) (s : Wanted) (hops : ℕ
       let r = known l.node l.cost le in
       let leg = leg_of start l c in
       let short = r.short in
-      let cost : chain_cost L start (l.node ∷ r.nodes) ≡ cost_sum (known_at h l.node) l.cost = ap (λ o. cost_sum (leg_cost o) (chain_cost L l.node r.nodes)) leg ∙ ap (cost_sum l.cost) r.cost ∙ cost_sum_comm l.cost (known_at h l.node) in (
+      let cost : chain_cost L start (l.node ∷ r.nodes) ≡ cost_sum (known_at h l.node) l.cost =
+      ap (λ o. cost_sum (leg_cost o) (chain_cost L l.node r.nodes)) leg ∙ ap (cost_sum l.cost) r.cost
+      ∙ cost_sum_comm l.cost (known_at h l.node) in (
         l.node ∷ r.nodes,
         record {
           chain = (rw leg refl, r.chain);
@@ -61,9 +65,13 @@ module _ (n : ℕ) (L : Legs) (lists : List (List Leg)) (s : Wanted) (hops : ℕ
       let first = leg_of start l c in
       let second = leg_of l.node k d in
       let short = r.short in
-      let beyond : chain_cost L l.node (k.node ∷ r.nodes) ≡ cost_sum k.cost (known_at h k.node) = ap (λ o. cost_sum (leg_cost o) (chain_cost L k.node r.nodes)) second ∙ ap (cost_sum k.cost) r.cost in
-      let cost : chain_cost L start (l.node ∷ k.node ∷ r.nodes) ≡ cost_sum l.cost (cost_sum k.cost (known_at h k.node)) = ap (λ o. cost_sum (leg_cost o) (chain_cost L l.node (k.node ∷ r.nodes))) first ∙ ap (cost_sum l.cost) beyond in
-      let turned : cost_sum (known_at h k.node) (cost_sum k.cost l.cost) ≡ cost_sum l.cost (cost_sum k.cost (known_at h k.node)) = cost_sum_comm (known_at h k.node) (cost_sum k.cost l.cost) ∙ ap (λ z. cost_sum z (known_at h k.node)) (cost_sum_comm k.cost l.cost) ∙ cost_sum_assoc l.cost k.cost (known_at h k.node) in (
+      let beyond : chain_cost L l.node (k.node ∷ r.nodes) ≡ cost_sum k.cost (known_at h k.node) =
+      ap (λ o. cost_sum (leg_cost o) (chain_cost L k.node r.nodes)) second ∙ ap (cost_sum k.cost) r.cost in
+      let cost : chain_cost L start (l.node ∷ k.node ∷ r.nodes) ≡ cost_sum l.cost (cost_sum k.cost (known_at h k.node)) =
+      ap (λ o. cost_sum (leg_cost o) (chain_cost L l.node (k.node ∷ r.nodes))) first ∙ ap (cost_sum l.cost) beyond in
+      let turned : cost_sum (known_at h k.node) (cost_sum k.cost l.cost) ≡ cost_sum l.cost (cost_sum k.cost (known_at h k.node)) =
+      cost_sum_comm (known_at h k.node) (cost_sum k.cost l.cost) ∙ ap (λ z. cost_sum z (known_at h k.node))
+      (cost_sum_comm k.cost l.cost) ∙ cost_sum_assoc l.cost k.cost (known_at h k.node) in (
         l.node ∷ k.node ∷ r.nodes,
         record {
           chain = (rw first refl, (rw second refl, r.chain));
@@ -87,11 +95,15 @@ module _ (n : ℕ) (L : Legs) (lists : List (List Leg)) (s : Wanted) (hops : ℕ
       let leg = leg_at y l.0 in
       let member = row_member (row lists start) y l.0 ((from start).1 y ∙ l.1) in
       let cost : chain_cost L start (y ∷ []) ≡ cost_sum l.0.cost no_cost = ap (λ o. cost_sum (leg_cost o) no_cost) l.1 in
-      let held_cost = least.whole y no_cost (record { nodes = []; chain = w.chain.1; short = omega arith; away = (w.away.1.0, tt); cost = refl }, IsAtMost-no_cost s.most) in (
+      let held_cost = least.whole y no_cost (
+        record { nodes = []; chain = w.chain.1; short = omega arith; away = (w.away.1.0, tt); cost = refl },
+        IsAtMost-no_cost s.most,
+      ) in (
         leg,
         member,
         w.away.1.0,
-        inl (IsAtMost_trans (cost_sum (known_at h y) l.0.cost) (cost_sum no_cost l.0.cost) most (IsAtMost-cost_sum (known_at h y) no_cost l.0.cost l.0.cost held_cost (IsAtMost_refl l.0.cost))
+        inl (IsAtMost_trans (cost_sum (known_at h y) l.0.cost) (cost_sum no_cost l.0.cost) most
+            (IsAtMost-cost_sum (known_at h y) no_cost l.0.cost l.0.cost held_cost (IsAtMost_refl l.0.cost))
             (subst (λ z. IsAtMost z most) (cost ∙ cost_sum_comm l.0.cost no_cost) w.cheap)),
       )
   met_by (y ∷ z ∷ zs) w =
@@ -101,11 +113,17 @@ module _ (n : ℕ) (L : Legs) (lists : List (List Leg)) (s : Wanted) (hops : ℕ
       let member = row_member (row lists start) y l.0 ((from start).1 y ∙ l.1) in
       let second = row_member (row lists y) z k.0 ((from y).1 z ∙ k.1) in
       let short = w.hops.1 in
-      let cost : chain_cost L start (y ∷ z ∷ zs) ≡ cost_sum l.0.cost (cost_sum k.0.cost rest) = ap (λ o. cost_sum (leg_cost o) (chain_cost L y (z ∷ zs))) l.1 ∙ ap (λ o. cost_sum l.0.cost (cost_sum (leg_cost o) rest)) k.1 in
-      let turned : cost_sum l.0.cost (cost_sum k.0.cost rest) ≡ cost_sum rest (cost_sum k.0.cost l.0.cost) = sym (cost_sum_assoc l.0.cost k.0.cost rest) ∙ cost_sum_comm (cost_sum l.0.cost k.0.cost) rest ∙ ap (cost_sum rest) (cost_sum_comm l.0.cost k.0.cost) in
+      let cost : chain_cost L start (y ∷ z ∷ zs) ≡ cost_sum l.0.cost (cost_sum k.0.cost rest) =
+      ap (λ o. cost_sum (leg_cost o) (chain_cost L y (z ∷ zs))) l.1 ∙ ap (λ o. cost_sum l.0.cost (cost_sum (leg_cost o) rest)) k.1 in
+      let turned : cost_sum l.0.cost (cost_sum k.0.cost rest) ≡ cost_sum rest (cost_sum k.0.cost l.0.cost) =
+      sym (cost_sum_assoc l.0.cost k.0.cost rest) ∙ cost_sum_comm (cost_sum l.0.cost k.0.cost) rest
+      ∙ ap (cost_sum rest) (cost_sum_comm l.0.cost k.0.cost) in
       let cheap : IsAtMost (cost_sum rest (cost_sum k.0.cost l.0.cost)) most = subst (λ c. IsAtMost c most) (cost ∙ turned) w.cheap in
       let part : IsAtMost rest (cost_sum rest (cost_sum k.0.cost l.0.cost)) = (omega arith, λ e. omega arith) in
-      let held_cost = least.whole z rest (record { nodes = zs; chain = w.chain.1.1; short = omega arith; away = (w.away.1.1.0, w.away.1.1.1); cost = refl }, IsAtMost_trans rest _ s.most part (IsAtMost_trans _ most s.most cheap wanted)) in (
+      let held_cost = least.whole z rest (
+        record { nodes = zs; chain = w.chain.1.1; short = omega arith; away = (w.away.1.1.0, w.away.1.1.1); cost = refl },
+        IsAtMost_trans rest _ s.most part (IsAtMost_trans _ most s.most cheap wanted),
+      ) in (
         leg_at y l.0,
         member,
         w.away.1.0,
@@ -114,7 +132,9 @@ module _ (n : ℕ) (L : Legs) (lists : List (List Leg)) (s : Wanted) (hops : ℕ
           (
             leg_at z k.0,
             second,
-            IsAtMost_trans (cost_sum (known_at h z) (cost_sum k.0.cost l.0.cost)) (cost_sum rest (cost_sum k.0.cost l.0.cost)) most (IsAtMost-cost_sum (known_at h z) rest (cost_sum k.0.cost l.0.cost) (cost_sum k.0.cost l.0.cost) held_cost (IsAtMost_refl _)) cheap,
+            IsAtMost_trans (cost_sum (known_at h z) (cost_sum k.0.cost l.0.cost)) (cost_sum rest (cost_sum k.0.cost l.0.cost)) most
+                (IsAtMost-cost_sum (known_at h z) rest (cost_sum k.0.cost l.0.cost) (cost_sum k.0.cost l.0.cost) held_cost
+                (IsAtMost_refl _)) cheap,
           ),
         ),
       )

@@ -1,5 +1,5 @@
 -- Lists of zeros, and bounds on the neighbours of a node.
-use Rattle.std.proofs.Common.{◌≡◌, ℕ, ◌<◌, List, get_or, sym, subst, arith, inl, inr, replicate, Contains}
+use Rattle.std.proofs.Common.{◌≡◌, ℕ, ◌<◌, List, get_or, subst, arith, inl, inr, replicate, Contains}
 use Rattle.std.specs.Prelude.{All, slice_index}
 use Rattle.std.proofs.lemmas.Bool.{cases_lt}
 use Rattle.std.proofs.lemmas.List.{get_or-replicate, get_or_past, length-replicate}
@@ -21,4 +21,5 @@ zeros n x = elim (cases_lt x n) [
 pub neighbours_within : (n : ℕ) (L : Legs) (v : ℕ) (up down : List Leg) (list : List ℕ) → AreLegsFrom L v up → AreLegsTo L v down →
     AreLegsWithin n L → list ≡ neighbours_in up down → All (λ x. x < n) list
 neighbours_within n L v up down list from to within e k d lt =
-    neighbour_within L v up down from to n (get_or list k d) within (subst (λ l. Contains l (get_or list k d)) e (Contains-get_or list k d lt))
+    neighbour_within L v up down from to n (get_or list k d) within
+    (subst (λ l. Contains l (get_or list k d)) e (Contains-get_or list k d lt))

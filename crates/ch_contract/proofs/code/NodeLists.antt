@@ -1,5 +1,5 @@
 -- Lists of nodes, and lists that are related place by place.
-use Rattle.std.proofs.Common.{◌≡◌, ℕ, zero, suc, ◌+◌, ◌<◌, List, [], ◌∷◌, ◌++◌, length, get_or, take, sym, ◌∙◌, ap, subst, arith, Contains}
+use Rattle.std.proofs.Common.{◌≡◌, ℕ, zero, suc, ◌+◌, ◌<◌, List, [], ◌∷◌, ◌++◌, length, get_or, take, sym, subst, arith, Contains}
 use Rattle.std.specs.Prelude.{◌≢◌, All}
 use Rattle.std.specs.List.{AllZip, range_with_len}
 use Rattle.std.proofs.lemmas.List.{take_more}
@@ -19,10 +19,6 @@ pub numbers_below : (n : ℕ) → All (λ x. x < n) (range_with_len 0 n)
 numbers_below n k d lt =
     let within : k < n = omega (arith, length-range_with_len 0 n) in
     omega (arith, get_or-range_with_len 0 n k d within)
-
--- if a lent list has the numbers below n, its members are below n
-pub numbers_within : (n count : ℕ) (items lent : List ℕ) → lent ≡ items → items ≡ range_with_len 0 count → count ≡ n → All (λ x. x < n) lent
-numbers_within n count items lent a b e = subst (All (λ x. x < n)) (sym (a ∙ b ∙ ap (range_with_len 0) e)) (numbers_below n)
 
 -- each number below n is in the list of the numbers below n
 pub number_among : (n x : ℕ) → x < n → Contains (range_with_len 0 n) x

@@ -1,5 +1,6 @@
 -- The lists of one side while they are changed for all nodes of a round.
-use Rattle.std.proofs.Common.{◌≡◌, ℕ, ◌+◌, ◌<◌, Bool, true, false, List, [], length, get_or, set, take, Option, Some, None, Contains, refl, sym, ◌∙◌, ap, subst, arith, inl, inr, length-set, get_or-set_same, get_or-set_other}
+use Rattle.std.proofs.Common.{◌≡◌, ℕ, ◌+◌, ◌<◌, Bool, true, false, List, [], length, get_or, set, take, Option, Some, None}
+use Rattle.std.proofs.Common.{Contains, refl, sym, ◌∙◌, ap, subst, arith, inl, inr, length-set, get_or-set_same, get_or-set_other}
 use Rattle.std.specs.Prelude.{◌≢◌, ◌⊎◌, ◌||◌, ◌==◌, ◌&&◌, if◌then◌else◌, slice_index, AllPairs}
 use Rattle.std.proofs.lemmas.Bool.{cases_eq}
 use Rattle.std.proofs.lemmas.List.{take_more}
@@ -29,14 +30,18 @@ aside_none before = record {
 }
 
 -- the lists after the legs of one more node are set aside
-pub aside_more : (nodes : List ℕ) (i : ℕ) (before mid after : NodeLegs) → i < length nodes → AllPairs ◌≢◌ nodes → get_or nodes i 0 < length mid.rows → AreAllAside (take i nodes) before mid →
-    after.rows ≡ set mid.rows (get_or nodes i 0) [] → IsReplaced (get_or nodes i 0) (row mid.rows (get_or nodes i 0)) mid.aside after.aside → AreAllAside (take (i + 1) nodes) before after
+pub aside_more : (nodes : List ℕ) (i : ℕ) (before mid after : NodeLegs) → i < length nodes → AllPairs ◌≢◌ nodes →
+    get_or nodes i 0 < length mid.rows → AreAllAside (take i nodes) before mid →
+    after.rows ≡ set mid.rows (get_or nodes i 0) [] → IsReplaced (get_or nodes i 0) (row mid.rows (get_or nodes i 0)) mid.aside
+    after.aside → AreAllAside (take (i + 1) nodes) before after
 aside_more nodes i before mid after lt distinct within known is put =
     let v : ℕ = get_or nodes i 0 in
     let more = take_more nodes i 0 lt in
     let fresh = not_before i nodes lt distinct in
-    let one_more : (x : ℕ) → Contains (take (i + 1) nodes) x → Contains (take i nodes) x ⊎ (v ≡ x) = λ x c. Contains-push_cases (take i nodes) v x (subst (λ l. Contains l x) more c) in
-    let elsewhere : (x : ℕ) → x ≢ v → row after.rows x ≡ row mid.rows x = λ x ne. ap (λ l. row l x) is ∙ get_or-set_other mid.rows v x [] [] ne in
+    let one_more : (x : ℕ) → Contains (take (i + 1) nodes) x → Contains (take i nodes) x
+    ⊎ (v ≡ x) = λ x c. Contains-push_cases (take i nodes) v x (subst (λ l. Contains l x) more c) in
+    let elsewhere : (x : ℕ) → x ≢ v →
+    row after.rows x ≡ row mid.rows x = λ x ne. ap (λ l. row l x) is ∙ get_or-set_other mid.rows v x [] [] ne in
     record {
       sizes = (ap length is ∙ length-set mid.rows v [] ∙ known.sizes.0, put.size ∙ known.sizes.1);
       none = λ x c. elim (cases_eq x v) [
@@ -76,11 +81,14 @@ untied_more k near owners old mid new t s = record {
   size = s.size ∙ t.size;
   rows = s.rows;
   here = λ i lt. elim (cases_eq i k) [
-    | inl e ↦ subst (λ z. row_leg (row new (slice_index near z)) (slice_index owners z) ≡ None) (sym e) (set_here (slice_index near k) (slice_index owners k) None mid new s)
-    | inr ne ↦ s.legs (slice_index near i) (slice_index owners i) ∙ gone (slice_index near k == slice_index near i && slice_index owners k == slice_index owners i) (t.here i (omega arith))
+    | inl e ↦ subst (λ z. row_leg (row new (slice_index near z)) (slice_index owners z) ≡ None) (sym e)
+        (set_here (slice_index near k) (slice_index owners k) None mid new s)
+    | inr ne ↦ s.legs (slice_index near i) (slice_index owners i) ∙ gone
+        (slice_index near k == slice_index near i && slice_index owners k == slice_index owners i) (t.here i (omega arith))
   ];
   there = λ x y. either (slice_index near k == x && slice_index owners k == y) (s.legs x y) (t.there x y);
-  kept = λ x y off. set_off (slice_index near k) (slice_index owners k) None mid new s x y (λ p q. off k (omega arith) p q) ∙ t.kept x y (λ i lt p q. off i (omega arith) p q);
+  kept = λ x y off. set_off (slice_index near k) (slice_index owners k) None mid new s x y (λ p q. off k (omega arith) p q)
+      ∙ t.kept x y (λ i lt p q. off i (omega arith) p q);
 }
   where
     gone : {o : Option Label} (b : Bool) → o ≡ None → (if b then None else o) ≡ None
@@ -92,7 +100,8 @@ untied_more k near owners old mid new t s = record {
     either false e (inl f) = inl (e ∙ f)
     either false e (inr f) = inr (e ∙ f)
 
-module _ (nodes near owners : List ℕ) (before mid after : NodeLegs) (ties : AreTiesOf before.rows nodes near owners) (aside : AreAllAside nodes before mid) (t : AreUntied (length near) near owners mid.rows after.rows) where
+module _ (nodes near owners : List ℕ) (before mid after : NodeLegs) (ties : AreTiesOf before.rows nodes near owners)
+    (aside : AreAllAside nodes before mid) (t : AreUntied (length near) near owners mid.rows after.rows) where
   -- no leg at a node of the round is left
   untied : (x y : ℕ) → (Contains nodes x → ⊥) → Contains nodes y → row_leg (row after.rows x) y ≡ None
   untied x y out c = at (row_leg (row before.rows x) y) refl (t.there x y)
@@ -104,7 +113,8 @@ module _ (nodes near owners : List ℕ) (before mid after : NodeLegs) (ties : Ar
       at None e (inl same) = same ∙ ap (λ l. row_leg l y) (aside.others x out) ∙ e
       at (Some m) e (inl same) =
           let r = ties.whole x y m c e in
-          subst (λ z. row_leg (row after.rows z) y ≡ None) r.2 (subst (λ z. row_leg (row after.rows (slice_index near r.0)) z ≡ None) r.3 (t.here r.0 r.1))
+          subst (λ z. row_leg (row after.rows z) y ≡ None) r.2
+          (subst (λ z. row_leg (row after.rows (slice_index near r.0)) z ≡ None) r.3 (t.here r.0 r.1))
 
   -- the list of a node of the round stays empty
   emptied : (x y : ℕ) → Contains nodes x → row_leg (row after.rows x) y ≡ None

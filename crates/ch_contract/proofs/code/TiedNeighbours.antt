@@ -1,5 +1,6 @@
 -- The neighbours of the nodes of a round, each beside the node of the round, and both sides without these nodes.
-use Rattle.std.proofs.Common.{◌≡◌, ℕ, ◌+◌, ◌<◌, Bool, true, false, List, [], ◌∷◌, ◌++◌, length, get_or, take, Option, None, Contains, refl, sym, ◌∙◌, ap, subst, arith, inl, inr}
+use Rattle.std.proofs.Common.{◌≡◌, ℕ, ◌+◌, ◌<◌, Bool, true, false, List, [], ◌∷◌, ◌++◌, length, get_or, take, Option, None}
+use Rattle.std.proofs.Common.{Contains, refl, sym, ◌∙◌, ap, subst, arith, inl, inr}
 use Rattle.std.specs.Prelude.{◌-◌, ◌≤◌, ◌||◌, if◌then◌else◌, slice_index, All}
 use Rattle.std.proofs.lemmas.Bool.{cases_lt}
 use Rattle.std.proofs.lemmas.List.{take_more, get_or_append_left, get_or-append_right, get_or_default, length-append}
@@ -22,16 +23,22 @@ use Rattle.ch_contract.proofs.code.Candidates.{from_rows, to_rows}
 use Rattle.ch_contract.proofs.code.Neighbours.{neighbour_listed, listed_neighbour}
 
 -- both sides after the nodes of a round are taken out
-module _ (n : ℕ) (outs ins : List (List Leg)) (within : IsWithinLimits n outs ins) (nodes near owners : List ℕ) (below : All (λ v. v < n) nodes) (is : AreApart (legs_from outs) nodes) (tied : AreNeighboursOf (legs_from outs) nodes near owners) where
+module _ (n : ℕ) (outs ins : List (List Leg)) (within : IsWithinLimits n outs ins) (nodes near owners : List ℕ)
+    (below : All (λ v. v < n) nodes) (is : AreApart (legs_from outs) nodes)
+    (tied : AreNeighboursOf (legs_from outs) nodes near owners) where
   -- the neighbours have lists
   near_within : All (λ x. x < n) near
-  near_within = All-from_get_or (λ x. x < n) near 0 (λ i lt. neighbour_below n (legs_from outs) (slice_index owners i) (slice_index near i) within.legs (tied.each i lt).1)
+  near_within = All-from_get_or (λ x. x < n) near 0
+      (λ i lt. neighbour_below n (legs_from outs) (slice_index owners i) (slice_index near i) within.legs (tied.each i lt).1)
 
   -- the legs from each node are tied to the nodes of the round
   pub outs_tied : AreTiesOf outs nodes near owners
   outs_tied = record {
     rows = within.rows.0;
-    within = (subst (λ m. All (λ v. v < m) nodes) (sym within.sizes.0) below, subst (λ m. All (λ v. v < m) near) (sym within.sizes.0) near_within);
+    within = (
+      subst (λ m. All (λ v. v < m) nodes) (sym within.sizes.0) below,
+      subst (λ m. All (λ v. v < m) near) (sym within.sizes.0) near_within,
+    );
     distinct = is.distinct;
     size = tied.size;
     members = λ i lt. (tied.each i lt).0;
@@ -42,17 +49,22 @@ module _ (n : ℕ) (outs ins : List (List Leg)) (within : IsWithinLimits n outs 
   pub ins_tied : AreTiesOf ins nodes near owners
   ins_tied = record {
     rows = within.rows.1;
-    within = (subst (λ m. All (λ v. v < m) nodes) (sym within.sizes.1) below, subst (λ m. All (λ v. v < m) near) (sym within.sizes.1) near_within);
+    within = (
+      subst (λ m. All (λ v. v < m) nodes) (sym within.sizes.1) below,
+      subst (λ m. All (λ v. v < m) near) (sym within.sizes.1) near_within,
+    );
     distinct = is.distinct;
     size = tied.size;
     members = λ i lt. (tied.each i lt).0;
     whole = λ x v m c e. tied.whole v x c (neighbour_out (legs_from outs) v x m (within.agree v x ∙ e));
   }
 
-  module _ (one other new_outs new_ins : NodeLegs) (rows : one.rows ≡ outs) (turned : other.rows ≡ ins) (from : AreAway nodes one new_outs) (into : AreAway nodes other new_ins) where
+  module _ (one other new_outs new_ins : NodeLegs) (rows : one.rows ≡ outs) (turned : other.rows ≡ ins)
+      (from : AreAway nodes one new_outs) (into : AreAway nodes other new_ins) where
     -- the legs from each node that are left
     pub outs_away : SameLegs (legs_from new_outs.rows) (legs_away nodes (legs_from outs))
-    outs_away u w = from.legs u w ∙ ap (λ (l : List (List Leg)). if is_one_of nodes u || is_one_of nodes w then None else row_leg (row l u) w) rows
+    outs_away u w = from.legs u w
+        ∙ ap (λ (l : List (List Leg)). if is_one_of nodes u || is_one_of nodes w then None else row_leg (row l u) w) rows
 
     -- both sides keep the limits
     pub within_away : IsWithinLimits n new_outs.rows new_ins.rows
@@ -60,7 +72,9 @@ module _ (n : ℕ) (outs ins : List (List Leg)) (within : IsWithinLimits n outs 
       nodes = within.nodes;
       sizes = (from.sizes.0 ∙ ap length rows ∙ within.sizes.0, into.sizes.0 ∙ ap length turned ∙ within.sizes.1);
       rows = (from.rows, into.rows);
-      agree = λ u w. outs_away u w ∙ at (is_one_of nodes u) (is_one_of nodes w) (within.agree u w) ∙ sym (into.legs w u ∙ ap (λ (l : List (List Leg)). if is_one_of nodes w || is_one_of nodes u then None else row_leg (row l w) u) turned);
+      agree = λ u w. outs_away u w ∙ at (is_one_of nodes u) (is_one_of nodes w) (within.agree u w)
+          ∙ sym (into.legs w u ∙ ap
+          (λ (l : List (List Leg)). if is_one_of nodes w || is_one_of nodes u then None else row_leg (row l w) u) turned);
       legs = λ u w l e. within.legs u w l (away_ends nodes (legs_from outs) u w l (sym (outs_away u w) ∙ e)).2;
     }
       where
@@ -78,7 +92,8 @@ module _ (n : ℕ) (outs ins : List (List Leg)) (within : IsWithinLimits n outs 
     pub ups_aside : AreSetAside (legs_from outs) nodes one.aside new_outs.aside
     ups_aside = record {
       size = from.sizes.1;
-      legs = λ v c. subst (AreLegsFrom (legs_from outs) v) (sym (from.here v c ∙ ap (λ (l : List (List Leg)). row l v) rows)) (from_rows n outs ins within v);
+      legs = λ v c. subst (AreLegsFrom (legs_from outs) v) (sym (from.here v c ∙ ap (λ (l : List (List Leg)). row l v) rows))
+          (from_rows n outs ins within v);
       kept = from.kept;
     }
 
@@ -86,7 +101,8 @@ module _ (n : ℕ) (outs ins : List (List Leg)) (within : IsWithinLimits n outs 
     pub downs_aside : AreSetAside (turned_legs (legs_from outs)) nodes other.aside new_ins.aside
     downs_aside = record {
       size = into.sizes.1;
-      legs = λ v c. subst (AreLegsFrom (turned_legs (legs_from outs)) v) (sym (into.here v c ∙ ap (λ (l : List (List Leg)). row l v) turned)) (to_rows n outs ins within v);
+      legs = λ v c. subst (AreLegsFrom (turned_legs (legs_from outs)) v)
+          (sym (into.here v c ∙ ap (λ (l : List (List Leg)). row l v) turned)) (to_rows n outs ins within v);
       kept = into.kept;
     }
 
@@ -95,15 +111,20 @@ pub tied_none : (L : Legs) → AreNeighboursOf L [] [] []
 tied_none L = record { size = refl; each = λ i lt. absurd (omega arith); whole = λ v x c e. absurd (contains_none v c) }
 
 -- the neighbours of one more node are appended, each beside this node
-pub tied_more : (L : Legs) (nodes : List ℕ) (i : ℕ) → i < length nodes → (up down : List Leg) → AreLegsFrom L (get_or nodes i 0) up → AreLegsTo L (get_or nodes i 0) down → (near owners more : List ℕ) → AreNeighboursOf L (take i nodes) near owners →
-    length more ≡ length (near ++ neighbours_in up down) → ((k : ℕ) → k < length owners → slice_index more k ≡ slice_index owners k) → ((k : ℕ) → length owners ≤ k → k < length more → slice_index more k ≡ get_or nodes i 0) → AreNeighboursOf L (take (i + 1) nodes) (near ++ neighbours_in up down) more
+pub tied_more : (L : Legs) (nodes : List ℕ) (i : ℕ) → i < length nodes → (up down : List Leg) → AreLegsFrom L (get_or nodes i 0)
+    up → AreLegsTo L (get_or nodes i 0) down → (near owners more : List ℕ) → AreNeighboursOf L (take i nodes) near owners →
+    length more ≡ length (near ++ neighbours_in up down) →
+    ((k : ℕ) → k < length owners → slice_index more k ≡ slice_index owners k) →
+    ((k : ℕ) → length owners ≤ k → k < length more → slice_index more k ≡ get_or nodes i 0) →
+    AreNeighboursOf L (take (i + 1) nodes) (near ++ neighbours_in up down) more
 tied_more L nodes i lt up down from to near owners more known size early late =
     let v : ℕ = get_or nodes i 0 in
     let list : List ℕ = neighbours_in up down in
     let both = length-append near list in
     let same = known.size in
     let taken = take_more nodes i 0 lt in
-    let kept : (x : ℕ) → Contains (take i nodes) x → Contains (take (i + 1) nodes) x = λ x c. subst (λ l. Contains l x) (sym taken) (Contains-append_left (take i nodes) (v ∷ []) x c) in
+    let kept : (x : ℕ) → Contains (take i nodes) x → Contains (take (i + 1) nodes) x =
+    λ x c. subst (λ l. Contains l x) (sym taken) (Contains-append_left (take i nodes) (v ∷ []) x c) in
     let last : Contains (take (i + 1) nodes) v = subst (λ l. Contains l v) (sym taken) (Contains-push (take i nodes) v) in
     let now : (x : ℕ) → Contains list x → are_neighbours L v x ≡ true = λ x c. listed_neighbour L v up down from to x c in
     record {
@@ -114,14 +135,17 @@ tied_more L nodes i lt up down from to near owners more known size early late =
             let owner : slice_index more k ≡ slice_index owners k = early k (omega arith) in
             let neighbour : slice_index (near ++ list) k ≡ slice_index near k = get_or_append_left near list 0 k less in (
               subst (Contains (take (i + 1) nodes)) (sym owner) (kept (slice_index owners k) r.0),
-              subst (λ z. are_neighbours L z (slice_index (near ++ list) k) ≡ true) (sym owner) (subst (λ z. are_neighbours L (slice_index owners k) z ≡ true) (sym neighbour) r.1),
+              subst (λ z. are_neighbours L z (slice_index (near ++ list) k) ≡ true) (sym owner)
+                  (subst (λ z. are_neighbours L (slice_index owners k) z ≡ true) (sym neighbour) r.1),
             )
         | inr past ↦
             let owner : slice_index more k ≡ v = late k (omega arith) (omega arith) in
-            let neighbour : slice_index (near ++ list) k ≡ slice_index list (k - length near) = get_or-append_right near list (length near) k 0 refl (omega arith) in (
+            let neighbour : slice_index (near ++ list) k ≡ slice_index list (k - length near) =
+            get_or-append_right near list (length near) k 0 refl (omega arith) in (
               subst (Contains (take (i + 1) nodes)) (sym owner) last,
               subst (λ z. are_neighbours L z (slice_index (near ++ list) k) ≡ true) (sym owner)
-                  (subst (λ z. are_neighbours L v z ≡ true) (sym neighbour) (now (slice_index list (k - length near)) (Contains-get_or list (k - length near) 0 (omega arith)))),
+                  (subst (λ z. are_neighbours L v z ≡ true) (sym neighbour)
+                  (now (slice_index list (k - length near)) (Contains-get_or list (k - length near) 0 (omega arith)))),
             )
       ];
       whole = λ u x c e. elim (Contains-push_cases (take i nodes) v u (subst (λ l. Contains l u) taken c)) [
@@ -138,7 +162,8 @@ tied_more L nodes i lt up down from to near owners more known size early late =
             let less = c.1 in (
               length near + c.0,
               omega arith,
-              get_or-append_right near list (length near) (length near + c.0) 0 refl (omega arith) ∙ ap (slice_index list) (back (length near) c.0) ∙ get_or_default list c.0 0 x less ∙ c.2,
+              get_or-append_right near list (length near) (length near + c.0) 0 refl (omega arith)
+                  ∙ ap (slice_index list) (back (length near) c.0) ∙ get_or_default list c.0 0 x less ∙ c.2,
               late (length near + c.0) (omega arith) (omega arith) ∙ is,
             )
       ];

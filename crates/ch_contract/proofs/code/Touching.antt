@@ -40,7 +40,8 @@ among_same n h K L W v list from to are = record {
 pub among_own : (n h : ℕ) (L : Legs) (v : ℕ) (list : List Shortcut) → AreShortcutsAmong n h L L v list → AreShortcuts n h L v list
 among_own n h L v list are = record {
   ordered = are.ordered;
-  sound = λ s c. let is = are.sound s c in record { apart = is.pair.apart; legs = is.pair.legs; weight = is.pair.weight; arcs = is.pair.arcs; needed = is.needed };
+  sound = λ s c. let is = are.sound s c in
+      record { apart = is.pair.apart; legs = is.pair.legs; weight = is.pair.weight; arcs = is.pair.arcs; needed = is.needed };
   whole = λ s is. are.whole s (record { pair = pair_of_shortcut n h L v s is; needed = is.needed });
 }
 
@@ -76,7 +77,8 @@ module _ (L : Legs) (v : ℕ) (up down : List Leg) (from : AreLegsFrom L v up) (
   }
 
   -- the shortcuts of the rows are those of the node
-  pub own_shortcuts : (n h : ℕ) (list : List Shortcut) → AreShortcutsAmong n h (legs_touching v up down) L v list → AreShortcuts n h L v list
+  pub own_shortcuts : (n h : ℕ) (list : List Shortcut) → AreShortcutsAmong n h (legs_touching v up down) L v list →
+      AreShortcuts n h L v list
   own_shortcuts n h list are = among_own n h L v list (among_same n h (legs_touching v up down) L L v list touching_from touching_to are)
 
 -- rows of legs within a lower limit touch v within this limit

@@ -89,8 +89,10 @@ module _ {g : Network} {h : ℕ} {H : LevelsAndLegs} {order : List ℕ} {L : ℕ
 
   -- for each up leg there is a walk of its cost
   pub up_walk : (v : ℕ) (l : Leg) → Contains (row H.up v) l → IsWalkCost g v l.node l.cost
-  up_walk v l has = let s = up_step v l has in subst (λ x. IsWalkCost g x l.node l.cost) s.2 (up_step_leg s.0 l s.1 (subst (λ x. Contains (row H.up x) l) (sym s.2) has)).walk
+  up_walk v l has = let s = up_step v l has in subst (λ x. IsWalkCost g x l.node l.cost) s.2
+      (up_step_leg s.0 l s.1 (subst (λ x. Contains (row H.up x) l) (sym s.2) has)).walk
 
   -- for each down leg there is a walk of its cost
   pub down_walk : (v : ℕ) (l : Leg) → Contains (row H.down v) l → IsWalkCost g l.node v l.cost
-  down_walk v l has = let s = down_step v l has in subst (λ x. IsWalkCost g l.node x l.cost) s.2 (down_step_leg s.0 l s.1 (subst (λ x. Contains (row H.down x) l) (sym s.2) has)).walk
+  down_walk v l has = let s = down_step v l has in subst (λ x. IsWalkCost g l.node x l.cost) s.2
+      (down_step_leg s.0 l s.1 (subst (λ x. Contains (row H.down x) l) (sym s.2) has)).walk

@@ -1,5 +1,6 @@
 -- The legs after a contraction.
-use Rattle.std.proofs.Common.{◌≡◌, ℕ, suc, zero, ◌<◌, Bool, true, false, cond, List, [], ◌∷◌, Option, Some, None, Contains, refl, sym, ◌∙◌, ap, subst, arith, inl, inr}
+use Rattle.std.proofs.Common.{◌≡◌, ℕ, suc, zero, ◌<◌, Bool, true, false, cond, List, [], ◌∷◌, Option, Some, None, Contains, refl}
+use Rattle.std.proofs.Common.{sym, ◌∙◌, ap, subst, arith, inl, inr}
 use Rattle.std.specs.Prelude.{◌⊎◌, ◌≢◌, ◌==◌, ◌&&◌, ◌||◌}
 use Rattle.std.proofs.lemmas.Bool.{eqb-true}
 use Rattle.std.proofs.lemmas.Option.{same_Some, none-some}
@@ -22,7 +23,8 @@ override_cases v (s ∷ list) u w before = at (s.from == u && s.to == w) refl (o
   where
     at : (b : Bool) → (s.from == u && s.to == w) ≡ b → (leg_after_shortcuts v list u w before ≡ before) ⊎ IsOverridden v list u w before →
         (cond b (Some (shortcut_label v s)) (leg_after_shortcuts v list u w before) ≡ before)
-        ⊎ ((t : Shortcut) × Contains (s ∷ list) t × (t.from ≡ u) × (t.to ≡ w) × (cond b (Some (shortcut_label v s)) (leg_after_shortcuts v list u w before) ≡ Some (shortcut_label v t)))
+        ⊎ ((t : Shortcut) × Contains (s ∷ list) t × (t.from ≡ u) × (t.to ≡ w)
+        × (cond b (Some (shortcut_label v s)) (leg_after_shortcuts v list u w before) ≡ Some (shortcut_label v t)))
     at true e more = let is = same_ends u w s.from s.to e in inr (s, (zero, omega arith, refl), is.0, is.1, refl)
     at false e more = elim more [ inl h ↦ inl h | inr h ↦ inr (h.0, (suc h.1.0, omega (arith, h.1.1), h.1.2), h.2, h.3, h.4) ]
 
@@ -64,7 +66,8 @@ module _ (n : ℕ) (L : Legs) (v : ℕ) (list : List Shortcut) (limits : AreLegs
       at : (a b : Bool) → (u == v) ≡ a → (w == v) ≡ b →
           leg_after_shortcuts v list u w (cond (a || b) None (L u w)) ≡ cond (a || b) None (leg_after_shortcuts v list u w (L u w))
       at true b e f = elim (override_cases v list u w None) [ inl stays ↦ stays | inr s ↦ absurd ((off s.0 s.1).0 (s.2 ∙ eqb-true u v e)) ]
-      at false true e f = elim (override_cases v list u w None) [ inl stays ↦ stays | inr s ↦ absurd ((off s.0 s.1).1 (s.3 ∙ eqb-true w v f)) ]
+      at false true e f = elim (override_cases v list u w None)
+          [ inl stays ↦ stays | inr s ↦ absurd ((off s.0 s.1).1 (s.3 ∙ eqb-true w v f)) ]
       at false false e f = refl
 
   -- a shortcut keeps the limits
@@ -72,7 +75,13 @@ module _ (n : ℕ) (L : Legs) (v : ℕ) (list : List Shortcut) (limits : AreLegs
   shortcut_within s is =
       let first = limits s.from v is.legs.0 is.legs.2 in
       let second = limits v s.to is.legs.1 is.legs.3 in
-      record { ends = (first.ends.0, second.ends.1, is.apart); weight = is.weight; arcs = is.arcs; middle = λ x e. subst (λ z. z < n) (same_Some v x e) second.ends.0 }
+      record {
+        ends = (first.ends.0, second.ends.1, is.apart);
+        weight = is.weight;
+        arcs = is.arcs;
+        middle =
+            λ x e. subst (λ z. z < n) (same_Some v x e) second.ends.0;
+      }
 
   -- the legs after the contraction keep the limits
   pub contracted_within : AreLegsWithin n (legs_after_contraction L v list)
@@ -82,11 +91,14 @@ module _ (n : ℕ) (L : Legs) (v : ℕ) (list : List Shortcut) (limits : AreLegs
       at true f = absurd (none-some _ f)
       at false f = elim (override_cases v list u w (L u w)) [
         | inl stays ↦ limits u w l (sym stays ∙ f)
-        | inr s ↦ subst (IsLegWithin n u w) (same_Some _ _ (sym s.4 ∙ f)) (subst (λ z. IsLegWithin n z w (shortcut_label v s.0)) s.2 (subst (λ z. IsLegWithin n s.0.from z (shortcut_label v s.0)) s.3 (shortcut_within s.0 (are s.0 s.1))))
+        | inr s ↦ subst (IsLegWithin n u w) (same_Some _ _ (sym s.4 ∙ f))
+            (subst (λ z. IsLegWithin n z w (shortcut_label v s.0)) s.2
+            (subst (λ z. IsLegWithin n s.0.from z (shortcut_label v s.0)) s.3 (shortcut_within s.0 (are s.0 s.1))))
       ]
 
 -- removing the legs of v and putting its shortcuts in is the contraction
 pub after : (n h v : ℕ) (L removed M : Legs) (list : List Shortcut) → AreLegsWithin n L → AreShortcuts n h L v list →
-    SameLegs removed (legs_after_contraction L v []) → ((u w : ℕ) → M u w ≡ leg_after_shortcuts v list u w (removed u w)) → SameLegs M (legs_after_contraction L v list)
+    SameLegs removed (legs_after_contraction L v []) → ((u w : ℕ) → M u w ≡ leg_after_shortcuts v list u w (removed u w)) →
+    SameLegs M (legs_after_contraction L v list)
 after n h v L removed M list limits are gone put u w =
     put u w ∙ ap (leg_after_shortcuts v list u w) (gone u w) ∙ put_over n L v list limits (pairs_of_shortcuts n h L v list are) u w

@@ -1,5 +1,6 @@
 -- The number of legs in a row, and the greatest numbers of legs and of shortcuts of a node.
-use Rattle.std.proofs.Common.{◌≡◌, ℕ, suc, zero, ◌+◌, ◌*◌, ◌<◌, ◌≤◌, Bool, true, false, List, [], ◌∷◌, length, get_or, Option, Some, None, Contains, refl, sym, ◌∙◌, ap, subst, arith, inl, inr}
+use Rattle.std.proofs.Common.{◌≡◌, ℕ, suc, zero, ◌+◌, ◌*◌, ◌<◌, ◌≤◌, Bool, true, false, List, [], ◌∷◌, length, get_or, Option, Some}
+use Rattle.std.proofs.Common.{None, Contains, refl, sym, ◌∙◌, ap, subst, arith, inl, inr}
 use Rattle.std.specs.Prelude.{◌≢◌, AllPairs, is_some, if◌then◌else◌}
 use Rattle.std.proofs.lemmas.Bool.{cases_eq, cases_lt}
 use Rattle.std.proofs.Math.Nat.{mul-le-mul_right}
@@ -52,7 +53,8 @@ pub row_count : (n : ℕ) (legs : List Leg) → IsRow legs → ((l : Leg) → Co
 row_count n [] row within = sym (count_none n)
 row_count n (l ∷ legs) row within =
     let rest = row_count n legs (pairs_tail before l legs row) (λ k c. within k (suc c.0, omega (arith, c.1), c.2)) in
-    let one = count_one_more n l.node (λ x. is_some (row_leg legs x)) (λ x. is_some (row_leg (l ∷ legs) x)) (within l (zero, omega arith, refl)) (first (row_leg legs l.node) refl) here apart in
+    let one = count_one_more n l.node (λ x. is_some (row_leg legs x)) (λ x. is_some (row_leg (l ∷ legs) x))
+    (within l (zero, omega arith, refl)) (first (row_leg legs l.node) refl) here apart in
     omega arith
   where
     before : Leg → Leg → Type 0
@@ -74,8 +76,10 @@ row_count n (l ∷ legs) row within =
 pub rows_touching : (n v : ℕ) (L : Legs) (up down : List Leg) → AreLegsWithin n L → AreLegsFrom L v up → AreLegsTo L v down →
     length up + length down ≡ count_touching n L v
 rows_touching n v L up down limits from to =
-    let out = row_count n up from.0 (λ l c. subst (λ (z : Leg). z.node < n) c.2 (limits v (get_or up c.0 l).node _ (leg_from_at L v up c.0 l from c.1)).ends.1) in
-    let into = row_count n down to.0 (λ l c. subst (λ (z : Leg). z.node < n) c.2 (limits (get_or down c.0 l).node v _ (leg_to_at L v down c.0 l to c.1)).ends.0) in
+    let out = row_count n up from.0
+    (λ l c. subst (λ (z : Leg). z.node < n) c.2 (limits v (get_or up c.0 l).node _ (leg_from_at L v up c.0 l from c.1)).ends.1) in
+    let into = row_count n down to.0
+    (λ l c. subst (λ (z : Leg). z.node < n) c.2 (limits (get_or down c.0 l).node v _ (leg_to_at L v down c.0 l to c.1)).ends.0) in
     let outs = count_same n (λ x. is_some (row_leg up x)) (λ x. is_some (L v x)) (λ x lt. ap is_some (from.1 x)) in
     let ins = count_same n (λ x. is_some (row_leg down x)) (λ x. is_some (L x v)) (λ x lt. ap is_some (to.1 x)) in
     omega arith
@@ -121,16 +125,19 @@ pairs_most n m [] le ordered each = omega arith
 pairs_most n m (s ∷ list) le ordered each =
     let here = each s (zero, omega arith, refl) in
     let small = place_small n s here.1 here.2 in
-    let rest = pairs_most n (suc m) list (omega (arith, here.0, small)) (pairs_tail IsPairBefore s list ordered) (λ t c. after t c (each t (suc c.0, omega (arith, c.1), c.2)) here) in
+    let rest = pairs_most n (suc m) list (omega (arith, here.0, small)) (pairs_tail IsPairBefore s list ordered)
+    (λ t c. after t c (each t (suc c.0, omega (arith, c.1), c.2)) here) in
     omega (arith, rest)
   where
     after : (t : Shortcut) → Contains list t → (m ≤ place n t) × (t.from < n) × (t.to < n) → (m ≤ place n s) × (s.from < n) × (s.to < n) →
         (suc m ≤ place n t) × (t.from < n) × (t.to < n)
-    after t c later here = let next = place_next n s t here.2 (pairs_head IsPairBefore s t list ordered c) in (omega (arith, here.0, next), later.1, later.2)
+    after t c later here = let next = place_next n s t here.2 (pairs_head IsPairBefore s t list ordered c) in
+        (omega (arith, here.0, next), later.1, later.2)
 
 -- a node has at most n * n shortcuts
 pub shortcuts_most : (n h : ℕ) (L : Legs) (v : ℕ) (list : List Shortcut) → AreLegsWithin n L → AreShortcuts n h L v list →
     length list ≤ n * n
 shortcuts_most n h L v list limits are =
-    let each : (s : Shortcut) → Contains list s → (0 ≤ place n s) × (s.from < n) × (s.to < n) = λ s c. let r = (are.sound s c).legs in (omega arith, (limits s.from v r.0 r.2).ends.0, (limits v s.to r.1 r.3).ends.1) in
+    let each : (s : Shortcut) → Contains list s → (0 ≤ place n s) × (s.from < n) × (s.to < n) = λ s c. let r =
+    (are.sound s c).legs in (omega arith, (limits s.from v r.0 r.2).ends.0, (limits v s.to r.1 r.3).ends.1) in
     omega (arith, pairs_most n 0 list (omega arith) are.ordered each)

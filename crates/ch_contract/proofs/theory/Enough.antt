@@ -21,7 +21,16 @@ use Rattle.ch_contract.proofs.theory.Levelled.{within_steps}
 -- a leg is a witness if the shortcut costs at least as much
 pub own_witness : (h : ℕ) (L : Legs) (v x y : ℕ) (l : Label) (c : Cost) → 1 ≤ h → x ≢ v → y ≢ v → L x y ≡ Some l → IsAtMost l.cost c →
     HasWitness L v x y c h
-own_witness h L v x y l c most p q e le = (y ∷ [], record { chain = (rw e refl, refl); hops = (omega arith, omega arith); away = (p, (q, tt)); cheap = subst (λ z. IsAtMost z c) (sym (chain_cost-one L x y l e)) le })
+own_witness h L v x y l c most p q e le = (
+  y ∷ [],
+  record {
+    chain = (rw e refl, refl);
+    hops = (omega arith, omega arith);
+    away = (p, (q, tt));
+    cheap =
+        subst (λ z. IsAtMost z c) (sym (chain_cost-one L x y l e)) le;
+  },
+)
 
 -- the shortcuts of a node are enough
 needed_are_enough : (n h : ℕ) (L : Legs) (v : ℕ) (list : List Shortcut) → 1 ≤ h → AreLegsWithin n L → AreShortcuts n h L v list →
@@ -43,8 +52,10 @@ pub enough_by_needed : (n h : ℕ) (L : Legs) (v : ℕ) (M : Legs) → 1 ≤ h �
 enough_by_needed n h L v M most limits c = (c.0, needed_are_enough n h L v c.0 most limits c.1, c.2)
 
 -- if each step of one kind is one of another kind, so is the hierarchy
-pub hierarchy_by : (IsStep IsOther : Legs → ℕ → Legs → Type 0) (g : Network) (H : LevelsAndLegs) (order : List ℕ) (L : ℕ → Legs) → IsHierarchyIn IsStep g H order L →
-    ((i : ℕ) → i < g.nodes → IsStep (L i) (slice_index order i) (L (i + 1)) → IsOther (L i) (slice_index order i) (L (i + 1))) → IsHierarchyIn IsOther g H order L
+pub hierarchy_by : (IsStep IsOther : Legs → ℕ → Legs → Type 0) (g : Network) (H : LevelsAndLegs) (order : List ℕ) (L : ℕ → Legs) →
+    IsHierarchyIn IsStep g H order L →
+    ((i : ℕ) → i < g.nodes → IsStep (L i) (slice_index order i) (L (i + 1)) → IsOther (L i) (slice_index order i) (L (i + 1))) →
+    IsHierarchyIn IsOther g H order L
 hierarchy_by IsStep IsOther g H order L p f = record {
   contracted = record { nodes = p.contracted.nodes; start = p.contracted.start; step = λ i lt. f i lt (p.contracted.step i lt) };
   sizes = p.sizes;
@@ -69,7 +80,8 @@ contracted_limits g h order L limits p =
 -- each step is a contraction with enough shortcuts
 enough_at : (g : Network) (h : ℕ) (order : List ℕ) (L : ℕ → Legs) → IsWithinLimits g → IsHopBound h → AreContracted g h order L → (i : ℕ) →
     i < g.nodes → ContractsWithEnough g.nodes h (L i) (slice_index order i) (L (i + 1))
-enough_at g h order L limits hops p i lt = enough_by_needed g.nodes h (L i) (slice_index order i) (L (i + 1)) hops.0 (contracted_limits g h order L limits p i (omega arith)) (p.step i lt)
+enough_at g h order L limits hops p i lt = enough_by_needed g.nodes h (L i) (slice_index order i) (L (i + 1)) hops.0
+    (contracted_limits g h order L limits p i (omega arith)) (p.step i lt)
 
 -- the contraction of all nodes is one with enough shortcuts
 pub taken_with_enough : (g : Network) (h : ℕ) (order : List ℕ) (L : ℕ → Legs) → IsWithinLimits g → IsHopBound h →
@@ -79,4 +91,5 @@ taken_with_enough g h order L limits hops p = record { nodes = p.nodes; start = 
 -- the hierarchy of all nodes is one with enough shortcuts
 pub hierarchy_with_enough : (g : Network) (h : ℕ) (H : LevelsAndLegs) (order : List ℕ) (L : ℕ → Legs) → IsWithinLimits g → IsHopBound h →
     IsHierarchyOf g h H order L → IsHierarchyIn (ContractsWithEnough g.nodes h) g H order L
-hierarchy_with_enough g h H order L limits hops p = hierarchy_by (Contracts g.nodes h) (ContractsWithEnough g.nodes h) g H order L p (λ i lt c. enough_at g h order L limits hops p.contracted i lt)
+hierarchy_with_enough g h H order L limits hops p = hierarchy_by (Contracts g.nodes h) (ContractsWithEnough g.nodes h) g H order L p
+    (λ i lt c. enough_at g h order L limits hops p.contracted i lt)

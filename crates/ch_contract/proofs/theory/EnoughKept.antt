@@ -1,5 +1,6 @@
 -- A hierarchy that is built with enough shortcuts is kept: it is right for its graph.
-use Rattle.std.proofs.Common.{◌≡◌, ◌≢◌, ℕ, zero, suc, ◌<◌, ◌≤◌, List, length, Option, Some, None, Contains, slice_index, refl, sym, ◌∙◌, subst, arith, inl, inr}
+use Rattle.std.proofs.Common.{◌≡◌, ◌≢◌, ℕ, zero, suc, ◌<◌, ◌≤◌, List, length, Option, Some, None, Contains, slice_index, refl, sym}
+use Rattle.std.proofs.Common.{◌∙◌, subst, arith, inl, inr}
 use Rattle.std.proofs.lemmas.Bool.{cases_lt}
 use Rattle.std.proofs.lemmas.List.{get_or-take, get_or_default, length-take-le}
 use Rattle.ch_graph.specs.declared.arc.InArc.{InArc}
@@ -25,7 +26,8 @@ use Rattle.ch_contract.proofs.theory.Contracting.{ContractsWithPairs, pairs_by_e
 use Rattle.ch_contract.proofs.theory.OneContraction.{leg_kept}
 use Rattle.ch_contract.proofs.theory.StepLegs.{IsMade, IsContraction, step_leg, step_at}
 use Rattle.ch_contract.proofs.theory.KeptCosts.{IsAfter, chain_walk, least_chain}
-use Rattle.ch_contract.proofs.theory.BuiltLegs.{IsBuilt, contraction, step_of, after_earlier, up_leg, down_leg, up_step, down_step, up_step_leg, down_step_leg}
+use Rattle.ch_contract.proofs.theory.BuiltLegs.{IsBuilt, contraction, step_of, after_earlier, up_leg, down_leg, up_step, down_step}
+use Rattle.ch_contract.proofs.theory.BuiltLegs.{up_step_leg, down_step_leg}
 use Rattle.ch_contract.proofs.theory.Levelled.{levelled}
 use Rattle.ch_contract.proofs.theory.Enough.{hierarchy_by, taken_with_enough}
 use Rattle.ch_contract.proofs.theory.UpAndDown.{up_and_down}
@@ -96,9 +98,11 @@ module _ {g : Network} {h : ℕ} {H : LevelsAndLegs} {order : List ℕ} {L : ℕ
       HasLegWithin (slice_index order i) (slice_index order j) d
   leg_by_step i j d li lj leg = elim (cases_lt i j) [
     | inl first ↦ from_step i (slice_index order j) d li
-        (leg_stays i (slice_index order i) (slice_index order j) d (omega arith) (after_earlier built i i (omega arith) li) (after_earlier built i j (omega arith) lj) leg)
+        (leg_stays i (slice_index order i) (slice_index order j) d (omega arith) (after_earlier built i i (omega arith) li)
+        (after_earlier built i j (omega arith) lj) leg)
     | inr second ↦ to_step j (slice_index order i) d lj
-        (leg_stays j (slice_index order i) (slice_index order j) d (omega arith) (after_earlier built j i (omega arith) li) (after_earlier built j j (omega arith) lj) leg)
+        (leg_stays j (slice_index order i) (slice_index order j) d (omega arith) (after_earlier built j i (omega arith) li)
+        (after_earlier built j j (omega arith) lj) leg)
   ]
 
   -- each arc has a leg that costs no more
@@ -112,7 +116,8 @@ module _ {g : Network} {h : ℕ} {H : LevelsAndLegs} {order : List ℕ} {L : ℕ
       let d : Cost = (arc_label a.weight).cost in
       subst (λ x. HasLegWithin x a.to d) s.2 (subst (λ x. HasLegWithin (slice_index order s.0) x d) t.2
       (leg_by_step s.0 t.0 d s.1 t.1
-      (subst (λ x. HasLeg (L zero) (slice_index order s.0) x d) (sym t.2) (subst (λ x. HasLeg (L zero) x a.to d) (sym s.2) (leg.0, first, leg.2)))))
+      (subst (λ x. HasLeg (L zero) (slice_index order s.0) x d) (sym t.2)
+      (subst (λ x. HasLeg (L zero) x a.to d) (sym s.2) (leg.0, first, leg.2)))))
 
   -- for each walk, going up and then down costs at most as much
   walk_met : (s t : ℕ) (c : Cost) → s < g.nodes → t < g.nodes → IsWalkCost g s t c → MeetsWithin H s t c
@@ -130,13 +135,15 @@ module _ {g : Network} {h : ℕ} {H : LevelsAndLegs} {order : List ℕ} {L : ℕ
       let second = up_step_leg built s.0 b s.1 (subst (λ x. Contains (row H.up x) b) (sym s.2) up) in
       let from = first.within.ends in
       let to = second.within.ends in
-      walk_met a.node b.node (cost_sum a.cost b.cost) from.0 to.1 (IsWalkCost-cost_sum g a.node (slice_index order s.0) b.node a.cost b.cost first.walk second.walk)
+      walk_met a.node b.node (cost_sum a.cost b.cost) from.0 to.1
+      (IsWalkCost-cost_sum g a.node (slice_index order s.0) b.node a.cost b.cost first.walk second.walk)
 
   -- the hierarchy is kept
   pub built_kept : IsKept g H
   built_kept = record {
     nodes = built.hierarchy.sizes.0;
-    levelled = levelled g H order L (hierarchy_by (ContractsWithEnough g.nodes h) (ContractsWithPairs g.nodes) g H order L built.hierarchy (λ i lt. pairs_by_enough g.nodes h _ _ _)) built.limits.size.0 (opening_within g built.limits);
+    levelled = levelled g H order L (hierarchy_by (ContractsWithEnough g.nodes h) (ContractsWithPairs g.nodes) g H order L
+        built.hierarchy (λ i lt. pairs_by_enough g.nodes h _ _ _)) built.limits.size.0 (opening_within g built.limits);
     founded = built_founded;
     arcs = built_arcs;
     covered = built_covered;

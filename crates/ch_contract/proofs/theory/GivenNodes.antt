@@ -1,6 +1,6 @@
 -- The given nodes of an order, and the others.
 use Rattle.std.proofs.Common.{◌≡◌, ℕ, ◌+◌, ◌<◌, List, ◌++◌, length, get_or, length-append, subst, sym, ◌∙◌, ap, arith, inl, inr, Contains}
-use Rattle.std.specs.Prelude.{◌≢◌, All, AllPairs, slice_index}
+use Rattle.std.specs.Prelude.{◌≢◌, All, AllPairs}
 use Rattle.std.proofs.lemmas.List.{get_or_append_left, get_or-append-add, get_or_default}
 use Rattle.std.proofs.lemmas.List.Elements.{Contains-append_cases}
 use Rattle.std.proofs.lemmas.List.FromFn.{length-range_with_len, get_or-range_with_len}
@@ -17,15 +17,6 @@ order_nodes n order is = (
 )
 
 module _ (given others : List ℕ) (n : ℕ) (is : IsOrderOf n (given ++ others)) where
-  -- the given nodes are different nodes
-  pub given_nodes : All (λ v. v < n) given × AllPairs ◌≢◌ given
-  given_nodes =
-      let size = length-append given others in
-      let nodes = order_nodes n (given ++ others) is in (
-        (λ k d lt. subst (λ z. z < n) (get_or_append_left given others d k lt) (nodes.1 k d (omega arith))),
-        λ i j d lt inside e. nodes.2 i j d lt (omega arith) (get_or_append_left given others d i (omega arith) ∙ e ∙ sym (get_or_append_left given others d j inside)),
-      )
-
   -- the others are nodes
   pub other_nodes : All (λ v. v < n) others
   other_nodes k d lt =
@@ -56,7 +47,8 @@ module _ (given others : List ℕ) (n : ℕ) (is : IsOrderOf n (given ++ others)
 numbers_order : (n : ℕ) → IsOrderOf n (range_with_len 0 n)
 numbers_order n =
     let size = length-range_with_len 0 n in
-    let at : (i : ℕ) → i < length (range_with_len 0 n) → get_or (range_with_len 0 n) i 0 ≡ 0 + i = λ i lt. get_or-range_with_len 0 n i 0 (omega arith) in
+    let at : (i : ℕ) → i < length (range_with_len 0 n) →
+    get_or (range_with_len 0 n) i 0 ≡ 0 + i = λ i lt. get_or-range_with_len 0 n i 0 (omega arith) in
     record {
       count = size;
       within = λ i lt. omega (arith, at i lt);

@@ -1,5 +1,5 @@
 -- Hierarchies with given nodes: where none is given, where all are, and that they are kept.
-use Rattle.std.proofs.Common.{◌≡◌, ℕ, ◌+◌, ◌-◌, ◌*◌, ◌/◌, ◌<◌, max, List, [], length, take, refl, sym, ◌∙◌, ap, subst, arith, lit<}
+use Rattle.std.proofs.Common.{◌≡◌, ℕ, ◌+◌, ◌*◌, ◌/◌, max, List, [], length, take, refl, sym, ◌∙◌, ap, subst, arith, lit<}
 use Rattle.std.specs.Prelude.{slice_index, ℤ}
 use Rattle.std.proofs.Math.Nat.{mul-div_cancel, mul-zero}
 use Rattle.std.proofs.lemmas.List.{take_all}
@@ -13,7 +13,8 @@ use Rattle.ch_contract.specs.Contraction.{IsPriorityBy}
 use Rattle.ch_contract.specs.Order.{depth_after, IsPriorityAfter}
 use Rattle.ch_contract.specs.Built.{IsHierarchyInTurn}
 use Rattle.ch_contract.specs.Like.{IsPriorityFrom, IsHierarchyFrom, IsHierarchyLike, IsHierarchyInOrder, given_count}
-use Rattle.ch_contract.specs.LikeLaws.{HierarchiesFromGivenNodesAreKept, AllAfreshIsByDepth, NoneAfreshIsAsGiven, HierarchiesAreInTheirOrder}
+use Rattle.ch_contract.specs.LikeLaws.{HierarchiesFromGivenNodesAreKept, AllAfreshIsByDepth, NoneAfreshIsAsGiven}
+use Rattle.ch_contract.specs.LikeLaws.{HierarchiesAreInTheirOrder}
 use Rattle.ch_contract.proofs.theory.OneInTurn.{taken_at}
 use Rattle.ch_contract.proofs.theory.Enough.{hierarchy_with_enough}
 use Rattle.ch_contract.proofs.theory.EnoughKept.{hierarchies_with_enough_kept}
@@ -33,10 +34,23 @@ none_from by n h order L i x p r =
 
 -- a hierarchy of nodes in turn has no given nodes
 pub from_in_turn : (by : OrderBy) (g : Network) (h : ℕ) (H : LevelsAndLegs) → IsHierarchyInTurn by g h H → IsHierarchyFrom by g h [] H
-from_in_turn by g h H is = (is.0, is.1, is.2, refl, λ i x ge lt inside away. let r = is.3 i x lt inside away in (r.0, r.1, from_none by g.nodes h is.0 is.1 i _ r.0 r.2, from_none by g.nodes h is.0 is.1 i x r.1 r.3, r.4))
+from_in_turn by g h H is = (
+  is.0,
+  is.1,
+  is.2,
+  refl,
+  λ i x ge lt inside away. let r = is.3 i x lt inside away in
+      (r.0, r.1, from_none by g.nodes h is.0 is.1 i _ r.0 r.2, from_none by g.nodes h is.0 is.1 i x r.1 r.3, r.4),
+)
 
 pub in_turn_from : (by : OrderBy) (g : Network) (h : ℕ) (H : LevelsAndLegs) → IsHierarchyFrom by g h [] H → IsHierarchyInTurn by g h H
-in_turn_from by g h H is = (is.0, is.1, is.2, λ i x lt inside away. let r = is.4 i x (omega arith) lt inside away in (r.0, r.1, none_from by g.nodes h is.0 is.1 i _ r.0 r.2, none_from by g.nodes h is.0 is.1 i x r.1 r.3, r.4))
+in_turn_from by g h H is = (
+  is.0,
+  is.1,
+  is.2,
+  λ i x lt inside away. let r = is.4 i x (omega arith) lt inside away in
+      (r.0, r.1, none_from by g.nodes h is.0 is.1 i _ r.0 r.2, none_from by g.nodes h is.0 is.1 i x r.1 r.3, r.4),
+)
 
 -- a hierarchy with given nodes is kept
 pub from_kept : HierarchiesFromGivenNodesAreKept
@@ -78,7 +92,8 @@ none_afresh g h given H order =
           let same : f.0 ≡ given = sym (take_all (length given) f.0 (omega arith)) ∙ f.3 in
           subst (λ o. IsHierarchyInOrder g h o H) same (f.1, f.2),
       λ is.
-          let from : IsHierarchyFrom Depth g h given H = (given, is.0, is.1, take_all (length given) given (omega arith), λ i x ge lt inside away. absurd (omega arith)) in
+          let from : IsHierarchyFrom Depth g h given H =
+          (given, is.0, is.1, take_all (length given) given (omega arith), λ i x ge lt inside away. absurd (omega arith)) in
           subst (λ l. IsHierarchyFrom Depth g h l H) (sym all) from,
     )
 

@@ -35,11 +35,14 @@ walk_chain g L s t (a ∷ xs) start w =
     elim (cases_eq a.from a.to) [
       | inl loop ↦
           subst (λ q. HasChain L q t (cost_of (a ∷ xs))) (sym loop ∙ w.1)
-          (chain_at_most L a.to t (cost_of xs) _ rest (subst (IsAtMost (cost_of xs)) (cost_sum_comm (cost_of xs) (arc_cost a) ∙ sym (cost_of-cons a xs)) (IsAtMost-cost_sum_self (cost_of xs) (arc_cost a))))
+          (chain_at_most L a.to t (cost_of xs) _ rest
+          (subst (IsAtMost (cost_of xs)) (cost_sum_comm (cost_of xs) (arc_cost a) ∙ sym (cost_of-cons a xs))
+          (IsAtMost-cost_sum_self (cost_of xs) (arc_cost a))))
       | inr on ↦
           let leg = opening_covers g a w.0 on in
           subst (λ q. HasChain L q t (cost_of (a ∷ xs))) w.1
-          (subst (HasChain L a.from t) (sym (cost_of-cons a xs)) (leg_then_chain L a.from a.to t (arc_cost a) (cost_of xs) (leg.0, start a.from a.to ∙ leg.1, leg.2) rest))
+          (subst (HasChain L a.from t) (sym (cost_of-cons a xs))
+          (leg_then_chain L a.from a.to t (arc_cost a) (cost_of xs) (leg.0, start a.from a.to ∙ leg.1, leg.2) rest))
     ]
 
 module _ {g : Network} {h : ℕ} {order : List ℕ} {L : ℕ → Legs} {m : ℕ} (all : IsContraction g h order L m) where
@@ -63,9 +66,11 @@ module _ {g : Network} {h : ℕ} {order : List ℕ} {L : ℕ → Legs} {m : ℕ}
   pub least_chain : (i : ℕ) → i ≤ m → (u w : ℕ) (c : Cost) → w < g.nodes → IsAfter order i u → IsAfter order i w → IsLeast g u w c →
       IsChainCost (L i) u w c
   least_chain zero le u w c lt p q least =
-      least_exact zero le u w c least (subst (HasChain (L zero) u w) least.walk.2 (walk_chain g (L zero) u w least.walk.0 all.start least.walk.1))
+      least_exact zero le u w c least
+      (subst (HasChain (L zero) u w) least.walk.2 (walk_chain g (L zero) u w least.walk.0 all.start least.walk.1))
   least_chain (suc i) le u w c lt p q least =
-      let before : IsChainCost (L i) u w c = least_chain i (omega arith) u w c lt (λ j below. p j (omega arith)) (λ j below. q j (omega arith)) least in
+      let before : IsChainCost (L i) u w c =
+      least_chain i (omega arith) u w c lt (λ j below. p j (omega arith)) (λ j below. q j (omega arith)) least in
       least_exact (suc i) le u w c least
       (subst (HasChain (L (suc i)) u w) before.2
       (chain_stays (step_at all i (omega arith)) u w before.0

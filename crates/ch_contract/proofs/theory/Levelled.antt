@@ -1,6 +1,7 @@
 -- Each hierarchy of contracted nodes has each level from 1 to the number of nodes once, and legs to higher nodes within
 -- the limits.
-use Rattle.std.proofs.Common.{◌≡◌, ℕ, suc, zero, ◌+◌, ◌<◌, ◌≤◌, Bool, true, false, cond, List, [], length, get_or, Option, Some, None, refl, sym, ◌∙◌, ap, subst, arith, inl, inr, Contains}
+use Rattle.std.proofs.Common.{◌≡◌, ℕ, suc, zero, ◌+◌, ◌<◌, ◌≤◌, Bool, true, false, cond, List, [], length, get_or, Option, Some}
+use Rattle.std.proofs.Common.{None, refl, sym, ◌∙◌, ap, subst, arith, inl, inr, Contains}
 use Rattle.std.specs.Prelude.{◌⊎◌, ◌≢◌, ◌==◌, ◌||◌, All, slice_index}
 use Rattle.std.proofs.lemmas.Bool.{cases_eq, cases_lt}
 use Rattle.std.proofs.lemmas.Bool.Decides.{nat_tests}
@@ -77,7 +78,8 @@ pub within_steps : (n m : ℕ) (order : List ℕ) (L : ℕ → Legs) → AreLegs
 within_steps n m order L start step zero le = start
 within_steps n m order L start step (suc k) le =
     let e : k + 1 ≡ suc k = omega arith in
-    subst (λ z. AreLegsWithin n (L z)) e (within_more n (L k) (slice_index order k) (L (k + 1)) (within_steps n m order L start step k (omega arith)) (step k (omega arith)))
+    subst (λ z. AreLegsWithin n (L z)) e
+    (within_more n (L k) (slice_index order k) (L (k + 1)) (within_steps n m order L start step k (omega arith)) (step k (omega arith)))
 
 -- no leg touches a node after the step that contracted it
 pub gone_steps : (n m : ℕ) (order : List ℕ) (L : ℕ → Legs) →
@@ -90,8 +92,10 @@ gone_steps n m order L step j (suc k) lt le =
   where
     at : (j < k → k ≤ m → IsGone (L k) (slice_index order j)) → IsGone (L (k + 1)) (slice_index order j)
     at before = elim (cases_eq j k) [
-      | inl same ↦ subst (λ z. IsGone (L (k + 1)) (slice_index order z)) (sym same) (gone_next n (L k) (slice_index order k) (L (k + 1)) (step k (omega arith)))
-      | inr ne ↦ gone_more n (L k) (slice_index order k) (L (k + 1)) (slice_index order j) (before (omega arith) (omega arith)) (step k (omega arith))
+      | inl same ↦ subst (λ z. IsGone (L (k + 1)) (slice_index order z)) (sym same)
+          (gone_next n (L k) (slice_index order k) (L (k + 1)) (step k (omega arith)))
+      | inr ne ↦ gone_more n (L k) (slice_index order k) (L (k + 1)) (slice_index order j) (before (omega arith) (omega arith))
+          (step k (omega arith))
     ]
 
 -- legs within the limits are within the limits in the other direction
@@ -100,10 +104,13 @@ turned_within n L within u w l e =
     let is = within w u l e in
     record { ends = (is.ends.1, is.ends.0, λ same. is.ends.2 (sym same)); weight = is.weight; arcs = is.arcs; middle = is.middle }
 
-module _ (g : Network) (H : LevelsAndLegs) (order : List ℕ) (L : ℕ → Legs) (p : IsHierarchyIn (ContractsWithPairs g.nodes) g H order L) (small : g.nodes ≤ MOST_NODES) (start : AreLegsWithin g.nodes (opening g)) where
+module _ (g : Network) (H : LevelsAndLegs) (order : List ℕ) (L : ℕ → Legs)
+    (p : IsHierarchyIn (ContractsWithPairs g.nodes) g H order L) (small : g.nodes ≤ MOST_NODES)
+    (start : AreLegsWithin g.nodes (opening g)) where
   -- the legs before each step are within the limits
   within : (k : ℕ) → k ≤ g.nodes → AreLegsWithin g.nodes (L k)
-  within = within_steps g.nodes g.nodes order L (subst (AreLegsWithin g.nodes) (sym (one_map (L 0) (opening g) p.contracted.start)) start) p.contracted.step
+  within = within_steps g.nodes g.nodes order L
+      (subst (AreLegsWithin g.nodes) (sym (one_map (L 0) (opening g) p.contracted.start)) start) p.contracted.step
 
   -- no leg touches the nodes of earlier steps
   gone : (j k : ℕ) → j < k → k ≤ g.nodes → IsGone (L k) (slice_index order j)
@@ -133,7 +140,8 @@ module _ (g : Network) (H : LevelsAndLegs) (order : List ℕ) (L : ℕ → Legs)
       record { node = omega arith; higher = omega arith; weight = weight; arcs = omega arith }
 
   -- the row of the node of a step leads up, for the legs before the step in either direction
-  row_up : (N : Legs) (i : ℕ) (legs : List Leg) → i < g.nodes → AreLegsWithin g.nodes N → ((j : ℕ) → j < i → IsGone N (slice_index order j)) → AreLegsFrom N (slice_index order i) legs →
+  row_up : (N : Legs) (i : ℕ) (legs : List Leg) → i < g.nodes → AreLegsWithin g.nodes N →
+      ((j : ℕ) → j < i → IsGone N (slice_index order j)) → AreLegsFrom N (slice_index order i) legs →
       IsRow legs × All (IsLegUp H (slice_index order i)) legs
   row_up N i legs lt limits earlier r = (
     r.0,
@@ -142,7 +150,8 @@ module _ (g : Network) (H : LevelsAndLegs) (order : List ℕ) (L : ℕ → Legs)
         let l : Leg = get_or legs k d in
         let leg : N v l.node ≡ Some (label_of l) = leg_from_at N v legs k d r inside in
         let w = limits v l.node (label_of l) leg in
-        leg_up i l lt w.ends.1 (λ e. w.ends.2 (sym e)) (λ j before e. none-some _ (sym (earlier j before v).1 ∙ ap (N v) e ∙ leg)) w.weight w.arcs,
+        leg_up i l lt w.ends.1 (λ e. w.ends.2 (sym e)) (λ j before e. none-some _ (sym (earlier j before v).1 ∙ ap (N v) e ∙ leg))
+        w.weight w.arcs,
   )
 
   -- the legs from the node of a step lead to higher nodes
@@ -153,16 +162,19 @@ module _ (g : Network) (H : LevelsAndLegs) (order : List ℕ) (L : ℕ → Legs)
   -- the legs to the node of a step come from higher nodes
   down_row : (i : ℕ) → i < g.nodes →
       IsRow (row H.down (slice_index order i)) × All (IsLegUp H (slice_index order i)) (row H.down (slice_index order i))
-  down_row i lt = row_up (turned_legs (L i)) i _ lt (turned_within g.nodes (L i) (within i (omega arith))) (λ j before x. let none = gone j i before (omega arith) x in (none.1, none.0)) (p.down i lt)
+  down_row i lt = row_up (turned_legs (L i)) i _ lt (turned_within g.nodes (L i) (within i (omega arith)))
+      (λ j before x. let none = gone j i before (omega arith) x in (none.1, none.0)) (p.down i lt)
 
   -- if the row of each step leads up, all rows do
   legs_up : (rows : List (List Leg)) → length rows ≡ g.nodes →
-      ((i : ℕ) → i < g.nodes → IsRow (row rows (slice_index order i)) × All (IsLegUp H (slice_index order i)) (row rows (slice_index order i))) →
+      ((i : ℕ) → i < g.nodes → IsRow (row rows (slice_index order i))
+      × All (IsLegUp H (slice_index order i)) (row rows (slice_index order i))) →
       AreLegsUp H rows
   legs_up rows size each = (
     size ∙ sym p.sizes.0,
     λ v. elim (cases_lt v g.nodes) [
-      | inl lt ↦ let at = taken_at g.nodes order v p.contracted.nodes lt in subst (λ z. IsRow (row rows z) × All (IsLegUp H z) (row rows z)) at.2 (each at.0 at.1)
+      | inl lt ↦ let at = taken_at g.nodes order v p.contracted.nodes lt in
+          subst (λ z. IsRow (row rows z) × All (IsLegUp H z) (row rows z)) at.2 (each at.0 at.1)
       | inr past ↦
           let none : row rows v ≡ [] = get_or_past rows v [] (omega arith) in
           subst (λ z. IsRow z × All (IsLegUp H v) z) (sym none) ((λ i j d lt inside. absurd (omega arith)), All-nil (IsLegUp H v))
@@ -171,7 +183,8 @@ module _ (g : Network) (H : LevelsAndLegs) (order : List ℕ) (L : ℕ → Legs)
 
   -- the order has each node once
   is_order : IsOrderOf g.nodes order
-  is_order = let nodes = p.contracted.nodes in record { count = nodes.0; within = λ i lt. nodes.1 i 0 lt; distinct = λ i j before lt. nodes.2 i j 0 before lt }
+  is_order = let nodes = p.contracted.nodes in
+      record { count = nodes.0; within = λ i lt. nodes.1 i 0 lt; distinct = λ i j before lt. nodes.2 i j 0 before lt }
 
   -- the levels are those of the order
   are_levels : AreLevelsOf order H.level

@@ -1,6 +1,7 @@
 -- One contraction: each leg that does not touch the node stays or gets cheaper. For each light chain between other
 -- nodes there is one that costs at most as much.
-use Rattle.std.proofs.Common.{◌≡◌, ℕ, suc, zero, ◌<◌, Bool, true, false, cond, List, [], ◌∷◌, length, get_or, Option, Some, None, refl, sym, ◌∙◌, ap, subst, arith, inl, inr}
+use Rattle.std.proofs.Common.{◌≡◌, ℕ, suc, zero, ◌<◌, Bool, true, false, cond, List, [], ◌∷◌, length, get_or, Option, Some, None}
+use Rattle.std.proofs.Common.{refl, sym, ◌∙◌, ap, subst, arith, inl, inr}
 use Rattle.std.specs.Prelude.{◌⊎◌, ◌≢◌, ◌==◌, ◌&&◌, ◌||◌}
 use Rattle.std.specs.List.{AllByRecursion}
 use Rattle.std.proofs.lemmas.Bool.{cases_eq, false≢true}
@@ -19,7 +20,8 @@ use Rattle.ch_contract.proofs.theory.ReferenceSearch.{witness_or_none, some_of}
 use Rattle.ch_graph.proofs.Numbers.{not_eqb, eqb-refl}
 use Rattle.ch_graph.proofs.Lists.{contains_head, contains_tail}
 use Rattle.ch_contract.proofs.theory.Contracting.{IsOverridden, override_cases}
-use Rattle.ch_contract.proofs.theory.Chains.{HasChain, HasLeg, IsLight, light_left, light_right, chain_cost-cons, chain_of_leg, leg_then_chain, chain_then_chain, chain_at_most, no_loop}
+use Rattle.ch_contract.proofs.theory.Chains.{HasChain, HasLeg, IsLight, light_left, light_right, chain_cost-cons, chain_of_leg}
+use Rattle.ch_contract.proofs.theory.Chains.{leg_then_chain, chain_then_chain, chain_at_most, no_loop}
 
 -- a pair is overridden by the first shortcut of the list, or by a later one
 first_or : (v : ℕ) (t : Shortcut) (list : List Shortcut) (u w : ℕ) (before : Option Label) (b : Bool) → (t.from == u && t.to == w) ≡ b →
@@ -56,7 +58,10 @@ module _ {n h : ℕ} {L M : Legs} {v : ℕ} (step : IsOneContraction n h L v M) 
 
   -- no leg touches v
   pub untouched : (x y : ℕ) (m : Label) → M x y ≡ Some m → (x ≢ v) × (y ≢ v)
-  untouched x y m e = ((λ here. none-some m (sym (step.contracts.2 x y ∙ rw (here, eqb-refl v) refl) ∙ e)), (λ here. none-some m (sym (step.contracts.2 x y ∙ at (x == v) y here) ∙ e)))
+  untouched x y m e = (
+    (λ here. none-some m (sym (step.contracts.2 x y ∙ rw (here, eqb-refl v) refl) ∙ e)),
+    (λ here. none-some m (sym (step.contracts.2 x y ∙ at (x == v) y here) ∙ e)),
+  )
     where
       at : (b : Bool) (z : ℕ) → z ≡ v → cond (b || z == v) None (leg_after_shortcuts v step.contracts.0 x z (L x z)) ≡ None
       at true z is = refl
@@ -64,7 +69,9 @@ module _ {n h : ℕ} {L M : Legs} {v : ℕ} (step : IsOneContraction n h L v M) 
 
   -- a leg after the contraction was there before, or is the sum of two legs through v
   abbrev pub IsOldOrShortcut : ℕ → ℕ → Label → Type 0
-  IsOldOrShortcut x y m = (L x y ≡ Some m) ⊎ ((a b : Label) × (L x v ≡ Some a) × (L v y ≡ Some b) × (m ≡ record { cost = cost_sum a.cost b.cost; middle = Some v }) × IsLight n m.cost × (x ≢ y))
+  IsOldOrShortcut x y m = (L x y ≡ Some m)
+      ⊎ ((a b : Label) × (L x v ≡ Some a) × (L v y ≡ Some b) × (m ≡ record { cost = cost_sum a.cost b.cost; middle = Some v })
+      × IsLight n m.cost × (x ≢ y))
 
   -- a shortcut is the sum of two legs through v
   shortcut_legs : (x y : ℕ) (m : Label) (s : Shortcut) → s.from ≡ x → s.to ≡ y → Some (shortcut_label v s) ≡ Some m →
@@ -72,8 +79,17 @@ module _ {n h : ℕ} {L M : Legs} {v : ℕ} (step : IsOneContraction n h L v M) 
   shortcut_legs x y m s ex ey em is =
       let legs = is.legs in
       let same : shortcut_label v s ≡ m = same_Some _ _ em in
-      let cost : shortcut_label v s ≡ record { cost = cost_sum legs.0.cost legs.1.cost; middle = Some v } = ap (λ c. record { cost = c; middle = Some v }) legs.4 in
-      inr (legs.0, legs.1, ap (λ q. L q v) (sym ex) ∙ legs.2, ap (λ q. L v q) (sym ey) ∙ legs.3, sym same ∙ cost, subst (λ (l : Label). IsLight n l.cost) same (is.weight, is.arcs), λ here. is.apart (ex ∙ here ∙ sym ey))
+      let cost : shortcut_label v s ≡ record { cost = cost_sum legs.0.cost legs.1.cost; middle = Some v } =
+      ap (λ c. record { cost = c; middle = Some v }) legs.4 in
+      inr (
+        legs.0,
+        legs.1,
+        ap (λ q. L q v) (sym ex) ∙ legs.2,
+        ap (λ q. L v q) (sym ey) ∙ legs.3,
+        sym same ∙ cost,
+        subst (λ (l : Label). IsLight n l.cost) same (is.weight, is.arcs),
+        λ here. is.apart (ex ∙ here ∙ sym ey),
+      )
 
   -- each leg after the contraction was there before, or is such a sum
   pub old_or_shortcut : (x y : ℕ) (m : Label) → M x y ≡ Some m → IsOldOrShortcut x y m
@@ -89,7 +105,11 @@ module _ {n h : ℕ} {L M : Legs} {v : ℕ} (step : IsOneContraction n h L v M) 
   pub leg_kept : (x y : ℕ) (l : Label) → x ≢ v → y ≢ v → L x y ≡ Some l → HasLeg M x y l.cost
   leg_kept x y l p q e = elim (override_cases v step.contracts.0 x y (L x y)) [
     | inl stays ↦ (l, outside x y p q ∙ stays ∙ e, IsAtMost_refl l.cost)
-    | inr r ↦ (shortcut_label v r.0, outside x y p q ∙ r.4, step.contracts.1.no_dearer r.0 l r.1 (ap (λ z. L z r.0.to) r.2 ∙ ap (L x) r.3 ∙ e))
+    | inr r ↦ (
+      shortcut_label v r.0,
+      outside x y p q ∙ r.4,
+      step.contracts.1.no_dearer r.0 l r.1 (ap (λ z. L z r.0.to) r.2 ∙ ap (L x) r.3 ∙ e),
+    )
   ]
 
   -- for a chain that never touches v, there is one that costs at most as much
@@ -113,7 +133,12 @@ module _ {n h : ℕ} {L M : Legs} {v : ℕ} (step : IsOneContraction n h L v M) 
   by_shortcut : (u y : ℕ) (a b : Label) → u ≢ v → y ≢ v → L u v ≡ Some a → L v y ≡ Some b → IsOverridden v step.contracts.0 u y (L u y) →
       HasChain M u y (cost_sum a.cost b.cost)
   by_shortcut u y a b p q ea eb f =
-      chain_of_leg M u y _ (shortcut_label v f.0, outside u y p q ∙ f.4, subst (IsAtMost f.0.cost) (shortcut_cost f.0 u y a b (step.contracts.1.pairs f.0 f.1) f.2 f.3 ea eb) (IsAtMost_refl f.0.cost))
+      chain_of_leg M u y _ (
+        shortcut_label v f.0,
+        outside u y p q ∙ f.4,
+        subst (IsAtMost f.0.cost)
+            (shortcut_cost f.0 u y a b (step.contracts.1.pairs f.0 f.1) f.2 f.3 ea eb) (IsAtMost_refl f.0.cost),
+      )
 
   -- for two legs through v there is a shortcut or a witness, so there is a chain that costs at most as much
   through : (u y : ℕ) (a b : Label) → u ≢ v → y ≢ v → u ≢ y → L u v ≡ Some a → L v y ≡ Some b → IsLight n (cost_sum a.cost b.cost) →
@@ -122,7 +147,8 @@ module _ {n h : ℕ} {L M : Legs} {v : ℕ} (step : IsOneContraction n h L v M) 
     | inl w ↦ chain_at_most M u y _ _ (chain_kept u y w.0 p w.1.away.1 w.1.chain) w.1.cheap
     | inr none ↦
         let s : Shortcut = record { from = u; to = y; cost = cost_sum a.cost b.cost } in
-        let has = step.contracts.1.needed s (record { apart = ne; legs = (a, b, ea, eb, refl); weight = light.0; arcs = light.1; needed = none }) in
+        let has = step.contracts.1.needed s
+        (record { apart = ne; legs = (a, b, ea, eb, refl); weight = light.0; arcs = light.1; needed = none }) in
         by_shortcut u y a b p q ea eb (override_found v step.contracts.0 has.0 s (L u y) has.1 has.2)
   ]
 
@@ -132,8 +158,10 @@ module _ {n h : ℕ} {L M : Legs} {v : ℕ} (step : IsOneContraction n h L v M) 
   via u w y a b c p ea eb light q rest =
       let sum = cost_sum_assoc a.cost b.cost c in
       elim (cases_eq u y) [
-        | inl back ↦ chain_at_most M u w c _ (subst (λ z. HasChain M z w c) (sym back) rest) (subst (IsAtMost c) (cost_sum_comm c (cost_sum a.cost b.cost) ∙ sum) (IsAtMost-cost_sum_self c (cost_sum a.cost b.cost)))
-        | inr on ↦ subst (HasChain M u w) sum (chain_then_chain M u y w _ c (through u y a b p q on ea eb (light_left n _ c (subst (IsLight n) (sym sum) light))) rest)
+        | inl back ↦ chain_at_most M u w c _ (subst (λ z. HasChain M z w c) (sym back) rest)
+            (subst (IsAtMost c) (cost_sum_comm c (cost_sum a.cost b.cost) ∙ sum) (IsAtMost-cost_sum_self c (cost_sum a.cost b.cost)))
+        | inr on ↦ subst (HasChain M u w) sum
+            (chain_then_chain M u y w _ c (through u y a b p q on ea eb (light_left n _ c (subst (IsLight n) (sym sum) light))) rest)
       ]
 
   -- for each light chain between other nodes there is one after the contraction that costs at most as much
@@ -149,7 +177,8 @@ module _ {n h : ℕ} {L M : Legs} {v : ℕ} (step : IsOneContraction n h L v M) 
       let light_rest : IsLight n (chain_cost L x (y ∷ ys)) = light_right n a.0.cost _ (subst (IsLight n) cost light) in
       elim (cases_eq x v) [
         | inl here ↦
-            let two : chain_cost L u (x ∷ y ∷ ys) ≡ cost_sum a.0.cost (cost_sum b.0.cost (chain_cost L y ys)) = cost ∙ ap (cost_sum a.0.cost) rest in
+            let two : chain_cost L u (x ∷ y ∷ ys) ≡ cost_sum a.0.cost (cost_sum b.0.cost (chain_cost L y ys)) =
+            cost ∙ ap (cost_sum a.0.cost) rest in
             let ea : L u v ≡ Some a.0 = subst (λ z. L u z ≡ Some a.0) here a.1 in
             let eb : L v y ≡ Some b.0 = subst (λ z. L z y ≡ Some b.0) here b.1 in
             let off : y ≢ v = λ same. no_loop n L step.within v y b.0 eb (sym same) in

@@ -1,5 +1,6 @@
 -- Two hierarchies by rounds for the same graph and bound are equal.
-use Rattle.std.proofs.Common.{◌≡◌, ℕ, zero, suc, ◌+◌, ◌<◌, ◌≤◌, List, [], ◌∷◌, ◌++◌, length, Contains, refl, sym, ◌∙◌, ap, subst, arith, add-one, inl, inr}
+use Rattle.std.proofs.Common.{◌≡◌, ℕ, zero, suc, ◌+◌, ◌<◌, ◌≤◌, List, [], ◌∷◌, ◌++◌, length, Contains, refl, sym, ◌∙◌, ap, subst}
+use Rattle.std.proofs.Common.{arith, add-one, inl, inr}
 use Rattle.std.specs.Prelude.{◌*◌, ◌&&◌, ◌||◌, not, nat_lt, slice_index, ℤ}
 use Rattle.std.specs.List.{concat, list_any}
 use Rattle.std.proofs.lemmas.Bool.{cases_eq, cases_lt}
@@ -18,7 +19,8 @@ use Rattle.ch_contract.specs.LegRows.{AreLegsFrom}
 use Rattle.ch_contract.specs.Contraction.{IsPairBefore, AreShortcuts, leg_after_shortcuts, count_touching, key_by}
 use Rattle.ch_contract.specs.Order.{are_neighbours}
 use Rattle.ch_contract.specs.Rounds.{IsRound, AreShortcutsAmong, legs_away, legs_with_shortcuts, ContractsRound, depth_after_round}
-use Rattle.ch_contract.specs.RoundOrder.{round_at, nodes_before, depth_before, is_early, is_counted, IsCountAfter, IsKeyAfter, IsLeftAfter, AreRounds, IsHierarchyOfRounds}
+use Rattle.ch_contract.specs.RoundOrder.{round_at, nodes_before, depth_before, is_early, is_counted, IsCountAfter, IsKeyAfter}
+use Rattle.ch_contract.specs.RoundOrder.{IsLeftAfter, AreRounds, IsHierarchyOfRounds}
 use Rattle.ch_contract.specs.OneOrder.{RoundsNameOneHierarchy}
 use Rattle.ch_contract.proofs.theory.RowLegs.{one_row}
 use Rattle.ch_contract.proofs.theory.OneInTurn.{one_map, taken_at, same_rows}
@@ -27,7 +29,8 @@ use Rattle.ch_contract.proofs.theory.RoundNodes.{begun_of, before_next, before_a
 -- a node has one list of shortcuts in a round
 one_round_list : (n h : ℕ) (L W : Legs) (v : ℕ) (xs ys : List Shortcut) → AreShortcutsAmong n h L W v xs → AreShortcutsAmong n h L W v ys →
     xs ≡ ys
-one_round_list n h L W v xs ys p q = ordered_same IsPairBefore (λ a b r s. let lt = r.1 s.0 in omega arith) xs ys p.ordered q.ordered (λ s c. q.whole s (p.sound s c)) (λ s c. p.whole s (q.sound s c))
+one_round_list n h L W v xs ys p q = ordered_same IsPairBefore (λ a b r s. let lt = r.1 s.0 in omega arith) xs ys p.ordered
+    q.ordered (λ s c. q.whole s (p.sound s c)) (λ s c. p.whole s (q.sound s c))
 
 -- putting in the same lists has the same result
 put_same : (todo : List ℕ) (f g : ℕ → List Shortcut) (L : Legs) → ((v : ℕ) → Contains todo v → f v ≡ g v) →
@@ -40,16 +43,21 @@ put_same (v ∷ todo) f g L same =
 -- a round has one result
 one_round_map : (n h : ℕ) (L : Legs) (nodes : List ℕ) (M N : Legs) → ContractsRound n h L nodes M → ContractsRound n h L nodes N → M ≡ N
 one_round_map n h L nodes M N p q =
-    let same = put_same nodes p.0 q.0 (legs_away nodes L) (λ v c. one_round_list n h L (legs_away nodes L) v (p.0 v) (q.0 v) (p.1 v c) (q.1 v c)) in
+    let same = put_same nodes p.0 q.0 (legs_away nodes L)
+    (λ v c. one_round_list n h L (legs_away nodes L) v (p.0 v) (q.0 v) (p.1 v c) (q.1 v c)) in
     one_map M _ p.2 ∙ same ∙ sym (one_map N _ q.2)
 
 -- a round has one list of nodes
-one_round : (IsKey IsOther : ℕ → ℤ → Type 0) (IsLeft IsRest : ℕ → Type 0) (L : Legs) (xs ys : List ℕ) → ((x : ℕ) (p : ℤ) → IsKey x p → IsOther x p) → ((x : ℕ) (p : ℤ) → IsOther x p → IsKey x p) → ((x : ℕ) → IsLeft x → IsRest x) → ((x : ℕ) → IsRest x → IsLeft x) →
+one_round : (IsKey IsOther : ℕ → ℤ → Type 0) (IsLeft IsRest : ℕ → Type 0) (L : Legs) (xs ys : List ℕ) →
+    ((x : ℕ) (p : ℤ) → IsKey x p → IsOther x p) → ((x : ℕ) (p : ℤ) → IsOther x p → IsKey x p) → ((x : ℕ) → IsLeft x → IsRest x) →
+    ((x : ℕ) → IsRest x → IsLeft x) →
     IsRound IsKey IsLeft L xs → IsRound IsOther IsRest L ys → xs ≡ ys
 one_round IsKey IsOther IsLeft IsRest L xs ys key back left rest p q =
     ordered_same ◌<◌ (λ a b lt gt. omega arith) xs ys p.ordered q.ordered
-    (λ v c. let s = p.sound v c in q.whole v (left v s.0) (λ x ne near. let f = s.1 x ne near in (f.0, f.1, key v f.0 f.2, key x f.1 f.3, f.4)))
-    (λ v c. let s = q.sound v c in p.whole v (rest v s.0) (λ x ne near. let f = s.1 x ne near in (f.0, f.1, back v f.0 f.2, back x f.1 f.3, f.4)))
+    (λ v c. let s = p.sound v c in
+    q.whole v (left v s.0) (λ x ne near. let f = s.1 x ne near in (f.0, f.1, key v f.0 f.2, key x f.1 f.3, f.4)))
+    (λ v c. let s = q.sound v c in
+    p.whole v (rest v s.0) (λ x ne near. let f = s.1 x ne near in (f.0, f.1, back v f.0 f.2, back x f.1 f.3, f.4)))
 
 -- two lists of rounds agree: they have the same nodes in the first r rounds, and the same legs up to then
 pub record Agree (r : ℕ) (rounds : List (List ℕ)) (L : ℕ → Legs) (other : List (List ℕ)) (M : ℕ → Legs) : Type 0 where
@@ -113,28 +121,35 @@ module _ (n h r : ℕ) (rounds : List (List ℕ)) (L : ℕ → Legs) (other : Li
   key_along x p b =
       let deep = depth_along r (omega arith) in
       let legs = a.legs r (omega arith) in
-      let value : key_by Rounds b.0 (count_touching n (L r) x) (depth_before rounds L r x) ≡ key_by Rounds b.0 (count_touching n (M r) x) (depth_before other M r x) = λ t. key_by Rounds b.0 (count_touching n (legs t) x) (deep t x) in
+      let value : key_by Rounds b.0 (count_touching n (L r) x) (depth_before rounds L r x)
+      ≡ key_by Rounds b.0 (count_touching n (M r) x) (depth_before other M r x) =
+      λ t. key_by Rounds b.0 (count_touching n (legs t) x) (deep t x) in
       (b.0, count_along x b.0 b.1, b.2 ∙ value)
 
   -- the remaining nodes are the same
   pub left_along : (x : ℕ) → IsLeftAfter n rounds r x → IsLeftAfter n other r x
   left_along x b = (b.0, λ c. b.1 (subst (λ l. Contains l x) (sym (before_along r (omega arith))) c))
 
-module _ {g : Network} {h : ℕ} {rounds : List (List ℕ)} {L : ℕ → Legs} {other : List (List ℕ)} {M : ℕ → Legs} (p : AreRounds g h rounds L) (q : AreRounds g h other M) where
+module _ {g : Network} {h : ℕ} {rounds : List (List ℕ)} {L : ℕ → Legs} {other : List (List ℕ)} {M : ℕ → Legs}
+    (p : AreRounds g h rounds L) (q : AreRounds g h other M) where
   -- the next round is the same
   next_round : (r : ℕ) → r < length rounds → r < length other → Agree r rounds L other M → round_at rounds r ≡ round_at other r
   next_round r lt its a =
       let back = agree_back r rounds L other M a in
-      let theirs = subst (λ (N : Legs). IsRound (IsKeyAfter g.nodes h other M r) (IsLeftAfter g.nodes other r) N (round_at other r)) (sym (a.legs r (omega arith))) (q.round r its) in
-      one_round (IsKeyAfter g.nodes h rounds L r) (IsKeyAfter g.nodes h other M r) (IsLeftAfter g.nodes rounds r) (IsLeftAfter g.nodes other r) (L r) (round_at rounds r) (round_at other r)
-      (key_along g.nodes h r rounds L other M a) (key_along g.nodes h r other M rounds L back) (left_along g.nodes h r rounds L other M a) (left_along g.nodes h r other M rounds L back)
+      let theirs = subst (λ (N : Legs). IsRound (IsKeyAfter g.nodes h other M r) (IsLeftAfter g.nodes other r) N (round_at other r))
+      (sym (a.legs r (omega arith))) (q.round r its) in
+      one_round (IsKeyAfter g.nodes h rounds L r) (IsKeyAfter g.nodes h other M r) (IsLeftAfter g.nodes rounds r)
+      (IsLeftAfter g.nodes other r) (L r) (round_at rounds r) (round_at other r)
+      (key_along g.nodes h r rounds L other M a) (key_along g.nodes h r other M rounds L back)
+      (left_along g.nodes h r rounds L other M a) (left_along g.nodes h r other M rounds L back)
       (p.round r lt) theirs
 
   -- the legs after the next round are the same
   next_legs : (r : ℕ) → r < length rounds → r < length other → Agree r rounds L other M → round_at rounds r ≡ round_at other r →
       L (suc r) ≡ M (suc r)
   next_legs r lt its a same =
-      let one = subst (λ (N : Legs). ContractsRound g.nodes h N (round_at other r) (M (r + 1))) (sym (a.legs r (omega arith))) (q.legs r its) in
+      let one = subst (λ (N : Legs). ContractsRound g.nodes h N (round_at other r) (M (r + 1))) (sym (a.legs r (omega arith)))
+      (q.legs r its) in
       let two = subst (λ l. ContractsRound g.nodes h (L r) l (M (r + 1))) (sym same) one in
       subst (λ k. L k ≡ M k) (add-one r) (one_round_map g.nodes h (L r) (round_at rounds r) (L (r + 1)) (M (r + 1)) (p.legs r lt) two)
 
@@ -142,7 +157,8 @@ module _ {g : Network} {h : ℕ} {rounds : List (List ℕ)} {L : ℕ → Legs} {
   agree : (r : ℕ) → r ≤ length rounds → r ≤ length other → Agree r rounds L other M
   agree zero le its = record {
     nodes = λ k lt. absurd (omega arith);
-    legs = λ k below. let none : k ≡ 0 = omega arith in subst (λ z. L z ≡ M z) (sym none) (one_map (L 0) (M 0) (λ u w. p.start u w ∙ sym (q.start u w)));
+    legs = λ k below. let none : k ≡ 0 = omega arith in
+        subst (λ z. L z ≡ M z) (sym none) (one_map (L 0) (M 0) (λ u w. p.start u w ∙ sym (q.start u w)));
   }
   agree (suc r) le its = more (agree r (omega arith) (omega arith))
     where
@@ -169,11 +185,14 @@ module _ {g : Network} {h : ℕ} {rounds : List (List ℕ)} {L : ℕ → Legs} {
         let a = agree r (omega arith) (omega arith) in
         let x : ℕ = slice_index (round_at other r) 0 in
         let was = left (begun_of q) r x lt (Contains-get_or (round_at other r) 0 0 (q.some r lt)) in
-        absurd (was.1 (subst (λ l. Contains l x) (sym (before_all rounds) ∙ before_along g.nodes h r rounds L other M a r (omega arith)) (p.all x was.0)))
+        absurd (was.1 (subst (λ l. Contains l x)
+        (sym (before_all rounds) ∙ before_along g.nodes h r rounds L other M a r (omega arith)) (p.all x was.0)))
     | inr le ↦ le
   ]
 
-module _ {g : Network} {h : ℕ} {H K : LevelsAndLegs} {rounds : List (List ℕ)} {L : ℕ → Legs} {other : List (List ℕ)} {M : ℕ → Legs} (p : AreRounds g h rounds L) (q : AreRounds g h other M) (a : IsHierarchyOfRounds g H rounds L) (b : IsHierarchyOfRounds g K other M) where
+module _ {g : Network} {h : ℕ} {H K : LevelsAndLegs} {rounds : List (List ℕ)} {L : ℕ → Legs} {other : List (List ℕ)} {M : ℕ → Legs}
+    (p : AreRounds g h rounds L) (q : AreRounds g h other M) (a : IsHierarchyOfRounds g H rounds L)
+    (b : IsHierarchyOfRounds g K other M) where
   -- both lists have the same number of rounds
   as_many : length rounds ≡ length other
   as_many = omega (arith, no_longer p q, no_longer q p)

@@ -33,15 +33,19 @@ without_loops u w (a ∷ arcs) = at (a.from == a.to) (a.from == u && a.to == w) 
 
     at : (l m s : Bool) → (a.from == a.to) ≡ l → (a.from == u && a.to == w) ≡ m → (u == w) ≡ s →
         least_weight u w (filter joins arcs) ≡ cond s None (least_weight u w arcs) →
-        least_weight u w (cond (not l) (a ∷ filter joins arcs) (filter joins arcs)) ≡ cond s None (cond m (Some (lesser_weight a.weight (least_weight u w arcs))) (least_weight u w arcs))
+        least_weight u w (cond (not l) (a ∷ filter joins arcs) (filter joins arcs))
+        ≡ cond s None (cond m (Some (lesser_weight a.weight (least_weight u w arcs))) (least_weight u w arcs))
     at true m true e f g more = more
     at true true false e f g more = absurd (loop_apart e f g)
     at true false false e f g more = more
-    at false m s e f g more = ap (λ z. cond z (Some (lesser_weight a.weight (least_weight u w (filter joins arcs)))) (least_weight u w (filter joins arcs))) f ∙ kept m s f g more
+    at false m s e f g more =
+        ap (λ z. cond z (Some (lesser_weight a.weight (least_weight u w (filter joins arcs))))
+        (least_weight u w (filter joins arcs))) f ∙ kept m s f g more
       where
         kept : (m s : Bool) → (a.from == u && a.to == w) ≡ m → (u == w) ≡ s →
             least_weight u w (filter joins arcs) ≡ cond s None (least_weight u w arcs) →
-            cond m (Some (lesser_weight a.weight (least_weight u w (filter joins arcs)))) (least_weight u w (filter joins arcs)) ≡ cond s None (cond m (Some (lesser_weight a.weight (least_weight u w arcs))) (least_weight u w arcs))
+            cond m (Some (lesser_weight a.weight (least_weight u w (filter joins arcs)))) (least_weight u w (filter joins arcs))
+            ≡ cond s None (cond m (Some (lesser_weight a.weight (least_weight u w arcs))) (least_weight u w arcs))
         kept true true f g more = absurd (joined e f g)
         kept true false f g more = ap (λ z. Some (lesser_weight a.weight z)) more
         kept false s f g more = more
@@ -50,7 +54,8 @@ without_loops u w (a ∷ arcs) = at (a.from == a.to) (a.from == u && a.to == w) 
 pub opens : (g : Network) (L : Legs) (arcs : List InArc) (i : ℕ) → arcs ≡ g.arcs → length arcs ≤ i →
     ArcsOpen (filter joins (take i arcs)) L → SameLegs L (opening g)
 opens g L arcs i same all opened u w =
-    opened u w ∙ ap (λ l. arc_label_of (least_weight u w (filter joins l))) (take_all i arcs all ∙ same) ∙ ap arc_label_of (without_loops u w g.arcs) ∙ at (u == w)
+    opened u w ∙ ap (λ l. arc_label_of (least_weight u w (filter joins l))) (take_all i arcs all ∙ same)
+    ∙ ap arc_label_of (without_loops u w g.arcs) ∙ at (u == w)
   where
     at : (b : Bool) → arc_label_of (cond b None (least_weight u w g.arcs)) ≡ cond b None (arc_label_of (least_weight u w g.arcs))
     at true = refl

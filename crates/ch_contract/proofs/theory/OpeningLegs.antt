@@ -1,5 +1,6 @@
 -- The legs before any contraction: each is the lightest arc of its pair of nodes.
-use Rattle.std.proofs.Common.{◌≡◌, ℕ, suc, zero, ◌*◌, ◌<◌, ◌≤◌, min, Bool, true, false, cond, List, [], ◌∷◌, length, get_or, Option, Some, None, Contains, refl, sym, ◌∙◌, ap, subst, arith, inl, inr}
+use Rattle.std.proofs.Common.{◌≡◌, ℕ, suc, zero, ◌*◌, ◌<◌, ◌≤◌, min, Bool, true, false, cond, List, [], ◌∷◌, length, get_or, Option}
+use Rattle.std.proofs.Common.{Some, None, Contains, refl, sym, ◌∙◌, ap, subst, arith, inl, inr}
 use Rattle.std.specs.Prelude.{◌⊎◌, ◌≢◌, ◌==◌, ◌&&◌}
 use Rattle.std.proofs.Math.Nat.{mul-le-mul_right}
 use Rattle.std.proofs.lemmas.Bool.{cases_lt, eqb-false}
@@ -81,7 +82,13 @@ opening_leg g u w l e = at (u == w) (least_weight u w g.arcs) refl refl e
     at : (b : Bool) (o : Option ℕ) → (u == w) ≡ b → least_weight u w g.arcs ≡ o → cond b None (arc_label_of o) ≡ Some l → IsArcLeg g u w l
     at true o test has e' = absurd (none-some _ e')
     at false None test has e' = absurd (none-some _ e')
-    at false (Some x) test has e' = record { weight = x; label = sym (same_Some _ _ e'); arc_is = least_weight_arc u w x g.arcs has; apart = eqb-false u w test }
+    at false (Some x) test has e' = record {
+      weight = x;
+      label = sym (same_Some _ _ e');
+      arc_is =
+          least_weight_arc u w x g.arcs has;
+      apart = eqb-false u w test;
+    }
 
 -- each arc between different nodes has a leg that costs no more
 pub opening_covers : (g : Network) (a : InArc) → Contains g.arcs a → a.from ≢ a.to →

@@ -1,5 +1,6 @@
 -- An order of contraction that grows by one node.
-use Rattle.std.proofs.Common.{◌≡◌, ℕ, zero, suc, ◌+◌, ◌-◌, ◌<◌, ◌≤◌, Bool, true, false, add-one, List, [], ◌∷◌, ◌++◌, length, take, refl, sym, ◌∙◌, ap, subst, arith, inl, inr, Contains}
+use Rattle.std.proofs.Common.{◌≡◌, ℕ, zero, suc, ◌+◌, ◌-◌, ◌<◌, ◌≤◌, Bool, true, false, add-one, List, [], ◌∷◌, ◌++◌, length, take}
+use Rattle.std.proofs.Common.{refl, sym, ◌∙◌, ap, subst, arith, inl, inr, Contains}
 use Rattle.std.specs.Prelude.{◌≢◌, AllPairs, All, nat_le, if◌then◌else◌, slice_index, ℤ}
 use Rattle.std.proofs.lemmas.Bool.{cases_eq}
 use Rattle.std.proofs.lemmas.Bool.Decides.{nat_tests}
@@ -7,7 +8,7 @@ use Rattle.std.proofs.lemmas.List.{take_all, take-append-le, get_or_append_left,
 use Rattle.std.proofs.lemmas.List.Elements.{All-push}
 use Rattle.ch_graph.specs.Graph.{Network}
 use Rattle.ch_contract.specs.declared.measure.OrderBy.{OrderBy}
-use Rattle.ch_contract.specs.Legs.{Legs, SameLegs, opening}
+use Rattle.ch_contract.specs.Legs.{Legs, opening}
 use Rattle.ch_contract.specs.Contraction.{Contracts}
 use Rattle.ch_contract.specs.Order.{are_neighbours, IsLastTouch, IsContractedBefore, AreContracted}
 use Rattle.ch_contract.specs.Like.{IsPriorityFrom}
@@ -22,7 +23,8 @@ ComesBefore k by n h order L i v x =
 
 -- each node of this list after the first k came before all that remained
 abbrev pub AreLeast : ℕ → OrderBy → Network → ℕ → List ℕ → (ℕ → Legs) → Type 0
-AreLeast k by g h order L = (i x : ℕ) → k ≤ i → i < length order → x < g.nodes → (Contains (take i order) x → ⊥) → ComesBefore k by g.nodes h order L i (slice_index order i) x
+AreLeast k by g h order L = (i x : ℕ) → k ≤ i → i < length order → x < g.nodes → (Contains (take i order) x → ⊥) →
+    ComesBefore k by g.nodes h order L i (slice_index order i) x
 
 -- the legs up to step i, and then M
 abbrev pub then_legs : ℕ → (ℕ → Legs) → Legs → ℕ → Legs
@@ -66,7 +68,8 @@ touched_more order L i x touch = record {
 pub last_touch : (order : List ℕ) (L : ℕ → Legs) (i x : ℕ) → (j : ℕ) × IsLastTouch order L i x j
 last_touch order L zero x =
     (0, record { within = omega arith; touched = λ first. absurd (omega arith); later = λ k le lt. absurd (omega arith) })
-last_touch order L (suc i) x = subst (λ z. (j : ℕ) × IsLastTouch order L z x j) (add-one i) (at (are_neighbours (L i) (slice_index order i) x) refl (last_touch order L i x))
+last_touch order L (suc i) x = subst (λ z. (j : ℕ) × IsLastTouch order L z x j) (add-one i)
+    (at (are_neighbours (L i) (slice_index order i) x) refl (last_touch order L i x))
   where
     at : (b : Bool) → are_neighbours (L i) (slice_index order i) x ≡ b → (j : ℕ) × IsLastTouch order L i x j →
         (j : ℕ) × IsLastTouch order L (i + 1) x j
@@ -105,7 +108,8 @@ module _ (order : List ℕ) (L : ℕ → Legs) (v : ℕ) (M : Legs) where
   pub next : legs_more (length order + 1) ≡ M
   next = then_next (length order) L M (length order + 1) (omega arith)
 
-module _ (g : Network) (h : ℕ) (order : List ℕ) (L : ℕ → Legs) (b : IsBegun g h order L) (v : ℕ) (within : v < g.nodes) (left : Contains order v → ⊥) where
+module _ (g : Network) (h : ℕ) (order : List ℕ) (L : ℕ → Legs) (b : IsBegun g h order L) (v : ℕ) (within : v < g.nodes)
+    (left : Contains order v → ⊥) where
   -- after one more remaining node is contracted, the contracted nodes differ
   pub nodes_more : All (λ x. x < g.nodes) (more order L v (L 0)) × AllPairs ◌≢◌ (more order L v (L 0))
   nodes_more = (All-push (λ x. x < g.nodes) order v b.nodes.0 within, pairs_push order v b.nodes.1 left)
@@ -114,27 +118,33 @@ module _ (g : Network) (h : ℕ) (order : List ℕ) (L : ℕ → Legs) (b : IsBe
   pub begun_fewer : length order < g.nodes
   begun_fewer = omega (arith, begun_most g (order ++ v ∷ []) nodes_more.0 nodes_more.1, length_push order v)
 
-module _ (g : Network) (h : ℕ) (order : List ℕ) (L : ℕ → Legs) (v : ℕ) (M : Legs) (b : IsBegun g h order L) (within : v < g.nodes) (left : Contains order v → ⊥) (step : Contracts g.nodes h (L (length order)) v M) where
+module _ (g : Network) (h : ℕ) (order : List ℕ) (L : ℕ → Legs) (v : ℕ) (M : Legs) (b : IsBegun g h order L) (within : v < g.nodes)
+    (left : Contains order v → ⊥) (step : Contracts g.nodes h (L (length order)) v M) where
   -- the step is a contraction
-  step_here : Contracts g.nodes h (legs_more order L v M (length order)) (slice_index (more order L v M) (length order)) (legs_more order L v M (length order + 1))
+  step_here : Contracts g.nodes h (legs_more order L v M (length order)) (slice_index (more order L v M) (length order))
+      (legs_more order L v M (length order + 1))
   step_here =
       let two = subst (λ (N : Legs). Contracts g.nodes h N v M) (sym (now order L v M)) step in
       let three = subst (λ x. Contracts g.nodes h (legs_more order L v M (length order)) x M) (sym (here order L v M)) two in
-      subst (λ (N : Legs). Contracts g.nodes h (legs_more order L v M (length order)) (slice_index (more order L v M) (length order)) N) (sym (next order L v M)) three
+      subst (λ (N : Legs). Contracts g.nodes h (legs_more order L v M (length order))
+      (slice_index (more order L v M) (length order)) N) (sym (next order L v M)) three
 
   -- earlier steps are contractions
   step_before : (k : ℕ) → k < length order →
       Contracts g.nodes h (legs_more order L v M k) (slice_index (more order L v M) k) (legs_more order L v M (k + 1))
   step_before k lt =
-      let one = subst (λ (N : Legs). Contracts g.nodes h N (slice_index order k) (L (k + 1))) ((agree order L v M).legs k (omega arith)) (b.step k lt) in
+      let one = subst (λ (N : Legs). Contracts g.nodes h N (slice_index order k) (L (k + 1)))
+      ((agree order L v M).legs k (omega arith)) (b.step k lt) in
       let two = subst (λ x. Contracts g.nodes h (legs_more order L v M k) x (L (k + 1))) (before order L v M k lt) one in
-      subst (λ (N : Legs). Contracts g.nodes h (legs_more order L v M k) (slice_index (more order L v M) k) N) ((agree order L v M).legs (k + 1) (omega arith)) two
+      subst (λ (N : Legs). Contracts g.nodes h (legs_more order L v M k) (slice_index (more order L v M) k) N)
+      ((agree order L v M).legs (k + 1) (omega arith)) two
 
   -- all steps are contractions
   step_more : (k : ℕ) → k < length (more order L v M) →
       Contracts g.nodes h (legs_more order L v M k) (slice_index (more order L v M) k) (legs_more order L v M (k + 1))
   step_more k lt = elim (cases_eq k (length order)) [
-    | inl e ↦ subst (λ z. Contracts g.nodes h (legs_more order L v M z) (slice_index (more order L v M) z) (legs_more order L v M (z + 1))) (sym e) step_here
+    | inl e ↦ subst (λ z. Contracts g.nodes h (legs_more order L v M z) (slice_index (more order L v M) z)
+        (legs_more order L v M (z + 1))) (sym e) step_here
     | inr ne ↦ let size = length_push order v in step_before k (omega arith)
   ]
 
@@ -146,15 +156,24 @@ module _ (g : Network) (h : ℕ) (order : List ℕ) (L : ℕ → Legs) (v : ℕ)
     step = step_more;
   }
 
-module _ (k : ℕ) (by : OrderBy) (g : Network) (h : ℕ) (order : List ℕ) (L : ℕ → Legs) (v : ℕ) (M : Legs) (least : AreLeast k by g h order L) (from : k ≤ length order) (first : (x : ℕ) → x < g.nodes → (Contains order x → ⊥) → ComesBefore k by g.nodes h order L (length order) v x) where
+module _ (k : ℕ) (by : OrderBy) (g : Network) (h : ℕ) (order : List ℕ) (L : ℕ → Legs) (v : ℕ) (M : Legs)
+    (least : AreLeast k by g h order L) (from : k ≤ length order)
+    (first : (x : ℕ) → x < g.nodes → (Contains order x → ⊥) → ComesBefore k by g.nodes h order L (length order) v x) where
   -- at each earlier step the node came before all remaining nodes
   least_before : (i x : ℕ) → k ≤ i → i < length order → x < g.nodes → (Contains (take i order) x → ⊥) →
       ComesBefore k by g.nodes h (more order L v M) (legs_more order L v M) i (slice_index (more order L v M) i) x
   least_before i x ge lt inside away =
       let r = least i x ge lt inside away in
       let a = agree_less (length order) i order L (more order L v M) (legs_more order L v M) (omega arith) (agree order L v M) in
-      let one = from_along k by g.nodes h i order L (more order L v M) (legs_more order L v M) (slice_index order i) r.0 ge a r.2 in
-      (r.0, r.1, subst (λ z. IsPriorityFrom k by g.nodes h (more order L v M) (legs_more order L v M) i z r.0) (before order L v M i lt) one, from_along k by g.nodes h i order L (more order L v M) (legs_more order L v M) x r.1 ge a r.3, subst (λ z. IsContractedBefore r.0 z r.1 x) (before order L v M i lt) r.4)
+      let one = from_along k by g.nodes h i order L (more order L v M) (legs_more order L v M) (slice_index order i) r.0 ge a r.2 in (
+        r.0,
+        r.1,
+        subst (λ z. IsPriorityFrom k by g.nodes h (more order L v M) (legs_more order L v M) i z r.0)
+            (before order L v M i lt) one,
+        from_along k by g.nodes h i order L (more order L v M) (legs_more order L v M) x r.1 ge a
+            r.3,
+        subst (λ z. IsContractedBefore r.0 z r.1 x) (before order L v M i lt) r.4,
+      )
 
   -- at this step the node comes before all remaining nodes
   least_here : (x : ℕ) → x < g.nodes → (Contains order x → ⊥) →
@@ -162,15 +181,23 @@ module _ (k : ℕ) (by : OrderBy) (g : Network) (h : ℕ) (order : List ℕ) (L 
   least_here x inside away =
       let r = first x inside away in
       let n : ℕ = length order in
-      let one = from_along k by g.nodes h n order L (more order L v M) (legs_more order L v M) v r.0 from (agree order L v M) r.2 in
-      (r.0, r.1, subst (λ z. IsPriorityFrom k by g.nodes h (more order L v M) (legs_more order L v M) n z r.0) (sym (here order L v M)) one, from_along k by g.nodes h n order L (more order L v M) (legs_more order L v M) x r.1 from (agree order L v M) r.3, subst (λ z. IsContractedBefore r.0 z r.1 x) (sym (here order L v M)) r.4)
+      let one = from_along k by g.nodes h n order L (more order L v M) (legs_more order L v M) v r.0 from (agree order L v M) r.2 in (
+        r.0,
+        r.1,
+        subst (λ z. IsPriorityFrom k by g.nodes h (more order L v M) (legs_more order L v M) n z r.0)
+            (sym (here order L v M)) one,
+        from_along k by g.nodes h n order L (more order L v M) (legs_more order L v M) x r.1 from
+            (agree order L v M) r.3,
+        subst (λ z. IsContractedBefore r.0 z r.1 x) (sym (here order L v M)) r.4,
+      )
 
   -- at all steps after the given ones the node comes before all remaining nodes
   pub least_more : AreLeast k by g h (more order L v M) (legs_more order L v M)
   least_more i x ge lt inside away = elim (cases_eq i (length order)) [
     | inl e ↦
         let whole : take i (more order L v M) ≡ order = take-append-le i order (v ∷ []) (omega arith) ∙ take_all i order (omega arith) in
-        subst (λ z. ComesBefore k by g.nodes h (more order L v M) (legs_more order L v M) z (slice_index (more order L v M) z) x) (sym e) (least_here x inside (λ has. away (subst (λ l. Contains l x) (sym whole) has)))
+        subst (λ z. ComesBefore k by g.nodes h (more order L v M) (legs_more order L v M) z (slice_index (more order L v M) z) x)
+        (sym e) (least_here x inside (λ has. away (subst (λ l. Contains l x) (sym whole) has)))
     | inr ne ↦
         let size = length_push order v in
         let below : i < length order = omega arith in

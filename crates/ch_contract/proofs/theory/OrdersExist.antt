@@ -1,6 +1,7 @@
 -- Each graph has a hierarchy with each list of given nodes.
-use Rattle.std.proofs.Common.{◌≡◌, ℕ, zero, suc, ◌+◌, ◌<◌, ◌≤◌, List, [], ◌∷◌, ◌++◌, length, get_or, take, Contains, refl, sym, ◌∙◌, ap, subst, arith, inl, inr, max, add-one}
-use Rattle.std.specs.Prelude.{◌⊎◌, ◌≢◌, slice_index, All, AllPairs, ℤ, ◌≤ℤ◌, ◌<ℤ◌}
+use Rattle.std.proofs.Common.{◌≡◌, ℕ, zero, suc, ◌+◌, ◌<◌, ◌≤◌, List, [], ◌∷◌, ◌++◌, length, get_or, take, Contains, refl, sym, ◌∙◌}
+use Rattle.std.proofs.Common.{ap, subst, arith, inl, inr, max, add-one}
+use Rattle.std.specs.Prelude.{◌⊎◌, slice_index, ℤ, ◌≤ℤ◌, ◌<ℤ◌}
 use Rattle.std.specs.Ordering.{int_cmp, MatchOrdering}
 use Rattle.std.specs.declared.cmp.Ordering.{Ordering}
 use Rattle.std.specs.declared.cmp.Ordering.TheVariants.{Less, Equal, Greater}
@@ -15,7 +16,7 @@ use Rattle.ch_hierarchy.specs.Saved.{IsOrderOf}
 use Rattle.ch_hierarchy.proofs.theory.Ordered.{contains_or_not}
 use Rattle.ch_contract.specs.declared.measure.OrderBy.{OrderBy}
 use Rattle.ch_contract.specs.declared.measure.OrderBy.TheVariants.{Difference, Depth, Rounds}
-use Rattle.ch_contract.specs.Legs.{Legs, AreLegsWithin, IsHopBound, opening, turned_legs}
+use Rattle.ch_contract.specs.Legs.{Legs, AreLegsWithin, opening, turned_legs}
 use Rattle.ch_contract.specs.LegRows.{AreLegsFrom}
 use Rattle.ch_contract.specs.Laws.{LeadsWithin}
 use Rattle.ch_contract.specs.Contraction.{Contracts, count_touching, key_by, legs_after_contraction}
@@ -31,10 +32,11 @@ use Rattle.ch_contract.proofs.theory.GivenNodes.{order_nodes}
 use Rattle.ch_contract.proofs.theory.GivenOrders.{in_turn_from}
 use Rattle.ch_contract.proofs.theory.RoundsExist.{hierarchies_by_rounds_exist}
 use Rattle.ch_contract.proofs.theory.Levelled.{within_steps, turned_within}
-use Rattle.ch_contract.proofs.theory.Listing.{all_below, table, row_of}
+use Rattle.ch_contract.proofs.theory.Listing.{table, row_of}
 use Rattle.ch_contract.proofs.theory.OneInTurn.{one_map, not_before, taken_at}
 use Rattle.ch_contract.proofs.theory.OpeningLegs.{opening_within}
-use Rattle.ch_contract.proofs.theory.OrderSteps.{AreLeast, ComesBefore, then_legs, last_touch, begun_none, begun_more, begun_all, begun_most, least_more}
+use Rattle.ch_contract.proofs.theory.OrderSteps.{AreLeast, then_legs, last_touch, begun_none, begun_more, begun_all}
+use Rattle.ch_contract.proofs.theory.OrderSteps.{begun_most, least_more}
 use Rattle.ch_contract.proofs.theory.ShortcutsListed.{shortcuts_listed}
 
 -- of two nodes with keys one is contracted before the other; at equal keys it is the lesser number
@@ -115,7 +117,9 @@ contraction_exists n h L v limits =
 module _ (g : Network) (h : ℕ) (limits : IsWithinLimits g) where
   -- the legs after each step are within the limits
   within : (order : List ℕ) (L : ℕ → Legs) → IsBegun g h order L → (k : ℕ) → k ≤ length order → AreLegsWithin g.nodes (L k)
-  within order L b = within_steps g.nodes (length order) order L (subst (AreLegsWithin g.nodes) (sym (one_map (L 0) (opening g) b.start)) (opening_within g limits)) (λ i lt. pairs_by_needed g.nodes h _ _ _ (b.step i lt))
+  within order L b = within_steps g.nodes (length order) order L
+      (subst (AreLegsWithin g.nodes) (sym (one_map (L 0) (opening g) b.start)) (opening_within g limits))
+      (λ i lt. pairs_by_needed g.nodes h _ _ _ (b.step i lt))
 
   -- one more node can be contracted
   begun_next : (order : List ℕ) (L : ℕ → Legs) → IsBegun g h order L → (v : ℕ) → v < g.nodes → (Contains order v → ⊥) →
@@ -131,8 +135,11 @@ module _ (g : Network) (h : ℕ) (limits : IsWithinLimits g) where
       let rest = given_begun given nodes i (omega arith) in
       let lt : i < length given = omega arith in
       let more = begun_next (take i given) rest.0 rest.1 (get_or given i 0) (nodes.0 i 0 lt) (not_before i given lt nodes.1) in
-      let all : take i given ++ get_or given i 0 ∷ [] ≡ take (suc i) given = sym (take_more given i 0 lt) ∙ ap (λ k. take k given) (add-one i) in
-      (then_legs (length (take i given)) rest.0 more.0, subst (λ o. IsBegun g h o (then_legs (length (take i given)) rest.0 more.0)) all more.1)
+      let all : take i given ++ get_or given i 0 ∷ [] ≡ take (suc i) given =
+      sym (take_more given i 0 lt) ∙ ap (λ k. take k given) (add-one i) in (
+        then_legs (length (take i given)) rest.0 more.0,
+        subst (λ o. IsBegun g h o (then_legs (length (take i given)) rest.0 more.0)) all more.1,
+      )
 
   module _ (by : OrderBy) (given : List ℕ) where
     -- some nodes are contracted, the given ones first and then each time the first of the others
@@ -172,23 +179,26 @@ module _ (g : Network) (h : ℕ) (limits : IsWithinLimits g) where
               begun = more.1;
               from = let from = u.from in omega arith;
               first = take-append-le (length given) order (v ∷ []) u.from ∙ u.first;
-              least = least_more (length given) by g h order L v more.0 u.least u.from (λ x lt away. ((priority v).0, (priority x).0, (priority v).1, (priority x).1, least.2 x lt away));
+              least = least_more (length given) by g h order L v more.0 u.least u.from (λ x lt away.
+                  ((priority v).0, (priority x).0, (priority v).1, (priority x).1, least.2 x lt away));
             },
           )
 
     -- it goes on until all nodes are contracted
     orders_from : (fuel : ℕ) (order : List ℕ) (L : ℕ → Legs) → IsUnderWay order L → g.nodes < length order + fuel →
-        (all : List ℕ) × (M : ℕ → Legs) × AreContracted g h all M × (take (length given) all ≡ given) × TakesFirstFrom (length given) by g h all M
+        (all : List ℕ) × (M : ℕ → Legs) × AreContracted g h all M × (take (length given) all ≡ given)
+        × TakesFirstFrom (length given) by g h all M
     orders_from zero order L u enough = absurd (omega (arith, begun_most g order u.begun.nodes.0 u.begun.nodes.1))
-    orders_from (suc fuel) order L u enough = elim (least_below (λ x. Contains order x → ⊥) (left_or_not order L u) (λ x. (priority order L u x).0) g.nodes) [
-      | inl some ↦
-          let more = next order L u some.0 some.1 in
-          orders_from fuel (order ++ some.0 ∷ []) more.0 more.1 (omega (arith, length_push order some.0))
-      | inr none ↦
-          let all = begun_all g h order L u.begun (λ x lt. has order x (none x lt)) in
-          let size = all.nodes.0 in
-          (order, L, all, u.first, λ i x ge lt inside away. u.least i x ge (omega arith) inside away)
-    ]
+    orders_from (suc fuel) order L u enough =
+        elim (least_below (λ x. Contains order x → ⊥) (left_or_not order L u) (λ x. (priority order L u x).0) g.nodes) [
+          | inl some ↦
+              let more = next order L u some.0 some.1 in
+              orders_from fuel (order ++ some.0 ∷ []) more.0 more.1 (omega (arith, length_push order some.0))
+          | inr none ↦
+              let all = begun_all g h order L u.begun (λ x lt. has order x (none x lt)) in
+              let size = all.nodes.0 in
+              (order, L, all, u.first, λ i x ge lt inside away. u.least i x ge (omega arith) inside away)
+        ]
       where
         has : (order : List ℕ) (x : ℕ) → ((Contains order x → ⊥) → ⊥) → Contains order x
         has order x not_away = elim (contains_or_not order x) [
@@ -198,7 +208,8 @@ module _ (g : Network) (h : ℕ) (limits : IsWithinLimits g) where
 
     -- there is an order with these given nodes
     pub order_exists : AreDifferentNodes g given →
-        (order : List ℕ) × (L : ℕ → Legs) × AreContracted g h order L × (take (length given) order ≡ given) × TakesFirstFrom (length given) by g h order L
+        (order : List ℕ) × (L : ℕ → Legs) × AreContracted g h order L × (take (length given) order ≡ given)
+        × TakesFirstFrom (length given) by g h order L
     order_exists nodes =
         let start = given_begun given nodes (length given) (omega arith) in
         let begun = subst (λ o. IsBegun g h o start.0) (take_all (length given) given (omega arith)) start.1 in
@@ -212,7 +223,9 @@ module _ (g : Network) (h : ℕ) (limits : IsWithinLimits g) where
   module _ (order : List ℕ) (L : ℕ → Legs) (are : AreContracted g h order L) where
     -- the legs before each step are within the limits
     legs_within : (i : ℕ) → i < g.nodes → AreLegsWithin g.nodes (L i)
-    legs_within i lt = within_steps g.nodes g.nodes order L (subst (AreLegsWithin g.nodes) (sym (one_map (L 0) (opening g) are.start)) (opening_within g limits)) (λ k below. pairs_by_needed g.nodes h _ _ _ (are.step k below)) i (omega arith)
+    legs_within i lt = within_steps g.nodes g.nodes order L
+        (subst (AreLegsWithin g.nodes) (sym (one_map (L 0) (opening g) are.start)) (opening_within g limits))
+        (λ k below. pairs_by_needed g.nodes h _ _ _ (are.step k below)) i (omega arith)
 
     -- a node is taken once
     one_place : (i j : ℕ) → i < g.nodes → j < g.nodes → slice_index order i ≡ slice_index order j → i ≡ j
@@ -228,15 +241,18 @@ module _ (g : Network) (h : ℕ) (limits : IsWithinLimits g) where
 
     -- there are rows of all nodes, from the legs before each step in either direction
     rows_exist : (turn : Legs → Legs) → ((M : Legs) → AreLegsWithin g.nodes M → AreLegsWithin g.nodes (turn M)) →
-        (rows : List (List Leg)) × (length rows ≡ g.nodes) × ((x : ℕ) → x < g.nodes → (i : ℕ) → i < g.nodes → slice_index order i ≡ x → AreLegsFrom (turn (L i)) x (get_or rows x []))
-    rows_exist turn keeps = table (λ x legs. (i : ℕ) → i < g.nodes → slice_index order i ≡ x → AreLegsFrom (turn (L i)) x legs) [] g.nodes (λ x lt.
+        (rows : List (List Leg)) × (length rows ≡ g.nodes) × ((x : ℕ) → x < g.nodes → (i : ℕ) → i < g.nodes →
+        slice_index order i ≡ x → AreLegsFrom (turn (L i)) x (get_or rows x []))
+    rows_exist turn keeps = table (λ x legs. (i : ℕ) → i < g.nodes → slice_index order i ≡ x → AreLegsFrom (turn (L i)) x legs) []
+        g.nodes (λ x lt.
         let at = taken_at g.nodes order x are.nodes lt in
         let legs = keeps (L at.0) (legs_within at.0 at.1) in
         let row = row_of g.nodes (turn (L at.0) x) (λ y l e. (legs x y l e).ends.1) in
         (row.0, λ i li e. subst (λ z. AreLegsFrom (turn (L z)) x row.0) (one_place at.0 i at.1 li (at.2 ∙ sym e)) (row.1, row.2)))
 
     -- there are levels of all nodes
-    levels_exist : (levels : List ℕ) × (length levels ≡ g.nodes) × ((x : ℕ) → x < g.nodes → (i : ℕ) → i < g.nodes → slice_index order i ≡ x → get_or levels x 0 ≡ i + 1)
+    levels_exist : (levels : List ℕ) × (length levels ≡ g.nodes)
+        × ((x : ℕ) → x < g.nodes → (i : ℕ) → i < g.nodes → slice_index order i ≡ x → get_or levels x 0 ≡ i + 1)
     levels_exist = table (λ x level. (i : ℕ) → i < g.nodes → slice_index order i ≡ x → level ≡ i + 1) 0 g.nodes (λ x lt.
         let at = taken_at g.nodes order x are.nodes lt in
         (at.0 + 1, λ i li e. let same : at.0 ≡ i = one_place at.0 i at.1 li (at.2 ∙ sym e) in omega arith))
@@ -272,7 +288,8 @@ first_nodes : (g : Network) (order : List ℕ) (k : ℕ) → IsOrderOf g.nodes o
 first_nodes g order k is =
     let nodes = order_nodes g.nodes order is in
     let size = length-take k order in (
-      λ i d lt. let inside : i < k = omega arith in subst (λ z. z < g.nodes) (sym (get_or-take k order i d inside)) (nodes.1 i d (omega arith)),
+      λ i d lt. let inside : i < k = omega arith in
+          subst (λ z. z < g.nodes) (sym (get_or-take k order i d inside)) (nodes.1 i d (omega arith)),
       λ i j d before lt e.
           let first : i < k = omega arith in
           let second : j < k = omega arith in

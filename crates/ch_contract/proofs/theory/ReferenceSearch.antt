@@ -1,5 +1,6 @@
 -- The search of the reference program finds exactly the witnesses.
-use Rattle.std.proofs.Common.{◌≡◌, ℕ, suc, zero, ◌<◌, ◌≤◌, Bool, true, false, cond, List, [], ◌∷◌, length, Option, Some, None, refl, sym, ◌∙◌, ap, subst, arith, inl, inr}
+use Rattle.std.proofs.Common.{◌≡◌, ℕ, suc, zero, ◌<◌, ◌≤◌, Bool, true, false, cond, List, [], ◌∷◌, length, Option, Some, None, refl}
+use Rattle.std.proofs.Common.{sym, ◌∙◌, ap, subst, arith, inl, inr}
 use Rattle.std.specs.Prelude.{◌⊎◌, ◌≢◌, ◌==◌, IsSome}
 use Rattle.std.specs.List.{AllByRecursion}
 use Rattle.std.proofs.lemmas.Bool.{cases_eq, eqb-true, eqb-false}
@@ -111,8 +112,13 @@ module _ (n : ℕ) (L : Legs) (v w : ℕ) where
   further : (k u x : ℕ) (c : Cost) (l : Label) (d : Cost) → L u x ≡ Some l → (x == v) ≡ false → cost_sum l.cost d ≡ c →
       Found k x d → Found (suc k) u c
   further k u x c l d e off sum rest =
-      let short = rest.2 in
-      (x ∷ rest.0, (rw e refl, rest.1), omega arith, (eqb-false x v off, rest.3), ap (λ o. cost_sum (leg_cost o) (chain_cost L x rest.0)) e ∙ ap (cost_sum l.cost) rest.4 ∙ sum)
+      let short = rest.2 in (
+        x ∷ rest.0,
+        (rw e refl, rest.1),
+        omega arith,
+        (eqb-false x v off, rest.3),
+        ap (λ o. cost_sum (leg_cost o) (chain_cost L x rest.0)) e ∙ ap (cost_sum l.cost) rest.4 ∙ sum,
+      )
 
   -- the result of the search is the cost of such a chain
   found : (k u : ℕ) (c : Cost) → cheapest n L v w k u ≡ Some c → Found k u c
@@ -150,7 +156,8 @@ module _ (n : ℕ) (L : Legs) (v w : ℕ) where
       at true more = (no_cost, refl, IsAtMost-no_cost _)
       at false more =
           let l = some_of (L u x) chain.0 in
-          let cost : chain_cost L u (x ∷ xs) ≡ cost_sum l.0.cost (chain_cost L x xs) = ap (λ o. cost_sum (leg_cost o) (chain_cost L x xs)) l.1 in
+          let cost : chain_cost L u (x ∷ xs) ≡ cost_sum l.0.cost (chain_cost L x xs) =
+          ap (λ o. cost_sum (leg_cost o) (chain_cost L x xs)) l.1 in
           below_covers n (λ x. step k x (L u x) (x == v)) x _ within.0
           (subst (Covers (step k x (L u x) (x == v))) (sym cost) (step_covers k x (L u x) (x == v) l.0 _ l.1 (not_eqb x v away.0) more))
 
@@ -179,14 +186,23 @@ pub witness_found : (n : ℕ) (L : Legs) (v u w : ℕ) (c : Cost) (h : ℕ) → 
     HasWitness L v u w c h
 witness_found n L v u w c h ne off e =
     let r = costs_at_most_one (cheapest n L v w h u) c e in
-    let f = found n L v w h u r.0 r.1 in
-    (f.0, record { chain = f.1; hops = (nonempty L u w f.0 ne f.1, f.2); away = (off, f.3); cheap = subst (λ q. IsAtMost q c) (sym f.4) r.2 })
+    let f = found n L v w h u r.0 r.1 in (
+      f.0,
+      record {
+        chain = f.1;
+        hops = (nonempty L u w f.0 ne f.1, f.2);
+        away = (off, f.3);
+        cheap =
+            subst (λ q. IsAtMost q c) (sym f.4) r.2;
+      },
+    )
 
 pub witness_covered : (n : ℕ) (L : Legs) (v u w : ℕ) (c : Cost) (h : ℕ) → LeadsWithin n L → HasWitness L v u w c h →
     has_witness n L v u w c h ≡ true
 witness_covered n L v u w c h within x =
     let one = x.1 in
-    costs_at_most_covered (cheapest n L v w h u) c (chain_cost L u x.0) (covered n L v w h u x.0 one.chain one.hops.1 one.away.1 (chain_within n L u w x.0 within one.chain)) one.cheap
+    costs_at_most_covered (cheapest n L v w h u) c (chain_cost L u x.0)
+    (covered n L v w h u x.0 one.chain one.hops.1 one.away.1 (chain_within n L u w x.0 within one.chain)) one.cheap
 
 -- whether a pair has a witness is decided
 pub witness_or_none : (n : ℕ) (L : Legs) (v u w : ℕ) (c : Cost) (h : ℕ) → u ≢ w → u ≢ v → LeadsWithin n L →

@@ -50,7 +50,8 @@ before_trans p q r a v b x c y h k =
 pub before_self : (p : ℤ) (a v : ℕ) → IsBeforeBy p a v p a v
 before_self p a v = (omega (arith, ints), λ back. (omega arith, λ tie. omega arith))
 
-module _ (IsKey : ℕ → ℤ → Type 0) (IsLeft : ℕ → Type 0) (one : (x : ℕ) (p q : ℤ) → IsKey x p → IsKey x q → p ≡ q) (key : (x : ℕ) → IsLeft x → (p : ℤ) × IsKey x p) (left_or_not : (x : ℕ) → IsLeft x ⊎ (IsLeft x → ⊥)) where
+module _ (IsKey : ℕ → ℤ → Type 0) (IsLeft : ℕ → Type 0) (one : (x : ℕ) (p q : ℤ) → IsKey x p → IsKey x q → p ≡ q)
+    (key : (x : ℕ) → IsLeft x → (p : ℤ) × IsKey x p) (left_or_not : (x : ℕ) → IsLeft x ⊎ (IsLeft x → ⊥)) where
   -- v remains, and comes before all remaining nodes below m
   record IsLeastBelow (m : ℕ) : Type 0 where
     node : ℕ
@@ -63,7 +64,8 @@ module _ (IsKey : ℕ → ℤ → Type 0) (IsLeft : ℕ → Type 0) (one : (x : 
   least_with : (m : ℕ) → IsLeft m → ((x : ℕ) → x < m → IsLeft x → ⊥) ⊎ IsLeastBelow m → IsLeastBelow (suc m)
   least_with m is rest =
       let mine = key m is in
-      let itself : (q : ℤ) → IsKey m q → ComesBefore mine.0 m q m = λ q k. subst (λ z. ComesBefore mine.0 m z m) (one m mine.0 q mine.1 k) (before_self mine.0 (mixed_number m) m) in
+      let itself : (q : ℤ) → IsKey m q → ComesBefore mine.0 m q m = λ q k.
+      subst (λ z. ComesBefore mine.0 m z m) (one m mine.0 q mine.1 k) (before_self mine.0 (mixed_number m) m) in
       elim rest [
         | inl none ↦ record {
           node = m;
@@ -82,7 +84,8 @@ module _ (IsKey : ℕ → ℤ → Type 0) (IsLeft : ℕ → Type 0) (one : (x : 
             is_left = b.is_left;
             has = b.has;
             least = λ x q lt left k. elim (cases_eq x m) [
-              | inl e ↦ subst (λ z. ComesBefore b.value b.node q z) (sym e) (subst (λ z. ComesBefore b.value b.node z m) (one m mine.0 q mine.1 (subst (λ z. IsKey z q) e k)) stays)
+              | inl e ↦ subst (λ z. ComesBefore b.value b.node q z) (sym e)
+                  (subst (λ z. ComesBefore b.value b.node z m) (one m mine.0 q mine.1 (subst (λ z. IsKey z q) e k)) stays)
               | inr ne ↦ b.least x q (omega arith) left k
             ];
           }
@@ -93,7 +96,8 @@ module _ (IsKey : ℕ → ℤ → Type 0) (IsLeft : ℕ → Type 0) (one : (x : 
             has = mine.1;
             least = λ x q lt left k. elim (cases_eq x m) [
               | inl e ↦ subst (λ z. ComesBefore mine.0 m q z) (sym e) (itself q (subst (λ z. IsKey z q) e k))
-              | inr ne ↦ before_trans mine.0 b.value q (mixed_number m) m (mixed_number b.node) b.node (mixed_number x) x lower (b.least x q (omega arith) left k)
+              | inr ne ↦ before_trans mine.0 b.value q (mixed_number m) m (mixed_number b.node) b.node (mixed_number x) x lower
+                  (b.least x q (omega arith) left k)
             ];
           }
         ]
@@ -114,7 +118,15 @@ module _ (IsKey : ℕ → ℤ → Type 0) (IsLeft : ℕ → Type 0) (one : (x : 
           ((x : ℕ) → x < suc m → IsLeft x → ⊥) ⊎ IsLeastBelow (suc m)
       at (inl is) rest = inr (least_with m is rest)
       at (inr away) (inl none) = inl (λ x lt left. none x (same away x lt left) left)
-      at (inr away) (inr b) = inr (record { node = b.node; value = b.value; is_left = b.is_left; has = b.has; least = λ x q lt left k. b.least x q (same away x lt left) left k })
+      at (inr away) (inr b) =
+          inr (record {
+            node = b.node;
+            value = b.value;
+            is_left = b.is_left;
+            has = b.has;
+            least =
+                λ x q lt left k. b.least x q (same away x lt left) left k;
+          })
 
   -- a round has a node if all nodes within two legs of a remaining node remain
   pub round_some : (n : ℕ) (L : Legs) (nodes : List ℕ) → ((x : ℕ) → IsLeft x → x < n) → ((v x : ℕ) → IsWithinTwoLegs L v x → IsLeft x) →

@@ -30,14 +30,16 @@ one_of (x ∷ nodes) v c = elim (contains_cons x v nodes c) [
 -- the test finds no other node
 pub none_of : (nodes : List ℕ) (v : ℕ) → (Contains nodes v → ⊥) → is_one_of nodes v ≡ false
 none_of [] v away = refl
-none_of (x ∷ nodes) v away = rw (not_eqb v x (λ e. away (subst (Contains (x ∷ nodes)) (sym e) (contains_head x nodes)))) (none_of nodes v (λ c. away (contains_tail v x nodes c)))
+none_of (x ∷ nodes) v away = rw (not_eqb v x (λ e. away (subst (Contains (x ∷ nodes)) (sym e) (contains_head x nodes))))
+    (none_of nodes v (λ c. away (contains_tail v x nodes c)))
 
 -- a node that the test finds is in the list
 pub found : (nodes : List ℕ) (v : ℕ) → is_one_of nodes v ≡ true → Contains nodes v
 found [] v t = cc
 found (x ∷ nodes) v t = at (v == x) refl t (found nodes v)
   where
-    at : (b : Bool) → (v == x) ≡ b → (b || is_one_of nodes v) ≡ true → (is_one_of nodes v ≡ true → Contains nodes v) → Contains (x ∷ nodes) v
+    at : (b : Bool) → (v == x) ≡ b → (b || is_one_of nodes v) ≡ true → (is_one_of nodes v ≡ true → Contains nodes v) →
+        Contains (x ∷ nodes) v
     at true e f more = subst (Contains (x ∷ nodes)) (sym (eqb-true v x e)) (contains_head x nodes)
     at false e f more = contains_tail v x nodes (more f)
 
@@ -80,15 +82,27 @@ away_chain nodes L M stand u w (x ∷ xs) chain =
     let rest = away_chain nodes L M stand x w xs chain.1 in
     let more : Cost = chain_cost M x xs in
     let most : Cost = chain_cost (legs_away nodes L) x xs in
-    let sum : IsAtMost (cost_sum leg.0.cost more) (cost_sum l.0.cost most) = IsAtMost-cost_sum leg.0.cost l.0.cost more most leg.2 rest.1 in
-    ((rw leg.1 refl, rest.0), subst (IsAtMost (chain_cost M u (x ∷ xs))) (sym (chain_cost-cons (legs_away nodes L) u x xs l.0 l.1)) (subst (λ c. IsAtMost c (cost_sum l.0.cost most)) (sym (chain_cost-cons M u x xs leg.0 leg.1)) sum))
+    let sum : IsAtMost (cost_sum leg.0.cost more) (cost_sum l.0.cost most) =
+    IsAtMost-cost_sum leg.0.cost l.0.cost more most leg.2 rest.1 in (
+      (rw leg.1 refl, rest.0),
+      subst (IsAtMost (chain_cost M u (x ∷ xs))) (sym (chain_cost-cons (legs_away nodes L) u x xs l.0 l.1))
+          (subst (λ c. IsAtMost c (cost_sum l.0.cost most)) (sym (chain_cost-cons M u x xs leg.0 leg.1)) sum),
+    )
 
 -- for a witness outside of the round, there is one in M
 pub away_witness : (nodes : List ℕ) (L M : Legs) → StandIn nodes L M → (v u w : ℕ) (c : Cost) (h : ℕ) →
     HasWitness (legs_away nodes L) v u w c h → HasWitness M v u w c h
 away_witness nodes L M stand v u w c h w' =
-    let chain = away_chain nodes L M stand u w w'.0 w'.1.chain in
-    (w'.0, record { chain = chain.0; hops = w'.1.hops; away = w'.1.away; cheap = IsAtMost_trans (chain_cost M u w'.0) (chain_cost (legs_away nodes L) u w'.0) c chain.1 w'.1.cheap })
+    let chain = away_chain nodes L M stand u w w'.0 w'.1.chain in (
+      w'.0,
+      record {
+        chain = chain.0;
+        hops = w'.1.hops;
+        away = w'.1.away;
+        cheap =
+            IsAtMost_trans (chain_cost M u w'.0) (chain_cost (legs_away nodes L) u w'.0) c chain.1 w'.1.cheap;
+      },
+    )
 
 -- the end of a leg from v is a neighbour
 pub neighbour_out : (L : Legs) (v x : ℕ) (l : Label) → L v x ≡ Some l → are_neighbours L v x ≡ true

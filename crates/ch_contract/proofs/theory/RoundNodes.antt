@@ -1,5 +1,6 @@
 -- The nodes of rounds: each node is in one round.
-use Rattle.std.proofs.Common.{◌≡◌, ℕ, zero, suc, ◌+◌, ◌<◌, ◌≤◌, List, [], ◌∷◌, ◌++◌, length, refl, Contains, append-nil, append_assoc, sym, ◌∙◌, ap, subst, arith, inl, inr}
+use Rattle.std.proofs.Common.{◌≡◌, ℕ, zero, suc, ◌+◌, ◌<◌, ◌≤◌, List, [], ◌∷◌, ◌++◌, length, refl, Contains, append-nil}
+use Rattle.std.proofs.Common.{append_assoc, sym, ◌∙◌, ap, subst, arith, inl, inr}
 use Rattle.std.specs.Prelude.{◌≢◌, All, AllPairs, slice_index_or}
 use Rattle.std.specs.List.{concat}
 use Rattle.std.proofs.lemmas.Bool.{cases_eq}
@@ -50,7 +51,8 @@ round_before rounds r (suc k) v lt c = subst (λ l. Contains l v) (sym (before_n
 pub record AreBegun (g : Network) (h : ℕ) (rounds : List (List ℕ)) (L : ℕ → Legs) : Type 0 where
   pub start : SameLegs (L 0) (opening g)
   pub some : (r : ℕ) → r < length rounds → 0 < length (round_at rounds r)
-  pub round : (r : ℕ) → r < length rounds → IsRound (IsKeyAfter g.nodes h rounds L r) (IsLeftAfter g.nodes rounds r) (L r) (round_at rounds r)
+  pub round : (r : ℕ) → r < length rounds →
+      IsRound (IsKeyAfter g.nodes h rounds L r) (IsLeftAfter g.nodes rounds r) (L r) (round_at rounds r)
   pub legs : (r : ℕ) → r < length rounds → ContractsRound g.nodes h (L r) (round_at rounds r) (L (r + 1))
 
 -- when no node remains, these are all rounds
@@ -70,10 +72,11 @@ module _ {g : Network} {h : ℕ} {rounds : List (List ℕ)} {L : ℕ → Legs} (
   -- the nodes of the first rounds are below n
   pub below : (r : ℕ) → r ≤ length rounds → (x : ℕ) → Contains (nodes_before rounds r) x → x < g.nodes
   below zero le x c = absurd (contains_none x c)
-  below (suc r) le x c = elim (Contains-append_cases (nodes_before rounds r) (round_at rounds r) x (subst (λ l. Contains l x) (before_next rounds r) c)) [
-    | inl early ↦ below r (omega arith) x early
-    | inr now ↦ (left r x (omega arith) now).0
-  ]
+  below (suc r) le x c = elim (Contains-append_cases (nodes_before rounds r) (round_at rounds r) x
+      (subst (λ l. Contains l x) (before_next rounds r) c)) [
+        | inl early ↦ below r (omega arith) x early
+        | inr now ↦ (left r x (omega arith) now).0
+      ]
 
   -- the nodes of the first rounds differ
   pub different : (r : ℕ) → r ≤ length rounds → AllPairs ◌≢◌ (nodes_before rounds r)
@@ -81,7 +84,8 @@ module _ {g : Network} {h : ℕ} {rounds : List (List ℕ)} {L : ℕ → Legs} (
   different (suc r) le =
       let round = are.round r (omega arith) in
       subst (AllPairs ◌≢◌) (sym (before_next rounds r))
-      (pairs_append ◌≢◌ (nodes_before rounds r) (round_at rounds r) (different r (omega arith)) (λ i j d lt inside e. let before = round.ordered i j d lt inside in omega arith)
+      (pairs_append ◌≢◌ (nodes_before rounds r) (round_at rounds r) (different r (omega arith))
+      (λ i j d lt inside e. let before = round.ordered i j d lt inside in omega arith)
       (λ x y early now same. (left r y (omega arith) now).1 (subst (Contains (nodes_before rounds r)) same early)))
 
 -- the nodes of all rounds are below n and differ

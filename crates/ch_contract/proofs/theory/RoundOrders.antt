@@ -1,5 +1,6 @@
 -- A hierarchy by rounds is one of nodes that are contracted one after the other with enough shortcuts.
-use Rattle.std.proofs.Common.{◌≡◌, ℕ, zero, suc, ◌+◌, ◌<◌, ◌≤◌, Bool, true, false, List, length, Contains, refl, sym, ◌∙◌, ap, subst, arith, add-one, inl, inr}
+use Rattle.std.proofs.Common.{◌≡◌, ℕ, zero, suc, ◌+◌, ◌<◌, ◌≤◌, Bool, true, false, List, length, Contains, refl, sym, ◌∙◌, ap}
+use Rattle.std.proofs.Common.{subst, arith, add-one, inl, inr}
 use Rattle.std.specs.Prelude.{◌⊎◌, All, AllPairs, ◌≢◌, ◌||◌, is_some, slice_index, ℤ, ◌≤ℤ◌}
 use Rattle.std.specs.List.{concat}
 use Rattle.std.proofs.lemmas.Bool.{cases_lt, false≢true}
@@ -93,32 +94,38 @@ round_apart IsKey IsLeft L nodes one round = record {
       ne (both_before a.0 a.1 _ _ v x a.4 back);
 }
 
-module _ {g : Network} {h : ℕ} {rounds : List (List ℕ)} {L : ℕ → Legs} (limits : IsWithinLimits g) (hops : IsHopBound h) (are : AreBegun g h rounds L) where
+module _ {g : Network} {h : ℕ} {rounds : List (List ℕ)} {L : ℕ → Legs} (limits : IsWithinLimits g) (hops : IsHopBound h)
+    (are : AreBegun g h rounds L) where
   -- a round within the limits is the contraction of its nodes one after the other
   turn : (r : ℕ) → r < length rounds → AreLegsWithin g.nodes (L r) →
       TakesInTurn (IsStepOfRound g.nodes h (L r)) (L r) (round_at rounds r) (L (suc r))
   turn r lt within =
       let apart = round_apart _ _ (L r) (round_at rounds r) (one_key g.nodes h rounds L r) (are.round r lt) in
-      subst (λ k. TakesInTurn (IsStepOfRound g.nodes h (L r)) (L r) (round_at rounds r) (L k)) (add-one r) (rounds_are_contractions g.nodes h (L r) (round_at rounds r) (L (r + 1)) hops within apart (are.legs r lt))
+      subst (λ k. TakesInTurn (IsStepOfRound g.nodes h (L r)) (L r) (round_at rounds r) (L k)) (add-one r)
+      (rounds_are_contractions g.nodes h (L r) (round_at rounds r) (L (r + 1)) hops within apart (are.legs r lt))
 
   -- the legs after each round are within the limits
   pub within_rounds : (r : ℕ) → r ≤ length rounds → AreLegsWithin g.nodes (L r)
   within_rounds zero le = subst (AreLegsWithin g.nodes) (sym (one_map (L 0) (opening g) are.start)) (opening_within g limits)
   within_rounds (suc r) le =
       let before = within_rounds r (omega arith) in
-      turns_within (IsStepOfRound g.nodes h (L r)) g.nodes (round_at rounds r) (L r) (L (suc r)) (λ K v N step. pairs_by_enough g.nodes h K v N step.0) (turn r (omega arith) before) before
+      turns_within (IsStepOfRound g.nodes h (L r)) g.nodes (round_at rounds r) (L r) (L (suc r))
+      (λ K v N step. pairs_by_enough g.nodes h K v N step.0) (turn r (omega arith) before) before
 
   -- no leg touches a node of the first rounds
   pub gone_rounds : (r : ℕ) → r ≤ length rounds → (z : ℕ) → Contains (nodes_before rounds r) z → IsGone (L r) z
   gone_rounds zero le z c = absurd (contains_none z c)
   gone_rounds (suc r) le z c =
-      let gone = elim (Contains-append_cases (nodes_before rounds r) (round_at rounds r) z (subst (λ l. Contains l z) (before_next rounds r) c)) as (λ _. Contains (round_at rounds r) z ⊎ IsGone (L r) z) [
+      let gone = elim (Contains-append_cases (nodes_before rounds r) (round_at rounds r) z
+      (subst (λ l. Contains l z) (before_next rounds r) c)) as (λ _. Contains (round_at rounds r) z ⊎ IsGone (L r) z) [
         | inl early ↦ inr (gone_rounds r (omega arith) z early)
         | inr now ↦ inl now
       ] in
-      turns_gone (IsStepOfRound g.nodes h (L r)) g.nodes (round_at rounds r) (L r) (L (suc r)) z (λ K v N step. pairs_by_enough g.nodes h K v N step.0) (turn r (omega arith) (within_rounds r (omega arith))) gone
+      turns_gone (IsStepOfRound g.nodes h (L r)) g.nodes (round_at rounds r) (L r) (L (suc r)) z (λ K v N step.
+      pairs_by_enough g.nodes h K v N step.0) (turn r (omega arith) (within_rounds r (omega arith))) gone
 
-  module _ {H : LevelsAndLegs} (once : (length (concat rounds) ≡ g.nodes) × All (λ v. v < g.nodes) (concat rounds) × AllPairs ◌≢◌ (concat rounds)) (is : IsHierarchyOfRounds g H rounds L) where
+  module _ {H : LevelsAndLegs} (once : (length (concat rounds) ≡ g.nodes) × All (λ v. v < g.nodes) (concat rounds)
+      × AllPairs ◌≢◌ (concat rounds)) (is : IsHierarchyOfRounds g H rounds L) where
     -- a node is contracted with enough shortcuts, and its rows are its legs just before
     abbrev IsStepOf : Legs → ℕ → Legs → Type 0
     IsStepOf K v N = ContractsWithEnough g.nodes h K v N × AreLegsFrom K v (row H.up v) × AreLegsTo K v (row H.down v)
@@ -138,7 +145,8 @@ module _ {g : Network} {h : ℕ} {rounds : List (List ℕ)} {L : ℕ → Legs} (
     steps_before zero le = λ x y. refl
     steps_before (suc r) le =
         subst (λ l. TakesInTurn IsStepOf (L 0) l (L (suc r))) (sym (before_next rounds r))
-        (turns_append IsStepOf (nodes_before rounds r) (round_at rounds r) (L 0) (L r) (L (suc r)) (steps_before r (omega arith)) (steps_of_round r (omega arith)))
+        (turns_append IsStepOf (nodes_before rounds r) (round_at rounds r) (L 0) (L r) (L (suc r)) (steps_before r (omega arith))
+        (steps_of_round r (omega arith)))
 
     -- the steps of all rounds are such steps
     steps : TakesInTurn IsStepOf (L 0) (concat rounds) (L (length rounds))
@@ -152,7 +160,8 @@ module _ {g : Network} {h : ℕ} {rounds : List (List ℕ)} {L : ℕ → Legs} (
     step : (i : ℕ) → i < g.nodes → IsStepOf (legs i) (slice_index (concat rounds) i) (legs (i + 1))
     step i lt =
         let size = once.0 in
-        subst (λ k. IsStepOf (legs i) (slice_index (concat rounds) i) (legs k)) (sym (add-one i)) (step_of IsStepOf (concat rounds) (L 0) (L (length rounds)) steps i (omega arith))
+        subst (λ k. IsStepOf (legs i) (slice_index (concat rounds) i) (legs k)) (sym (add-one i))
+        (step_of IsStepOf (concat rounds) (L 0) (L (length rounds)) steps i (omega arith))
 
     -- the hierarchy is one of nodes that are contracted one after the other
     pub by_steps : (K : ℕ → Legs) × IsHierarchyIn (ContractsWithEnough g.nodes h) g H (concat rounds) K
@@ -161,7 +170,8 @@ module _ {g : Network} {h : ℕ} {rounds : List (List ℕ)} {L : ℕ → Legs} (
       record {
         contracted = record {
           nodes = once;
-          start = subst (λ (K : Legs). SameLegs K (opening g)) (sym (legs_first IsStepOf (concat rounds) (L 0) (L (length rounds)) steps)) are.start;
+          start = subst (λ (K : Legs). SameLegs K (opening g))
+              (sym (legs_first IsStepOf (concat rounds) (L 0) (L (length rounds)) steps)) are.start;
           step = λ i lt. (step i lt).0;
         };
         sizes = is.sizes;
@@ -173,4 +183,5 @@ module _ {g : Network} {h : ℕ} {rounds : List (List ℕ)} {L : ℕ → Legs} (
 
 -- hierarchies by rounds are kept
 pub hierarchies_by_rounds_kept : HierarchiesByRoundsAreKept
-hierarchies_by_rounds_kept g h H limits hops is = let by = by_steps limits hops (begun_of is.2) (nodes_once is.2) is.3 in hierarchies_with_enough_kept g h H (concat is.0) by.0 limits by.1
+hierarchies_by_rounds_kept g h H limits hops is = let by = by_steps limits hops (begun_of is.2) (nodes_once is.2) is.3 in
+    hierarchies_with_enough_kept g h H (concat is.0) by.0 limits by.1

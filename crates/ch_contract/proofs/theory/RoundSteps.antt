@@ -1,5 +1,6 @@
 -- Rounds that grow by one round.
-use Rattle.std.proofs.Common.{◌≡◌, ℕ, zero, suc, ◌+◌, ◌<◌, ◌≤◌, true, false, Bool, List, [], ◌∷◌, ◌++◌, length, length-append, refl, sym, ◌∙◌, ap, subst, arith, add-one, inl, inr}
+use Rattle.std.proofs.Common.{◌≡◌, ℕ, zero, suc, ◌+◌, ◌<◌, ◌≤◌, true, false, Bool, List, [], ◌∷◌, ◌++◌, length, length-append, refl}
+use Rattle.std.proofs.Common.{sym, ◌∙◌, ap, subst, arith, add-one, inl, inr}
 use Rattle.std.specs.Prelude.{if◌then◌else◌, max, ◌*◌, ◌&&◌, ◌||◌, not, nat_lt, ℤ}
 use Rattle.std.specs.List.{concat, list_any}
 use Rattle.std.proofs.lemmas.Bool.{cases_eq}
@@ -45,7 +46,9 @@ begun_none g h = record {
 }
 
 -- a round stays a round for equivalent keys and equivalent remaining nodes
-round_moved : (IsKey IsOther : ℕ → ℤ → Type 0) (IsLeft IsRest : ℕ → Type 0) (L : Legs) (nodes : List ℕ) → ((x : ℕ) (p : ℤ) → IsKey x p → IsOther x p) → ((x : ℕ) (p : ℤ) → IsOther x p → IsKey x p) → ((x : ℕ) → IsLeft x → IsRest x) → ((x : ℕ) → IsRest x → IsLeft x) →
+round_moved : (IsKey IsOther : ℕ → ℤ → Type 0) (IsLeft IsRest : ℕ → Type 0) (L : Legs) (nodes : List ℕ) →
+    ((x : ℕ) (p : ℤ) → IsKey x p → IsOther x p) → ((x : ℕ) (p : ℤ) → IsOther x p → IsKey x p) → ((x : ℕ) → IsLeft x → IsRest x) →
+    ((x : ℕ) → IsRest x → IsLeft x) →
     IsRound IsKey IsLeft L nodes → IsRound IsOther IsRest L nodes
 round_moved IsKey IsOther IsLeft IsRest L nodes key back left rest p = record {
   ordered = p.ordered;
@@ -87,7 +90,8 @@ module _ (rounds : List (List ℕ)) (L : ℕ → Legs) (nodes : List ℕ) (M : L
   next = then_next (length rounds) L M (suc (length rounds)) (omega arith)
 
   -- the depths after one more round
-  pub depth_more : depth_before more legs_more (suc (length rounds)) ≡ depth_after_round (L (length rounds)) nodes (depth_before rounds L (length rounds))
+  pub depth_more : depth_before more legs_more (suc (length rounds))
+      ≡ depth_after_round (L (length rounds)) nodes (depth_before rounds L (length rounds))
   depth_more =
       let past = sym (depth_along 0 0 (length rounds) rounds L more legs_more agree (length rounds) (omega arith)) in
       let legs = now in
@@ -103,10 +107,14 @@ module _ (rounds : List (List ℕ)) (L : ℕ → Legs) (nodes : List ℕ) (M : L
 
   -- whether the shortcuts of a node are counted after the new round
   pub counted_next : (n x : ℕ) → is_counted n more legs_more (suc (length rounds)) x ≡
-      (not (nat_lt (10 * (length (concat rounds) + length nodes)) (7 * n)) && (nat_lt (10 * length (concat rounds)) (7 * n) || list_any (λ v. are_neighbours (L (length rounds)) v x) nodes))
+      (not (nat_lt (10 * (length (concat rounds) + length nodes)) (7 * n))
+      && (nat_lt (10 * length (concat rounds)) (7 * n) || list_any (λ v. are_neighbours (L (length rounds)) v x) nodes))
   counted_next n x =
-      let all : length (nodes_before more (suc (length rounds))) ≡ length (concat rounds) + length nodes = ap length before_more ∙ length-append (concat rounds) nodes in
-      let past : length (nodes_before more (length rounds)) ≡ length (concat rounds) = ap length (sym (before_along 0 0 (length rounds) rounds L more legs_more agree (length rounds) (omega arith)) ∙ before_all rounds) in
+      let all : length (nodes_before more (suc (length rounds))) ≡ length (concat rounds) + length nodes =
+      ap length before_more ∙ length-append (concat rounds) nodes in
+      let past : length (nodes_before more (length rounds)) ≡ length (concat rounds) =
+      ap length (sym (before_along 0 0 (length rounds) rounds L more legs_more agree (length rounds) (omega arith))
+      ∙ before_all rounds) in
       let legs = now in
       let round = here in
       λ t. not (nat_lt (10 * all t) (7 * n)) && (nat_lt (10 * past t) (7 * n) || list_any (λ v. are_neighbours (legs t) v x) (round t))
@@ -128,7 +136,9 @@ module _ (rounds : List (List ℕ)) (L : ℕ → Legs) (nodes : List ℕ) (M : L
     ];
   }
 
-  module _ (g : Network) (h : ℕ) (b : AreBegun g h rounds L) (some : 0 < length nodes) (round : IsRound (IsKeyAfter g.nodes h rounds L (length rounds)) (IsLeftAfter g.nodes rounds (length rounds)) (L (length rounds)) nodes) (legs : ContractsRound g.nodes h (L (length rounds)) nodes M) where
+  module _ (g : Network) (h : ℕ) (b : AreBegun g h rounds L) (some : 0 < length nodes)
+      (round : IsRound (IsKeyAfter g.nodes h rounds L (length rounds)) (IsLeftAfter g.nodes rounds (length rounds))
+      (L (length rounds)) nodes) (legs : ContractsRound g.nodes h (L (length rounds)) nodes M) where
     -- a round of the shorter list is one of the longer list
     round_at_more : (k : ℕ) → k ≤ length rounds → (list : List ℕ) →
         IsRound (IsKeyAfter g.nodes h rounds L k) (IsLeftAfter g.nodes rounds k) (L k) list →
@@ -137,19 +147,24 @@ module _ (rounds : List (List ℕ)) (L : ℕ → Legs) (nodes : List ℕ) (M : L
         let a = agree_less (length rounds) k rounds L more legs_more le agree in
         let back = agree_back k rounds L more legs_more a in
         subst (λ (N : Legs). IsRound (IsKeyAfter g.nodes h more legs_more k) (IsLeftAfter g.nodes more k) N list) (a.legs k (omega arith))
-        (round_moved (IsKeyAfter g.nodes h rounds L k) (IsKeyAfter g.nodes h more legs_more k) (IsLeftAfter g.nodes rounds k) (IsLeftAfter g.nodes more k) (L k) list
-        (key_along g.nodes h k rounds L more legs_more a) (key_along g.nodes h k more legs_more rounds L back) (left_along g.nodes h k rounds L more legs_more a) (left_along g.nodes h k more legs_more rounds L back) p)
+        (round_moved (IsKeyAfter g.nodes h rounds L k) (IsKeyAfter g.nodes h more legs_more k) (IsLeftAfter g.nodes rounds k)
+        (IsLeftAfter g.nodes more k) (L k) list
+        (key_along g.nodes h k rounds L more legs_more a) (key_along g.nodes h k more legs_more rounds L back)
+        (left_along g.nodes h k rounds L more legs_more a) (left_along g.nodes h k more legs_more rounds L back) p)
 
     -- each round is one of the longer list
     rounds_more : (k : ℕ) → k < length more →
         IsRound (IsKeyAfter g.nodes h more legs_more k) (IsLeftAfter g.nodes more k) (legs_more k) (round_at more k)
     rounds_more k lt = elim (cases_eq k (length rounds)) [
-      | inl e ↦ subst (λ z. IsRound (IsKeyAfter g.nodes h more legs_more z) (IsLeftAfter g.nodes more z) (legs_more z) (round_at more z)) (sym e)
-          (subst (λ list. IsRound (IsKeyAfter g.nodes h more legs_more (length rounds)) (IsLeftAfter g.nodes more (length rounds)) (legs_more (length rounds)) list) (sym here) (round_at_more (length rounds) (omega arith) nodes round))
+      | inl e ↦ subst (λ z. IsRound (IsKeyAfter g.nodes h more legs_more z) (IsLeftAfter g.nodes more z) (legs_more z)
+          (round_at more z)) (sym e)
+          (subst (λ list. IsRound (IsKeyAfter g.nodes h more legs_more (length rounds)) (IsLeftAfter g.nodes more (length rounds))
+          (legs_more (length rounds)) list) (sym here) (round_at_more (length rounds) (omega arith) nodes round))
       | inr ne ↦
           let size = length_push rounds nodes in
           let inside : k < length rounds = omega arith in
-          subst (IsRound (IsKeyAfter g.nodes h more legs_more k) (IsLeftAfter g.nodes more k) (legs_more k)) (before k inside) (round_at_more k (omega arith) (round_at rounds k) (b.round k inside))
+          subst (IsRound (IsKeyAfter g.nodes h more legs_more k) (IsLeftAfter g.nodes more k) (legs_more k)) (before k inside)
+          (round_at_more k (omega arith) (round_at rounds k) (b.round k inside))
     ]
 
     -- each round leads to the legs before the next
@@ -159,7 +174,8 @@ module _ (rounds : List (List ℕ)) (L : ℕ → Legs) (nodes : List ℕ) (M : L
       | inr ne ↦
           let size = length_push rounds nodes in
           let inside : k < length rounds = omega arith in
-          let one = subst (λ (N : Legs). ContractsRound g.nodes h N (round_at rounds k) (L (k + 1))) (agree.legs k (omega arith)) (b.legs k inside) in
+          let one = subst (λ (N : Legs). ContractsRound g.nodes h N (round_at rounds k) (L (k + 1))) (agree.legs k (omega arith))
+          (b.legs k inside) in
           let two = subst (λ list. ContractsRound g.nodes h (legs_more k) list (L (k + 1))) (before k inside) one in
           subst (λ (N : Legs). ContractsRound g.nodes h (legs_more k) (round_at more k) N) (agree.legs (k + 1) (omega arith)) two
     ]
@@ -168,8 +184,10 @@ module _ (rounds : List (List ℕ)) (L : ℕ → Legs) (nodes : List ℕ) (M : L
         last =
             let one = subst (λ (N : Legs). ContractsRound g.nodes h N nodes M) (sym now) legs in
             let two = subst (λ list. ContractsRound g.nodes h (legs_more (length rounds)) list M) (sym here) one in
-            let three = subst (λ (N : Legs). ContractsRound g.nodes h (legs_more (length rounds)) (round_at more (length rounds)) N) (sym next) two in
-            subst (λ k. ContractsRound g.nodes h (legs_more (length rounds)) (round_at more (length rounds)) (legs_more k)) (sym (add-one (length rounds))) three
+            let three = subst (λ (N : Legs). ContractsRound g.nodes h (legs_more (length rounds)) (round_at more (length rounds)) N)
+            (sym next) two in
+            subst (λ k. ContractsRound g.nodes h (legs_more (length rounds)) (round_at more (length rounds)) (legs_more k))
+            (sym (add-one (length rounds))) three
 
     -- the rounds with one more were made
     pub begun_more : AreBegun g h (rounds ++ nodes ∷ []) (then_legs (length rounds) L M)
@@ -177,7 +195,8 @@ module _ (rounds : List (List ℕ)) (L : ℕ → Legs) (nodes : List ℕ) (M : L
       start = λ u w. ap (λ (N : Legs). N u w) (then_before (length rounds) L M 0 (omega arith)) ∙ b.start u w;
       some = λ k lt. elim (cases_eq k (length rounds)) [
         | inl e ↦ subst (λ z. 0 < length (round_at more z)) (sym e) (subst (λ list. 0 < length list) (sym here) some)
-        | inr ne ↦ let size = length_push rounds nodes in let inside : k < length rounds = omega arith in subst (λ list. 0 < length list) (before k inside) (b.some k inside)
+        | inr ne ↦ let size = length_push rounds nodes in let inside : k < length rounds = omega arith in
+            subst (λ list. 0 < length list) (before k inside) (b.some k inside)
       ];
       round = rounds_more;
       legs = contracted_more;

@@ -29,7 +29,8 @@ pair_moved n L M v s same is = let legs = is.legs in record {
   arcs = is.arcs;
 }
 
-module _ (n h : ℕ) (L : Legs) (nodes : List ℕ) (most : 1 ≤ h) (limits : AreLegsWithin n L) (is : AreApart L nodes) (lists : ℕ → List Shortcut) (are : (v : ℕ) → Contains nodes v → AreShortcutsAmong n h L (legs_away nodes L) v (lists v)) where
+module _ (n h : ℕ) (L : Legs) (nodes : List ℕ) (most : 1 ≤ h) (limits : AreLegsWithin n L) (is : AreApart L nodes) (lists : ℕ →
+    List Shortcut) (are : (v : ℕ) → Contains nodes v → AreShortcutsAmong n h L (legs_away nodes L) v (lists v)) where
   -- the state of the legs M while these nodes of the round are still to be contracted
   pub record IsUnderway (todo : List ℕ) (M : Legs) : Type 0 where
     pub members : (v : ℕ) → Contains todo v → Contains nodes v
@@ -67,7 +68,8 @@ module _ (n h : ℕ) (L : Legs) (nodes : List ℕ) (most : 1 ≤ h) (limits : Ar
           let ends = ends_away v s c has in
           let off = (limits s.from v legs.0 legs.2).ends.2 in
           let from = (limits v s.to legs.1 legs.3).ends.2 in
-          let leg = away_leg nodes L s.from s.to ends.0 ends.1 ∙ sym (u.between v s.from s.to legs.0 legs.1 (contains_head v todo) legs.2 legs.3) ∙ e in
+          let leg = away_leg nodes L s.from s.to ends.0 ends.1
+          ∙ sym (u.between v s.from s.to legs.0 legs.1 (contains_head v todo) legs.2 legs.3) ∙ e in
           absurd (short.needed (own_witness h (legs_away nodes L) v s.from s.to l s.cost most off (λ back. from (sym back)) leg le))
       | inr lt ↦ IsBelow-IsAtMost s.cost l.cost lt
     ];
@@ -108,7 +110,8 @@ module _ (n h : ℕ) (L : Legs) (nodes : List ℕ) (most : 1 ≤ h) (limits : Ar
     waits = λ x y c. (from x y c, to x y c);
     stands = λ x y l p q e.
         let leg = u.stands x y l p q e in
-        let kept = leg_kept {n = n} {h = h} (record { contracts = step; within = u.within }) x y leg.0 (λ same. p (subst (Contains nodes) (sym same) here)) (λ same. q (subst (Contains nodes) (sym same) here)) leg.1 in
+        let kept = leg_kept {n = n} {h = h} (record { contracts = step; within = u.within }) x y leg.0 (λ same.
+        p (subst (Contains nodes) (sym same) here)) (λ same. q (subst (Contains nodes) (sym same) here)) leg.1 in
         (kept.0, kept.1, IsAtMost_trans kept.0.cost leg.0.cost l.cost kept.2 leg.2);
     between = λ x y z a b c ea eb.
         leg_same v M y z
@@ -137,17 +140,21 @@ module _ (n h : ℕ) (L : Legs) (nodes : List ℕ) (most : 1 ≤ h) (limits : Ar
 
       from : (x y : ℕ) → Contains todo x → next_legs v M x y ≡ L x y
       from x y c = elim (cases_eq y v) [
-        | inl same ↦ subst (λ k. next_legs v M x k ≡ L x k) (sym same) ((gone x).1 ∙ sym (none_unless (L x v) (λ l e. no_leg n L nodes limits is x v l (members x c) here e)))
+        | inl same ↦ subst (λ k. next_legs v M x k ≡ L x k) (sym same)
+            ((gone x).1 ∙ sym (none_unless (L x v) (λ l e. no_leg n L nodes limits is x v l (members x c) here e)))
         | inr ne ↦
-            leg_same v M x y (λ same. other x c (sym same)) ne (λ s has ef et. (ends_away v s here has).0 (subst (Contains nodes) (sym ef) (members x c)))
+            leg_same v M x y (λ same. other x c (sym same)) ne
+            (λ s has ef et. (ends_away v s here has).0 (subst (Contains nodes) (sym ef) (members x c)))
             ∙ (u.waits x y (contains_tail x v todo c)).0
       ]
 
       to : (x y : ℕ) → Contains todo x → next_legs v M y x ≡ L y x
       to x y c = elim (cases_eq y v) [
-        | inl same ↦ subst (λ k. next_legs v M k x ≡ L k x) (sym same) ((gone x).0 ∙ sym (none_unless (L v x) (λ l e. no_leg n L nodes limits is v x l here (members x c) e)))
+        | inl same ↦ subst (λ k. next_legs v M k x ≡ L k x) (sym same)
+            ((gone x).0 ∙ sym (none_unless (L v x) (λ l e. no_leg n L nodes limits is v x l here (members x c) e)))
         | inr ne ↦
-            leg_same v M y x ne (λ same. other x c (sym same)) (λ s has ef et. (ends_away v s here has).1 (subst (Contains nodes) (sym et) (members x c)))
+            leg_same v M y x ne (λ same. other x c (sym same))
+            (λ s has ef et. (ends_away v s here has).1 (subst (Contains nodes) (sym et) (members x c)))
             ∙ (u.waits x y (contains_tail x v todo c)).1
       ]
 
@@ -184,7 +191,8 @@ module _ (n h : ℕ) (L : Legs) (nodes : List ℕ) (most : 1 ≤ h) (limits : Ar
       member z t = u.members z (contains_tail z v todo (found todo z t))
 
       at : (a b c d : Bool) → (x == v) ≡ a → is_one_of todo x ≡ b → (y == v) ≡ c → is_one_of todo y ≡ d →
-          cond (b || d) None (cond (a || c) None (leg_after_shortcuts v (lists v) x y (M x y))) ≡ leg_after_shortcuts v (lists v) x y (cond ((a || b) || (c || d)) None (M x y))
+          cond (b || d) None (cond (a || c) None (leg_after_shortcuts v (lists v) x y (M x y)))
+          ≡ leg_after_shortcuts v (lists v) x y (cond ((a || b) || (c || d)) None (M x y))
       at a true c d ea eb ec ed = off a c d (from_off (member x eb))
         where
           off : (a c d : Bool) → None ≡ leg_after_shortcuts v (lists v) x y None →
@@ -202,7 +210,8 @@ module _ (n h : ℕ) (L : Legs) (nodes : List ℕ) (most : 1 ≤ h) (limits : Ar
   same_after : (todo : List ℕ) (M : Legs) → IsUnderway todo M → legs_in_turn todo M ≡ legs_with_shortcuts todo lists (legs_away todo M)
   same_after [] M u = refl
   same_after (v ∷ todo) M u =
-      let one : legs_away todo (next_legs v M) ≡ (λ x y. leg_after_shortcuts v (lists v) x y (legs_away (v ∷ todo) M x y)) = one_map _ _ (away_first v todo M u) in
+      let one : legs_away todo (next_legs v M) ≡ (λ x y. leg_after_shortcuts v (lists v) x y (legs_away (v ∷ todo) M x y)) =
+      one_map _ _ (away_first v todo M u) in
       same_after todo (next_legs v M) (goes_on v todo M u) ∙ ap (legs_with_shortcuts todo lists) one
 
 -- a round of nodes that are apart is their contraction one after the other

@@ -1,5 +1,6 @@
 -- Each graph has rounds in which all its nodes are contracted.
-use Rattle.std.proofs.Common.{◌≡◌, ℕ, zero, suc, ◌+◌, ◌<◌, ◌≤◌, Bool, true, false, List, [], ◌∷◌, ◌++◌, length, get_or, Option, Some, None, Contains, length-append, refl, sym, ◌∙◌, ap, subst, arith, inl, inr}
+use Rattle.std.proofs.Common.{◌≡◌, ℕ, zero, suc, ◌+◌, ◌<◌, ◌≤◌, Bool, true, false, List, [], ◌∷◌, ◌++◌, length, get_or, Option}
+use Rattle.std.proofs.Common.{Some, None, Contains, length-append, refl, sym, ◌∙◌, ap, subst, arith, inl, inr}
 use Rattle.std.specs.Prelude.{◌⊎◌, ◌≢◌, ◌||◌, is_some, slice_index, All, AllPairs, ℤ}
 use Rattle.std.specs.List.{concat}
 use Rattle.std.proofs.lemmas.Bool.{cases_eq, cases_lt, true≢false}
@@ -14,15 +15,18 @@ use Rattle.ch_contract.specs.LegRows.{AreLegsFrom}
 use Rattle.ch_contract.specs.Laws.{LeadsWithin}
 use Rattle.ch_contract.specs.Contraction.{count_touching, key_by}
 use Rattle.ch_contract.specs.Order.{are_neighbours}
-use Rattle.ch_contract.specs.Rounds.{ComesBefore, IsWithinTwoLegs, IsFirstAround, IsRound, mixed_number, legs_away, legs_with_shortcuts, ContractsRound}
-use Rattle.ch_contract.specs.RoundOrder.{round_at, nodes_before, depth_before, is_counted, IsLastCount, IsKeyAfter, IsLeftAfter, AreRounds, IsHierarchyOfRounds}
+use Rattle.ch_contract.specs.Rounds.{ComesBefore, IsWithinTwoLegs, IsFirstAround, IsRound, mixed_number, legs_away}
+use Rattle.ch_contract.specs.Rounds.{legs_with_shortcuts, ContractsRound}
+use Rattle.ch_contract.specs.RoundOrder.{round_at, nodes_before, depth_before, is_counted, IsLastCount, IsKeyAfter, IsLeftAfter}
+use Rattle.ch_contract.specs.RoundOrder.{AreRounds, IsHierarchyOfRounds}
 use Rattle.ch_contract.specs.RoundLaws.{GraphsHaveHierarchiesByRounds}
 use Rattle.ch_contract.proofs.theory.ReferenceSearch.{some_of}
 use Rattle.ch_contract.proofs.theory.OneInTurn.{taken_at}
 use Rattle.ch_contract.proofs.theory.Levelled.{turned_within}
 use Rattle.ch_contract.proofs.theory.OrderSteps.{then_legs}
 use Rattle.ch_contract.proofs.theory.RoundLegs.{away_ends}
-use Rattle.ch_contract.proofs.theory.RoundNodes.{AreBegun, begun_all, begun_of, before_all, concat_push, round_before, in_round, left, nodes_apart, nodes_once}
+use Rattle.ch_contract.proofs.theory.RoundNodes.{AreBegun, begun_all, begun_of, before_all, concat_push, round_before, in_round}
+use Rattle.ch_contract.proofs.theory.RoundNodes.{left, nodes_apart, nodes_once}
 use Rattle.ch_contract.proofs.theory.RoundOrders.{one_key, both_before, within_rounds, gone_rounds}
 use Rattle.ch_contract.proofs.theory.RoundFirst.{before_total, round_some}
 use Rattle.ch_contract.proofs.theory.RoundSteps.{begun_none, begun_more}
@@ -73,7 +77,8 @@ near_or_not n L v x limits = elim (neighbours_or_not L v x) [
 ]
   where
     between : (y : ℕ) →
-        (are_neighbours L v y ≡ true → are_neighbours L y x ≡ true → ⊥) ⊎ ((are_neighbours L v y ≡ true → are_neighbours L y x ≡ true → ⊥) → ⊥)
+        (are_neighbours L v y ≡ true → are_neighbours L y x ≡ true → ⊥)
+        ⊎ ((are_neighbours L v y ≡ true → are_neighbours L y x ≡ true → ⊥) → ⊥)
     between y = elim (neighbours_or_not L v y) [
       | inl first ↦ elim (neighbours_or_not L y x) [
         | inl second ↦ inr (λ f. f first second)
@@ -82,7 +87,8 @@ near_or_not n L v x limits = elim (neighbours_or_not L v x) [
       | inr away ↦ inl (λ a b. away a)
     ]
 
-module _ (n : ℕ) (L : Legs) (limits : AreLegsWithin n L) (IsKey : ℕ → ℤ → Type 0) (key : (x : ℕ) → (p : ℤ) × IsKey x p) (one : (x : ℕ) (p q : ℤ) → IsKey x p → IsKey x q → p ≡ q) where
+module _ (n : ℕ) (L : Legs) (limits : AreLegsWithin n L) (IsKey : ℕ → ℤ → Type 0) (key : (x : ℕ) → (p : ℤ) × IsKey x p)
+    (one : (x : ℕ) (p q : ℤ) → IsKey x p → IsKey x q → p ≡ q) where
   -- v comes before x, or x is v or not within two legs
   abbrev IsBefore : ℕ → ℕ → Type 0
   IsBefore v x = x ≢ v → IsWithinTwoLegs L v x → ComesBefore (key v).0 v (key x).0 x
@@ -106,7 +112,8 @@ module _ (n : ℕ) (L : Legs) (limits : AreLegsWithin n L) (IsKey : ℕ → ℤ 
     | inl all ↦ inl (λ x ne near. ((key v).0, (key x).0, (key v).1, (key x).1, all x (near_below n L v x limits near) ne near))
     | inr some ↦ inr (λ first. some.2 (λ ne near.
         let f = first some.0 ne near in
-        subst (λ z. ComesBefore z v (key some.0).0 some.0) (one v f.0 (key v).0 f.2 (key v).1) (subst (λ z. ComesBefore f.0 v z some.0) (one some.0 f.1 (key some.0).0 f.3 (key some.0).1) f.4)))
+        subst (λ z. ComesBefore z v (key some.0).0 some.0) (one v f.0 (key v).0 f.2 (key v).1)
+        (subst (λ z. ComesBefore f.0 v z some.0) (one some.0 f.1 (key some.0).0 f.3 (key some.0).1) f.4)))
   ]
 
   -- there is a list of the nodes of a round
@@ -159,8 +166,10 @@ key_exists : (n h : ℕ) (rounds : List (List ℕ)) (L : ℕ → Legs) (r : ℕ)
 key_exists n h rounds L r limits x =
     let last = last_count n rounds L r x in
     let its = limits last.0 last.1.within in
-    let list = shortcuts_listed n h (L last.0) x its (leads n (L last.0) its) in
-    (key_by Rounds (length list.0) (count_touching n (L r) x) (depth_before rounds L r x), (length list.0, (last.0, list.0, last.1, list.1, refl), refl))
+    let list = shortcuts_listed n h (L last.0) x its (leads n (L last.0) its) in (
+      key_by Rounds (length list.0) (count_touching n (L r) x) (depth_before rounds L r x),
+      (length list.0, (last.0, list.0, last.1, list.1, refl), refl),
+    )
 
 -- a round has a result
 legs_exist : (n h : ℕ) (L : Legs) (nodes : List ℕ) → AreLegsWithin n L → (M : Legs) × ContractsRound n h L nodes M
@@ -207,13 +216,16 @@ module _ (g : Network) (h : ℕ) (limits : IsWithinLimits g) (hops : IsHopBound 
     )
 
     -- the next round
-    next_round : (nodes : List ℕ) × IsRound (IsKeyAfter g.nodes h rounds L (length rounds)) (IsLeftAfter g.nodes rounds (length rounds)) (L (length rounds)) nodes
-    next_round = round_exists g.nodes (L (length rounds)) here (IsKeyAfter g.nodes h rounds L (length rounds)) key (one_key g.nodes h rounds L (length rounds)) (IsLeftAfter g.nodes rounds (length rounds)) left_or_not (λ x is. is.0)
+    next_round : (nodes : List ℕ) × IsRound (IsKeyAfter g.nodes h rounds L (length rounds))
+        (IsLeftAfter g.nodes rounds (length rounds)) (L (length rounds)) nodes
+    next_round = round_exists g.nodes (L (length rounds)) here (IsKeyAfter g.nodes h rounds L (length rounds)) key
+        (one_key g.nodes h rounds L (length rounds)) (IsLeftAfter g.nodes rounds (length rounds)) left_or_not (λ x is. is.0)
 
     -- while a node remains, the next round has a node
     next_some : (x : ℕ) → IsLeftAfter g.nodes rounds (length rounds) x → 0 < length next_round.0
     next_some x left =
-        round_some (IsKeyAfter g.nodes h rounds L (length rounds)) (IsLeftAfter g.nodes rounds (length rounds)) (one_key g.nodes h rounds L (length rounds)) (λ y is. key y) left_or_not
+        round_some (IsKeyAfter g.nodes h rounds L (length rounds)) (IsLeftAfter g.nodes rounds (length rounds))
+        (one_key g.nodes h rounds L (length rounds)) (λ y is. key y) left_or_not
         g.nodes (L (length rounds)) next_round.0 (λ y is. is.0) near_left next_round.1 x left
 
   -- rounds go on until all nodes are contracted
@@ -222,17 +234,24 @@ module _ (g : Network) (h : ℕ) (limits : IsWithinLimits g) (hops : IsHopBound 
   rounds_from zero rounds L b enough =
       let apart = nodes_apart b in
       let most = distinct_most (concat rounds) g.nodes apart.1 apart.0 in
-      let size : length (concat rounds) ≡ g.nodes = omega arith in
-      (rounds, L, begun_all g h rounds L b (λ x lt. every_number (concat rounds) g.nodes x size (λ i d inside. apart.0 (get_or (concat rounds) i d) (Contains-get_or (concat rounds) i d inside)) apart.1 lt))
+      let size : length (concat rounds) ≡ g.nodes = omega arith in (
+        rounds,
+        L,
+        begun_all g h rounds L b
+            (λ x lt. every_number (concat rounds) g.nodes x size
+            (λ i d inside. apart.0 (get_or (concat rounds) i d) (Contains-get_or (concat rounds) i d inside)) apart.1 lt),
+      )
   rounds_from (suc k) rounds L b enough = elim (all_below (Contains (concat rounds)) (contains_or_not (concat rounds)) g.nodes) [
     | inl all ↦ (rounds, L, begun_all g h rounds L b all)
     | inr some ↦
         let round = next_round rounds L b in
-        let left : IsLeftAfter g.nodes rounds (length rounds) some.0 = (some.1, λ taken. some.2 (subst (λ l. Contains l some.0) (before_all rounds) taken)) in
+        let left : IsLeftAfter g.nodes rounds (length rounds) some.0 =
+        (some.1, λ taken. some.2 (subst (λ l. Contains l some.0) (before_all rounds) taken)) in
         let one = next_some rounds L b some.0 left in
         let legs = legs_exist g.nodes h (L (length rounds)) round.0 (here rounds L b) in
         let size = ap length (concat_push rounds round.0) ∙ length-append (concat rounds) round.0 in
-        rounds_from k (rounds ++ round.0 ∷ []) (then_legs (length rounds) L legs.0) (begun_more rounds L round.0 legs.0 g h b one round.1 legs.1) (omega arith)
+        rounds_from k (rounds ++ round.0 ∷ []) (then_legs (length rounds) L legs.0)
+        (begun_more rounds L round.0 legs.0 g h b one round.1 legs.1) (omega arith)
   ]
 
   -- there are rounds that contract all nodes
@@ -253,15 +272,18 @@ module _ (g : Network) (h : ℕ) (limits : IsWithinLimits g) (hops : IsHopBound 
   module _ (rounds : List (List ℕ)) (L : ℕ → Legs) (are : AreRounds g h rounds L) where
     -- there are rows of all nodes, from the legs before each round in either direction
     rows_exist : (turn : Legs → Legs) → ((M : Legs) → AreLegsWithin g.nodes M → AreLegsWithin g.nodes (turn M)) →
-        (rows : List (List Leg)) × (length rows ≡ g.nodes) × ((x : ℕ) → x < g.nodes → (r : ℕ) → r < length rounds → Contains (round_at rounds r) x → AreLegsFrom (turn (L r)) x (get_or rows x []))
-    rows_exist turn keeps = table (λ x legs. (r : ℕ) → r < length rounds → Contains (round_at rounds r) x → AreLegsFrom (turn (L r)) x legs) [] g.nodes (λ x lt.
+        (rows : List (List Leg)) × (length rows ≡ g.nodes) × ((x : ℕ) → x < g.nodes → (r : ℕ) → r < length rounds →
+        Contains (round_at rounds r) x → AreLegsFrom (turn (L r)) x (get_or rows x []))
+    rows_exist turn keeps = table (λ x legs. (r : ℕ) → r < length rounds → Contains (round_at rounds r) x →
+        AreLegsFrom (turn (L r)) x legs) [] g.nodes (λ x lt.
         let at = in_round rounds x (are.all x lt) in
         let within = keeps (L at.0) (within_rounds limits hops (begun_of are) at.0 (let inside = at.1 in omega arith)) in
         let row = row_of g.nodes (turn (L at.0) x) (λ y l e. (within x y l e).ends.1) in
         (row.0, λ r lr c. subst (λ z. AreLegsFrom (turn (L z)) x row.0) (one_round_of are at.0 r x at.1 lr at.2 c) (row.1, row.2)))
 
     -- there are levels of all nodes
-    levels_exist : (levels : List ℕ) × (length levels ≡ g.nodes) × ((x : ℕ) → x < g.nodes → (i : ℕ) → i < g.nodes → slice_index (concat rounds) i ≡ x → get_or levels x 0 ≡ i + 1)
+    levels_exist : (levels : List ℕ) × (length levels ≡ g.nodes)
+        × ((x : ℕ) → x < g.nodes → (i : ℕ) → i < g.nodes → slice_index (concat rounds) i ≡ x → get_or levels x 0 ≡ i + 1)
     levels_exist = table (λ x level. (i : ℕ) → i < g.nodes → slice_index (concat rounds) i ≡ x → level ≡ i + 1) 0 g.nodes (λ x lt.
         let once = nodes_once are in
         let at = taken_at g.nodes (concat rounds) x once lt in

@@ -1,5 +1,6 @@
 -- The levels and the rows of the contracted nodes, as an order of contraction grows.
-use Rattle.std.proofs.Common.{◌≡◌, ℕ, ◌+◌, ◌<◌, List, [], ◌∷◌, ◌++◌, length, sym, ◌∙◌, ap, subst, arith, inl, inr, Contains, get_or-set_same, get_or-set_other}
+use Rattle.std.proofs.Common.{◌≡◌, ℕ, ◌+◌, ◌<◌, List, [], ◌∷◌, ◌++◌, length, sym, ◌∙◌, ap, subst, arith, inl, inr, Contains}
+use Rattle.std.proofs.Common.{get_or-set_same, get_or-set_other}
 use Rattle.std.specs.Prelude.{◌≢◌, slice_index, slice_set}
 use Rattle.std.proofs.lemmas.Bool.{cases_eq}
 use Rattle.std.proofs.lemmas.List.{length_push}
@@ -23,7 +24,8 @@ module _ (order : List ℕ) (v : ℕ) (left : Contains order v → ⊥) where
     | inr ne ↦
         let size = length_push order v in
         let below : i < length order = omega arith in
-        ap (slice_index after) (sym (before order L v M i below)) ∙ ap (λ l. slice_index l (slice_index order i)) e ∙ get_or-set_other levels v (slice_index order i) (length order + 1) 0 (apart i below) ∙ are i below
+        ap (slice_index after) (sym (before order L v M i below)) ∙ ap (λ l. slice_index l (slice_index order i)) e
+        ∙ get_or-set_other levels v (slice_index order i) (length order + 1) 0 (apart i below) ∙ are i below
   ]
 
   -- the rows after one more node gets its row
@@ -33,11 +35,13 @@ module _ (order : List ℕ) (v : ℕ) (left : Contains order v → ⊥) where
   rows_more R L M rows after is same are i lt = elim (cases_eq i (length order)) [
     | inl last ↦
         let two = subst (λ (N : Legs). R N v (after v)) (sym (now order L v M)) is in
-        subst (λ z. R (legs_more order L v M z) (slice_index (more order L v M) z) (after (slice_index (more order L v M) z))) (sym last) (subst (λ z. R (legs_more order L v M (length order)) z (after z)) (sym (here order L v M)) two)
+        subst (λ z. R (legs_more order L v M z) (slice_index (more order L v M) z) (after (slice_index (more order L v M) z)))
+        (sym last) (subst (λ z. R (legs_more order L v M (length order)) z (after z)) (sym (here order L v M)) two)
     | inr ne ↦
         let size = length_push order v in
         let below : i < length order = omega arith in
         let one = subst (R (L i) (slice_index order i)) (sym (same (slice_index order i) (apart i below))) (are i below) in
-        let two = subst (λ (N : Legs). R N (slice_index order i) (after (slice_index order i))) ((agree order L v M).legs i (omega arith)) one in
+        let two = subst (λ (N : Legs). R N (slice_index order i) (after (slice_index order i)))
+        ((agree order L v M).legs i (omega arith)) one in
         subst (λ z. R (legs_more order L v M i) z (after z)) (before order L v M i below) two
   ]

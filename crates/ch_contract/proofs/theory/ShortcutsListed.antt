@@ -1,9 +1,11 @@
 -- Each node has a list of its shortcuts.
-use Rattle.std.proofs.Common.{◌≡◌, ℕ, zero, suc, ◌<◌, ◌≤◌, List, [], ◌∷◌, ◌++◌, Option, Some, None, Contains, refl, sym, ◌∙◌, ap, subst, arith, inl, inr}
+use Rattle.std.proofs.Common.{◌≡◌, ℕ, zero, suc, ◌<◌, ◌≤◌, List, [], ◌∷◌, ◌++◌, Option, Some, None, Contains, refl, sym, ◌∙◌, ap}
+use Rattle.std.proofs.Common.{subst, arith, inl, inr}
 use Rattle.std.specs.Prelude.{◌⊎◌, ◌≢◌, AllPairs}
 use Rattle.std.proofs.lemmas.Bool.{cases_eq, cases_lt}
 use Rattle.std.proofs.lemmas.Option.{same_Some, none-some}
-use Rattle.std.proofs.lemmas.List.Elements.{Contains-append_left, Contains-push, Contains-push_cases, Contains-append_right, Contains-append_cases}
+use Rattle.std.proofs.lemmas.List.Elements.{Contains-append_left, Contains-push, Contains-push_cases, Contains-append_right}
+use Rattle.std.proofs.lemmas.List.Elements.{Contains-append_cases}
 use Rattle.ch_graph.specs.declared.limits.TheConstants.{MOST_WEIGHT}
 use Rattle.ch_graph.specs.declared.cost.Cost.{Cost}
 use Rattle.ch_graph.specs.Cost.{cost_sum}
@@ -21,7 +23,8 @@ use Rattle.ch_contract.proofs.theory.Listing.{one_more}
 abbrev IsDecided : (Shortcut → Type 0) → ℕ → ℕ → Type 0
 IsDecided P u w = ((s : Shortcut) × (s.from ≡ u) × (s.to ≡ w) × P s) ⊎ ((s : Shortcut) → s.from ≡ u → s.to ≡ w → P s → ⊥)
 
-module _ (P : Shortcut → Type 0) (n : ℕ) (one : (s t : Shortcut) → s.from ≡ t.from → s.to ≡ t.to → P s → P t → s ≡ t) (within : (s : Shortcut) → P s → (s.from < n) × (s.to < n)) (decide : (u w : ℕ) → IsDecided P u w) where
+module _ (P : Shortcut → Type 0) (n : ℕ) (one : (s t : Shortcut) → s.from ≡ t.from → s.to ≡ t.to → P s → P t → s ≡ t)
+    (within : (s : Shortcut) → P s → (s.from < n) × (s.to < n)) (decide : (u w : ℕ) → IsDecided P u w) where
   -- the list has the shortcuts with P from u to a number below m, in order
   record IsLine (u m : ℕ) (list : List Shortcut) : Type 0 where
     ordered : AllPairs IsPairBefore list
@@ -30,14 +33,23 @@ module _ (P : Shortcut → Type 0) (n : ℕ) (one : (s t : Shortcut) → s.from 
 
   -- there is such a list
   line : (u m : ℕ) → (list : List Shortcut) × IsLine u m list
-  line u zero = ([], record { ordered = λ i j d lt inside. absurd (omega arith); sound = λ s c. absurd (contains_none s c); whole = λ s p e lt. absurd (omega arith) })
+  line u zero = (
+    [],
+    record {
+      ordered = λ i j d lt inside. absurd (omega arith);
+      sound = λ s c. absurd (contains_none s c);
+      whole =
+          λ s p e lt. absurd (omega arith);
+    },
+  )
   line u (suc m) = at (decide u m) (line u m)
     where
       at : IsDecided P u m → (list : List Shortcut) × IsLine u m list → (list : List Shortcut) × IsLine u (suc m) list
       at (inl s) r = (
         r.0 ++ s.0 ∷ [],
         record {
-          ordered = one_more IsPairBefore r.0 s.0 r.1.ordered (λ t c. let is = r.1.sound t c in let from = is.1 in let to = is.2 in let its_from = s.1 in let its_to = s.2 in (omega arith, λ back. omega arith));
+          ordered = one_more IsPairBefore r.0 s.0 r.1.ordered (λ t c. let is = r.1.sound t c in let from = is.1 in let to = is.2 in
+              let its_from = s.1 in let its_to = s.2 in (omega arith, λ back. omega arith));
           sound = λ t c. elim (Contains-push_cases r.0 s.0 t c) [
             | inl old ↦ let is = r.1.sound t old in (is.0, is.1, omega (arith, is.2))
             | inr e ↦ subst (λ (z : Shortcut). P z × (z.from ≡ u) × (z.to < suc m)) e (s.3, s.1, omega (arith, s.2))
@@ -68,13 +80,22 @@ module _ (P : Shortcut → Type 0) (n : ℕ) (one : (s t : Shortcut) → s.from 
 
   -- there is such a list too
   grid : (m : ℕ) → (list : List Shortcut) × IsGrid m list
-  grid zero = ([], record { ordered = λ i j d lt inside. absurd (omega arith); sound = λ s c. absurd (contains_none s c); whole = λ s p lt. absurd (omega arith) })
+  grid zero = (
+    [],
+    record {
+      ordered = λ i j d lt inside. absurd (omega arith);
+      sound = λ s c. absurd (contains_none s c);
+      whole =
+          λ s p lt. absurd (omega arith);
+    },
+  )
   grid (suc m) =
       let r = grid m in
       let l = line m n in (
         r.0 ++ l.0,
         record {
-          ordered = pairs_append IsPairBefore r.0 l.0 r.1.ordered l.1.ordered (λ s t c d. let low = (r.1.sound s c).1 in let here = (l.1.sound t d).1 in (omega arith, λ back. absurd (omega arith)));
+          ordered = pairs_append IsPairBefore r.0 l.0 r.1.ordered l.1.ordered (λ s t c d. let low = (r.1.sound s c).1 in
+              let here = (l.1.sound t d).1 in (omega arith, λ back. absurd (omega arith)));
           sound = λ s c. elim (Contains-append_cases r.0 l.0 s c) [
             | inl old ↦ let is = r.1.sound s old in (is.0, omega (arith, is.1))
             | inr new ↦ let is = l.1.sound s new in (is.0, omega (arith, is.1))
@@ -87,7 +108,8 @@ module _ (P : Shortcut → Type 0) (n : ℕ) (one : (s t : Shortcut) → s.from 
       )
 
   -- there is a list of all shortcuts with P, in order
-  pub all_listed : (list : List Shortcut) × AllPairs IsPairBefore list × ((s : Shortcut) → Contains list s → P s) × ((s : Shortcut) → P s → Contains list s)
+  pub all_listed : (list : List Shortcut) × AllPairs IsPairBefore list × ((s : Shortcut) → Contains list s → P s)
+      × ((s : Shortcut) → P s → Contains list s)
   all_listed = let r = grid n in (r.0, r.1.ordered, (λ s c. (r.1.sound s c).0), λ s p. r.1.whole s p (within s p).0)
 
 module _ (n h : ℕ) (L W : Legs) (v : ℕ) (limits : AreLegsWithin n L) (leads : LeadsWithin n W) where
@@ -118,16 +140,29 @@ module _ (n h : ℕ) (L W : Legs) (v : ℕ) (limits : AreLegsWithin n L) (leads 
       last a b ea eb ne weight arcs = elim (witness_or_none n W v u w (cost_sum a.cost b.cost) h ne (limits u v a ea).ends.2 leads) [
         | inl witness ↦ inr (λ s from to is.
             let cost = both a b ea eb s from to is in
-            is.needed (subst (λ c. HasWitness W v s.from s.to c h) (sym cost) (subst (λ z. HasWitness W v z s.to (cost_sum a.cost b.cost) h) (sym from) (subst (λ z. HasWitness W v u z (cost_sum a.cost b.cost) h) (sym to) witness))))
-        | inr none ↦ inl (record { from = u; to = w; cost = cost_sum a.cost b.cost }, refl, refl, record { pair = record { apart = ne; legs = (a, b, ea, eb, refl); weight = weight; arcs = arcs }; needed = none })
+            is.needed (subst (λ c. HasWitness W v s.from s.to c h) (sym cost)
+            (subst (λ z. HasWitness W v z s.to (cost_sum a.cost b.cost) h) (sym from)
+            (subst (λ z. HasWitness W v u z (cost_sum a.cost b.cost) h) (sym to) witness))))
+        | inr none ↦ inl (
+          record { from = u; to = w; cost = cost_sum a.cost b.cost },
+          refl,
+          refl,
+          record {
+            pair =
+                record { apart = ne; legs = (a, b, ea, eb, refl); weight = weight; arcs = arcs };
+            needed = none;
+          },
+        )
       ]
 
       light : (a b : Label) → L u v ≡ Some a → L v w ≡ Some b → u ≢ w → IsDecided (IsShortcutAmong n h L W v) u w
       light a b ea eb ne = elim (cases_lt MOST_WEIGHT (cost_sum a.cost b.cost).weight) [
-        | inl heavy ↦ inr (λ s from to is. let same = ap (λ (c : Cost). c.weight) (both a b ea eb s from to is) in let low = is.pair.weight in omega arith)
+        | inl heavy ↦ inr (λ s from to is. let same = ap (λ (c : Cost). c.weight) (both a b ea eb s from to is) in
+            let low = is.pair.weight in omega arith)
         | inr weight ↦ elim (cases_lt (cost_sum a.cost b.cost).arcs n) [
           | inl arcs ↦ last a b ea eb ne weight arcs
-          | inr long ↦ inr (λ s from to is. let same = ap (λ (c : Cost). c.arcs) (both a b ea eb s from to is) in let low = is.pair.arcs in omega arith)
+          | inr long ↦ inr (λ s from to is. let same = ap (λ (c : Cost). c.arcs) (both a b ea eb s from to is) in
+              let low = is.pair.arcs in omega arith)
         ]
       ]
 
@@ -145,7 +180,8 @@ module _ (n h : ℕ) (L W : Legs) (v : ℕ) (limits : AreLegsWithin n L) (leads 
   -- there is a list of all shortcuts of v
   pub shortcuts_among : (list : List Shortcut) × AreShortcutsAmong n h L W v list
   shortcuts_among =
-      let r = all_listed (IsShortcutAmong n h L W v) n one_shortcut (λ s is. let legs = is.pair.legs in ((limits s.from v legs.0 legs.2).ends.0, (limits v s.to legs.1 legs.3).ends.1)) decided in
+      let r = all_listed (IsShortcutAmong n h L W v) n one_shortcut (λ s is. let legs = is.pair.legs in
+      ((limits s.from v legs.0 legs.2).ends.0, (limits v s.to legs.1 legs.3).ends.1)) decided in
       (r.0, record { ordered = r.1; sound = r.2; whole = r.3 })
 
 -- there is a list of the shortcuts of a node, with witnesses among the same legs
@@ -156,7 +192,8 @@ shortcuts_listed n h L v limits leads =
       r.0,
       record {
         ordered = r.1.ordered;
-        sound = λ s c. let is = r.1.sound s c in record { apart = is.pair.apart; legs = is.pair.legs; weight = is.pair.weight; arcs = is.pair.arcs; needed = is.needed };
+        sound = λ s c. let is = r.1.sound s c in
+            record { apart = is.pair.apart; legs = is.pair.legs; weight = is.pair.weight; arcs = is.pair.arcs; needed = is.needed };
         whole = λ s is. r.1.whole s (record { pair = pair_of_shortcut n h L v s is; needed = is.needed });
       },
     )

@@ -1,5 +1,6 @@
 -- Properties of each leg after any number of steps of contraction.
-use Rattle.std.proofs.Common.{◌≡◌, ◌≢◌, ℕ, zero, suc, ◌+◌, ◌<◌, ◌≤◌, List, Option, Some, None, Contains, slice_index, refl, sym, ◌∙◌, subst, arith, add-one, inl, inr}
+use Rattle.std.proofs.Common.{◌≡◌, ◌≢◌, ℕ, zero, suc, ◌+◌, ◌<◌, ◌≤◌, List, Option, Some, None, Contains, slice_index, refl, sym}
+use Rattle.std.proofs.Common.{◌∙◌, subst, arith, add-one, inl, inr}
 use Rattle.std.proofs.lemmas.Bool.{cases_eq}
 use Rattle.std.proofs.lemmas.Option.{same_Some}
 use Rattle.ch_graph.specs.declared.cost.Cost.{Cost}
@@ -73,15 +74,23 @@ module _ {g : Network} {h : ℕ} {order : List ℕ} {L : ℕ → Legs} {m : ℕ}
   ]
 
   -- a shortcut of the node of step i is such a leg
-  shortcut_leg : (i u w : ℕ) (a b l : Label) → IsStepLeg g order L i u (slice_index order i) a → IsStepLeg g order L i (slice_index order i) w b → L i u (slice_index order i) ≡ Some a → L i (slice_index order i) w ≡ Some b →
-      l ≡ record { cost = cost_sum a.cost b.cost; middle = Some (slice_index order i) } → IsLight g.nodes l.cost → u ≢ w → ((j : ℕ) → j < suc i → (slice_index order j ≢ u) × (slice_index order j ≢ w)) → IsStepLeg g order L (suc i) u w l
+  shortcut_leg : (i u w : ℕ) (a b l : Label) → IsStepLeg g order L i u (slice_index order i) a → IsStepLeg g order L i
+      (slice_index order i) w b → L i u (slice_index order i) ≡ Some a → L i (slice_index order i) w ≡ Some b →
+      l ≡ record { cost = cost_sum a.cost b.cost; middle = Some (slice_index order i) } → IsLight g.nodes l.cost → u ≢ w →
+      ((j : ℕ) → j < suc i → (slice_index order j ≢ u) × (slice_index order j ≢ w)) → IsStepLeg g order L (suc i) u w l
   shortcut_leg i u w a b l p q ea eb e light ne left =
       let v : ℕ = slice_index order i in
       let pe = p.within.ends in
       let qe = q.within.ends in
       let sum : IsLight g.nodes (cost_sum a.cost b.cost) = subst (λ (k : Label). IsLight g.nodes k.cost) e light in
       subst (IsStepLeg g order L (suc i) u w) (sym e) (record {
-        within = record { ends = (pe.0, qe.1, ne); weight = sum.0; arcs = sum.1; middle = λ x same. subst (λ z. z < g.nodes) (same_Some _ _ same) pe.1 };
+        within = record {
+          ends = (pe.0, qe.1, ne);
+          weight = sum.0;
+          arcs = sum.1;
+          middle =
+              λ x same. subst (λ z. z < g.nodes) (same_Some _ _ same) pe.1;
+        };
         left = left;
         walk = IsWalkCost-cost_sum g u v w a.cost b.cost p.walk q.walk;
         made = (i, omega arith, refl, a, b, ea, eb, refl);
@@ -98,7 +107,10 @@ module _ {g : Network} {h : ℕ} {order : List ℕ} {L : ℕ → Legs} {m : ℕ}
             let leg = before u w l old in
             record {
               within = leg.within;
-              left = λ j below. (left_next i u away.0 (λ k sooner. (leg.left k sooner).0) j below, left_next i w away.1 (λ k sooner. (leg.left k sooner).1) j below);
+              left = λ j below. (
+                left_next i u away.0 (λ k sooner. (leg.left k sooner).0) j below,
+                left_next i w away.1 (λ k sooner. (leg.left k sooner).1) j below,
+              );
               walk = leg.walk;
               made = made_later g order L i u w l.cost l.middle leg.made;
             }
@@ -106,7 +118,10 @@ module _ {g : Network} {h : ℕ} {order : List ℕ} {L : ℕ → Legs} {m : ℕ}
             let p = before u v new.0 new.2 in
             let q = before v w new.1 new.3 in
             shortcut_leg i u w new.0 new.1 l p q new.2 new.3 new.4 new.5 new.6
-            (λ j below. (left_next i u away.0 (λ k sooner. (p.left k sooner).0) j below, left_next i w away.1 (λ k sooner. (q.left k sooner).1) j below))
+            (λ j below. (
+              left_next i u away.0 (λ k sooner. (p.left k sooner).0) j below,
+              left_next i w away.1 (λ k sooner. (q.left k sooner).1) j below,
+            ))
       ]
 
   -- each leg after i steps is such a leg

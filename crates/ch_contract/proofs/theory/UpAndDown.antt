@@ -1,5 +1,6 @@
 -- In a built hierarchy, for each least walk there are an upward path and a downward path that cost at most as much.
-use Rattle.std.proofs.Common.{◌≡◌, ◌≢◌, ℕ, zero, suc, ◌+◌, ◌<◌, ◌≤◌, List, [], ◌∷◌, Some, slice_index, refl, sym, ◌∙◌, ap, subst, arith, inl, inr}
+use Rattle.std.proofs.Common.{◌≡◌, ◌≢◌, ℕ, zero, suc, ◌+◌, ◌<◌, ◌≤◌, List, [], ◌∷◌, Some, slice_index, refl, sym, ◌∙◌, ap, subst}
+use Rattle.std.proofs.Common.{arith, inl, inr}
 use Rattle.std.proofs.lemmas.Bool.{cases_eq}
 use Rattle.ch_graph.specs.declared.cost.Cost.{Cost}
 use Rattle.ch_graph.specs.Cost.{cost_sum, no_cost}
@@ -92,8 +93,10 @@ module _ {g : Network} {h : ℕ} {H : LevelsAndLegs} {order : List ℕ} {L : ℕ
           let leg = step_leg (contraction built) i (omega arith) v x m.0 m.1 in
           let ends = leg.within.ends in
           let sum : c ≡ cost_sum m.0.cost (chain_cost (L i) x xs) = sym e ∙ chain_cost-cons (L i) v x xs m.0 m.1 in
-          let rest : IsLeast g x t (chain_cost (L i) x xs) = IsLeast-back g v x t m.0.cost _ (subst (IsLeast g v t) sum least) leg.walk (chain_walk (contraction built) i (omega arith) x t xs chain.1) in
-          let goes : HasMeetingPaths H x t (chain_cost (L i) x xs) = climbed x t _ ends.1 below_t (after_next i x (ends_after i v x m.0 (omega arith) m.1).1 ends.2) (after_next i t q ne) rest in
+          let rest : IsLeast g x t (chain_cost (L i) x xs) = IsLeast-back g v x t m.0.cost _ (subst (IsLeast g v t) sum least)
+          leg.walk (chain_walk (contraction built) i (omega arith) x t xs chain.1) in
+          let goes : HasMeetingPaths H x t (chain_cost (L i) x xs) = climbed x t _ ends.1 below_t
+          (after_next i x (ends_after i v x m.0 (omega arith) m.1).1 ends.2) (after_next i t q ne) rest in
           subst (HasMeetingPaths H v t) (sym sum) (up_first H v t (leg_at x m.0) _ (up_leg built i x m.0 lt m.1) goes)
 
   -- the case of a walk to the node of step i: its last leg leads down, and the part before it is a least walk
@@ -112,10 +115,14 @@ module _ {g : Network} {h : ℕ} {H : LevelsAndLegs} {order : List ℕ} {L : ℕ
           let leg = step_leg (contraction built) i (omega arith) r.node v r.label r.leg in
           let ends = leg.within.ends in
           let b = r.before in
-          let walk : IsWalkCost g s r.node r.cost = subst (IsWalkCost g s r.node) b.2 (chain_walk (contraction built) i (omega arith) s r.node b.0 b.1) in
+          let walk : IsWalkCost g s r.node r.cost =
+          subst (IsWalkCost g s r.node) b.2 (chain_walk (contraction built) i (omega arith) s r.node b.0 b.1) in
           let front : IsLeast g s r.node r.cost = IsLeast-front g s r.node v r.cost _ (subst (IsLeast g s v) r.sum least) walk leg.walk in
-          let goes : HasMeetingPaths H s r.node r.cost = climbed s r.node _ below_s ends.0 (after_next i s p ne) (after_next i r.node (ends_after i r.node v r.label (omega arith) r.leg).0 (λ same. ends.2 (sym same))) front in
-          subst (HasMeetingPaths H s v) (sym r.sum) (down_last H s v (leg_at r.node r.label) _ (down_leg built i r.node r.label lt r.leg) goes)
+          let goes : HasMeetingPaths H s r.node r.cost =
+          climbed s r.node _ below_s ends.0 (after_next i s p ne)
+          (after_next i r.node (ends_after i r.node v r.label (omega arith) r.leg).0 (λ same. ends.2 (sym same))) front in
+          subst (HasMeetingPaths H s v) (sym r.sum)
+          (down_last H s v (leg_at r.node r.label) _ (down_leg built i r.node r.label lt r.leg) goes)
 
       at : (xs : List ℕ) → IsChain (L i) s v xs → chain_cost (L i) s xs ≡ c → HasMeetingPaths H s v c
       at [] chain e = absurd (ne (sym chain))
@@ -131,7 +138,8 @@ module _ {g : Network} {h : ℕ} {H : LevelsAndLegs} {order : List ℕ} {L : ℕ
     | inr apart ↦ elim (cases_eq (slice_index order i) s) [
       | inl start ↦
           subst (λ y. HasMeetingPaths H y t c) start
-          (from_lowest i t c (omega arith) lt (subst (λ y. y < g.nodes) (sym start) ls) (climb k (suc i) (omega arith)) (λ end. apart (sym start ∙ end))
+          (from_lowest i t c (omega arith) lt (subst (λ y. y < g.nodes) (sym start) ls) (climb k (suc i) (omega arith))
+          (λ end. apart (sym start ∙ end))
           (subst (IsAfter order i) (sym start) p) q (subst (λ y. IsLeast g y t c) (sym start) least))
       | inr on ↦ elim (cases_eq (slice_index order i) t) [
         | inl end ↦
@@ -163,10 +171,23 @@ module _ {g : Network} {h : ℕ} {H : LevelsAndLegs} {order : List ℕ} {L : ℕ
       let whole : IsLeast g s t (cost_sum a b) = subst (IsLeast g s t) (sym sum) least in
       let first : IsLeast g s m a = IsLeast-front g s m t a b whole up down in
       let second : IsLeast g m t b = IsLeast-back g s m t a b whole up down in
-      let is_up : IsUp H s m a = record { path = (goes.ups, goes.rise, refl); weight = IsLeast-weight g s m a built.limits first; least = λ legs p light. IsLeast-IsAtMost g s m a _ first (rises s m legs p) } in
-      let is_down : IsDown H m t b = record { path = (goes.downs, goes.fall, refl); weight = IsLeast-weight g m t b built.limits second; least = λ legs p light. IsLeast-IsAtMost g m t b _ second (falls t m legs p) } in
+      let is_up : IsUp H s m a =
+      record {
+        path = (goes.ups, goes.rise, refl);
+        weight = IsLeast-weight g s m a built.limits first;
+        least =
+            λ legs p light. IsLeast-IsAtMost g s m a _ first (rises s m legs p);
+      } in
+      let is_down : IsDown H m t b =
+      record {
+        path = (goes.downs, goes.fall, refl);
+        weight = IsLeast-weight g m t b built.limits second;
+        least =
+            λ legs p light. IsLeast-IsAtMost g m t b _ second (falls t m legs p);
+      } in
       (m, (a, b, is_up, is_down, sum))
 
   -- the least cost between two nodes is that of going up and then down
   pub up_and_down : (s t : ℕ) (c : Cost) → s < g.nodes → t < g.nodes → IsLeast g s t c → (m : ℕ) × IsMeeting H s t m c
-  up_and_down s t c ls lt least = paths_meet s t c least (climb g.nodes zero (omega arith) s t c ls lt (λ j below. absurd (omega arith)) (λ j below. absurd (omega arith)) least)
+  up_and_down s t c ls lt least = paths_meet s t c least
+      (climb g.nodes zero (omega arith) s t c ls lt (λ j below. absurd (omega arith)) (λ j below. absurd (omega arith)) least)

@@ -1,6 +1,6 @@
 //! The contraction of one node.
 ghost use Rattle.std.specs.Prelude.{◌≡◌, ℕ, ◌<◌, [], All, AllPairs, IfOk};
-ghost use Rattle.ch_contract.specs.Legs.{SameLegs, IsHopBound, IsLegWithin, turned_legs};
+ghost use Rattle.ch_contract.specs.Legs.{AreLegsWithin, SameLegs, IsHopBound, IsLegWithin, turned_legs};
 ghost use Rattle.ch_contract.specs.Contraction.{AreShortcuts, Contracts, IsPairBefore, leg_after_shortcuts, legs_after_contraction, shortcut_label};
 ghost use Rattle.ch_contract.specs.LegRows.{AreLegsFrom, AreLegsTo};
 ghost use Rattle.ch_contract.specs.Remaining.{legs_of, IsSetAside};
@@ -60,6 +60,7 @@ impl Remaining {
         ensures legs { SameLegs (legs_of result) (legs_after_contraction (legs_of self) v []) }
         ensures up { IsSetAside (legs_of self) v self.ups result.ups }
         ensures down { IsSetAside (turned_legs (legs_of self)) v self.downs result.downs }
+        ensures limits { AreLegsWithin self.nodes (legs_of self) }
     {
         let Remaining {
             nodes,
@@ -119,8 +120,6 @@ impl Remaining {
         ensures up { IfOk result (λ r. IsSetAside (legs_of self) v self.ups r.ups) }
         ensures down { IfOk result (λ r. IsSetAside (turned_legs (legs_of self)) v self.downs r.downs) }
     {
-        // This call tells the proof that the legs keep the limits.
-        let _ = self.nodes();
         self.take_out(v).put(v, shortcuts)
     }
 }

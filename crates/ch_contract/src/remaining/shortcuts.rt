@@ -1,7 +1,8 @@
 //! The shortcuts that the contraction of a node would put in, and its priority.
 ghost use Rattle.std.specs.Prelude.{◌≡◌, ◌<◌, ◌≤◌, ◌^◌, IfOk, OnOk};
+ghost use Rattle.ch_graph.specs.declared.limits.TheConstants.{MOST_NODES};
 ghost use Rattle.ch_hierarchy.specs.Rows.{row};
-ghost use Rattle.ch_contract.specs.Legs.{IsHopBound};
+ghost use Rattle.ch_contract.specs.Legs.{AreLegsWithin, IsHopBound};
 ghost use Rattle.ch_contract.specs.Contraction.{AreShortcuts, IsPriority, count_touching};
 ghost use Rattle.ch_contract.specs.LegRows.{AreLegsFrom, AreLegsTo};
 ghost use Rattle.ch_contract.specs.Measures.{IsMeasure};
@@ -75,8 +76,6 @@ impl Remaining {
         ensures list { OnOk result (AreShortcuts self.now.nodes hops (legs_of self.now) v list.new.items) }
         ensures clean { OnOk result (IsClean self.now.nodes (known_of K.cost search.new.known)) }
     {
-        // This call tells the proof that the legs keep the limits.
-        let _ = self.nodes();
         let touching = self.touching(v);
         let judging = Judging {
             remaining: self,
@@ -98,8 +97,6 @@ impl Remaining {
         ensures count { result ≡ count_touching self.now.nodes (legs_of self.now) node }
         ensures small { result ≤ 2 ^ 26 }
     {
-        // This call tells the proof that the legs keep the limits.
-        let _ = self.nodes();
         let legs = self.out_legs(node).len() + self.in_legs(node).len();
         legs as u64
     }
@@ -110,6 +107,8 @@ impl Remaining {
         ensures node { result.node ≡ node }
         ensures up { AreLegsFrom (legs_of self.now) result.node result.up.now }
         ensures down { AreLegsTo (legs_of self.now) result.node result.down.now }
+        ensures count { self.now.nodes ≤ MOST_NODES }
+        ensures limits { AreLegsWithin self.now.nodes (legs_of self.now) }
     {
         Touching {
             node,

@@ -1,5 +1,6 @@
 -- The least place of an entry with the same two nodes as an earlier one.
-use Rattle.std.proofs.Common.{◌≡◌, ℕ, ◌+◌, ◌<◌, ◌≤◌, ◌⊎◌, inl, inr, List, [], length, set, get_or, replicate, Option, refl, sym, ◌∙◌, ap, subst, arith}
+use Rattle.std.proofs.Common.{◌≡◌, ℕ, ◌+◌, ◌<◌, ◌≤◌, ◌⊎◌, inl, inr, List, [], length, set, get_or, replicate, Option, refl, sym}
+use Rattle.std.proofs.Common.{◌∙◌, ap, subst, arith}
 use Rattle.std.specs.Prelude.{AllPairs, Contains, slice_index}
 use Rattle.std.proofs.lemmas.Bool.{cases_eq, cases_lt}
 use Rattle.std.proofs.lemmas.List.{get_or_default, length-set, length-replicate, get_or-set_same, get_or-set_other, get_or-replicate}
@@ -21,7 +22,8 @@ pub lessened_twice : (D E F : ℕ → Type 0) (a b c : Option ℕ) → IsLessene
     ((q : ℕ) → D q → F q) → ((q : ℕ) → E q → F q) → IsLessened F a c
 lessened_twice D E F a b c x y split left right = record {
   is = λ p e. elim (y.is p e) [ inl was ↦ elim (x.is p was) [ inl known ↦ inl known | inr d ↦ inr (left p d) ] | inr d ↦ inr (right p d) ];
-  covers_known = λ q e. (let r = x.covers_known q e in let s = y.covers_known r.0 r.1 in let l = r.2 in let m = s.2 in (s.0, s.1, omega arith));
+  covers_known = λ q e. (let r = x.covers_known q e in let s = y.covers_known r.0 r.1 in let l = r.2 in let m = s.2 in
+      (s.0, s.1, omega arith));
   covers_new = λ q f. elim (split q f) [
     | inl d ↦ (let r = x.covers_new q d in let s = y.covers_known r.0 r.1 in let l = r.2 in let m = s.2 in (s.0, s.1, omega arith))
     | inr d ↦ y.covers_new q d
@@ -30,7 +32,8 @@ lessened_twice D E F a b c x y split left right = record {
 
 -- two neighbours in the row have the same higher node, and the later one has place p
 abbrev pub IsDouble : List Placed → ℕ → Type 0
-IsDouble row p = (i : ℕ) × (d : Placed) × (i + 1 < length row) × ((get_or row i d).higher ≡ (get_or row (i + 1) d).higher) × ((get_or row (i + 1) d).place ≡ p)
+IsDouble row p = (i : ℕ) × (d : Placed) × (i + 1 < length row) × ((get_or row i d).higher ≡ (get_or row (i + 1) d).higher)
+    × ((get_or row (i + 1) d).place ≡ p)
 
 -- a row by higher node, and at equal higher nodes by place
 module _ (row : List Placed) (sorted : AreRising row) where
@@ -76,7 +79,8 @@ module _ (n : ℕ) (entries : List Placed) (rows : List (List Placed)) (sorted :
 -- among the first i entries, the one of place p has the same two nodes as an earlier one
 abbrev pub IsTwinBelow : List Placed → ℕ → ℕ → Type 0
 IsTwinBelow entries i p =
-    (j k : ℕ) × (d : Placed) × (j < k) × (k < i) × (k < length entries) × ((get_or entries j d).lower ≡ (get_or entries k d).lower) × ((get_or entries j d).higher ≡ (get_or entries k d).higher) × ((get_or entries k d).place ≡ p)
+    (j k : ℕ) × (d : Placed) × (j < k) × (k < i) × (k < length entries) × ((get_or entries j d).lower ≡ (get_or entries k d).lower)
+    × ((get_or entries j d).higher ≡ (get_or entries k d).higher) × ((get_or entries k d).place ≡ p)
 
 -- one of the first i entries has these two nodes
 abbrev pub IsMet : List Placed → ℕ → ℕ → ℕ → Type 0
@@ -114,7 +118,8 @@ module _ (n : ℕ) (entries : List Placed) (order : AreInOrder entries) (below :
     -- if the last higher node is that of this entry, an earlier entry has the same two nodes
     pub met_before : slice_index last (get_or entries i e).lower ≡ (get_or entries i e).higher →
         IsMet entries i (get_or entries i e).lower (get_or entries i e).higher
-    met_before same = (let b = nodes in subst (IsMet entries i (get_or entries i e).lower) same (are.met (get_or entries i e).lower b.0 (let h = b.1 in omega arith)))
+    met_before same = (let b = nodes in subst (IsMet entries i (get_or entries i e).lower) same
+        (are.met (get_or entries i e).lower b.0 (let h = b.1 in omega arith)))
 
     -- if the last higher node is another, no earlier entry has both nodes
     pub none_before : (slice_index last (get_or entries i e).lower ≡ (get_or entries i e).higher → ⊥) →
@@ -123,7 +128,8 @@ module _ (n : ℕ) (entries : List Placed) (order : AreInOrder entries) (below :
         let b = nodes in
         let top = are.most (get_or entries i e).lower (get_or entries i e).higher b.0 m in
         let k = are.met (get_or entries i e).lower b.0 top.0 in
-        let fall = never_falls k.0 i k.1 (let lt = k.2 in omega arith) within (k.4 ∙ sym (ap (λ (q : Placed). q.lower) (get_or_default entries i k.1 e within))) in
+        let fall = never_falls k.0 i k.1 (let lt = k.2 in omega arith) within
+        (k.4 ∙ sym (ap (λ (q : Placed). q.lower) (get_or_default entries i k.1 e within))) in
         let here = ap (λ (q : Placed). q.higher) (get_or_default entries i k.1 e within) in
         let high = k.5 in
         let low = top.1 in
@@ -139,52 +145,74 @@ module _ (n : ℕ) (entries : List Placed) (order : AreInOrder entries) (below :
       where
         same_at : (v : ℕ) → v ≡ (get_or entries i e).lower →
             slice_index (set last (get_or entries i e).lower (get_or entries i e).higher) v ≡ (get_or entries i e).higher
-        same_at v is = ap (slice_index (set last (get_or entries i e).lower (get_or entries i e).higher)) is ∙ get_or-set_same last (get_or entries i e).lower (get_or entries i e).higher 0 (let b = nodes in let low = b.0 in omega (arith, are.size, low))
+        same_at v is = ap (slice_index (set last (get_or entries i e).lower (get_or entries i e).higher)) is
+            ∙ get_or-set_same last (get_or entries i e).lower (get_or entries i e).higher 0
+            (let b = nodes in let low = b.0 in omega (arith, are.size, low))
 
         other_at : (v : ℕ) → (v ≡ (get_or entries i e).lower → ⊥) →
             slice_index (set last (get_or entries i e).lower (get_or entries i e).higher) v ≡ slice_index last v
         other_at v ne = get_or-set_other last (get_or entries i e).lower v (get_or entries i e).higher 0 ne
 
-        met : (v : ℕ) → v < n → slice_index (set last (get_or entries i e).lower (get_or entries i e).higher) v < n → (v ≡ (get_or entries i e).lower) ⊎ (v ≡ (get_or entries i e).lower → ⊥) →
+        met : (v : ℕ) → v < n → slice_index (set last (get_or entries i e).lower (get_or entries i e).higher) v < n →
+            (v ≡ (get_or entries i e).lower) ⊎ (v ≡ (get_or entries i e).lower → ⊥) →
             IsMet entries (i + 1) v (slice_index (set last (get_or entries i e).lower (get_or entries i e).higher) v)
         met v lt less (inl is) = (i, e, omega arith, within, sym is, sym (same_at v is))
-        met v lt less (inr ne) = (let at = other_at v ne in let k = are.met v lt (omega arith) in (k.0, k.1, (let low = k.2 in omega arith), k.3, k.4, k.5 ∙ sym at))
+        met v lt less (inr ne) = (let at = other_at v ne in let k = are.met v lt (omega arith) in
+            (k.0, k.1, (let low = k.2 in omega arith), k.3, k.4, k.5 ∙ sym at))
 
         most : (v h : ℕ) → v < n → IsMet entries (i + 1) v h → (v ≡ (get_or entries i e).lower) ⊎ (v ≡ (get_or entries i e).lower → ⊥) →
-            (slice_index (set last (get_or entries i e).lower (get_or entries i e).higher) v < n) × (h ≤ slice_index (set last (get_or entries i e).lower (get_or entries i e).higher) v)
+            (slice_index (set last (get_or entries i e).lower (get_or entries i e).higher) v < n)
+            × (h ≤ slice_index (set last (get_or entries i e).lower (get_or entries i e).higher) v)
         most v h lt m (inl is) =
             let at = same_at v is in
             let b = nodes in
             let high = b.1 in
-            let fall = never_falls m.0 i m.1 (let low = m.2 in omega arith) within (m.4 ∙ is ∙ sym (ap (λ (q : Placed). q.lower) (get_or_default entries i m.1 e within))) in
+            let fall = never_falls m.0 i m.1 (let low = m.2 in omega arith) within
+            (m.4 ∙ is ∙ sym (ap (λ (q : Placed). q.lower) (get_or_default entries i m.1 e within))) in
             let here = ap (λ (q : Placed). q.higher) (get_or_default entries i m.1 e within) in
             let it = m.5 in
             (omega arith, omega arith)
-        most v h lt m (inr ne) = (let at = other_at v ne in let t = are.most v h lt (before m ne) in let a = t.0 in let b = t.1 in (omega arith, omega arith))
+        most v h lt m (inr ne) = (let at = other_at v ne in let t = are.most v h lt (before m ne) in let a = t.0 in let b = t.1 in
+            (omega arith, omega arith))
           where
             before : IsMet entries (i + 1) v h → (v ≡ (get_or entries i e).lower → ⊥) → IsMet entries i v h
             before q ne = elim (cases_lt q.0 i) [
               | inl less ↦ (q.0, q.1, less, q.3, q.4, q.5)
-              | inr ge ↦ absurd (let low = q.2 in let same : q.0 ≡ i = omega arith in ne (sym q.4 ∙ ap (λ k. (get_or entries k q.1).lower) same ∙ ap (λ (z : Placed). z.lower) (get_or_default entries i q.1 e within)))
+              | inr ge ↦ absurd (let low = q.2 in let same : q.0 ≡ i = omega arith in
+                  ne (sym q.4 ∙ ap (λ k. (get_or entries k q.1).lower) same
+                  ∙ ap (λ (z : Placed). z.lower) (get_or_default entries i q.1 e within)))
             ]
 
     -- the least place after an entry that has a twin
     pub twin_met : (a b c : Option ℕ) → IsMet entries i (get_or entries i e).lower (get_or entries i e).higher →
         IsLessened (IsTwinBelow entries i) a b → IsLessened (λ q. q ≡ (get_or entries i e).place) b c →
         IsLessened (IsTwinBelow entries (i + 1)) a c
-    twin_met a b c m p q = lessened_twice (IsTwinBelow entries i) (λ r. r ≡ (get_or entries i e).place) (IsTwinBelow entries (i + 1)) a b c p q
+    twin_met a b c m p q = lessened_twice (IsTwinBelow entries i) (λ r. r ≡ (get_or entries i e).place)
+        (IsTwinBelow entries (i + 1)) a b c p q
         (λ r t. elim (cases_lt t.1 i) [
           | inl less ↦ inl (t.0, t.1, t.2, t.3, less, t.5, t.6, t.7, t.8)
-          | inr ge ↦ (let low = t.4 in let same : t.1 ≡ i = omega arith in inr (sym t.8 ∙ ap (λ (z : Placed). z.place) (ap (λ k. get_or entries k t.2) same ∙ get_or_default entries i t.2 e within)))
+          | inr ge ↦ (let low = t.4 in let same : t.1 ≡ i = omega arith in
+              inr (sym t.8 ∙ ap (λ (z : Placed). z.place) (ap (λ k. get_or entries k t.2) same ∙ get_or_default entries i t.2 e within)))
         ])
         (λ r t. (t.0, t.1, t.2, t.3, (let low = t.4 in omega arith), t.5, t.6, t.7, t.8))
-        (λ r is. (m.0, i, e, m.2, omega arith, within, ap (λ (z : Placed). z.lower) (get_or_default entries m.0 e m.1 m.3) ∙ m.4, ap (λ (z : Placed). z.higher) (get_or_default entries m.0 e m.1 m.3) ∙ m.5, sym is))
+        (λ r is. (
+          m.0,
+          i,
+          e,
+          m.2,
+          omega arith,
+          within,
+          ap (λ (z : Placed). z.lower) (get_or_default entries m.0 e m.1 m.3) ∙ m.4,
+          ap (λ (z : Placed). z.higher) (get_or_default entries m.0 e m.1 m.3) ∙ m.5,
+          sym is,
+        ))
 
     -- the least place after an entry that has no twin
     pub none_more : (a b : Option ℕ) → (IsMet entries i (get_or entries i e).lower (get_or entries i e).higher → ⊥) →
         IsLessened (IsTwinBelow entries i) a b → IsLessened (IsTwinBelow entries (i + 1)) a b
     none_more a b none p = record {
-      is = λ r k. elim (p.is r k) [ inl was ↦ inl was | inr t ↦ inr (t.0, t.1, t.2, t.3, (let low = t.4 in omega arith), t.5, t.6, t.7, t.8) ];
+      is = λ r k. elim (p.is r k)
+          [ inl was ↦ inl was | inr t ↦ inr (t.0, t.1, t.2, t.3, (let low = t.4 in omega arith), t.5, t.6, t.7, t.8) ];
       covers_known = p.covers_known;
       covers_new = λ r t. elim (cases_lt t.1 i) [
         | inl less ↦ p.covers_new r (t.0, t.1, t.2, t.3, less, t.5, t.6, t.7, t.8)
@@ -193,7 +221,15 @@ module _ (n : ℕ) (entries : List Placed) (order : AreInOrder entries) (below :
             let same : t.1 ≡ i = omega arith in
             let here = ap (λ k. get_or entries k t.2) same ∙ get_or_default entries i t.2 e within in
             let first = t.3 in
-            absurd (none (t.0, t.2, omega arith, omega arith, t.6 ∙ ap (λ (z : Placed). z.lower) here, t.7 ∙ ap (λ (z : Placed). z.higher) here)))
+            absurd (none (
+              t.0,
+              t.2,
+              omega arith,
+              omega arith,
+              t.6 ∙ ap (λ (z : Placed). z.lower) here,
+              t.7
+                  ∙ ap (λ (z : Placed). z.higher) here,
+            )))
       ];
     }
 
@@ -246,10 +282,11 @@ module _ (n : ℕ) (entries : List Placed) (order : AreInOrder entries) (below :
                 let hs = t.5 in
                 let ps = t.6 in
                 elim (cases_lt k j) [
-                  | inl less ↦ elim (order k j t.0 less low (ap (λ (z : Placed). z.lower) second ∙ sym t.4 ∙ sym (ap (λ (z : Placed). z.lower) first))) [
-                    | inl rise ↦ omega arith
-                    | inr same ↦ (let later = same.1 in omega arith)
-                  ]
+                  | inl less ↦ elim (order k j t.0 less low (ap (λ (z : Placed). z.lower) second ∙ sym t.4
+                      ∙ sym (ap (λ (z : Placed). z.lower) first))) [
+                        | inl rise ↦ omega arith
+                        | inr same ↦ (let later = same.1 in omega arith)
+                      ]
                   | inr le ↦ (let one : j ≡ k = omega arith in let at = ap (λ q. (get_or entries q t.0).place) one in omega arith)
                 ])
           ]

@@ -1,5 +1,6 @@
 -- The levels that the order of a saved hierarchy gives.
-use Rattle.std.proofs.Common.{◌≡◌, ℕ, ◌+◌, ◌<◌, ◌≤◌, List, length, sym, ◌∙◌, ap, subst, arith, get_or, set, length-set, get_or-set_same, get_or-set_other, inl, inr}
+use Rattle.std.proofs.Common.{◌≡◌, ℕ, ◌+◌, ◌<◌, ◌≤◌, List, length, sym, ◌∙◌, ap, subst, arith, get_or, set, length-set}
+use Rattle.std.proofs.Common.{get_or-set_same, get_or-set_other, inl, inr}
 use Rattle.std.proofs.lemmas.Bool.{cases_eq, cases_lt}
 use Rattle.ch_hierarchy.specs.Saved.{IsOrderOf, AreLevelsOf}
 
@@ -11,14 +12,19 @@ pub record HasLevels (n : ℕ) (order levels : List ℕ) (i : ℕ) : Type 0 wher
   pub marked : (v : ℕ) → 0 < get_or levels v 0 → (j : ℕ) × (j < i) × (get_or order j 0 ≡ v)
 
 -- one more node gets its level
-pub one_level : (n : ℕ) (order levels : List ℕ) (i : ℕ) → HasLevels n order levels i → get_or order i 0 < n → get_or levels (get_or order i 0) 0 ≡ 0 →
+pub one_level : (n : ℕ) (order levels : List ℕ) (i : ℕ) → HasLevels n order levels i → get_or order i 0 < n →
+    get_or levels (get_or order i 0) 0 ≡ 0 →
     HasLevels n order (set levels (get_or order i 0) (i + 1)) (i + 1)
 one_level n order levels i h lt free =
     let v = get_or order i 0 in
     let here : get_or (set levels v (i + 1)) v 0 ≡ i + 1 = get_or-set_same levels v (i + 1) 0 (subst (λ k. v < k) (sym h.size) lt) in
     record {
       size = length-set levels v (i + 1) ∙ h.size;
-      within = λ j less. elim (cases_lt j i) [ inl before ↦ h.within j before | inr ge ↦ (let same : i ≡ j = omega arith in subst (λ k. get_or order k 0 < n) same lt) ];
+      within = λ j less. elim (cases_lt j i) [
+        | inl before ↦ h.within j before
+        | inr ge ↦
+            (let same : i ≡ j = omega arith in subst (λ k. get_or order k 0 < n) same lt)
+      ];
       each = λ j less. elim (cases_lt j i) [
         | inl before ↦ elim (cases_eq (get_or order j 0) v) [
           | inl same ↦ absurd (let e = h.each j before in let f = ap (λ k. get_or levels k 0) same in omega arith)
@@ -51,7 +57,8 @@ all_levels n order levels i h count end = (
   record {
     count = count;
     within = λ j lt. h.within j (omega arith);
-    distinct = λ j k less lt same. let a = h.each j (omega arith) in let b = h.each k (omega arith) in let e = ap (λ x. get_or levels x 0) same in omega arith;
+    distinct = λ j k less lt same. let a = h.each j (omega arith) in let b = h.each k (omega arith) in
+        let e = ap (λ x. get_or levels x 0) same in omega arith;
   },
   record { count = h.size ∙ sym count; each = λ j lt. h.each j (omega arith) },
 )

@@ -1,5 +1,6 @@
 -- The first leg whose pair of nodes is faulty.
-use Rattle.std.proofs.Common.{◌≡◌, ℕ, ◌+◌, ◌<◌, ◌≤◌, ◌⊎◌, inl, inr, List, [], ◌∷◌, length, take, get_or, Contains, Option, Some, None, refl, sym, ◌∙◌, ap, subst, arith}
+use Rattle.std.proofs.Common.{◌≡◌, ℕ, ◌+◌, ◌<◌, ◌≤◌, ◌⊎◌, inl, inr, List, [], ◌∷◌, length, take, get_or, Contains, Option, Some}
+use Rattle.std.proofs.Common.{None, refl, sym, ◌∙◌, ap, subst, arith}
 use Rattle.std.specs.Prelude.{AllPairs, slice_get, slice_index, unwrap_or, MatchOption}
 use Rattle.std.proofs.lemmas.Bool.{cases_eq, cases_lt}
 use Rattle.std.proofs.lemmas.Option.{none-some, same_Some, slice_get-get_or, slice_get_within, get_or_from_slice_get}
@@ -41,14 +42,20 @@ module _ (low high : SavedLeg → ℕ) (levels : List ℕ) (legs : List SavedLeg
 
   -- the entries of one more leg
   pub placed_more : (i : ℕ) (old new : List Placed) → ArePlacedBefore low high levels legs i old → i < length legs →
-      IsPushedWhereUp levels (record { lower = low (get_or legs i no_saved_leg); higher = high (get_or legs i no_saved_leg); place = i }) old new → ArePlacedBefore low high levels legs (i + 1) new
+      IsPushedWhereUp levels (record {
+        lower = low (get_or legs i no_saved_leg);
+        higher = high (get_or legs i no_saved_leg);
+        place =
+            i;
+      }) old new → ArePlacedBefore low high levels legs (i + 1) new
   placed_more i old new p lt (inl up) =
       let x : Placed = record { lower = low (get_or legs i no_saved_leg); higher = high (get_or legs i no_saved_leg); place = i } in
       record {
         sound = λ e h. elim (Contains-append_cases old (x ∷ []) e (subst (λ q. Contains q e) up.1 h)) [
           | inl here ↦ (let s = p.sound e here in let less = s.1 in (s.0, omega arith))
           | inr there ↦ elim (contains_cons x e [] there) [
-            | inl is ↦ subst (λ (q : Placed). IsPlacedBy low high levels legs q × (q.place < i + 1)) is ((lt, refl, refl, up.0), omega arith)
+            | inl is ↦ subst (λ (q : Placed). IsPlacedBy low high levels legs q × (q.place < i + 1)) is
+                ((lt, refl, refl, up.0), omega arith)
             | inr none ↦ absurd (contains_none e none)
           ]
         ];
@@ -56,15 +63,18 @@ module _ (low high : SavedLeg → ℕ) (levels : List ℕ) (legs : List SavedLeg
           | inl same ↦ Contains-append_right old (x ∷ []) e (subst (Contains (x ∷ [])) (same_entry e i is same) (contains_head x []))
           | inr apart ↦ Contains-append_left old (x ∷ []) e (p.whole e is (omega arith))
         ]);
-        order = subst (AllPairs IsEarlier) (sym up.1) (pairs_append IsEarlier old (x ∷ []) p.order (λ j k d less within. absurd (omega arith)) (λ a b ha hb. elim (contains_cons x b [] hb) [
-          | inl is ↦ (let s = (p.sound a ha).1 in subst (λ (q : Placed). a.place < q.place) is s)
-          | inr none ↦ absurd (contains_none b none)
-        ]));
+        order = subst (AllPairs IsEarlier) (sym up.1)
+            (pairs_append IsEarlier old (x ∷ []) p.order (λ j k d less within. absurd (omega arith))
+            (λ a b ha hb. elim (contains_cons x b [] hb) [
+              | inl is ↦ (let s = (p.sound a ha).1 in subst (λ (q : Placed). a.place < q.place) is s)
+              | inr none ↦ absurd (contains_none b none)
+            ]));
       }
   placed_more i old new p lt (inr level) = record {
     sound = λ e h. (let s = p.sound e (subst (λ q. Contains q e) level.1 h) in let less = s.1 in (s.0, omega arith));
     whole = λ e is less. subst (λ q. Contains q e) (sym level.1) (elim (cases_eq e.place i) [
-      | inl same ↦ absurd (let up = subst (λ (q : Placed). slice_index levels q.lower < slice_index levels q.higher) (sym (same_entry e i is same)) is.3 in let not = level.0 in omega arith)
+      | inl same ↦ absurd (let up = subst (λ (q : Placed). slice_index levels q.lower < slice_index levels q.higher)
+          (sym (same_entry e i is same)) is.3 in let not = level.0 in omega arith)
       | inr apart ↦ p.whole e is (omega arith)
     ]);
     order = subst (AllPairs IsEarlier) (sym level.1) p.order;
@@ -90,7 +100,8 @@ module _ (low high : SavedLeg → ℕ) (levels : List ℕ) (legs : List SavedLeg
 
   -- a twin has the two nodes of an earlier leg
   pub twin_legs : (entries : List Placed) → ArePlaced low high levels legs entries → (p : ℕ) → IsTwin entries p →
-      (i : ℕ) × (i < p) × (p < length legs) × (low (get_or legs i no_saved_leg) ≡ low (get_or legs p no_saved_leg)) × (high (get_or legs i no_saved_leg) ≡ high (get_or legs p no_saved_leg))
+      (i : ℕ) × (i < p) × (p < length legs) × (low (get_or legs i no_saved_leg) ≡ low (get_or legs p no_saved_leg))
+      × (high (get_or legs i no_saved_leg) ≡ high (get_or legs p no_saved_leg))
   twin_legs entries placed p t =
       let a = (placed t.0).0 t.2 in
       let b = (placed t.1).0 t.3 in
@@ -105,15 +116,18 @@ module _ (low high : SavedLeg → ℕ) (levels : List ℕ) (legs : List SavedLeg
 
   -- two legs that go up between the same two nodes are a twin
   pub legs_twin : (entries : List Placed) → ArePlaced low high levels legs entries → (i j : ℕ) → i < j → j < length legs →
-      low (get_or legs i no_saved_leg) ≡ low (get_or legs j no_saved_leg) → high (get_or legs i no_saved_leg) ≡ high (get_or legs j no_saved_leg) →
+      low (get_or legs i no_saved_leg) ≡ low (get_or legs j no_saved_leg) →
+      high (get_or legs i no_saved_leg) ≡ high (get_or legs j no_saved_leg) →
       slice_index levels (low (get_or legs j no_saved_leg)) < slice_index levels (high (get_or legs j no_saved_leg)) → IsTwin entries j
   legs_twin entries placed i j lt within lower higher up =
       let a : Placed = record { lower = low (get_or legs j no_saved_leg); higher = high (get_or legs j no_saved_leg); place = i } in
       let b : Placed = record { lower = low (get_or legs j no_saved_leg); higher = high (get_or legs j no_saved_leg); place = j } in
       (a, b, (placed a).1 (omega arith, sym lower, sym higher, up), (placed b).1 (within, refl, refl, up), refl, refl, lt, refl)
 
-module _ (n : ℕ) (order levels : List ℕ) (is : IsOrderOf n order) (are : AreLevelsOf order levels) (legs : List SavedLeg) (ups downs : List Placed)
-    (joins : (l : SavedLeg) → Contains legs l → JoinsNodes n l) (up : ArePlaced from_of to_of levels legs ups) (down : ArePlaced to_of from_of levels legs downs) where
+module _ (n : ℕ) (order levels : List ℕ) (is : IsOrderOf n order) (are : AreLevelsOf order levels) (legs : List SavedLeg)
+    (ups downs : List Placed)
+    (joins : (l : SavedLeg) → Contains legs l → JoinsNodes n l) (up : ArePlaced from_of to_of levels legs ups)
+    (down : ArePlaced to_of from_of levels legs downs) where
   -- a leg whose pair occurred before is a twin
   pub stood_twin : (i j : ℕ) → i < j → j < length legs → IsSamePair (get_or legs i no_saved_leg) (get_or legs j no_saved_leg) →
       IsTwin ups j ⊎ IsTwin downs j
@@ -130,7 +144,8 @@ module _ (n : ℕ) (order levels : List ℕ) (is : IsOrderOf n order) (are : Are
   pairs_once none i j d lt within same =
       let first = get_or_default legs i d no_saved_leg (omega arith) in
       let second = get_or_default legs j d no_saved_leg within in
-      none j (stood_twin i j lt within (subst (λ (q : SavedLeg). IsSamePair q (get_or legs j no_saved_leg)) first (subst (IsSamePair (get_or legs i d)) second same)))
+      none j (stood_twin i j lt within (subst (λ (q : SavedLeg). IsSamePair q (get_or legs j no_saved_leg)) first
+      (subst (IsSamePair (get_or legs i d)) second same)))
 
 -- the first i legs
 module _ (legs : List SavedLeg) (end : ℕ) (within : end ≤ length legs) where
@@ -147,13 +162,17 @@ module _ (legs : List SavedLeg) (end : ℕ) (within : end ≤ length legs) where
 
   -- a twin among them has a faulty pair
   twin_fault : (n : ℕ) (p : ℕ) →
-      (i : ℕ) × (i < p) × (p < length (take end legs)) × IsSamePair (get_or (take end legs) i no_saved_leg) (get_or (take end legs) p no_saved_leg) →
+      (i : ℕ) × (i < p) × (p < length (take end legs))
+      × IsSamePair (get_or (take end legs) i no_saved_leg) (get_or (take end legs) p no_saved_leg) →
       HasPairFault n legs p
   twin_fault n p t =
       let size = fair_length in
       let less = t.1 in
-      let inside = t.2 in
-      (get_or (take end legs) p no_saved_leg, fair_at p (omega arith), inr (t.0, get_or (take end legs) t.0 no_saved_leg, less, fair_at t.0 (omega arith), t.3))
+      let inside = t.2 in (
+        get_or (take end legs) p no_saved_leg,
+        fair_at p (omega arith),
+        inr (t.0, get_or (take end legs) t.0 no_saved_leg, less, fair_at t.0 (omega arith), t.3),
+      )
 
 -- the first legs join nodes, and the next one, if there is one, does not
 abbrev pub EndsAt : ℕ → List SavedLeg → Option ℕ → Type 0
@@ -201,7 +220,8 @@ module _ (n : ℕ) (legs : List SavedLeg) where
   all_fair (Some k) first e = absurd (none-some k (sym e))
 
 -- the least place of a leg that does not join nodes, or of a twin in either direction
-module _ (n : ℕ) (order levels : List ℕ) (is : IsOrderOf n order) (are : AreLevelsOf order levels) (legs : List SavedLeg) (faulty first least : Option ℕ) (ends : EndsAt n legs faulty)
+module _ (n : ℕ) (order levels : List ℕ) (is : IsOrderOf n order) (are : AreLevelsOf order levels) (legs : List SavedLeg)
+    (faulty first least : Option ℕ) (ends : EndsAt n legs faulty)
     (fair : List SavedLeg) (fair_is : fair ≡ take (unwrap_or faulty (length legs)) legs) (ups downs : List Placed)
     (up : ArePlaced from_of to_of levels fair ups) (down : ArePlaced to_of from_of levels fair downs)
     (a : IsLessened (IsTwin ups) faulty first) (b : IsLessened (IsTwin downs) first least) where
@@ -262,8 +282,10 @@ module _ (n : ℕ) (order levels : List ℕ) (is : IsOrderOf n order) (are : Are
         let low = at_fair legs (unwrap_or faulty (length legs)) within stood.0 stood.1 (omega arith) stood.3 in
         let high = at_fair legs (unwrap_or faulty (length legs)) within j l lt at in
         let size = fair_length legs (unwrap_or faulty (length legs)) within in
-        covers_twin j (stood_twin n order levels is are (take (unwrap_or faulty (length legs)) legs) ups downs (fair_join n legs faulty ends) up_there down_there stood.0 j fore (omega arith)
-        (subst (λ (q : SavedLeg). IsSamePair q (get_or (take (unwrap_or faulty (length legs)) legs) j no_saved_leg)) (sym low) (subst (IsSamePair stood.1) (sym high) stood.4)))
+        covers_twin j (stood_twin n order levels is are (take (unwrap_or faulty (length legs)) legs) ups downs
+        (fair_join n legs faulty ends) up_there down_there stood.0 j fore (omega arith)
+        (subst (λ (q : SavedLeg). IsSamePair q (get_or (take (unwrap_or faulty (length legs)) legs) j no_saved_leg)) (sym low)
+        (subst (IsSamePair stood.1) (sym high) stood.4)))
     | inr ge ↦
         let k = past_end n legs faulty j (slice_get_within legs j l at) ge in
         let c = covers_end k.0 k.1 in
@@ -286,8 +308,18 @@ module _ (n : ℕ) (order levels : List ℕ) (is : IsOrderOf n order) (are : Are
       let all = all_fair n legs faulty ends no_end in
       record {
         joins = all.0;
-        up = record { placed = subst (λ q. ArePlaced from_of to_of levels q ups) all.1 up_there; order = x; single = λ p t. never p (covers_twin p (inl t)) };
-        down = record { placed = subst (λ q. ArePlaced to_of from_of levels q downs) all.1 down_there; order = y; single = λ p t. never p (covers_twin p (inr t)) };
+        up = record {
+          placed = subst (λ q. ArePlaced from_of to_of levels q ups) all.1 up_there;
+          order = x;
+          single =
+              λ p t. never p (covers_twin p (inl t));
+        };
+        down = record {
+          placed = subst (λ q. ArePlaced to_of from_of levels q downs) all.1 down_there;
+          order = y;
+          single =
+              λ p t. never p (covers_twin p (inr t));
+        };
       }
     where
       never : (q : ℕ) → (p : ℕ) × (least ≡ Some p) × (p ≤ q) → ⊥
@@ -303,11 +335,14 @@ pub no_pair_fault : (n : ℕ) (order levels : List ℕ) → IsOrderOf n order �
 no_pair_fault n order levels is are legs ups downs pairs i (l, at, inl bad) =
     bad (pairs.joins l (i, slice_get_within legs i l at, get_or_from_slice_get legs i l l at))
 no_pair_fault n order levels is are legs ups downs pairs i (l, at, inr (j, k, less, there, same)) =
-    pairs_once n order levels is are legs ups downs pairs.joins pairs.up.placed pairs.down.placed (λ p t. elim t [ inl up ↦ pairs.up.single p up | inr down ↦ pairs.down.single p down ]) j i l less (slice_get_within legs i l at)
-    (subst (λ (q : SavedLeg). IsSamePair q (get_or legs i l)) (sym (get_or_from_slice_get legs j k l there)) (subst (IsSamePair k) (sym (get_or_from_slice_get legs i l l at)) same))
+    pairs_once n order levels is are legs ups downs pairs.joins pairs.up.placed pairs.down.placed
+    (λ p t. elim t [ inl up ↦ pairs.up.single p up | inr down ↦ pairs.down.single p down ]) j i l less (slice_get_within legs i l at)
+    (subst (λ (q : SavedLeg). IsSamePair q (get_or legs i l)) (sym (get_or_from_slice_get legs j k l there))
+    (subst (IsSamePair k) (sym (get_or_from_slice_get legs i l l at)) same))
 
 -- the entries of pairs are within the nodes and the list
-pub side_below : (n : ℕ) (low high : SavedLeg → ℕ) (levels : List ℕ) (legs : List SavedLeg) (entries : List Placed) → IsSide low high levels legs entries → ((l : SavedLeg) → Contains legs l → (low l < n) × (high l < n)) →
+pub side_below : (n : ℕ) (low high : SavedLeg → ℕ) (levels : List ℕ) (legs : List SavedLeg) (entries : List Placed) →
+    IsSide low high levels legs entries → ((l : SavedLeg) → Contains legs l → (low l < n) × (high l < n)) →
     (e : Placed) → Contains entries e → (e.lower < n) × (e.place < length legs)
 side_below n low high levels legs entries side ends e h =
     ((placed_below low high levels legs n entries side.placed ends e h).0, ((side.placed e).0 h).0)

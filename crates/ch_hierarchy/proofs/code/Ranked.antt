@@ -1,5 +1,6 @@
 -- Nodes by rank, and legs by rank.
-use Rattle.std.proofs.Common.{◌≡◌, ℕ, ◌+◌, ◌-◌, ◌*◌, ◌<◌, ◌≤◌, List, [], ◌∷◌, ◌++◌, length, map, set, get_or, Contains, sym, ◌∙◌, ap, subst, arith, inl, inr}
+use Rattle.std.proofs.Common.{◌≡◌, ℕ, ◌+◌, ◌-◌, ◌*◌, ◌<◌, ◌≤◌, List, [], ◌∷◌, ◌++◌, length, map, set, get_or, Contains, sym, ◌∙◌}
+use Rattle.std.proofs.Common.{ap, subst, arith, inl, inr}
 use Rattle.std.specs.Prelude.{slice_index}
 use Rattle.std.proofs.lemmas.Bool.{cases_lt}
 use Rattle.std.proofs.lemmas.List.{length-set, length_push, get_or-set_same, get_or-set_other, get_or_append_left, get_or_push}
@@ -48,7 +49,8 @@ module _ (levels : List ℕ) (are : AreLevels levels) where
   one_by_rank nodes k has lt = record {
     count = length-set nodes (rank_in levels k) k ∙ has.count;
     each = λ v less. elim (cases_lt v k) [
-      | inl before ↦ get_or-set_other nodes (rank_in levels k) (rank_in levels v) k 0 (λ same. ranks_apart v k before lt same) ∙ has.each v before
+      | inl before ↦ get_or-set_other nodes (rank_in levels k) (rank_in levels v) k 0 (λ same. ranks_apart v k before lt same)
+          ∙ has.each v before
       | inr ge ↦
           let here : k ≡ v = omega arith in
           subst (λ w. slice_index (set nodes (rank_in levels k) k) (rank_in levels w) ≡ w) here
@@ -87,15 +89,8 @@ module _ (H : LevelsAndLegs) (is : IsLevelled H) where
       let up = All-contains (IsLegUp H v) (row rows v) l (are.1 v).1 has in
       (up.node, (is.levels.0 l.node 0 up.node).1, up.arcs)
 
--- without nodes there are no rows
-pub no_ranked_rows : (levels : List ℕ) (ups downs : List (List Leg)) → AreRankedRows levels [] ups downs []
-no_ranked_rows levels ups downs = record {
-  count = omega arith;
-  up = λ r lt. absurd (omega arith);
-  down = λ r lt. absurd (omega arith);
-}
-
-module _ (levels nodes : List ℕ) (ups downs : List (List Leg)) (rows : List (List RankedLeg)) (v : ℕ) (a b : List RankedLeg) (are : AreRankedRows levels nodes ups downs rows) where
+module _ (levels nodes : List ℕ) (ups downs : List (List Leg)) (rows : List (List RankedLeg)) (v : ℕ) (a b : List RankedLeg)
+    (are : AreRankedRows levels nodes ups downs rows) where
   abbrev both : List (List RankedLeg)
   both = (rows ++ a ∷ []) ++ b ∷ []
 
@@ -115,15 +110,19 @@ module _ (levels nodes : List ℕ) (ups downs : List (List Leg)) (rows : List (L
       record {
         count = omega arith;
         up = λ r lt. elim (cases_lt r (length nodes)) [
-          | inl less ↦ old (2 * r) (omega arith) ∙ are.up r less ∙ ap (λ w. map (ranked_in levels) (row ups w)) (sym (get_or_append_left nodes (v ∷ []) 0 r less))
+          | inl less ↦ old (2 * r) (omega arith) ∙ are.up r less
+              ∙ ap (λ w. map (ranked_in levels) (row ups w)) (sym (get_or_append_left nodes (v ∷ []) 0 r less))
           | inr ge ↦
               let here : length nodes ≡ r = omega arith in
-              get_or_append_left (rows ++ a ∷ []) (b ∷ []) [] (2 * r) (omega arith) ∙ get_or_push rows a [] (2 * r) (omega arith) ∙ up ∙ ap (λ w. map (ranked_in levels) (row ups w)) (sym (get_or_push nodes v 0 r here))
+              get_or_append_left (rows ++ a ∷ []) (b ∷ []) [] (2 * r) (omega arith) ∙ get_or_push rows a [] (2 * r) (omega arith)
+              ∙ up ∙ ap (λ w. map (ranked_in levels) (row ups w)) (sym (get_or_push nodes v 0 r here))
         ];
         down = λ r lt. elim (cases_lt r (length nodes)) [
-          | inl less ↦ old (2 * r + 1) (omega arith) ∙ are.down r less ∙ ap (λ w. map (ranked_in levels) (row downs w)) (sym (get_or_append_left nodes (v ∷ []) 0 r less))
+          | inl less ↦ old (2 * r + 1) (omega arith) ∙ are.down r less
+              ∙ ap (λ w. map (ranked_in levels) (row downs w)) (sym (get_or_append_left nodes (v ∷ []) 0 r less))
           | inr ge ↦
               let here : length nodes ≡ r = omega arith in
-              get_or_push (rows ++ a ∷ []) b [] (2 * r + 1) (omega arith) ∙ down ∙ ap (λ w. map (ranked_in levels) (row downs w)) (sym (get_or_push nodes v 0 r here))
+              get_or_push (rows ++ a ∷ []) b [] (2 * r + 1) (omega arith) ∙ down
+              ∙ ap (λ w. map (ranked_in levels) (row downs w)) (sym (get_or_push nodes v 0 r here))
         ];
       }

@@ -83,7 +83,8 @@ same_arc_decided a b = elim (cases_eq a.from b.from) [
 
 -- whether an arc is in the list is decided
 pub contains_arc_decided : (arcs : List InArc) (a : InArc) → Decided (Contains arcs a)
-contains_arc_decided arcs a = decided_same (HasOne (λ x. x ≡ a) arcs) (Contains arcs a) (λ h. subst (Contains arcs) h.2 h.1) (λ h. (a, h, refl)) (one_decided (λ x. x ≡ a) (λ x. same_arc_decided x a) arcs)
+contains_arc_decided arcs a = decided_same (HasOne (λ x. x ≡ a) arcs) (Contains arcs a) (λ h. subst (Contains arcs) h.2 h.1)
+    (λ h. (a, h, refl)) (one_decided (λ x. x ≡ a) (λ x. same_arc_decided x a) arcs)
 
 -- whether two costs are equal is decided
 pub same_cost_decided : (a b : Cost) → Decided (a ≡ b)

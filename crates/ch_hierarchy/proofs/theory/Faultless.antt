@@ -18,7 +18,8 @@ use Rattle.ch_hierarchy.specs.Kept.{IsLeg, IsFounded, HasLegWithin, MeetsWithin,
 use Rattle.ch_hierarchy.specs.Placing.{no_saved_leg}
 use Rattle.ch_hierarchy.specs.Rows.{row}
 use Rattle.ch_hierarchy.specs.Saved.{IsOrderOf, NamesHierarchy, NamesFor, NamesKept, JoinsNodes, IsWithinBounds, IsSamePair, IsFaultless}
-use Rattle.ch_hierarchy.proofs.theory.Decided.{Decided, so_if_decided, decided_same, decided_both, decided_either, HasOne, one_decided, contains_arc_decided, same_cost_decided, at_most_decided}
+use Rattle.ch_hierarchy.proofs.theory.Decided.{Decided, so_if_decided, decided_same, decided_both, decided_either, HasOne}
+use Rattle.ch_hierarchy.proofs.theory.Decided.{one_decided, contains_arc_decided, same_cost_decided, at_most_decided}
 use Rattle.ch_hierarchy.proofs.theory.LeastUpward.{meets_decided}
 use Rattle.ch_hierarchy.proofs.theory.NamedByLegs.{named_there}
 use Rattle.ch_hierarchy.proofs.theory.SavedLevels.{in_row_below}
@@ -51,7 +52,8 @@ module _ (g : Network) (H : LevelsAndLegs) where
       (λ (a, ha, (from, (b, hb, (to, sum)))). (a, b, ha, from, hb, to, sum))
       (λ (a, b, ha, from, hb, to, sum). (a, ha, (from, (b, hb, (to, sum)))))
       (one_decided (BeginsSum v u w c) (λ a. decided_both _ _ (cases_eq a.node u)
-      (one_decided (Completes w c a.cost) (λ b. decided_both _ _ (cases_eq b.node w) (same_cost_decided c (cost_sum a.cost b.cost))) (row H.up v))) (row H.down v))
+      (one_decided (Completes w c a.cost) (λ b. decided_both _ _ (cases_eq b.node w) (same_cost_decided c (cost_sum a.cost b.cost)))
+      (row H.up v))) (row H.down v))
 
   -- the leg of a row leads to this node and costs at most this
   abbrev IsWithin : ℕ → Cost → Leg → Type 0
@@ -63,15 +65,18 @@ module _ (g : Network) (H : LevelsAndLegs) where
   -- whether an arc has a leg that costs no more is decided
   leg_within_decided : (a : InArc) → Decided (HasLegWithin H a)
   leg_within_decided a =
-      decided_same (HasOne (IsWithin a.to (arc_cost a)) (row H.up a.from) ⊎ HasOne (IsWithin a.from (arc_cost a)) (row H.down a.to)) (HasLegWithin H a) there back
+      decided_same (HasOne (IsWithin a.to (arc_cost a)) (row H.up a.from) ⊎ HasOne (IsWithin a.from (arc_cost a)) (row H.down a.to))
+      (HasLegWithin H a) there back
       (decided_either _ _ (one_decided (IsWithin a.to (arc_cost a)) (within_decided a.to (arc_cost a)) (row H.up a.from))
       (one_decided (IsWithin a.from (arc_cost a)) (within_decided a.from (arc_cost a)) (row H.down a.to)))
     where
-      there : HasOne (IsWithin a.to (arc_cost a)) (row H.up a.from) ⊎ HasOne (IsWithin a.from (arc_cost a)) (row H.down a.to) → HasLegWithin H a
+      there : HasOne (IsWithin a.to (arc_cost a)) (row H.up a.from) ⊎ HasOne (IsWithin a.from (arc_cost a)) (row H.down a.to) →
+          HasLegWithin H a
       there (inl (l, has, (node, le))) = (l.cost, l.middle, (l, refl, refl, inl (has, node)), le)
       there (inr (l, has, (node, le))) = (l.cost, l.middle, (l, refl, refl, inr (has, node)), le)
 
-      back : HasLegWithin H a → HasOne (IsWithin a.to (arc_cost a)) (row H.up a.from) ⊎ HasOne (IsWithin a.from (arc_cost a)) (row H.down a.to)
+      back : HasLegWithin H a →
+          HasOne (IsWithin a.to (arc_cost a)) (row H.up a.from) ⊎ HasOne (IsWithin a.from (arc_cost a)) (row H.down a.to)
       back (c, m, (l, cost, middle, inl (has, node)), le) = inl (l, has, (node, subst (λ q. IsAtMost q (arc_cost a)) (sym cost) le))
       back (c, m, (l, cost, middle, inr (has, node)), le) = inr (l, has, (node, subst (λ q. IsAtMost q (arc_cost a)) (sym cost) le))
 
@@ -104,8 +109,11 @@ module _ (g : Network) (s : OrderAndLegs) (limits : IsWithinLimits g) (none : Is
   -- no two legs have the same ends
   once_right : (i j : ℕ) → i < j → j < length s.legs → IsSamePair (get_or s.legs i no_saved_leg) (get_or s.legs j no_saved_leg) → ⊥
   once_right i j less lt same =
-      none (Pair j)
-      (get_or s.legs j no_saved_leg, slice_get-get_or s.legs j no_saved_leg lt, inr (i, get_or s.legs i no_saved_leg, less, slice_get-get_or s.legs i no_saved_leg (omega arith), same))
+      none (Pair j) (
+        get_or s.legs j no_saved_leg,
+        slice_get-get_or s.legs j no_saved_leg lt,
+        inr (i, get_or s.legs i no_saved_leg, less, slice_get-get_or s.legs i no_saved_leg (omega arith), same),
+      )
 
   -- each leg is within the bounds
   bounds_right : (l : SavedLeg) → Contains s.legs l → IsWithinBounds g.nodes l
@@ -120,11 +128,13 @@ module _ (g : Network) (s : OrderAndLegs) (limits : IsWithinLimits g) (none : Is
   module _ (H : LevelsAndLegs) (names : NamesFor g s H) where
     -- each leg is what its middle says
     founded_right : (u w : ℕ) (c : Cost) (m : Option ℕ) → IsLeg H u w c m → IsFounded g H u w c m
-    founded_right u w c m leg = so_if_decided (IsFounded g H u w c m) (founded_decided g H u w c m) (λ bad. fault m bad ((names.0.legs u w c m).0 leg))
+    founded_right u w c m leg = so_if_decided (IsFounded g H u w c m) (founded_decided g H u w c m)
+        (λ bad. fault m bad ((names.0.legs u w c m).0 leg))
       where
         fault : (m : Option ℕ) → (IsFounded g H u w c m → ⊥) → Contains s.legs (record { from = u; to = w; cost = c; middle = m }) → ⊥
         fault None bad h = none (Base h.0) (record { from = u; to = w; cost = c; middle = None }, refl, (stands _ h, (H, names.0, bad)))
-        fault (Some v) bad h = none (Middle h.0) (record { from = u; to = w; cost = c; middle = Some v }, v, refl, (stands _ h, (H, names.0, bad)))
+        fault (Some v) bad h = none (Middle h.0)
+            (record { from = u; to = w; cost = c; middle = Some v }, v, refl, (stands _ h, (H, names.0, bad)))
 
     -- each arc that is no loop has a leg that costs no more
     arcs_right : (a : InArc) → Contains g.arcs a → a.from ≢ a.to → HasLegWithin H a
@@ -136,7 +146,8 @@ module _ (g : Network) (s : OrderAndLegs) (limits : IsWithinLimits g) (none : Is
     covered_right : (v : ℕ) → IsCovered H v
     covered_right v = elim (cases_lt v g.nodes) [
       | inl lt ↦ so_covered g H names.0.levelled v (λ bad. none (Lower v) (lt, (H, names.0, bad)))
-      | inr ge ↦ λ a b ha hb apart. absurd (let inside = in_row_below H.down (nodes_of H) v a names.0.levelled.down.0 ha in let same = names.1 in omega arith)
+      | inr ge ↦ λ a b ha hb apart. absurd (let inside = in_row_below H.down (nodes_of H) v a names.0.levelled.down.0 ha in
+          let same = names.1 in omega arith)
     ]
 
     -- the hierarchy is right for the graph

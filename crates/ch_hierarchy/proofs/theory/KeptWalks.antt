@@ -10,7 +10,8 @@ use Rattle.ch_graph.specs.Walk.{IsWalk, cost_of, IsDistance, IsLeast, IsUnreacha
 use Rattle.ch_graph.specs.WalkLaws.{IsWalkCost}
 use Rattle.ch_graph.proofs.CostOrder.{IsAtMost_refl, IsBelow-IsAtMost}
 use Rattle.ch_graph.proofs.CostSums.{IsAtMost-cost_sum, cost_sum_assoc, cost_sum_comm}
-use Rattle.ch_graph.proofs.WalkCosts.{IsAtMost_between, cost_of-cons, IsBelow-cons, IsWalkCost-cost_sum, IsLeast-IsAtMost, IsLeast-again, IsLeast-front, IsLeast-back}
+use Rattle.ch_graph.proofs.WalkCosts.{IsAtMost_between, cost_of-cons, IsBelow-cons, IsWalkCost-cost_sum, IsLeast-IsAtMost}
+use Rattle.ch_graph.proofs.WalkCosts.{IsLeast-again, IsLeast-front, IsLeast-back}
 use Rattle.ch_graph.proofs.SimpleWalks.{IsLeast-weight}
 use Rattle.ch_graph.proofs.LeastSearch.{IsLeast-decided, IsLeast-IsDistance, IsDistance-IsLeast}
 use Rattle.ch_hierarchy.specs.declared.leg.Leg.{Leg}
@@ -57,7 +58,8 @@ module _ (g : Network) (H : LevelsAndLegs) (limits : IsWithinLimits g) (kept : I
   kept_has_walks = record {
     rises = rises g H kept;
     falls = falls g H kept;
-    meets = λ s t c l. let p = walk_matched s t c l.walk in (p.node, p.ups, p.downs, p.rise, p.fall, p.cheap, IsLeast-weight g s t c limits l);
+    meets = λ s t c l. let p = walk_matched s t c l.walk in
+        (p.node, p.ups, p.downs, p.rise, p.fall, p.cheap, IsLeast-weight g s t c limits l);
     decided = IsLeast-decided g;
   }
 
@@ -75,14 +77,16 @@ module _ (g : Network) (H : LevelsAndLegs) (limits : IsWithinLimits g) (kept : I
       let first = rises g H kept s x legs h.rise.0 in
       let rest = IsWalkCost-cost_sum g x h.m t _ _ (rises g H kept x h.m h.onward h.rise.1) (falls g H kept t h.m h.downs h.fall) in
       let order = cost_sum_assoc (path_cost legs) (path_cost h.onward) (path_cost h.downs) in
-      let same = IsLeast-again g s t h.cost _ h.least (IsWalkCost-cost_sum g s x t _ _ first rest) (subst (λ q. IsAtMost q h.cost) order h.cheap) in
+      let same = IsLeast-again g s t h.cost _ h.least (IsWalkCost-cost_sum g s x t _ _ first rest)
+      (subst (λ q. IsAtMost q h.cost) order h.cheap) in
       let least = IsLeast-front g s x t _ _ (subst (IsLeast g s t) (sym same) h.least) first rest in
       (least_up s x legs h.rise.0 least, least)
 
 module _ (g : Network) (H : LevelsAndLegs) (limits : IsWithinLimits g) (kept : IsKept g H) where
   -- the same along the down rows
   least_down : (a b : ℕ) (legs : List Leg) → IsUpwardPath H.down a b legs → IsLeast g b a (path_cost legs) → IsDown H b a (path_cost legs)
-  least_down a b legs p l = least_up (turned_graph g) (turned_hierarchy H) (turned_limits g limits) (turned_kept g H kept) a b legs p (turned_least g b a (path_cost legs) l)
+  least_down a b legs p l = least_up (turned_graph g) (turned_hierarchy H) (turned_limits g limits) (turned_kept g H kept) a b legs
+      p (turned_least g b a (path_cost legs) l)
 
   -- tight legs down from x are least, because in the other direction they are tight legs up
   tight_down : (s t x : ℕ) (legs : List Leg) → IsTightDown g H s t x legs → IsDown H x t (path_cost legs) × IsLeast g x t (path_cost legs)
@@ -117,7 +121,8 @@ module _ (g : Network) (H : LevelsAndLegs) (limits : IsWithinLimits g) (kept : I
       let p = walk_matched g H limits kept s t c l.walk in
       let up = rises g H kept s p.node p.ups p.rise in
       let down = falls g H kept t p.node p.downs p.fall in
-      let same = IsLeast-again g s t c (cost_sum (path_cost p.ups) (path_cost p.downs)) l (IsWalkCost-cost_sum g s p.node t (path_cost p.ups) (path_cost p.downs) up down) p.cheap in
+      let same = IsLeast-again g s t c (cost_sum (path_cost p.ups) (path_cost p.downs)) l
+      (IsWalkCost-cost_sum g s p.node t (path_cost p.ups) (path_cost p.downs) up down) p.cheap in
       let whole = subst (IsLeast g s t) (sym same) l in (
         p.node,
         (

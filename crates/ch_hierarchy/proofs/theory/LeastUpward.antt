@@ -76,7 +76,8 @@ module _ (rows : List (List Leg)) where
   begins a b [] p = inl (p, refl)
   begins a b (l ∷ legs) p = inr (l, p.0, (l.cost, path_cost legs, refl, (legs, p.1, refl), sym (path_cost-cons l legs)))
 
-  module _ (level : ℕ → ℕ) (n : ℕ) (most : (v : ℕ) → level v ≤ n) (rises : (v : ℕ) (l : Leg) → Contains (row rows v) l → level v < level l.node) where
+  module _ (level : ℕ → ℕ) (n : ℕ) (most : (v : ℕ) → level v ≤ n)
+      (rises : (v : ℕ) (l : Leg) → Contains (row rows v) l → level v < level l.node) where
     -- the least cost of a path, by recursion from the top level downwards
     least_from : (d a b : ℕ) → n < d + level a → LeastOrNone (IsPathCost a b)
     least_from zero a b low = absurd (let le = most a in omega arith)
@@ -91,7 +92,15 @@ module _ (rows : List (List Leg)) where
     least_path a b = elim (least_from (n + 1) a b (omega arith)) [
       | inl found ↦ elim (cases_lt MOST_WEIGHT found.0.weight) [
         | inl heavy ↦ inr (λ c h. let le = (found.1.least c h.path).0 in let light = h.weight in omega arith)
-        | inr light ↦ inl (found.0, record { path = found.1.has; weight = light; least = λ legs p within. found.1.least (path_cost legs) (legs, p, refl) })
+        | inr light ↦ inl (
+          found.0,
+          record {
+            path = found.1.has;
+            weight = light;
+            least =
+                λ legs p within. found.1.least (path_cost legs) (legs, p, refl);
+          },
+        )
       ]
       | inr none ↦ inr (λ c h. none c h.path)
     ]
@@ -121,19 +130,29 @@ module _ (H : LevelsAndLegs) (is : IsLevelled H) where
         | inl down ↦ elim (at_most_decided (cost_sum up.0 down.0) most) [
           | inl le ↦ inl (cost_sum up.0 down.0, (up.0, down.0, up.1, down.1, refl), le)
           | inr dear ↦ inr (λ (c, (a, b, rise, fall, sum), le).
-              dear (IsAtMost_trans _ c most (subst (IsAtMost (cost_sum up.0 down.0)) sum (IsAtMost-cost_sum up.0 a down.0 b (no_dearer H.up s m up.0 a up.1 rise) (no_dearer H.down t m down.0 b down.1 fall))) le))
+              dear (IsAtMost_trans _ c most
+              (subst (IsAtMost (cost_sum up.0 down.0)) sum
+              (IsAtMost-cost_sum up.0 a down.0 b (no_dearer H.up s m up.0 a up.1 rise)
+              (no_dearer H.down t m down.0 b down.1 fall))) le))
         ]
         | inr none ↦ inr (λ (c, (a, b, rise, fall, sum), le). none b fall)
       ]
       | inr none ↦ inr (λ (c, (a, b, rise, fall, sum), le). none a rise)
     ]
       where
-        no_dearer : (rows : List (List Leg)) (x y : ℕ) (c d : Cost) → IsLeastUpwardPath rows x y c → IsLeastUpwardPath rows x y d → IsAtMost c d
-        no_dearer rows x y c d h k = subst (IsAtMost c) k.path.2 (h.least k.path.0 k.path.1 (subst (λ (q : Cost). q.weight ≤ MOST_WEIGHT) (sym k.path.2) k.weight))
+        no_dearer : (rows : List (List Leg)) (x y : ℕ) (c d : Cost) → IsLeastUpwardPath rows x y c → IsLeastUpwardPath rows x y d →
+            IsAtMost c d
+        no_dearer rows x y c d h k = subst (IsAtMost c) k.path.2
+            (h.least k.path.0 k.path.1 (subst (λ (q : Cost). q.weight ≤ MOST_WEIGHT) (sym k.path.2) k.weight))
 
     -- whether this holds for some node is decided
     pub meets_decided : s < nodes_of H → Decided (MeetsWithin H s t most)
     meets_decided lt = decided_same (HasBelow MeetsAt (nodes_of H)) (MeetsWithin H s t most)
         (λ (m, less, (c, meets, le)). (m, c, meets, le))
-        (λ (m, c, meets, le). (m, ends_below H.up (nodes_of H) (λ v l has. (leg_of_rows H H.up is.up v l has).node) s m meets.2.path.0 meets.2.path.1 lt, (c, meets, le)))
+        (λ (m, c, meets, le). (
+          m,
+          ends_below H.up (nodes_of H) (λ v l has. (leg_of_rows H H.up is.up v l has).node) s m
+              meets.2.path.0 meets.2.path.1 lt,
+          (c, meets, le),
+        ))
         (below_decided MeetsAt meets_at (nodes_of H))

@@ -102,7 +102,8 @@ module _ (H : LevelsAndLegs) where
         last = rest.last;
         is_path = (h.0, h.1, rest.is_path);
         is_leg = rest.is_leg;
-        cost = path_cost-cons x (y ∷ ys) ∙ ap (cost_sum x.cost) rest.cost ∙ sym (cost_sum_assoc x.cost (path_cost rest.front) rest.last.cost)
+        cost = path_cost-cons x (y ∷ ys) ∙ ap (cost_sum x.cost) rest.cost
+            ∙ sym (cost_sum_assoc x.cost (path_cost rest.front) rest.last.cost)
             ∙ ap (λ c. cost_sum c rest.last.cost) (sym (path_cost-cons x rest.front));
       }
 
@@ -153,7 +154,8 @@ module _ (g : Network) (H : LevelsAndLegs) (kept : IsKept g H) where
       record {
         legs = rest.legs ++ back ∷ [];
         is_path = high_append H k m l.node t rest.legs (back ∷ []) rest.is_path ((l, refl, refl, inr (p.0, refl)), between, (refl, low));
-        cost = path_cost-append rest.legs (back ∷ []) ∙ ap (cost_sum (path_cost rest.legs)) (path_cost-cons back [] ∙ cost_sum-no_cost l.cost)
+        cost = path_cost-append rest.legs (back ∷ [])
+            ∙ ap (cost_sum (path_cost rest.legs)) (path_cost-cons back [] ∙ cost_sum-no_cost l.cost)
             ∙ cost_sum_comm (path_cost rest.legs) l.cost ∙ ap (cost_sum l.cost) rest.cost ∙ sym (path_cost-cons l legs);
       }
 
@@ -168,7 +170,8 @@ module _ (g : Network) (H : LevelsAndLegs) (kept : IsKept g H) where
         legs = up.0 ++ back.legs;
         is_path = high_append H k s m t up.0 back.legs (up_high k s m up.0 up.1 ls) back.is_path;
         cheap = subst (IsAtMost (path_cost (up.0 ++ back.legs)))
-            (path_cost-append up.0 back.legs ∙ ap (λ x. cost_sum x (path_cost back.legs)) up.2 ∙ ap (cost_sum h.0) (back.cost ∙ down.2) ∙ h.4)
+            (path_cost-append up.0 back.legs ∙ ap (λ x. cost_sum x (path_cost back.legs)) up.2
+            ∙ ap (cost_sum h.0) (back.cost ∙ down.2) ∙ h.4)
             (IsAtMost_refl (path_cost (up.0 ++ back.legs)));
       }
 

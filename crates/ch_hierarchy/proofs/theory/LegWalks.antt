@@ -21,7 +21,8 @@ module _ (g : Network) (H : LevelsAndLegs) (kept : IsKept g H) where
       × ((v : ℕ) (l : Leg) → slice_index H.level v < n → Contains (row H.down v) l → IsWalkCost g l.node v l.cost)
 
   -- a leg that is founded on legs of lower nodes is a walk
-  founded_walk : (n : ℕ) → AreWalks n → (u w : ℕ) (c : Cost) (middle : Option ℕ) → (slice_index H.level u < suc n) ⊎ (slice_index H.level w < suc n) →
+  founded_walk : (n : ℕ) → AreWalks n → (u w : ℕ) (c : Cost) (middle : Option ℕ) →
+      (slice_index H.level u < suc n) ⊎ (slice_index H.level w < suc n) →
       IsFounded g H u w c middle → IsWalkCost g u w c
   unfolding AreWalks
   founded_walk n walks u w c None low f =
@@ -44,8 +45,10 @@ module _ (g : Network) (H : LevelsAndLegs) (kept : IsKept g H) where
   are_walks zero = (λ v l low has. absurd (omega arith), λ v l low has. absurd (omega arith))
   are_walks (suc n) =
       let rest = are_walks n in (
-        λ v l low has. founded_walk n rest v l.node l.cost l.middle (inl low) (kept.founded v l.node l.cost l.middle (l, refl, refl, inl (has, refl))),
-        λ v l low has. founded_walk n rest l.node v l.cost l.middle (inr low) (kept.founded l.node v l.cost l.middle (l, refl, refl, inr (has, refl))),
+        λ v l low has. founded_walk n rest v l.node l.cost l.middle (inl low)
+            (kept.founded v l.node l.cost l.middle (l, refl, refl, inl (has, refl))),
+        λ v l low has. founded_walk n rest l.node v l.cost l.middle (inr low)
+            (kept.founded l.node v l.cost l.middle (l, refl, refl, inr (has, refl))),
       )
 
   -- an up leg is a walk

@@ -1,5 +1,6 @@
 -- The nodes of a levelled hierarchy in order of level.
-use Rattle.std.proofs.Common.{◌≡◌, ℕ, zero, suc, ◌+◌, ◌<◌, ◌≤◌, List, [], ◌∷◌, ◌++◌, length, get_or, Contains, sym, ◌∙◌, ap, arith, inl, inr}
+use Rattle.std.proofs.Common.{◌≡◌, ℕ, zero, suc, ◌+◌, ◌<◌, ◌≤◌, List, [], ◌∷◌, ◌++◌, length, get_or, Contains, sym, ◌∙◌, ap, arith}
+use Rattle.std.proofs.Common.{inl, inr}
 use Rattle.std.specs.Prelude.{◌≢◌, All, slice_index}
 use Rattle.std.proofs.lemmas.Bool.{cases_lt}
 use Rattle.std.proofs.lemmas.List.{ext_get_or, get_or_default, get_or_append_left, get_or_push, length_push}
@@ -16,9 +17,12 @@ pub node_of_level : (levels : List ℕ) → AreLevels levels → (i : ℕ) → i
     (v : ℕ) × (v < length levels) × (slice_index levels v ≡ i + 1)
 node_of_level levels are i lt =
     let n : ℕ = length levels in
-    let apart : (y : ℕ) → Contains levels y → 0 ≢ y = λ y c e. (let l = (All-contains (λ l. (1 ≤ l) × (l ≤ n)) levels y are.0 c).0 in omega arith) in
-    let below : All (λ l. l < n + 1) (0 ∷ levels) = All-cons (λ l. l < n + 1) 0 levels (omega arith) (λ k d within. let l = (are.0 k d within).1 in omega arith) in
-    elim (contains_cons 0 (i + 1) levels (every_number (0 ∷ levels) (n + 1) (i + 1) (omega arith) below (pairs_cons ◌≢◌ 0 levels apart are.1) (omega arith))) [
+    let apart : (y : ℕ) → Contains levels y →
+    0 ≢ y = λ y c e. (let l = (All-contains (λ l. (1 ≤ l) × (l ≤ n)) levels y are.0 c).0 in omega arith) in
+    let below : All (λ l. l < n + 1) (0 ∷ levels) =
+    All-cons (λ l. l < n + 1) 0 levels (omega arith) (λ k d within. let l = (are.0 k d within).1 in omega arith) in
+    elim (contains_cons 0 (i + 1) levels (every_number (0 ∷ levels) (n + 1) (i + 1) (omega arith) below
+    (pairs_cons ◌≢◌ 0 levels apart are.1) (omega arith))) [
       | inl e ↦ absurd (omega arith)
       | inr there ↦ (there.0, there.1, sym (get_or_default levels there.0 (i + 1) 0 there.1) ∙ there.2)
     ]

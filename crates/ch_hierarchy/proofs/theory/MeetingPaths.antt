@@ -15,7 +15,8 @@ use Rattle.ch_hierarchy.specs.Hierarchy.{LevelsAndLegs, nodes_of}
 use Rattle.ch_hierarchy.specs.Paths.{IsUpwardPath, path_cost}
 use Rattle.ch_hierarchy.specs.Kept.{IsKept}
 use Rattle.ch_hierarchy.specs.Turned.{turned_hierarchy}
-use Rattle.ch_hierarchy.proofs.theory.LegPaths.{IsHighPath, HasHighPath, high_start, high_end, high_append, last_leg, meeting_high, Rises, Falls, rises_or_falls, path_cost-cons, path_cost-append, level_most}
+use Rattle.ch_hierarchy.proofs.theory.LegPaths.{IsHighPath, HasHighPath, high_start, high_end, high_append, last_leg, meeting_high}
+use Rattle.ch_hierarchy.proofs.theory.LegPaths.{Rises, Falls, rises_or_falls, path_cost-cons, path_cost-append, level_most}
 
 -- an upward path from s and one from t meet, and cost at most c together
 pub record HasMeetingPaths (H : LevelsAndLegs) (s t : ℕ) (c : Cost) : Type 0 where
@@ -61,7 +62,8 @@ up_first H s t l c has r = record {
   downs = r.downs;
   rise = (has, r.rise);
   fall = r.fall;
-  cheap = IsAtMost_between (ap (λ q. cost_sum q (path_cost r.downs)) (path_cost-cons l r.ups) ∙ cost_sum_assoc l.cost (path_cost r.ups) (path_cost r.downs)) refl
+  cheap = IsAtMost_between (ap (λ q. cost_sum q (path_cost r.downs)) (path_cost-cons l r.ups)
+      ∙ cost_sum_assoc l.cost (path_cost r.ups) (path_cost r.downs)) refl
       (IsAtMost-cost_sum l.cost l.cost _ c (IsAtMost_refl l.cost) r.cheap);
 }
 
@@ -133,7 +135,8 @@ module _ (g : Network) (H : LevelsAndLegs) (kept : IsKept g H) where
         record {
           legs = x ∷ rest.legs;
           is_path = (h.0, omega arith, rest.is_path);
-          cheap = IsAtMost_between (path_cost-cons x rest.legs) (path_cost-cons x (y ∷ ys)) (IsAtMost-cost_sum _ _ _ _ (IsAtMost_refl x.cost) rest.cheap);
+          cheap = IsAtMost_between (path_cost-cons x rest.legs) (path_cost-cons x (y ∷ ys))
+              (IsAtMost-cost_sum _ _ _ _ (IsAtMost_refl x.cost) rest.cheap);
         }
     | inr lowest ↦
         let next = high_start H k y.node t ys h.2.2 in
@@ -142,7 +145,8 @@ module _ (g : Network) (H : LevelsAndLegs) (kept : IsKept g H) where
           | inr down ↦ elim (rises_or_falls g H kept x.node y.node y.cost y.middle h.2.0) [
             | inl up ↦
                 let above_y : IsAbove H k y.node = omega (arith, h.2.1, up.4) in
-                around_lower k s t x y ys (over_lower k s x.node y.node x.cost y.cost down up above_s above_y) (above_level k y.node t ys h.2.2 above_y above_t)
+                around_lower k s t x y ys (over_lower k s x.node y.node x.cost y.cost down up above_s above_y)
+                (above_level k y.node t ys h.2.2 above_y above_t)
             | inr deeper ↦ absurd (omega (arith, deeper.4))
           ]
         ]
@@ -172,7 +176,8 @@ module _ (g : Network) (H : LevelsAndLegs) (kept : IsKept g H) where
           | inr down ↦
               let above : IsAbove H k end.node = omega (arith, down.4, high_end H k s t (x ∷ xs) h) in
               subst (HasMeetingPaths H s t) (ap (cost_sum (path_cost end.front)) down.3 ∙ sym end.cost)
-              (down_last H s t down.0 _ down.1 (subst (λ q. HasMeetingPaths H s q (path_cost end.front)) (sym down.2) (between_higher k s end.node higher end.front end.is_path above_s above)))
+              (down_last H s t down.0 _ down.1 (subst (λ q. HasMeetingPaths H s q (path_cost end.front)) (sym down.2)
+              (between_higher k s end.node higher end.front end.is_path above_s above)))
         ]
   ]
 
@@ -186,7 +191,8 @@ module _ (g : Network) (H : LevelsAndLegs) (kept : IsKept g H) where
         elim (rises_or_falls g H kept s x.node x.cost x.middle h.0) [
           | inl up ↦
               subst (HasMeetingPaths H s t) (ap (λ q. cost_sum q (path_cost xs)) up.3 ∙ sym (path_cost-cons x xs))
-              (up_first H s t up.0 _ up.1 (subst (λ q. HasMeetingPaths H q t (path_cost xs)) (sym up.2) (from_higher k x.node t higher xs h.2 (omega (arith, h.1, up.4)))))
+              (up_first H s t up.0 _ up.1 (subst (λ q. HasMeetingPaths H q t (path_cost xs)) (sym up.2)
+              (from_higher k x.node t higher xs h.2 (omega (arith, h.1, up.4)))))
           | inr down ↦ absurd (omega (arith, down.4))
         ]
   ]

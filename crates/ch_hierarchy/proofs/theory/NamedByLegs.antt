@@ -1,5 +1,6 @@
 -- An order of the nodes, and legs that are right alone and together, name a hierarchy.
-use Rattle.std.proofs.Common.{◌≡◌, ℕ, zero, suc, ◌+◌, ◌<◌, ◌≤◌, List, [], ◌∷◌, ◌++◌, length, map, get_or, set, Contains, refl, subst, arith, inl, inr}
+use Rattle.std.proofs.Common.{◌≡◌, ℕ, zero, suc, ◌+◌, ◌<◌, ◌≤◌, List, [], ◌∷◌, ◌++◌, length, map, get_or, set, Contains, refl}
+use Rattle.std.proofs.Common.{subst, arith, inl, inr}
 use Rattle.std.specs.Prelude.{AllPairs, slice_index, replicate}
 use Rattle.std.specs.List.{range_with_len}
 use Rattle.std.proofs.lemmas.Bool.{cases_eq, cases_lt}
@@ -17,7 +18,8 @@ use Rattle.ch_hierarchy.specs.Placing.{no_saved_leg, from_of, to_of, ArePlaced, 
 use Rattle.ch_hierarchy.specs.Saved.{IsOrderOf, AreLevelsOf, NamesHierarchy, JoinsNodes, IsWithinBounds, IsSamePair}
 use Rattle.ch_hierarchy.specs.Sorting.{IsEarlier, higher_of}
 use Rattle.ch_hierarchy.proofs.code.OrderLevels.{HasLevels, one_level, came_before, all_levels}
-use Rattle.ch_hierarchy.proofs.code.PairFaults.{ArePlacedBefore, placed_none, placed_more, placed_all, placed_sorted, placed_below, twin_legs}
+use Rattle.ch_hierarchy.proofs.code.PairFaults.{ArePlacedBefore, placed_none, placed_more, placed_all, placed_sorted, placed_below}
+use Rattle.ch_hierarchy.proofs.code.PairFaults.{twin_legs}
 use Rattle.ch_hierarchy.proofs.code.PlacedRows.{named_by_rows}
 use Rattle.ch_hierarchy.proofs.code.SortedPlaces.{sort_of}
 
@@ -61,8 +63,11 @@ module _ (n : ℕ) (order : List ℕ) (is : IsOrderOf n order) where
       let free : get_or rest.0 (get_or order i 0) 0 ≡ 0 = elim (cases_eq (get_or rest.0 (get_or order i 0) 0) 0) [
         | inl none ↦ none
         | inr taken ↦ absurd (came_before n order rest.0 i rest.1 inside taken is)
-      ] in
-      (set rest.0 (get_or order i 0) (i + 1), subst (HasLevels n order (set rest.0 (get_or order i 0) (i + 1))) next (one_level n order rest.0 i rest.1 (is.within i inside) free))
+      ] in (
+        set rest.0 (get_or order i 0) (i + 1),
+        subst (HasLevels n order (set rest.0 (get_or order i 0) (i + 1))) next
+            (one_level n order rest.0 i rest.1 (is.within i inside) free),
+      )
 
   -- in the end all nodes have their levels
   levels_there : (levels : List ℕ) × AreLevelsOf order levels
@@ -96,30 +101,42 @@ module _ (n : ℕ) (low high : SavedLeg → ℕ) (levels : List ℕ) (legs : Lis
 
   -- the entries of all legs in order, if no two legs have the same ends
   side_there : ((l : SavedLeg) → Contains legs l → (low l < n) × (high l < n)) →
-      ((i j : ℕ) → i < j → j < length legs → low (get_or legs i no_saved_leg) ≡ low (get_or legs j no_saved_leg) → high (get_or legs i no_saved_leg) ≡ high (get_or legs j no_saved_leg) → ⊥) →
+      ((i j : ℕ) → i < j → j < length legs → low (get_or legs i no_saved_leg) ≡ low (get_or legs j no_saved_leg) →
+      high (get_or legs i no_saved_leg) ≡ high (get_or legs j no_saved_leg) → ⊥) →
       (entries : List Placed) × IsSide low high levels legs entries
   side_there ends single =
       let all = entries_there in
       let rows = rows_of n (map (with_key higher_of) all.0) in
-      let sort = sort_of n all.0 (row_by_row rows) (placed_below low high levels legs n all.0 all.1 ends) all.2 (rows, rows_are n (map (with_key higher_of) all.0), refl) in
+      let sort = sort_of n all.0 (row_by_row rows) (placed_below low high levels legs n all.0 all.1 ends) all.2
+      (rows, rows_are n (map (with_key higher_of) all.0), refl) in
       let placed = placed_sorted low high levels legs all.0 (row_by_row rows) all.1 sort in (
         row_by_row rows,
         record {
           placed = placed;
           order = sort.order;
-          single = λ p t. (let twins = twin_legs low high levels legs (row_by_row rows) placed p t in single twins.0 p twins.1 twins.2 twins.3 twins.4);
+          single = λ p t. (let twins = twin_legs low high levels legs (row_by_row rows) placed p t in
+              single twins.0 p twins.1 twins.2 twins.3 twins.4);
         },
       )
 
 -- the hierarchy has the levels of the order, and each node has the legs whose lower end it is
-pub named_there : (n : ℕ) (s : OrderAndLegs) → n ≤ MOST_NODES → IsOrderOf n s.order → ((l : SavedLeg) → Contains s.legs l → JoinsNodes n l) →
+pub named_there : (n : ℕ) (s : OrderAndLegs) → n ≤ MOST_NODES → IsOrderOf n s.order →
+    ((l : SavedLeg) → Contains s.legs l → JoinsNodes n l) →
     ((i j : ℕ) → i < j → j < length s.legs → IsSamePair (get_or s.legs i no_saved_leg) (get_or s.legs j no_saved_leg) → ⊥) →
     ((l : SavedLeg) → Contains s.legs l → IsWithinBounds n l) → (H : LevelsAndLegs) × NamesHierarchy s H × (nodes_of H ≡ n)
 named_there n s small is joins once light =
     let levels = levels_there n s.order is in
-    let up = side_there n from_of to_of levels.0 s.legs (λ l h. let j = joins l h in (j.0, j.1)) (λ i j less lt from to. once i j less lt (from, to)) in
-    let down = side_there n to_of from_of levels.0 s.legs (λ l h. let j = joins l h in (j.1, j.0)) (λ i j less lt to from. once i j less lt (from, to)) in
-    let H : LevelsAndLegs = record { level = levels.0; up = rows_of n (map (keyed_leg s.legs) up.0); down = rows_of n (map (keyed_leg s.legs) down.0) } in
+    let up = side_there n from_of to_of levels.0 s.legs (λ l h. let j = joins l h in (j.0, j.1))
+    (λ i j less lt from to. once i j less lt (from, to)) in
+    let down = side_there n to_of from_of levels.0 s.legs (λ l h. let j = joins l h in (j.1, j.0))
+    (λ i j less lt to from. once i j less lt (from, to)) in
+    let H : LevelsAndLegs = record {
+      level = levels.0;
+      up = rows_of n (map (keyed_leg s.legs) up.0);
+      down =
+          rows_of n (map (keyed_leg s.legs) down.0);
+    } in
     let pairs : ArePairs n levels.0 s.legs up.0 down.0 = record { joins = joins; up = up.1; down = down.1 } in
-    let named = named_by_rows n s up.0 down.0 H small is levels.1 pairs light (rows_are n (map (keyed_leg s.legs) up.0)) (rows_are n (map (keyed_leg s.legs) down.0)) in
+    let named = named_by_rows n s up.0 down.0 H small is levels.1 pairs light (rows_are n (map (keyed_leg s.legs) up.0))
+    (rows_are n (map (keyed_leg s.legs) down.0)) in
     (H, named.0, named.1)

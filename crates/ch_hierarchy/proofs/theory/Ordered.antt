@@ -1,5 +1,6 @@
 -- Lists in strict order, and lists of different numbers.
-use Rattle.std.proofs.Common.{◌≡◌, ℕ, zero, true, false, Bool, eqb, ◌||◌, ◌<◌, ◌≤◌, List, [], ◌∷◌, ◌++◌, length, get_or, refl, sym, ◌∙◌, subst, arith, inl, inr, Contains}
+use Rattle.std.proofs.Common.{◌≡◌, ℕ, zero, true, false, Bool, eqb, ◌||◌, ◌<◌, ◌≤◌, List, [], ◌∷◌, ◌++◌, length, get_or, refl, sym}
+use Rattle.std.proofs.Common.{◌∙◌, subst, arith, inl, inr, Contains}
 use Rattle.std.specs.Prelude.{◌⊎◌, ◌≢◌, ◌==◌, ◌&&◌, AllPairs, All}
 use Rattle.std.specs.List.{IsDistinct, list_any}
 use Rattle.std.proofs.lemmas.Bool.{cases_eq, eqb-true}
@@ -56,7 +57,12 @@ contains_or_not (x ∷ xs) z = elim (cases_eq x z) [
 distinct_by_test : (xs : List ℕ) → AllPairs ◌≢◌ xs → IsDistinct eqb xs
 unfolding IsDistinct
 distinct_by_test [] h = tt
-distinct_by_test (x ∷ xs) h = (recursion_from_All (λ y. eqb x y ≡ false) xs (λ k d lt. let ne : x ≢ get_or xs k d = pairs_head ◌≢◌ x (get_or xs k d) xs h (Contains-get_or xs k d lt) in grind (arith, nat_tests)), distinct_by_test xs (pairs_tail ◌≢◌ x xs h))
+distinct_by_test (x ∷ xs) h = (
+  recursion_from_All (λ y. eqb x y ≡ false) xs
+      (λ k d lt. let ne : x ≢ get_or xs k d = pairs_head ◌≢◌ x (get_or xs k d) xs h (Contains-get_or xs k d lt) in
+      grind (arith, nat_tests)),
+  distinct_by_test xs (pairs_tail ◌≢◌ x xs h),
+)
 
 -- if the test for a number holds, the number is in the list
 any_contains : (xs : List ℕ) (q : ℕ) → list_any (eqb q) xs ≡ true → Contains xs q
@@ -88,7 +94,9 @@ pub every_number : (xs : List ℕ) (n x : ℕ) → length xs ≡ n → All (λ v
 every_number xs n x size below distinct lt = elim (contains_or_not xs x) [
   | inl c ↦ c
   | inr never ↦
-      let long = distinct_most (x ∷ xs) n (pairs_cons ◌≢◌ x xs (λ y c e. never (subst (Contains xs) (sym e) c)) distinct) (λ q c. elim (contains_cons x q xs c) [ inl e ↦ subst (λ z. z < n) e lt | inr later ↦ subst (λ z. z < n) later.2 (below later.0 q later.1) ]) in
+      let long = distinct_most (x ∷ xs) n (pairs_cons ◌≢◌ x xs (λ y c e. never (subst (Contains xs) (sym e) c)) distinct)
+      (λ q c. elim (contains_cons x q xs c)
+      [ inl e ↦ subst (λ z. z < n) e lt | inr later ↦ subst (λ z. z < n) later.2 (below later.0 q later.1) ]) in
       absurd (omega arith)
 ]
 
@@ -98,7 +106,8 @@ pairs_push xs y distinct away i j d lt within =
     let size = length_push xs y in
     let first : i < length xs = omega arith in
     λ e. elim (cases_eq j (length xs)) [
-      | inl last ↦ away (subst (Contains xs) (sym (get_or_append_left xs (y ∷ []) d i first) ∙ e ∙ get_or_push xs y d j (sym last)) (Contains-get_or xs i d first))
+      | inl last ↦ away (subst (Contains xs) (sym (get_or_append_left xs (y ∷ []) d i first) ∙ e ∙ get_or_push xs y d j (sym last))
+          (Contains-get_or xs i d first))
       | inr inside ↦
           let second : j < length xs = omega arith in
           distinct i j d lt second (sym (get_or_append_left xs (y ∷ []) d i first) ∙ e ∙ get_or_append_left xs (y ∷ []) d j second)

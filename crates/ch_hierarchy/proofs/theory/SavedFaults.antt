@@ -1,5 +1,6 @@
 -- The faults of a saved hierarchy. At most one comes first, and a saved hierarchy that names a right one has none.
-use Rattle.std.proofs.Common.{◌≡◌, ℕ, zero, suc, ◌+◌, ◌<◌, ◌≤◌, inl, inr, List, get_or, Option, Some, None, refl, sym, ◌∙◌, ap, subst, arith}
+use Rattle.std.proofs.Common.{◌≡◌, ℕ, zero, suc, ◌+◌, ◌<◌, ◌≤◌, inl, inr, List, get_or, Option, Some, None, refl, sym, ◌∙◌, ap}
+use Rattle.std.proofs.Common.{subst, arith}
 use Rattle.std.specs.Prelude.{◌≢◌, slice_get, slice_index, Result, Ok, Err, IsErrAnd}
 use Rattle.std.proofs.lemmas.Bool.{cases_eq, cases_lt}
 use Rattle.std.proofs.lemmas.Option.{slice_get_within, slice_get-get_or, get_or_from_slice_get}
@@ -16,7 +17,8 @@ use Rattle.ch_hierarchy.specs.declared.fault.CheckError.TheVariants.{Fault, NoMe
 use Rattle.ch_hierarchy.specs.Hierarchy.{LevelsAndLegs, nodes_of, IsLegUp}
 use Rattle.ch_hierarchy.specs.Rows.{row}
 use Rattle.ch_hierarchy.specs.Kept.{IsLeg, IsFounded, HasLegWithin, IsCovered}
-use Rattle.ch_hierarchy.specs.Saved.{IsOrderOf, NamesHierarchy, NamesFor, NamesKept, JoinsNodes, IsWithinBounds, IsSamePair, HasFault, HasPairFault, IsUnfounded, kind, place, IsFirstFault, IsEarly, AnswersWhere}
+use Rattle.ch_hierarchy.specs.Saved.{IsOrderOf, NamesHierarchy, NamesFor, NamesKept, JoinsNodes, IsWithinBounds, IsSamePair}
+use Rattle.ch_hierarchy.specs.Saved.{HasFault, HasPairFault, IsUnfounded, kind, place, IsFirstFault, IsEarly, AnswersWhere}
 use Rattle.ch_hierarchy.specs.Assembling.{IsFirstFailing, IsFirstPairFault}
 use Rattle.ch_hierarchy.proofs.theory.SavedLevels.{order_of, in_row_below}
 use Rattle.ch_hierarchy.proofs.theory.OneSaved.{one_saved}
@@ -64,7 +66,8 @@ module _ (g : Network) (s : OrderAndLegs) where
     has = has;
     first = λ e before h. elim before [
       | inl less ↦ below e less h
-      | inr same ↦ least (place e) same.1 (subst (λ q. HasFault g s (fault_of q (place e))) same.0 (subst (HasFault g s) (sym (fault_is e)) h))
+      | inr same ↦ least (place e) same.1
+          (subst (λ q. HasFault g s (fault_of q (place e))) same.0 (subst (HasFault g s) (sym (fault_is e)) h))
     ];
   }
 
@@ -126,7 +129,8 @@ module _ (g : Network) (s : OrderAndLegs) (H : LevelsAndLegs) (named : NamesFor 
       bad (subst (λ n. JoinsNodes n l) named.1 (leg_joins s H named.0 l.from l.to l.cost l.middle (leg_stands s H named.0 p l at)))
   no_pair p (l, at, inr (j, k, less, there, same)) =
       named.0.once j p l less (slice_get_within s.legs p l at)
-      (subst (λ (q : SavedLeg). IsSamePair q (get_or s.legs p l)) (sym (get_or_from_slice_get s.legs j k l there)) (subst (IsSamePair k) (sym (get_or_from_slice_get s.legs p l l at)) same))
+      (subst (λ (q : SavedLeg). IsSamePair q (get_or s.legs p l)) (sym (get_or_from_slice_get s.legs j k l there))
+      (subst (IsSamePair k) (sym (get_or_from_slice_get s.legs p l l at)) same))
 
   no_bound : (p : ℕ) → HasFault g s (Bound p) → ⊥
   no_bound p (l, at, bad) =
@@ -139,7 +143,8 @@ module _ (g : Network) (s : OrderAndLegs) (H : LevelsAndLegs) (named : NamesFor 
 module _ (g : Network) (s : OrderAndLegs) (H : LevelsAndLegs) (named : NamesKept g s H) where
   founded : (i : ℕ) (l : SavedLeg) → IsUnfounded g s i l → ⊥
   founded i l (at, (K, names, bad)) =
-      bad (subst (λ q. IsFounded g q l.from l.to l.cost l.middle) (one_saved s H K named.0 names) (named.1.founded l.from l.to l.cost l.middle (leg_stands s H named.0 i l at)))
+      bad (subst (λ q. IsFounded g q l.from l.to l.cost l.middle) (one_saved s H K named.0 names)
+      (named.1.founded l.from l.to l.cost l.middle (leg_stands s H named.0 i l at)))
 
   pub no_fault : (f : CheckFault) → HasFault g s f → ⊥
   no_fault Order h = none_early g s H (named.0, named.1.nodes) Order (omega arith) h
@@ -148,7 +153,8 @@ module _ (g : Network) (s : OrderAndLegs) (H : LevelsAndLegs) (named : NamesKept
   no_fault (Base i) (l, none, bad) = founded i l bad
   no_fault (Middle i) (l, v, some, bad) = founded i l bad
   no_fault (Arc i) (a, at, apart, (K, names, bad)) =
-      bad (subst (λ q. HasLegWithin q a) (one_saved s H K named.0 names) (named.1.arcs a (i, slice_get_within g.arcs i a at, get_or_from_slice_get g.arcs i a a at) apart))
+      bad (subst (λ q. HasLegWithin q a) (one_saved s H K named.0 names)
+      (named.1.arcs a (i, slice_get_within g.arcs i a at, get_or_from_slice_get g.arcs i a a at) apart))
   no_fault (Lower v) (lt, (K, names, bad)) = bad (subst (λ q. IsCovered q v) (one_saved s H K named.0 names) (named.1.covered v))
 
 -- an answer and a refusal
@@ -175,7 +181,8 @@ abbrev pub AnswersBoth : {A : Type 0} → (A → Type 0) → (CheckFault → Typ
 AnswersBoth {A} P Q r = ((x : A) → AnswersWhere r (Ok x) (P x)) × ((f : CheckFault) → AnswersWhere r (Err (Fault f)) (Q f))
 
 -- there is at most one value and at most one fault, and not both
-module _ {A : Type 0} (P : A → Type 0) (Q : CheckFault → Type 0) (one : (x y : A) → P x → P y → x ≡ y) (single : (e f : CheckFault) → Q e → Q f → e ≡ f) (apart : (x : A) (f : CheckFault) → P x → Q f → ⊥) where
+module _ {A : Type 0} (P : A → Type 0) (Q : CheckFault → Type 0) (one : (x y : A) → P x → P y → x ≡ y)
+    (single : (e f : CheckFault) → Q e → Q f → e ≡ f) (apart : (x : A) (f : CheckFault) → P x → Q f → ⊥) where
   pub answers_value : (x : A) → P x → AnswersBoth P Q (Ok x)
   answers_value x p = (
     λ y. (λ e. subst P (same_answer A x y e) p, λ q. inl (ap (answer_of A) (one x y p q))),
@@ -254,9 +261,14 @@ module _ (g : Network) (s : OrderAndLegs) where
   checks_refused (Err x) NoMemory is h = subst (λ (q : CheckError). Checks (Err q)) (sym is) checks_no_memory
 
 -- the first fault of a kind, in the terms of `assemble`
-module _ (g : Network) (s : OrderAndLegs) (n : ℕ) (order : List ℕ) (legs : List SavedLeg) (a : n ≡ g.nodes) (b : order ≡ s.order) (c : legs ≡ s.legs) where
+module _ (g : Network) (s : OrderAndLegs) (n : ℕ) (order : List ℕ) (legs : List SavedLeg) (a : n ≡ g.nodes) (b : order ≡ s.order)
+    (c : legs ≡ s.legs) where
   pub order_fault : (IsOrderOf n order → ⊥) → IsEarlyFirst g s Order
-  order_fault bad = (omega arith, first_at g s Order (none_below g s) (λ h. bad (subst (λ m. IsOrderOf m order) (sym a) (subst (IsOrderOf g.nodes) (sym b) h))) (λ p lt h. absurd (omega arith)))
+  order_fault bad = (
+    omega arith,
+    first_at g s Order (none_below g s) (λ h. bad (subst (λ m. IsOrderOf m order) (sym a) (subst (IsOrderOf g.nodes) (sym b) h)))
+        (λ p lt h. absurd (omega arith)),
+  )
 
   below_pairs : IsOrderOf n order → HasNoneBelow g s 1
   below_pairs is = none_more g s 0 (none_below g s) (λ p h. h (subst (λ m. IsOrderOf m s.order) a (subst (IsOrderOf n) b is)))
@@ -277,10 +289,16 @@ module _ (g : Network) (s : OrderAndLegs) (n : ℕ) (order : List ℕ) (legs : L
     omega arith,
     first_at g s (Bound i) (none_more g s 1 (below_pairs is) (λ p h. none p (pair_there p h)))
         (no_saved_leg_at i first)
-        (λ p lt h. h.2 (subst (λ m. IsWithinBounds m h.0) a (subst (IsWithinBounds n) (get_or_from_slice_get legs p h.0 h.0 (subst (λ l. slice_get l p ≡ Some h.0) (sym c) h.1)) (first.before p h.0 lt)))),
+        (λ p lt h. h.2 (subst (λ m. IsWithinBounds m h.0) a
+        (subst (IsWithinBounds n) (get_or_from_slice_get legs p h.0 h.0 (subst (λ l. slice_get l p ≡ Some h.0) (sym c) h.1))
+        (first.before p h.0 lt)))),
   )
     where
       no_saved_leg_at : (i : ℕ) → IsFirstFailing (IsWithinBounds n) legs i → HasFault g s (Bound i)
       no_saved_leg_at i first =
-          let d : SavedLeg = record { from = 0; to = 0; cost = record { weight = 0; arcs = 0 }; middle = None } in
-          (get_or legs i d, subst (λ l. slice_get l i ≡ Some (get_or legs i d)) c (slice_get-get_or legs i d first.within), λ h. first.fails d (subst (λ m. IsWithinBounds m (get_or legs i d)) (sym a) h))
+          let d : SavedLeg = record { from = 0; to = 0; cost = record { weight = 0; arcs = 0 }; middle = None } in (
+            get_or legs i d,
+            subst (λ l. slice_get l i ≡ Some (get_or legs i d)) c (slice_get-get_or legs i d first.within),
+            λ h.
+                first.fails d (subst (λ m. IsWithinBounds m (get_or legs i d)) (sym a) h),
+          )

@@ -13,12 +13,14 @@ module _ (n : ℕ) (order levels : List ℕ) (is : IsOrderOf n order) (are : Are
   place : (v : ℕ) → v < n → (i : ℕ) × (i < n) × (slice_index order i ≡ v)
   place v lt =
       let has = every_number order n v is.count (λ i d less. subst (λ q. q < n) (get_or_default order i 0 d less) (is.within i less))
-      (λ i j d less within e. is.distinct i j less within (sym (get_or_default order i d 0 (omega arith)) ∙ e ∙ get_or_default order j d 0 within)) lt in
+      (λ i j d less within e. is.distinct i j less within
+      (sym (get_or_default order i d 0 (omega arith)) ∙ e ∙ get_or_default order j d 0 within)) lt in
       (has.0, (let a = has.1 in let b = is.count in omega arith), sym (get_or_default order has.0 v 0 has.1) ∙ has.2)
 
   -- the level of a node is one more than its place in the order
   pub level_of : (v : ℕ) → v < n → (i : ℕ) × (i < n) × (slice_index order i ≡ v) × (slice_index levels v ≡ i + 1)
-  level_of v lt = let p = place v lt in (p.0, p.1, p.2, ap (slice_index levels) (sym p.2) ∙ are.each p.0 (let a = p.1 in let b = is.count in omega arith))
+  level_of v lt = let p = place v lt in
+      (p.0, p.1, p.2, ap (slice_index levels) (sym p.2) ∙ are.each p.0 (let a = p.1 in let b = is.count in omega arith))
 
   pub sized : length levels ≡ n
   sized = are.count ∙ is.count
@@ -66,7 +68,8 @@ order_of order levels are = record {
     | inl less ↦ less
     | inr ge ↦ (let z = get_or_past levels (slice_index order i) 0 ge in let e = are.each i lt in absurd (omega arith))
   ];
-  distinct = λ i j less lt same. (let a = are.each i (omega arith) in let b = are.each j lt in let e = ap (slice_index levels) same in omega arith);
+  distinct = λ i j less lt same.
+      (let a = are.each i (omega arith) in let b = are.each j lt in let e = ap (slice_index levels) same in omega arith);
 }
 
 -- one order gives one list of levels

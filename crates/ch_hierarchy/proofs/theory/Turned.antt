@@ -30,7 +30,8 @@ turned_twice g = ap (λ arcs. record { nodes = g.nodes; arcs = arcs }) (arcs_tur
 walk_back : (g : Network) (s t : ℕ) (arcs : List InArc) → IsWalk g s t arcs → IsWalkCost (turned_graph g) t s (cost_of arcs)
 walk_back g s t [] w = subst (λ q. IsWalkCost (turned_graph g) t q no_cost) (sym w) (IsWalkCost-no_cost (turned_graph g) t)
 walk_back g s t (a ∷ arcs) w =
-    let last = subst (λ q. IsWalkCost (turned_graph g) a.to q (arc_cost a)) w.1 (IsWalkCost-arc (turned_graph g) (turned_arc a) (contains_map turned_arc g.arcs a w.0)) in
+    let last = subst (λ q. IsWalkCost (turned_graph g) a.to q (arc_cost a)) w.1
+    (IsWalkCost-arc (turned_graph g) (turned_arc a) (contains_map turned_arc g.arcs a w.0)) in
     subst (IsWalkCost (turned_graph g) t s) (cost_sum_comm (cost_of arcs) (arc_cost a) ∙ sym (cost_of-cons a arcs))
     (IsWalkCost-cost_sum (turned_graph g) t a.to s (cost_of arcs) (arc_cost a) (walk_back g a.to t arcs w.2) last)
 
@@ -53,14 +54,19 @@ least_turned g s t c l = subst (λ k. IsLeast k s t c) (turned_twice g) (turned_
 pub turned_limits : (g : Network) → IsWithinLimits g → IsWithinLimits (turned_graph g)
 turned_limits g limits = record {
   size = (limits.size.0, subst (λ n. n ≤ MOST_ARCS) (sym (length-map g.arcs turned_arc)) limits.size.1);
-  each = All-map (IsArcWithin g.nodes) turned_arc g.arcs (λ k d lt. let is = limits.each k d lt in record { ends = (is.ends.1, is.ends.0); weight = is.weight });
+  each = All-map (IsArcWithin g.nodes) turned_arc g.arcs
+      (λ k d lt. let is = limits.each k d lt in record { ends = (is.ends.1, is.ends.0); weight = is.weight });
 }
 
 -- legs still lead to higher nodes in the other direction
 turned_rows : (H : LevelsAndLegs) (rows : List (List Leg)) → AreLegsUp H rows → AreLegsUp (turned_hierarchy H) rows
 turned_rows H rows are = (
   are.0,
-  λ v. ((are.1 v).0, λ k d lt. let up = (are.1 v).1 k d lt in record { node = up.node; higher = up.higher; weight = up.weight; arcs = up.arcs }),
+  λ v. (
+    (are.1 v).0,
+    λ k d lt. let up = (are.1 v).1 k d lt in
+        record { node = up.node; higher = up.higher; weight = up.weight; arcs = up.arcs },
+  ),
 )
 
 pub turned_levelled : (H : LevelsAndLegs) → IsLevelled H → IsLevelled (turned_hierarchy H)
@@ -88,10 +94,15 @@ turned_kept g H kept = record {
   levelled = turned_levelled H kept.levelled;
   founded = λ u w c m leg. turned_founded g H w u c m (kept.founded w u c m (turned_leg (turned_hierarchy H) u w c m leg));
   arcs = λ a has apart.
-      let before = subst (λ arcs. Contains arcs (turned_arc a)) (arcs_turned_twice g.arcs) (contains_map turned_arc (map turned_arc g.arcs) a has) in
+      let before = subst (λ arcs. Contains arcs (turned_arc a)) (arcs_turned_twice g.arcs)
+      (contains_map turned_arc (map turned_arc g.arcs) a has) in
       let leg = kept.arcs (turned_arc a) before (λ e. apart (sym e)) in
       (leg.0, leg.1, turned_leg H a.to a.from leg.0 leg.1 leg.2, leg.3);
   covered = λ v a b down up apart.
-      let meets = kept.covered v b a up down (λ e. apart (sym e)) in
-      (meets.0, meets.1, turned_meeting H b.node a.node meets.0 meets.1 meets.2, subst (IsAtMost meets.1) (cost_sum_comm b.cost a.cost) meets.3);
+      let meets = kept.covered v b a up down (λ e. apart (sym e)) in (
+        meets.0,
+        meets.1,
+        turned_meeting H b.node a.node meets.0 meets.1 meets.2,
+        subst (IsAtMost meets.1) (cost_sum_comm b.cost a.cost) meets.3,
+      );
 }

@@ -3,11 +3,13 @@ use Rattle.std.proofs.Common.{◌≡◌, ℕ, ◌<◌, List, [], ◌∷◌, leng
 use Rattle.std.specs.Prelude.{◌⊎◌, ◌≢◌, AllPairs, slice_index}
 use Rattle.std.specs.List.{flat_map}
 use Rattle.std.proofs.lemmas.List.{get_or_default}
-use Rattle.std.proofs.lemmas.List.Elements.{All-contains, Contains-get_or, Contains-append_left, Contains-append_right, Contains-append_cases}
+use Rattle.std.proofs.lemmas.List.Elements.{All-contains, Contains-get_or, Contains-append_left, Contains-append_right}
+use Rattle.std.proofs.lemmas.List.Elements.{Contains-append_cases}
 use Rattle.ch_graph.specs.declared.cost.Cost.{Cost}
 use Rattle.ch_graph.specs.declared.saved.SavedLeg.{SavedLeg}
 use Rattle.ch_graph.specs.Graph.{Network}
-use Rattle.ch_graph.proofs.Lists.{contains_head, contains_tail, contains_cons, contains_none, contains_map, contains_map_of, pairs_head, pairs_tail, pairs_map, pairs_append}
+use Rattle.ch_graph.proofs.Lists.{contains_head, contains_tail, contains_cons, contains_none, contains_map, contains_map_of}
+use Rattle.ch_graph.proofs.Lists.{pairs_head, pairs_tail, pairs_map, pairs_append}
 use Rattle.ch_hierarchy.specs.declared.leg.Leg.{Leg}
 use Rattle.ch_hierarchy.specs.Rows.{row}
 use Rattle.ch_hierarchy.specs.Hierarchy.{LevelsAndLegs, nodes_of, IsLegUp, IsLevelled}
@@ -50,7 +52,8 @@ IsOtherPair k l = IsSamePair k l → ⊥
 module _ (H : LevelsAndLegs) (is : IsLevelled H) where
   -- v is the lower end of the leg
   abbrev IsAtLower : ℕ → SavedLeg → Type 0
-  IsAtLower v l = ((l.from ≡ v) × (slice_index H.level v < slice_index H.level l.to)) ⊎ ((l.to ≡ v) × (slice_index H.level v < slice_index H.level l.from))
+  IsAtLower v l = ((l.from ≡ v) × (slice_index H.level v < slice_index H.level l.to))
+      ⊎ ((l.to ≡ v) × (slice_index H.level v < slice_index H.level l.from))
 
   -- a leg of the up row of v leads to a higher node, and one of the down row comes from a higher node
   up_higher : (v : ℕ) (l : Leg) → Contains (row H.up v) l → slice_index H.level v < slice_index H.level l.node
@@ -87,8 +90,10 @@ module _ (H : LevelsAndLegs) (is : IsLevelled H) where
   once_at : (v : ℕ) → AllPairs IsOtherPair (legs_at H v)
   once_at v =
       pairs_append IsOtherPair (map (leg_up v) (row H.up v)) (map (leg_down v) (row H.down v))
-      (pairs_map (leg_up v) IsOtherPair (row H.up v) (λ i j d less within same. let rise = (is.up.1 v).0 i j d less within in let e = same.1 in omega arith))
-      (pairs_map (leg_down v) IsOtherPair (row H.down v) (λ i j d less within same. let rise = (is.down.1 v).0 i j d less within in let e = same.0 in omega arith))
+      (pairs_map (leg_up v) IsOtherPair (row H.up v) (λ i j d less within same. let rise = (is.up.1 v).0 i j d less within in
+      let e = same.1 in omega arith))
+      (pairs_map (leg_down v) IsOtherPair (row H.down v) (λ i j d less within same. let rise = (is.down.1 v).0 i j d less within in
+      let e = same.0 in omega arith))
       (λ k l hk hl same.
       let a = contains_map_of (leg_up v) (row H.up v) k hk in
       let b = contains_map_of (leg_down v) (row H.down v) l hl in
@@ -119,13 +124,17 @@ module _ (H : LevelsAndLegs) (is : IsLevelled H) where
         Contains (flat_map (legs_at H) order) (record { from = u; to = w; cost = c; middle = m })
     leg_written u w c m (l, cost, middle, inl (has, node)) =
         let v = stands u (in_row_below H.up (nodes_of H) u l is.up.0 has) in
-        let piece = Contains-append_left (map (leg_up u) (row H.up u)) (map (leg_down u) (row H.down u)) (leg_up u l) (contains_map (leg_up u) (row H.up u) l has) in
-        let same : leg_up u l ≡ record { from = u; to = w; cost = c; middle = m } = (λ i. record { from = u; to = node i; cost = cost i; middle = middle i }) in
+        let piece = Contains-append_left (map (leg_up u) (row H.up u)) (map (leg_down u) (row H.down u)) (leg_up u l)
+        (contains_map (leg_up u) (row H.up u) l has) in
+        let same : leg_up u l ≡ record { from = u; to = w; cost = c; middle = m } =
+        (λ i. record { from = u; to = node i; cost = cost i; middle = middle i }) in
         subst (Contains (flat_map (legs_at H) order)) same (contains_flat_map (legs_at H) order u (leg_up u l) v piece)
     leg_written u w c m (l, cost, middle, inr (has, node)) =
         let v = stands w (in_row_below H.down (nodes_of H) w l is.down.0 has) in
-        let piece = Contains-append_right (map (leg_up w) (row H.up w)) (map (leg_down w) (row H.down w)) (leg_down w l) (contains_map (leg_down w) (row H.down w) l has) in
-        let same : leg_down w l ≡ record { from = u; to = w; cost = c; middle = m } = (λ i. record { from = node i; to = w; cost = cost i; middle = middle i }) in
+        let piece = Contains-append_right (map (leg_up w) (row H.up w)) (map (leg_down w) (row H.down w)) (leg_down w l)
+        (contains_map (leg_down w) (row H.down w) l has) in
+        let same : leg_down w l ≡ record { from = u; to = w; cost = c; middle = m } =
+        (λ i. record { from = node i; to = w; cost = cost i; middle = middle i }) in
         subst (Contains (flat_map (legs_at H) order)) same (contains_flat_map (legs_at H) order w (leg_down w l) v piece)
 
     -- each written leg is a leg

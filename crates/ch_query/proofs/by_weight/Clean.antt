@@ -1,5 +1,6 @@
 -- A search with nothing left from an earlier one.
-use Rattle.std.proofs.Common.{◌≡◌, ℕ, zero, suc, ◌*◌, ◌≤◌, [], ◌∷◌, length, map, replicate, Option, Some, None, refl, sym, ◌∙◌, ap, subst, arith, set, length-set, ◌+◌, ◌++◌, vec_len, List, Vec, inl, inr}
+use Rattle.std.proofs.Common.{◌≡◌, ℕ, zero, suc, ◌*◌, ◌≤◌, [], ◌∷◌, length, map, replicate, Option, Some, None, refl, sym, ◌∙◌, ap}
+use Rattle.std.proofs.Common.{subst, arith, set, length-set, ◌+◌, ◌++◌, vec_len, List, Vec, inl, inr}
 use Rattle.std.specs.Prelude.{◌≢◌, slice_index_or, vec_capacity, is_some, AllPairs, Contains}
 use Rattle.std.specs.declared.alloc.Global.{Global}
 use Rattle.std.proofs.lemmas.Bool.{cases_lt}
@@ -31,17 +32,20 @@ none_reached (suc n) = λ i. None ∷ none_reached n i
 no_key : (n state weight : ℕ) → slice_index_or {A = Option ℕ} (replicate n None) state None ≡ Some weight → ⊥
 no_key n state weight e = elim (cases_lt state n) [
   | inl lt ↦ none-some weight (sym (get_or-replicate {A = Option ℕ} n state None None lt) ∙ e)
-  | inr ge ↦ none-some weight (sym (get_or_past (replicate n None) state None (let size = length-replicate {A = Option ℕ} n None in omega arith)) ∙ e)
+  | inr ge ↦ none-some weight
+      (sym (get_or_past (replicate n None) state None (let size = length-replicate {A = Option ℕ} n None in omega arith)) ∙ e)
 ]
 
 -- a search with new lists is clean
-pub clean_at_first : (n states : ℕ) (x : WeightSearch) → states ≡ 2 * n → x.known.items ≡ replicate states UNREACHED → x.queue ≡ replicate states None →
+pub clean_at_first : (n states : ℕ) (x : WeightSearch) → states ≡ 2 * n → x.known.items ≡ replicate states UNREACHED →
+    x.queue ≡ replicate states None →
     x.touched.items ≡ [] → vec_len x.touched ≡ 0 → states ≤ vec_capacity x.touched → IsCleanFor n x
 clean_at_first n states x twice known queue items len capacity = record {
   sizes = record {
     known = ap length known ∙ length-replicate states UNREACHED ∙ twice;
     queue = ap length queue ∙ length-replicate {A = Option ℕ} states None ∙ twice;
-    touched = untouched states (map known_cost x.known.items) x.touched (ap (map known_cost) known ∙ none_reached states) items len capacity;
+    touched = untouched states (map known_cost x.known.items) x.touched (ap (map known_cost) known ∙ none_reached states) items len
+        capacity;
   };
   queue = λ state weight e. no_key states state weight (sym (ap (λ q. slice_index_or q state None) queue) ∙ e);
   nothing = len;
@@ -59,7 +63,8 @@ listed_alike best xs ys t items len capacity = record {
 }
 
 -- one reached state fewer after its weight was removed
-pub one_less : (n : ℕ) (x y : WeightSearch) (state : ℕ) → IsSizedFor n x → y.known.items ≡ set x.known.items state UNREACHED → y.queue ≡ x.queue → x.touched.items ≡ y.touched.items ++ state ∷ [] →
+pub one_less : (n : ℕ) (x y : WeightSearch) (state : ℕ) → IsSizedFor n x → y.known.items ≡ set x.known.items state UNREACHED →
+    y.queue ≡ x.queue → x.touched.items ≡ y.touched.items ++ state ∷ [] →
     vec_len y.touched + 1 ≡ vec_len x.touched → vec_capacity y.touched ≡ vec_capacity x.touched → IsSizedFor n y
 one_less n x y state sizes known queue items len capacity = record {
   known = ap length known ∙ length-set x.known.items state UNREACHED ∙ sizes.known;

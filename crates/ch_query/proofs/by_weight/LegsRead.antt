@@ -1,5 +1,6 @@
 -- The program reads the legs of a node by rank. A search by weights alone sees only their weights.
-use Rattle.std.proofs.Common.{◌≡◌, ℕ, ◌+◌, ◌*◌, ◌^◌, ◌<◌, ◌≤◌, List, [], ◌∷◌, ◌++◌, length, map, take, take_all, Contains, ◌∙◌, ap, subst, arith, get_or}
+use Rattle.std.proofs.Common.{◌≡◌, ℕ, ◌+◌, ◌*◌, ◌^◌, ◌<◌, ◌≤◌, List, [], ◌∷◌, ◌++◌, length, map, take, take_all, Contains, ◌∙◌, ap}
+use Rattle.std.proofs.Common.{subst, arith, get_or}
 use Rattle.std.proofs.lemmas.List.{take_more, get_or-map, length-map}
 use Rattle.std.proofs.lemmas.List.Elements.{Contains-get_or}
 use Rattle.ch_graph.specs.declared.limits.TheConstants.{MOST_WEIGHT}
@@ -39,7 +40,8 @@ read_leg H k side v items i d e lt =
     let l = get_or legs i no_leg in
     let up = leg_up H k side v l (Contains-get_or legs i no_leg low) in
     let is : get_or items i d ≡ ranked_leg H l = ap (λ q. get_or q i d) e ∙ get_or-map (ranked_leg H) legs i no_leg d low in
-    let light_is : get_or light_legs i no_leg ≡ weighed_leg l = ap (λ q. get_or q i no_leg) (weighed_row H side v) ∙ get_or-map weighed_leg legs i no_leg no_leg low in (
+    let light_is : get_or light_legs i no_leg ≡ weighed_leg l =
+    ap (λ q. get_or q i no_leg) (weighed_row H side v) ∙ get_or-map weighed_leg legs i no_leg no_leg low in (
       l,
       record {
         has = subst (λ q. Contains light_legs q) light_is (Contains-get_or light_legs i no_leg light_low);
@@ -71,7 +73,8 @@ read_light H k side v items i d e lt =
     omega arith
 
 -- past the last leg, all legs are taken
-pub read_whole : (H : LevelsAndLegs) (side : Side) (v : ℕ) (items : List RankedLeg) (i : ℕ) → items ≡ map (ranked_leg H) (row (rows_of H side) v) → length items ≤ i →
+pub read_whole : (H : LevelsAndLegs) (side : Side) (v : ℕ) (items : List RankedLeg) (i : ℕ) →
+    items ≡ map (ranked_leg H) (row (rows_of H side) v) → length items ≤ i →
     take i (row (rows_of (weighed H) side) v) ≡ row (rows_of (weighed H) side) v
 read_whole H side v items i e past =
     let size = ap length e ∙ length-map (row (rows_of H side) v) (ranked_leg H) in
@@ -79,7 +82,8 @@ read_whole H side v items i e past =
     take_all i (row (rows_of (weighed H) side) v) (omega arith)
 
 -- the state of a leg's node exists
-pub read_state : (H : LevelsAndLegs) → IsLevelled H → (side turned : Side) (v i : ℕ) (r : RankedLeg) (l : Leg) → IsReadLeg H turned v i r l → (state : ℕ) →
+pub read_state : (H : LevelsAndLegs) → IsLevelled H → (side turned : Side) (v i : ℕ) (r : RankedLeg) (l : Leg) →
+    IsReadLeg H turned v i r l → (state : ℕ) →
     state ≡ state_of side r.rank → (state ≡ state_of side (rank_of H l.node)) × (state < 2 * nodes_of H)
 read_state H k side turned v i r l is state e =
     let low = state_below side (rank_of H l.node) (nodes_of H) (rank_below H k l.node is.node) in

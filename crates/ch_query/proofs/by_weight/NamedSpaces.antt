@@ -34,7 +34,8 @@ pairs_rise xs ys differ p sorted i j d lt within =
     let distinct : IsDistinct same xs = IsDistinct-from_apart same xs (λ k m e low high. not_eqb _ _ (differ k m e low high)) in
     let turned = IsDistinct-IsPermutation same (λ a b. eqb_flips a.0 b.0) xs ys p distinct in
     let apart = eqb-false _ _ (apart_from_distinct same ys i j d turned lt within) in
-    let rises = IsNonDecreasingBy-from_all_adjacent (λ e. e.0) ys (λ k e low. first_rises (get_or ys k e) (get_or ys (k + 1) e) (sorted k e (omega arith) low)) in
+    let rises = IsNonDecreasingBy-from_all_adjacent (λ e. e.0) ys
+    (λ k e low. first_rises (get_or ys k e) (get_or ys (k + 1) e) (sorted k e (omega arith) low)) in
     let low = rises i j d (omega arith) within in
     elim (cases_lt (get_or ys i d).0 (get_or ys j d).0) [ inl less ↦ less | inr more ↦ absurd (apart (omega arith)) ]
 
@@ -43,21 +44,25 @@ abbrev pub NamesRank : LevelsAndLegs → ℕ × ℕ → ℕ × ℕ → Type 0
 NamesRank H entry named = (named.0 < nodes_of H) × (rank_of H named.0 ≡ entry.0) × (named.1 ≡ entry.1)
 
 -- one more entry gets its node
-pub names_more : (H : LevelsAndLegs) (ranked : List (ℕ × ℕ)) (i v : ℕ) (d : ℕ × ℕ) (list new : List (ℕ × ℕ)) → i < length ranked → AllZip (NamesRank H) (take i ranked) list →
-    v < nodes_of H → rank_of H v ≡ (get_or ranked i d).0 → new ≡ list ++ (v, (get_or ranked i d).1) ∷ [] → AllZip (NamesRank H) (take (i + 1) ranked) new
+pub names_more : (H : LevelsAndLegs) (ranked : List (ℕ × ℕ)) (i v : ℕ) (d : ℕ × ℕ) (list new : List (ℕ × ℕ)) → i < length ranked →
+    AllZip (NamesRank H) (take i ranked) list →
+    v < nodes_of H → rank_of H v ≡ (get_or ranked i d).0 → new ≡ list ++ (v, (get_or ranked i d).1) ∷ [] →
+    AllZip (NamesRank H) (take (i + 1) ranked) new
 names_more H ranked i v d list new lt names within rank is =
     subst (AllZip (NamesRank H) (take (i + 1) ranked)) (sym is)
     (subst (λ q. AllZip (NamesRank H) q (list ++ (v, (get_or ranked i d).1) ∷ [])) (sym (take_more ranked i d lt))
     (AllZip-push (NamesRank H) (take i ranked) list (get_or ranked i d) (v, (get_or ranked i d).1) names (within, rank, refl)))
 
 -- the ranks of a space are below the number of nodes
-pub ranks_below : (H : LevelsAndLegs) → IsLevelled H → (side : Side) (limit : Option ℕ) (s : ℕ) (list : List (ℕ × ℕ)) → IsRankedSpace H side limit s list →
+pub ranks_below : (H : LevelsAndLegs) → IsLevelled H → (side : Side) (limit : Option ℕ) (s : ℕ) (list : List (ℕ × ℕ)) →
+    IsRankedSpace H side limit s list →
     All (λ entry. entry.0 < nodes_of H) list
 ranks_below H levelled side limit s list space k d lt =
     let r = space.sound (get_or list k d).0 (get_or list k d).1 (Contains-get_or list k d lt) in
     subst (λ q. q < nodes_of H) r.2 (rank_below H levelled r.0 r.1)
 
-module _ (H : LevelsAndLegs) (levelled : IsLevelled H) (side : Side) (limit : Option ℕ) (s : ℕ) (ranked named : List (ℕ × ℕ)) (space : IsRankedSpace H side limit s ranked)
+module _ (H : LevelsAndLegs) (levelled : IsLevelled H) (side : Side) (limit : Option ℕ) (s : ℕ) (ranked named : List (ℕ × ℕ))
+    (space : IsRankedSpace H side limit s ranked)
     (names : AllZip (NamesRank H) ranked named) where
   -- both lists have the same length
   long : length ranked ≡ length named
@@ -99,6 +104,7 @@ module _ (H : LevelsAndLegs) (levelled : IsLevelled H) (side : Side) (limit : Op
       IsSorted (λ a b. ordering_then (nat_cmp a.0 b.0) (nat_cmp a.1 b.1)) sorted → IsSearchSpace H side limit s sorted
   named_space sorted p order = record {
     order = pairs_rise named sorted nodes_differ p order;
-    sound = λ v x h. said_sound H levelled side limit s ranked space v x (said_of_rank v x (Contains-permutation sorted named (v, x) (IsPermutation-sym named sorted p) h));
+    sound = λ v x h. said_sound H levelled side limit s ranked space v x
+        (said_of_rank v x (Contains-permutation sorted named (v, x) (IsPermutation-sym named sorted p) h));
     whole = λ v c tight low. Contains-permutation named sorted (v, c.weight) p (rank_said v c.weight (space.whole v c tight low));
   }

@@ -27,7 +27,8 @@ keys_from queue e limit l le state weight key = let low = (least_state queue e l
 
 -- if the least weight is below the limit, its state leaves the queue
 pub popped_state : (x y : WeightSearch) (e : ℕ × ℕ) (limit : ℕ) → IsLeastEntry nat_cmp x.queue e → e.0 < limit → (o : Option (ℕ × ℕ)) →
-    MatchOption o (HasNone x.queue) (IsLeastEntry nat_cmp x.queue) → MatchOption o (y.queue ≡ x.queue) (λ f. y.queue ≡ set x.queue f.1 None) → y ≡ record x { queue = y.queue } →
+    MatchOption o (HasNone x.queue) (IsLeastEntry nat_cmp x.queue) →
+    MatchOption o (y.queue ≡ x.queue) (λ f. y.queue ≡ set x.queue f.1 None) → y ≡ record x { queue = y.queue } →
     MatchOption o (AreKeysFrom x.queue limit × (y ≡ x)) (λ f. IsLeastState x.queue f × (f.0 < limit) × (y ≡ without_state x f.1))
 popped_state x y e limit l lt None none same is = absurd (none-some e.0 (sym (none e.1) ∙ l.has))
 popped_state x y e limit l lt (Some f) least less is =

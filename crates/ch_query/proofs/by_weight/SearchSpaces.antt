@@ -1,6 +1,7 @@
 -- A search by weights on one side, from its first state to its end. The states where it did not stall are a search
 -- space.
-use Rattle.std.proofs.Common.{◌≡◌, ℕ, ◌/◌, ◌%◌, ◌<◌, List, [], ◌∷◌, ◌++◌, Contains, Option, None, get_or, refl, sym, ◌∙◌, ap, subst, arith, set, inl, inr, nat_cmp}
+use Rattle.std.proofs.Common.{◌≡◌, ℕ, ◌/◌, ◌%◌, ◌<◌, List, [], ◌∷◌, ◌++◌, Contains, Option, None, get_or, refl, sym, ◌∙◌, ap, subst}
+use Rattle.std.proofs.Common.{arith, set, inl, inr, nat_cmp}
 use Rattle.std.specs.Prelude.{◌⊎◌, ◌≢◌, IfOk, OnOk, Vec}
 use Rattle.std.specs.declared.alloc.Global.{Global}
 use Rattle.std.specs.declared.result.Result.{Result}
@@ -48,18 +49,21 @@ side_or_other Up state = elim (cases_eq (state % 2) 0) [ inl even ↦ inl (omega
 side_or_other Down state = elim (cases_eq (state % 2) 0) [ inl even ↦ inr (omega arith) | inr odd ↦ inl (omega arith) ]
 
 -- if the other side has no keys, a state with a key is of this side
-pub state_here : (H : LevelsAndLegs) (side : Side) (x : WeightSearch) → IsEmpty (side_keys H (other side) x) → (v weight state : ℕ) → v < nodes_of H → rank_of H v ≡ state / 2 →
+pub state_here : (H : LevelsAndLegs) (side : Side) (x : WeightSearch) → IsEmpty (side_keys H (other side) x) →
+    (v weight state : ℕ) → v < nodes_of H → rank_of H v ≡ state / 2 →
     IsLeastState x.queue (weight, state) → state ≡ state_of side (rank_of H v)
 state_here H side x alone v weight state within at l = elim (side_or_other side state) [
   | inl here ↦ here ∙ ap (state_of side) (sym at)
   | inr there ↦
       let is = there ∙ ap (state_of (other side)) (sym at) in
       absurd (alone v (weight_cost weight)
-      (by_state-at (option_map weight_cost) H (other side) x.queue None None v within ∙ ap (option_map weight_cost) (ap (λ q. get_or x.queue q None) (sym is) ∙ l.has)))
+      (by_state-at (option_map weight_cost) H (other side) x.queue None None v within
+      ∙ ap (option_map weight_cost) (ap (λ q. get_or x.queue q None) (sym is) ∙ l.has)))
 ]
 
 -- the state of least weight is that of a node
-node_popped : (H : LevelsAndLegs) (side : Side) (x : WeightSearch) → IsWeighingOn H side x → (weight state : ℕ) → IsLeastState x.queue (weight, state) →
+node_popped : (H : LevelsAndLegs) (side : Side) (x : WeightSearch) → IsWeighingOn H side x → (weight state : ℕ) →
+    IsLeastState x.queue (weight, state) →
     (v : ℕ) × (v < nodes_of H) × (rank_of H v ≡ state / 2)
 node_popped H side x m weight state l =
     let low = key_state x.queue state weight l.has in
@@ -81,7 +85,8 @@ pub record SettlesState (H : LevelsAndLegs) (side : Side) (x z : WeightSearch) (
   pub gone : HasGoneOn H side (without_state x state) z
 
 -- the program settles the state that it took out
-pub settles_popped : (H : LevelsAndLegs) (side : Side) (x z : WeightSearch) (weight state : ℕ) (queue : List (Option ℕ)) → IsWeighingOn H side x → IsEmpty (side_keys H (other side) x) →
+pub settles_popped : (H : LevelsAndLegs) (side : Side) (x z : WeightSearch) (weight state : ℕ) (queue : List (Option ℕ)) →
+    IsWeighingOn H side x → IsEmpty (side_keys H (other side) x) →
     IsLeastEntry nat_cmp x.queue (weight, state) → queue ≡ set x.queue state None → HasGoneOn H side (record x { queue = queue }) z →
     (v : ℕ) × SettlesState H side x z v weight state × (rank_of H v ≡ state / 2)
 settles_popped H side x z weight state queue m alone entry rest gone =
@@ -97,7 +102,8 @@ settles_popped H side x z weight state queue m alone entry rest gone =
       n.2,
     )
 
-module _ (H : LevelsAndLegs) (side : Side) (x z : WeightSearch) (m : IsWeighingOn H side x) (v weight state : ℕ) (s : SettlesState H side x z v weight state) where
+module _ (H : LevelsAndLegs) (side : Side) (x z : WeightSearch) (m : IsWeighingOn H side x) (v weight state : ℕ)
+    (s : SettlesState H side x z v weight state) where
   -- the other side still has no keys
   pub still_alone : IsEmpty (side_keys H (other side) x) → IsEmpty (side_keys H (other side) z)
   still_alone = subst IsEmpty (sym (s.gone.there.keys ∙ (pop_there H side x m v weight state s.within s.is s.least).keys))
@@ -116,15 +122,19 @@ module _ (H : LevelsAndLegs) (side : Side) (x z : WeightSearch) (m : IsWeighingO
         IsSettled (side_costs H side z) (side_keys H side z) u d
     remains u d h =
         let key = least_on_side H side x m v weight state s.within s.is s.least in
-        s.gone.stays u d (subst (λ r. IsSettled (side_costs H side x) r u d) (sym (keys_here H side x m v weight state s.within s.is s.least))
-        (popped_stays _ _ _ _ _ m.search v (weight_cost weight) key.has key.least (key_within (side_keys H side x) v (weight_cost weight) key.has) u d h))
+        s.gone.stays u d (subst (λ r. IsSettled (side_costs H side x) r u d)
+        (sym (keys_here H side x m v weight state s.within s.is s.least))
+        (popped_stays _ _ _ _ _ m.search v (weight_cost weight) key.has key.least
+        (key_within (side_keys H side x) v (weight_cost weight) key.has) u d h))
 
     -- v is settled now
     here : IsSettled (side_costs H side z) (side_keys H side z) v (weight_cost weight)
     here =
         let key = least_on_side H side x m v weight state s.within s.is s.least in
-        s.gone.stays v (weight_cost weight) (subst (λ r. IsSettled (side_costs H side x) r v (weight_cost weight)) (sym (keys_here H side x m v weight state s.within s.is s.least))
-        (popped_here _ _ _ _ _ m.search v (weight_cost weight) key.has key.least (key_within (side_keys H side x) v (weight_cost weight) key.has)))
+        s.gone.stays v (weight_cost weight) (subst (λ r. IsSettled (side_costs H side x) r v (weight_cost weight))
+        (sym (keys_here H side x m v weight state s.within s.is s.least))
+        (popped_here _ _ _ _ _ m.search v (weight_cost weight) key.has key.least
+        (key_within (side_keys H side x) v (weight_cost weight) key.has)))
 
     -- no other node is settled now
     was : (u : ℕ) (d : Cost) → IsSettled (side_costs H side z) (side_keys H side z) u d →
@@ -133,7 +143,8 @@ module _ (H : LevelsAndLegs) (side : Side) (x z : WeightSearch) (m : IsWeighingO
 
     -- a node that was idle is idle now
     still_idle : (u : ℕ) (d : Cost) → is_idle_on H side (source_of x side) u d → is_idle_on H side (source_of z side) u d
-    still_idle u d idle = subst (λ q. is_idle_on H side q u d) (sym (same_source (without_state x state) z s.gone.same side ∙ source_stays x state side)) idle
+    still_idle u d idle = subst (λ q. is_idle_on H side q u d)
+        (sym (same_source (without_state x state) z s.gone.same side ∙ source_stays x state side)) idle
 
     -- if the search stalls at v, the list stays the same
     pub unstalled_skips : is_idle_on H side (source_of z side) v (weight_cost weight) → AreUnstalledOn H side z list
@@ -142,7 +153,8 @@ module _ (H : LevelsAndLegs) (side : Side) (x z : WeightSearch) (m : IsWeighingO
       settled = λ rank y h. let e = a.settled rank y h in (e.0, e.1, e.2, remains e.0 (weight_cost y) e.3);
       whole = λ u d h. elim (was u d h) [
         | inl old ↦ elim (a.whole u d old) [ inl i ↦ inl (still_idle u d i) | inr has ↦ inr has ]
-        | inr new ↦ inl (subst (λ r. is_idle_on H side (source_of z side) r d) (sym new.0) (subst (is_idle_on H side (source_of z side) v) (sym new.1) idle))
+        | inr new ↦ inl (subst (λ r. is_idle_on H side (source_of z side) r d) (sym new.0)
+            (subst (is_idle_on H side (source_of z side) v) (sym new.1) idle))
       ];
     }
 
@@ -153,7 +165,8 @@ module _ (H : LevelsAndLegs) (side : Side) (x z : WeightSearch) (m : IsWeighingO
       distinct = all_pairs_push (λ (p q : ℕ × ℕ). p.0 ≢ q.0) list (rank, weight) a.distinct (λ k d lt same.
           let e = a.settled (get_or list k d).0 (get_or list k d).1 (Contains-get_or list k d lt) in
           let one = rank_one H m.levelled e.0 v e.1 s.within (e.2 ∙ same ∙ sym at) in
-          none-some _ (sym e.3.1 ∙ ap (cost_at (side_keys H side x)) one ∙ (least_on_side H side x m v weight state s.within s.is s.least).has));
+          none-some _ (sym e.3.1 ∙ ap (cost_at (side_keys H side x)) one
+          ∙ (least_on_side H side x m v weight state s.within s.is s.least).has));
       settled = λ r y h. elim (Contains-push_cases list (rank, weight) (r, y) h) [
         | inl old ↦ (let e = a.settled r y old in (e.0, e.1, e.2, remains e.0 (weight_cost y) e.3))
         | inr new ↦ (
@@ -164,7 +177,11 @@ module _ (H : LevelsAndLegs) (side : Side) (x z : WeightSearch) (m : IsWeighingO
         )
       ];
       whole = λ u d h. elim (was u d h) [
-        | inl old ↦ elim (a.whole u d old) [ inl i ↦ inl (still_idle u d i) | inr has ↦ inr (Contains-append_left list ((rank, weight) ∷ []) (rank_of H u, d.weight) has) ]
+        | inl old ↦ elim (a.whole u d old) [
+          | inl i ↦ inl (still_idle u d i)
+          | inr has ↦
+              inr (Contains-append_left list ((rank, weight) ∷ []) (rank_of H u, d.weight) has)
+        ]
         | inr new ↦
             let ranks = sym at ∙ ap (rank_of H) (sym new.0) in
             let weights = ap (λ (q : Cost). q.weight) (sym new.1) in
@@ -174,7 +191,8 @@ module _ (H : LevelsAndLegs) (side : Side) (x z : WeightSearch) (m : IsWeighingO
     })
 
 -- a search that has ended, for the paths within the limit
-module _ (H : LevelsAndLegs) (k : IsKeptForSome H) (side : Side) (x : WeightSearch) (m : IsWeighingOn H side x) (done : IsEmpty (side_keys H side x)) (limit : Option ℕ)
+module _ (H : LevelsAndLegs) (k : IsKeptForSome H) (side : Side) (x : WeightSearch) (m : IsWeighingOn H side x)
+    (done : IsEmpty (side_keys H side x)) (limit : Option ℕ)
     (most : IsMost limit x.most) where
   -- a settled node has the weight of a path within the limit
   settled_path : (v y : ℕ) → IsSettled (side_costs H side x) (side_keys H side x) v (weight_cost y) →
@@ -185,7 +203,8 @@ module _ (H : LevelsAndLegs) (k : IsKeptForSome H) (side : Side) (x : WeightSear
 
   -- a tight node within the limit is settled at its least weight, and the search did not stall there
   tight_at : (v : ℕ) (c : Cost) → IsTight H side (source_of x side) v c → IsWithin limit c.weight →
-      (v < nodes_of H) × IsSettled (side_costs H side x) (side_keys H side x) v (weighed_cost c) × (is_idle_on H side (source_of x side) v (weighed_cost c) → ⊥)
+      (v < nodes_of H) × IsSettled (side_costs H side x) (side_keys H side x) v (weighed_cost c)
+      × (is_idle_on H side (source_of x side) v (weighed_cost c) → ⊥)
   tight_at v c tight low =
       let least = tight_least H side (source_of x side) v c tight in
       let light = most.whole c.weight least.weight low in
@@ -220,13 +239,17 @@ module _ (H : LevelsAndLegs) (k : IsKeptForSome H) (side : Side) (x : WeightSear
   space_of s from list a = subst (λ q. IsRankedSpace H side limit q list) from (space_is list a)
 
 -- if a search on one side ended well, it found the search space of the node where it began
-pub space_if_done : (H : LevelsAndLegs) → IsKeptForSome H → (side : Side) (x : WeightSearch) → IsWeighingOn H side x → (limit : Option ℕ) → IsMost limit x.most → (s : ℕ) → source_of x side ≡ s →
-    (list : List (ℕ × ℕ)) {T E : Type 0} (r : Result T E) → OnOk r (IsEmpty (side_keys H side x)) → OnOk r (AreUnstalledOn H side x list) → OnOk r (IsRankedSpace H side limit s list)
+pub space_if_done : (H : LevelsAndLegs) → IsKeptForSome H → (side : Side) (x : WeightSearch) → IsWeighingOn H side x →
+    (limit : Option ℕ) → IsMost limit x.most → (s : ℕ) → source_of x side ≡ s →
+    (list : List (ℕ × ℕ)) {T E : Type 0} (r : Result T E) → OnOk r (IsEmpty (side_keys H side x)) →
+    OnOk r (AreUnstalledOn H side x list) → OnOk r (IsRankedSpace H side limit s list)
 space_if_done H k side x m limit most s from list (Ok _) done a = space_of H k side x m done limit most s from list a
 space_if_done H k side x m limit most s from list (Err _) done a = tt
 
 -- a list with these entries is the search space
-pub space_if_listed : (H : LevelsAndLegs) (side : Side) (limit : Option ℕ) (s : ℕ) (found : List (ℕ × ℕ)) → IsRankedSpace H side limit s found →
-    {E : Type 0} (r : Result (Vec (ℕ × ℕ) Global) E) → IfOk r (λ list. list.items ≡ found) → IfOk r (λ list. IsRankedSpace H side limit s list.items)
+pub space_if_listed : (H : LevelsAndLegs) (side : Side) (limit : Option ℕ) (s : ℕ) (found : List (ℕ × ℕ)) →
+    IsRankedSpace H side limit s found →
+    {E : Type 0} (r : Result (Vec (ℕ × ℕ) Global) E) → IfOk r (λ list. list.items ≡ found) →
+    IfOk r (λ list. IsRankedSpace H side limit s list.items)
 space_if_listed H side limit s found space (Ok list) same = subst (IsRankedSpace H side limit s) (sym same) space
 space_if_listed H side limit s found space (Err e) same = tt

@@ -1,5 +1,6 @@
 -- The values of the states of one side, read by node.
-use Rattle.std.proofs.Common.{◌≡◌, ℕ, ◌-◌, ◌*◌, ◌<◌, List, length, map, Option, Some, None, refl, sym, ◌∙◌, ap, arith, get_or, set, length-set, get_or-set_same, get_or-set_other, inl, inr}
+use Rattle.std.proofs.Common.{◌≡◌, ℕ, ◌-◌, ◌*◌, ◌<◌, List, length, map, Option, Some, None, refl, sym, ◌∙◌, ap, arith, get_or, set}
+use Rattle.std.proofs.Common.{length-set, get_or-set_same, get_or-set_other, inl, inr}
 use Rattle.std.specs.Option.{option_map}
 use Rattle.std.proofs.lemmas.Bool.{cases_lt, cases_eq}
 use Rattle.std.proofs.lemmas.Option.{none-some, same_Some}
@@ -29,11 +30,6 @@ pub state_below : (side : Side) (rank n : ℕ) → rank < n → state_of side ra
 state_below Up rank n lt = omega arith
 state_below Down rank n lt = omega arith
 
--- the other side of the other side is the side
-pub other_twice : (side : Side) → other (other side) ≡ side
-other_twice Up = refl
-other_twice Down = refl
-
 module _ {A B : Type 0} (f : A → B) (H : LevelsAndLegs) (side : Side) where
   -- a list by node has an element for each node
   pub by_state-size : (list : List A) (default : A) → length (by_state f H side list default) ≡ nodes_of H
@@ -59,10 +55,12 @@ module _ {A B : Type 0} (f : A → B) (H : LevelsAndLegs) (side : Side) where
       let lt' : w < nodes_of H = omega arith in
       by_state-at (set list state x) default (f default) w lt' ∙ elim (cases_eq w v) [
         | inl is ↦
-            ap (λ r. f (get_or (set list state x) (state_of side (rank_of H r)) default)) is ∙ ap f (get_or-set_same list state x default (omega arith))
+            ap (λ r. f (get_or (set list state x) (state_of side (rank_of H r)) default)) is
+            ∙ ap f (get_or-set_same list state x default (omega arith))
             ∙ sym (ap (λ r. get_or (set old v (f x)) r (f default)) is ∙ get_or-set_same old v (f x) (f default) (omega arith))
         | inr away ↦
-            ap f (get_or-set_other list state (state_of side (rank_of H w)) x default (λ e. away (rank_one H k w v lt' lt (state_one side (rank_of H w) (rank_of H v) e))))
+            ap f (get_or-set_other list state (state_of side (rank_of H w)) x default
+            (λ e. away (rank_one H k w v lt' lt (state_one side (rank_of H w) (rank_of H v) e))))
             ∙ sym (get_or-set_other old v w (f x) (f default) away ∙ by_state-at list default (f default) w lt')
       ])
 
@@ -70,14 +68,18 @@ module _ {A B : Type 0} (f : A → B) (H : LevelsAndLegs) (side : Side) where
   pub by_state-other : (list : List A) (default x : A) (rank : ℕ) →
       by_state f H (other side) (set list (state_of side rank) x) default ≡ by_state f H (other side) list default
   by_state-other list default x rank =
-      λ i. map (λ level. f (get_or-set_other list (state_of side rank) (state_of (other side) (nodes_of H - level)) x default (state_apart side (nodes_of H - level) rank) i)) H.level
+      λ i. map (λ level. f (get_or-set_other list (state_of side rank) (state_of (other side) (nodes_of H - level)) x default
+      (state_apart side (nodes_of H - level) rank) i)) H.level
 
 -- a cost of a node is that of the element at its state
-pub by_state-some : {A : Type 0} → (f : A → Option Cost) (H : LevelsAndLegs) (side : Side) (list : List A) (default : A) (v : ℕ) (c : Cost) →
-    cost_at (by_state f H side list default) v ≡ Some c → (v < nodes_of H) × (f (get_or list (state_of side (rank_of H v)) default) ≡ Some c)
+pub by_state-some : {A : Type 0} → (f : A → Option Cost) (H : LevelsAndLegs) (side : Side) (list : List A) (default : A) (v : ℕ)
+    (c : Cost) →
+    cost_at (by_state f H side list default) v ≡ Some c →
+    (v < nodes_of H) × (f (get_or list (state_of side (rank_of H v)) default) ≡ Some c)
 by_state-some f H side list default v c e = elim (cases_lt v (nodes_of H)) [
   | inl lt ↦ (lt, sym (by_state-at f H side list default None v lt) ∙ e)
-  | inr ge ↦ absurd (none-some c (sym (get_or_past (by_state f H side list default) v None (let size = by_state-size f H side list default in omega arith)) ∙ e))
+  | inr ge ↦ absurd (none-some c
+      (sym (get_or_past (by_state f H side list default) v None (let size = by_state-size f H side list default in omega arith)) ∙ e))
 ]
 
 -- the cost of a key is its weight

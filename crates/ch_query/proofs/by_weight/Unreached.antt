@@ -25,7 +25,10 @@ pub unreached_here : (H : LevelsAndLegs) (side : Side) (x : WeightSearch) (v wei
 unreached_here H side x v weight m u state within is unreached = none_unless (get_or x.queue state None) (λ w key.
     let low = state_below side (rank_of H u) (nodes_of H) (rank_below H m.levelled u within) in
     let size = m.sizes.known in
-    let queued = by_state-at (option_map weight_cost) H side x.queue None None u within ∙ ap (λ q. option_map weight_cost (get_or x.queue q None)) (sym is) ∙ ap (option_map weight_cost) key in
-    let known = by_state-at known_cost H side x.known.items UNREACHED None u within ∙ ap (λ q. known_cost (get_or x.known.items q UNREACHED)) (sym is) in
-    let read : get_or x.known.items state UNREACHED ≡ UNREACHED = sym (get_or_default x.known.items state _ UNREACHED (omega arith)) ∙ unreached in
+    let queued = by_state-at (option_map weight_cost) H side x.queue None None u within
+    ∙ ap (λ q. option_map weight_cost (get_or x.queue q None)) (sym is) ∙ ap (option_map weight_cost) key in
+    let known = by_state-at known_cost H side x.known.items UNREACHED None u within
+    ∙ ap (λ q. known_cost (get_or x.known.items q UNREACHED)) (sym is) in
+    let read : get_or x.known.items state UNREACHED ≡ UNREACHED = sym (get_or_default x.known.items state _ UNREACHED (omega arith))
+    ∙ unreached in
     none-some (weight_cost w) (sym (no_cost_known _ read) ∙ sym known ∙ m.here.search.queued u (weight_cost w) queued))

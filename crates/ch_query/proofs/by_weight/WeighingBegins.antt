@@ -15,7 +15,8 @@ use Rattle.ch_query.specs.Search.{IsSettled}
 use Rattle.ch_query.specs.Side.{rows_of, other, state_of}
 use Rattle.ch_query.specs.Underway.{IsTouched}
 use Rattle.ch_query.specs.Weighed.{weighed, IsWeightSearchTo}
-use Rattle.ch_query.specs.Weights.{known_cost, weight_cost, by_state, side_costs, side_keys, source_of, is_idle_on, IsSizedFor, IsWeighingOn, IsCleanFor, HasBegunOn, IsLeastSoFar}
+use Rattle.ch_query.specs.Weights.{known_cost, weight_cost, by_state, side_costs, side_keys, source_of, is_idle_on, IsSizedFor}
+use Rattle.ch_query.specs.Weights.{IsWeighingOn, IsCleanFor, HasBegunOn, IsLeastSoFar}
 use Rattle.ch_query.proofs.one_side.Begun.{begun_search, begun_fresh}
 use Rattle.ch_query.proofs.one_side.Expanding.{rows_size}
 use Rattle.ch_query.proofs.one_side.WeighedPaths.{weighed_levelled}
@@ -28,8 +29,10 @@ source_where x Up s start end = start
 source_where x Down s start end = end
 
 -- x is clean, and z is x with one node of a side reached
-module _ (H : LevelsAndLegs) (k : IsLevelled H) (x z : WeightSearch) (clean : IsCleanFor (nodes_of H) x) (side : Side) (s : ℕ) (within : s < nodes_of H) (source : source_of z side ≡ s)
-    (most : z.most ≤ MOST_WEIGHT) (sizes : IsSizedFor (nodes_of H) z) (costs : side_costs H side z ≡ set (side_costs H side x) s (Some no_cost))
+module _ (H : LevelsAndLegs) (k : IsLevelled H) (x z : WeightSearch) (clean : IsCleanFor (nodes_of H) x) (side : Side) (s : ℕ)
+    (within : s < nodes_of H) (source : source_of z side ≡ s)
+    (most : z.most ≤ MOST_WEIGHT) (sizes : IsSizedFor (nodes_of H) z)
+    (costs : side_costs H side z ≡ set (side_costs H side x) s (Some no_cost))
     (keys : side_keys H side z ≡ set (side_keys H side x) s (Some no_cost)) where
   -- there are as many rows as nodes
   rows_many : length (rows_of (weighed H) side) ≡ nodes_of H
@@ -61,11 +64,14 @@ module _ (H : LevelsAndLegs) (k : IsLevelled H) (x z : WeightSearch) (clean : Is
   side_fresh v c settled =
       begun_fresh z.most (rows_of (weighed H) side) s (is_idle_on H side s) (side_costs H side x) (side_keys H side x) most
       costs_many keys_many in_rows (clean_costs H side x clean k) (clean_keys H side x clean) v c
-      (subst (λ q. IsSettled (set (side_costs H side x) s (Some no_cost)) q v c) keys (subst (λ q. IsSettled q (side_keys H side z) v c) costs settled))
+      (subst (λ q. IsSettled (set (side_costs H side x) s (Some no_cost)) q v c) keys
+      (subst (λ q. IsSettled q (side_keys H side z) v c) costs settled))
 
 -- x is clean, and z is x with the state of one node reached
-module _ (H : LevelsAndLegs) (k : IsLevelled H) (x z : WeightSearch) (clean : IsCleanFor (nodes_of H) x) (side : Side) (s state : ℕ) (within : s < nodes_of H) (is : state ≡ state_of side (rank_of H s))
-    (source : source_of z side ≡ s) (most : z.most ≤ MOST_WEIGHT) (known : z.known.items ≡ set x.known.items state 0) (queue : z.queue ≡ set x.queue state (Some 0))
+module _ (H : LevelsAndLegs) (k : IsLevelled H) (x z : WeightSearch) (clean : IsCleanFor (nodes_of H) x) (side : Side) (s state : ℕ)
+    (within : s < nodes_of H) (is : state ≡ state_of side (rank_of H s))
+    (source : source_of z side ≡ s) (most : z.most ≤ MOST_WEIGHT) (known : z.known.items ≡ set x.known.items state 0)
+    (queue : z.queue ≡ set x.queue state (Some 0))
     (touched : IsTouched (map known_cost z.known.items) z.touched) where
   costs_on : side_costs H side z ≡ set (side_costs H side x) s (Some no_cost)
   costs_on =
@@ -99,9 +105,11 @@ module _ (H : LevelsAndLegs) (k : IsLevelled H) (x z : WeightSearch) (clean : Is
   }
 
 -- x is clean, and z is x with both ends reached
-module _ (H : LevelsAndLegs) (k : IsLevelled H) (x z : WeightSearch) (s t : ℕ) (clean : IsCleanFor (nodes_of H) x) (from : s < nodes_of H) (to : t < nodes_of H) (start : z.start ≡ s) (end : z.end ≡ t) (most : z.most ≡ MOST_WEIGHT)
+module _ (H : LevelsAndLegs) (k : IsLevelled H) (x z : WeightSearch) (s t : ℕ) (clean : IsCleanFor (nodes_of H) x)
+    (from : s < nodes_of H) (to : t < nodes_of H) (start : z.start ≡ s) (end : z.end ≡ t) (most : z.most ≡ MOST_WEIGHT)
     (known : z.known.items ≡ set (set x.known.items (state_of Up (rank_of H s)) 0) (state_of Down (rank_of H t)) 0)
-    (queue : z.queue ≡ set (set x.queue (state_of Up (rank_of H s)) (Some 0)) (state_of Down (rank_of H t)) (Some 0)) (touched : IsTouched (map known_cost z.known.items) z.touched) where
+    (queue : z.queue ≡ set (set x.queue (state_of Up (rank_of H s)) (Some 0)) (state_of Down (rank_of H t)) (Some 0))
+    (touched : IsTouched (map known_cost z.known.items) z.touched) where
   -- the node where a side begins
   end_of : Side → ℕ
   end_of Up = s
@@ -128,7 +136,8 @@ module _ (H : LevelsAndLegs) (k : IsLevelled H) (x z : WeightSearch) (s t : ℕ)
       ∙ by_state-set known_cost H Up k x.known.items UNREACHED 0 s clean.sizes.known from
   costs_then Down =
       ap (λ q. by_state known_cost H Down q UNREACHED) known
-      ∙ by_state-set known_cost H Down k (set x.known.items (state_of Up (rank_of H s)) 0) UNREACHED 0 t (length-set x.known.items (state_of Up (rank_of H s)) 0 ∙ clean.sizes.known) to
+      ∙ by_state-set known_cost H Down k (set x.known.items (state_of Up (rank_of H s)) 0) UNREACHED 0 t
+      (length-set x.known.items (state_of Up (rank_of H s)) 0 ∙ clean.sizes.known) to
       ∙ ap (λ q. set q t (Some no_cost)) (by_state-other known_cost H Up x.known.items UNREACHED 0 (rank_of H s))
 
   -- on each side only this node gets a key
@@ -140,14 +149,17 @@ module _ (H : LevelsAndLegs) (k : IsLevelled H) (x z : WeightSearch) (s t : ℕ)
       ∙ by_state-set (option_map weight_cost) H Up k x.queue None (Some 0) s clean.sizes.queue from
   keys_then Down =
       ap (λ q. by_state (option_map weight_cost) H Down q None) queue
-      ∙ by_state-set (option_map weight_cost) H Down k (set x.queue (state_of Up (rank_of H s)) (Some 0)) None (Some 0) t (length-set x.queue (state_of Up (rank_of H s)) (Some 0) ∙ clean.sizes.queue) to
+      ∙ by_state-set (option_map weight_cost) H Down k (set x.queue (state_of Up (rank_of H s)) (Some 0)) None (Some 0) t
+      (length-set x.queue (state_of Up (rank_of H s)) (Some 0) ∙ clean.sizes.queue) to
       ∙ ap (λ q. set q t (Some no_cost)) (by_state-other (option_map weight_cost) H Up x.queue None (Some 0) (rank_of H s))
 
   -- the lists keep their lengths
   sizes : IsSizedFor (nodes_of H) z
   sizes = record {
-    known = ap length known ∙ length-set (set x.known.items (state_of Up (rank_of H s)) 0) _ 0 ∙ length-set x.known.items _ 0 ∙ clean.sizes.known;
-    queue = ap length queue ∙ length-set (set x.queue (state_of Up (rank_of H s)) (Some 0)) _ (Some 0) ∙ length-set x.queue _ (Some 0) ∙ clean.sizes.queue;
+    known = ap length known ∙ length-set (set x.known.items (state_of Up (rank_of H s)) 0) _ 0 ∙ length-set x.known.items _ 0
+        ∙ clean.sizes.known;
+    queue = ap length queue ∙ length-set (set x.queue (state_of Up (rank_of H s)) (Some 0)) _ (Some 0)
+        ∙ length-set x.queue _ (Some 0) ∙ clean.sizes.queue;
     touched = touched;
   }
 
@@ -165,6 +177,7 @@ module _ (H : LevelsAndLegs) (k : IsLevelled H) (x z : WeightSearch) (s t : ℕ)
   weighing_begun = record {
     weighing = record { most = most; sides = both_begun };
     small = omega arith;
-    seen = λ v a b up down. absurd (side_fresh H k x z clean Up (end_of Up) (end_within Up) (source_is Up) small sizes (costs_then Up) (keys_then Up) v a up);
+    seen = λ v a b up down.
+        absurd (side_fresh H k x z clean Up (end_of Up) (end_within Up) (source_is Up) small sizes (costs_then Up) (keys_then Up) v a up);
     found = λ lt. absurd (omega arith);
   }

@@ -17,10 +17,12 @@ use Rattle.ch_query.specs.Weights.{weight_cost, side_costs, side_keys, source_of
 use Rattle.ch_query.proofs.two_sides.WeighedSearches.{weighed_least}
 use Rattle.ch_query.proofs.by_weight.States.{by_state-some, key_weight}
 
-module _ (H : LevelsAndLegs) (k : IsKeptForSome H) (x : WeightSearch) (least : ℕ) (s : IsLeastSoFar H x least) (past : AreKeysFrom x.queue least) where
+module _ (H : LevelsAndLegs) (k : IsKeptForSome H) (x : WeightSearch) (least : ℕ) (s : IsLeastSoFar H x least)
+    (past : AreKeysFrom x.queue least) where
   -- each side is a search of all paths
   all_paths : (side : Side) → IsWeightSearch H side (source_of x side) (side_costs H side x) (side_keys H side x)
-  all_paths side = subst (λ m. IsWeightSearchTo m H side (source_of x side) (side_costs H side x) (side_keys H side x)) s.weighing.most (s.weighing.sides side).search
+  all_paths side = subst (λ m. IsWeightSearchTo m H side (source_of x side) (side_costs H side x) (side_keys H side x))
+      s.weighing.most (s.weighing.sides side).search
 
   -- each remaining key is at least the least sum
   key_from : (side : Side) (v : ℕ) (d : Cost) → cost_at (side_keys H side x) v ≡ Some d → least ≤ d.weight
@@ -47,7 +49,8 @@ module _ (H : LevelsAndLegs) (k : IsKeptForSome H) (x : WeightSearch) (least : �
 
     -- the sum is the least weight
     pub least_known : IsLeastWeight H x.start x.end (Some least)
-    least_known = weighed_least H k x.start x.end (Some least) _ _ _ _ (all_paths Up) (all_paths Down) seen found (past_by Up) (past_by Down)
+    least_known = weighed_least H k x.start x.end (Some least) _ _ _ _ (all_paths Up) (all_paths Down) seen found (past_by Up)
+        (past_by Down)
 
   -- the case where there is no sum
   module _ (none : least ≡ UNREACHED) where
@@ -66,7 +69,8 @@ module _ (H : LevelsAndLegs) (k : IsKeptForSome H) (x : WeightSearch) (least : �
 
     -- no node is reached from both ends
     pub none_known : IsLeastWeight H x.start x.end None
-    none_known = weighed_least H k x.start x.end None _ _ _ _ (all_paths Up) (all_paths Down) not_seen (λ e is. absurd (none-some e is)) (not_past Up) (not_past Down)
+    none_known = weighed_least H k x.start x.end None _ _ _ _ (all_paths Up) (all_paths Down) not_seen
+        (λ e is. absurd (none-some e is)) (not_past Up) (not_past Down)
 
 -- the same for the nodes where the search began
 pub least_between : (H : LevelsAndLegs) (s t s' t' : ℕ) (o : Option ℕ) → s' ≡ s → t' ≡ t → IsLeastWeight H s' t' o → IsLeastWeight H s t o

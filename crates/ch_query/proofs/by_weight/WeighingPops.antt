@@ -1,5 +1,6 @@
 -- The state of least weight is settled: one side goes on from its node, and the other stays the same.
-use Rattle.std.proofs.Common.{◌≡◌, ℕ, ◌+◌, ◌<◌, List, length, Option, Some, None, refl, sym, ◌∙◌, ap, subst, arith, set, length-set, inl, inr}
+use Rattle.std.proofs.Common.{◌≡◌, ℕ, ◌+◌, ◌<◌, List, length, Option, Some, None, refl, sym, ◌∙◌, ap, subst, arith, set, length-set}
+use Rattle.std.proofs.Common.{inl, inr}
 use Rattle.std.specs.Prelude.{slice_index_or, ◌⊎◌}
 use Rattle.std.specs.Option.{option_map}
 use Rattle.std.proofs.lemmas.Bool.{cases_lt}
@@ -15,7 +16,8 @@ use Rattle.ch_query.specs.declared.weights.search.WeightSearch.{WeightSearch}
 use Rattle.ch_query.specs.Search.{IsSettled, IsLeastKey, IsExpanding, OrNode, count_unsettled}
 use Rattle.ch_query.specs.Side.{rows_of, other, state_of}
 use Rattle.ch_query.specs.Weighed.{weighed}
-use Rattle.ch_query.specs.Weights.{weight_cost, by_state, side_costs, side_keys, source_of, is_idle_on, IsWeighingOn, IsWeighingAt, IsSameSide, IsLeastState, without_state}
+use Rattle.ch_query.specs.Weights.{weight_cost, by_state, side_costs, side_keys, source_of, is_idle_on, IsWeighingOn, IsWeighingAt}
+use Rattle.ch_query.specs.Weights.{IsSameSide, IsLeastState, without_state}
 use Rattle.ch_query.proofs.one_side.Steps.{popped, popped_settled, popped_falls}
 use Rattle.ch_query.proofs.by_weight.States.{by_state-size, by_state-at, by_state-set, by_state-other, by_state-some, key_weight}
 
@@ -30,11 +32,13 @@ source_stays x state Up = refl
 source_stays x state Down = refl
 
 -- the state of least weight is that of the node v on this side
-module _ (H : LevelsAndLegs) (side : Side) (x : WeightSearch) (m : IsWeighingOn H side x) (v weight state : ℕ) (within : v < nodes_of H) (is : state ≡ state_of side (rank_of H v)) (l : IsLeastState x.queue (weight, state)) where
+module _ (H : LevelsAndLegs) (side : Side) (x : WeightSearch) (m : IsWeighingOn H side x) (v weight state : ℕ)
+    (within : v < nodes_of H) (is : state ≡ state_of side (rank_of H v)) (l : IsLeastState x.queue (weight, state)) where
   -- v has the least key of its side
   pub least_on_side : IsLeastKey (side_keys H side x) v (weight_cost weight)
   least_on_side = record {
-    has = by_state-at (option_map weight_cost) H side x.queue None None v within ∙ ap (option_map weight_cost) (ap (λ q. slice_index_or x.queue q None) (sym is) ∙ l.has);
+    has = by_state-at (option_map weight_cost) H side x.queue None None v within
+        ∙ ap (option_map weight_cost) (ap (λ q. slice_index_or x.queue q None) (sym is) ∙ l.has);
     least = λ u d e.
         let there = by_state-some (option_map weight_cost) H side x.queue None u d e in
         let key = key_weight _ d there.1 in
@@ -64,9 +68,11 @@ module _ (H : LevelsAndLegs) (side : Side) (x : WeightSearch) (m : IsWeighingOn 
     levelled = m.levelled;
     sizes = record { known = m.sizes.known; queue = length-set x.queue state None ∙ m.sizes.queue; touched = m.sizes.touched };
     within = within;
-    here = subst (λ s. IsExpanding x.most (rows_of (weighed H) side) s (OrNode (is_idle_on H side s) v) (side_costs H side x) (side_keys H side (without_state x state)) v (weight_cost weight))
+    here = subst (λ s. IsExpanding x.most (rows_of (weighed H) side) s (OrNode (is_idle_on H side s) v) (side_costs H side x)
+        (side_keys H side (without_state x state)) v (weight_cost weight))
         (sym (source_stays x state side))
-        (subst (λ q. IsExpanding x.most (rows_of (weighed H) side) (source_of x side) (OrNode (is_idle_on H side (source_of x side)) v) (side_costs H side x) q v (weight_cost weight))
+        (subst (λ q. IsExpanding x.most (rows_of (weighed H) side) (source_of x side)
+        (OrNode (is_idle_on H side (source_of x side)) v) (side_costs H side x) q v (weight_cost weight))
         (sym keys_here) (popped _ _ _ _ _ m.search v (weight_cost weight) least_on_side.has least_on_side.least in_keys));
   }
 
@@ -81,6 +87,7 @@ module _ (H : LevelsAndLegs) (side : Side) (x : WeightSearch) (m : IsWeighingOn 
       (subst (λ q. IsSettled (side_costs H side x) q u a) keys_here h)
 
   -- one node fewer is unsettled on this side
-  pub pop_falls : count_unsettled (side_costs H side x) (side_keys H side (without_state x state)) + 1 ≡ count_unsettled (side_costs H side x) (side_keys H side x)
+  pub pop_falls : count_unsettled (side_costs H side x) (side_keys H side (without_state x state)) + 1
+      ≡ count_unsettled (side_costs H side x) (side_keys H side x)
   pop_falls = ap (λ q. count_unsettled (side_costs H side x) q + 1) keys_here
       ∙ popped_falls _ _ _ _ _ m.search v (weight_cost weight) least_on_side.has least_on_side.least in_keys

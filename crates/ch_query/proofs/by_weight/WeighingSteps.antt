@@ -1,5 +1,6 @@
 -- Legs that are taken one after the other, on one side of a search by weights alone.
-use Rattle.std.proofs.Common.{◌≡◌, ℕ, ◌+◌, ◌<◌, ◌≤◌, List, [], ◌∷◌, ◌++◌, length, map, take, Contains, Option, Some, None, refl, sym, ◌∙◌, ap, subst, arith, get_or, set, length-set, inl, inr}
+use Rattle.std.proofs.Common.{◌≡◌, ℕ, ◌+◌, ◌<◌, ◌≤◌, List, [], ◌∷◌, ◌++◌, length, map, take, Contains, Option, Some, None, refl}
+use Rattle.std.proofs.Common.{sym, ◌∙◌, ap, subst, arith, get_or, set, length-set, inl, inr}
 use Rattle.std.specs.Option.{option_map}
 use Rattle.std.proofs.lemmas.List.{get_or_default}
 use Rattle.std.proofs.lemmas.List.Elements.{Contains-push_cases}
@@ -19,8 +20,11 @@ use Rattle.ch_query.specs.Search.{IsSettled, IsRelaxedFrom, IsExpanding, OrNode,
 use Rattle.ch_query.specs.Side.{rows_of, other, state_of}
 use Rattle.ch_query.specs.Underway.{IsTouched}
 use Rattle.ch_query.specs.Weighed.{weighed, weighed_leg, IsWeightSearchTo}
-use Rattle.ch_query.specs.Weights.{known_cost, weight_cost, by_state, side_costs, side_keys, source_of, is_idle_on, IsSizedFor, IsWeighingOn, IsSameWeighing, IsSameSide, HasGoneOn, count_unsettled_on, ShowsWeight, IsPartlyWeighed}
-use Rattle.ch_query.proofs.one_side.Steps.{lowered, lowered_settled, lowered_stays, lowered_keeps, lowered_relaxes, lowered_counts, expanded}
+use Rattle.ch_query.specs.Weights.{known_cost, weight_cost, by_state, side_costs, side_keys, source_of, is_idle_on, IsSizedFor}
+use Rattle.ch_query.specs.Weights.{IsWeighingOn, IsSameWeighing, IsSameSide, HasGoneOn, count_unsettled_on, ShowsWeight}
+use Rattle.ch_query.specs.Weights.{IsPartlyWeighed}
+use Rattle.ch_query.proofs.one_side.Steps.{lowered, lowered_settled, lowered_stays, lowered_keeps, lowered_relaxes, lowered_counts}
+use Rattle.ch_query.proofs.one_side.Steps.{expanded}
 use Rattle.ch_query.proofs.by_weight.Known.{light_cost, known_weight}
 use Rattle.ch_query.proofs.by_weight.LegsRead.{IsReadLeg, read_state}
 use Rattle.ch_query.proofs.by_weight.States.{by_state-size, by_state-at, by_state-set, by_state-other}
@@ -52,12 +56,14 @@ ExpandingOn most H side s best queue v weight =
     IsExpanding most (rows_of (weighed H) side) s (OrNode (is_idle_on H side s) v) best queue v (weight_cost weight)
 
 -- a leg is offered to this side
-module _ (H : LevelsAndLegs) (side : Side) (x y z : WeightSearch) (v weight : ℕ) (legs : List Leg) (p : IsPartlyWeighed H side x y v weight legs) (l : Leg)
+module _ (H : LevelsAndLegs) (side : Side) (x y z : WeightSearch) (v weight : ℕ) (legs : List Leg)
+    (p : IsPartlyWeighed H side x y v weight legs) (l : Leg)
     (touched : IsTouched (map known_cost z.known.items) z.touched) (same : IsSameWeighing y z) where
   -- one more leg is taken, where the other side stays the same
   partly_by : (best queue : List (Option Cost)) → side_costs H side z ≡ best → side_keys H side z ≡ queue → IsSameSide H (other side) y z →
       (length z.known.items ≡ length y.known.items) × (length z.queue ≡ length y.queue) →
-      ExpandingOn y.most H side (source_of y side) best queue v weight → ((k : Leg) → Contains (legs ++ l ∷ []) k → IsRelaxedFrom y.most best (weight_cost weight) k) →
+      ExpandingOn y.most H side (source_of y side) best queue v weight →
+      ((k : Leg) → Contains (legs ++ l ∷ []) k → IsRelaxedFrom y.most best (weight_cost weight) k) →
       ((w : ℕ) (c : Cost) → IsSettled best queue w c → IsSettled (side_costs H side y) (side_keys H side y) w c) →
       ((w : ℕ) (c : Cost) → IsSettled (side_costs H side y) (side_keys H side y) w c → IsSettled best queue w c) →
       count_unsettled best queue ≡ count_unsettled_on H side y → IsPartlyWeighed H side x z v weight (legs ++ l ∷ [])
@@ -72,7 +78,8 @@ module _ (H : LevelsAndLegs) (side : Side) (x y z : WeightSearch) (v weight : �
           (subst (λ q. ExpandingOn y.most H side (source_of y side) q (side_keys H side z) v weight) (sym e)
           (subst (λ q. ExpandingOn y.most H side (source_of y side) best q v weight) (sym f) expanding)));
     };
-    relaxed = subst (λ m. (k : Leg) → Contains (legs ++ l ∷ []) k → IsRelaxedFrom m (side_costs H side z) (weight_cost weight) k) (sym same.most)
+    relaxed = subst (λ m. (k : Leg) → Contains (legs ++ l ∷ []) k → IsRelaxedFrom m (side_costs H side z) (weight_cost weight) k)
+        (sym same.most)
         (subst (λ q. (k : Leg) → Contains (legs ++ l ∷ []) k → IsRelaxedFrom y.most q (weight_cost weight) k) (sym e) relaxed);
     there = record { costs = there.costs ∙ p.there.costs; keys = there.keys ∙ p.there.keys };
     settled = λ w c k. p.settled w c (settled w c (sym (ap (λ q. cost_at q w) e) ∙ k.0, sym (ap (λ q. cost_at q w) f) ∙ k.1));
@@ -85,15 +92,25 @@ module _ (H : LevelsAndLegs) (side : Side) (x y z : WeightSearch) (v weight : �
       IsPartlyWeighed H side x z v weight (legs ++ l ∷ [])
   partly_same e f relaxed = partly_by (side_costs H side y) (side_keys H side y)
       (ap (λ q. by_state known_cost H side q UNREACHED) e) (ap (λ q. by_state (option_map weight_cost) H side q None) f)
-      (record { costs = ap (λ q. by_state known_cost H (other side) q UNREACHED) e; keys = ap (λ q. by_state (option_map weight_cost) H (other side) q None) f })
+      (record {
+        costs = ap (λ q. by_state known_cost H (other side) q UNREACHED) e;
+        keys =
+            ap (λ q. by_state (option_map weight_cost) H (other side) q None) f;
+      })
       (ap length e, ap length f) p.weighing.here
-      (λ k of. elim (Contains-push_cases legs l k of) [ inl old ↦ p.relaxed k old | inr is ↦ subst (IsRelaxedFrom y.most (side_costs H side y) (weight_cost weight)) is relaxed ])
+      (λ k of. elim (Contains-push_cases legs l k of) [
+        | inl old ↦ p.relaxed k old
+        | inr is ↦
+            subst (IsRelaxedFrom y.most (side_costs H side y) (weight_cost weight)) is relaxed
+      ])
       (λ w c k. k) (λ w c k. k) refl
 
   -- the case where the leg shows a lower weight
-  partly_less : (has : Contains (row (rows_of (weighed H) side) v) l) (within : l.node < nodes_of H) (sum : ℕ) → cost_sum (weight_cost weight) l.cost ≡ weight_cost sum →
+  partly_less : (has : Contains (row (rows_of (weighed H) side) v) l) (within : l.node < nodes_of H) (sum : ℕ) →
+      cost_sum (weight_cost weight) l.cost ≡ weight_cost sum →
       sum ≤ y.most → WouldLower (side_costs H side y) l.node (cost_sum (weight_cost weight) l.cost) →
-      (z.known.items ≡ set y.known.items (state_of side (rank_of H l.node)) sum) → (z.queue ≡ set y.queue (state_of side (rank_of H l.node)) (Some sum)) →
+      (z.known.items ≡ set y.known.items (state_of side (rank_of H l.node)) sum) →
+      (z.queue ≡ set y.queue (state_of side (rank_of H l.node)) (Some sum)) →
       IsPartlyWeighed H side x z v weight (legs ++ l ∷ [])
   partly_less has within sum is fits lower e f =
       let k = p.weighing.levelled in
@@ -104,19 +121,27 @@ module _ (H : LevelsAndLegs) (side : Side) (x y z : WeightSearch) (v weight : �
       let best = set (side_costs H side y) l.node (Some (cost_sum (weight_cost weight) l.cost)) in
       let queue = set (side_keys H side y) l.node (Some (cost_sum (weight_cost weight) l.cost)) in
       partly_by best queue
-      (ap (λ q. by_state known_cost H side q UNREACHED) e ∙ by_state-set known_cost H side k y.known.items UNREACHED sum l.node p.weighing.sizes.known within
+      (ap (λ q. by_state known_cost H side q UNREACHED) e
+      ∙ by_state-set known_cost H side k y.known.items UNREACHED sum l.node p.weighing.sizes.known within
       ∙ ap (set (side_costs H side y) l.node) (light_cost sum light ∙ ap Some (sym is)))
-      (ap (λ q. by_state (option_map weight_cost) H side q None) f ∙ by_state-set (option_map weight_cost) H side k y.queue None (Some sum) l.node p.weighing.sizes.queue within
+      (ap (λ q. by_state (option_map weight_cost) H side q None) f
+      ∙ by_state-set (option_map weight_cost) H side k y.queue None (Some sum) l.node p.weighing.sizes.queue within
       ∙ ap (λ q. set (side_keys H side y) l.node (Some q)) (sym is))
       (record {
-        costs = ap (λ q. by_state known_cost H (other side) q UNREACHED) e ∙ by_state-other known_cost H side y.known.items UNREACHED sum (rank_of H l.node);
-        keys = ap (λ q. by_state (option_map weight_cost) H (other side) q None) f ∙ by_state-other (option_map weight_cost) H side y.queue None (Some sum) (rank_of H l.node);
-      })
-      (ap length e ∙ length-set y.known.items (state_of side (rank_of H l.node)) sum, ap length f ∙ length-set y.queue (state_of side (rank_of H l.node)) (Some sum))
+        costs = ap (λ q. by_state known_cost H (other side) q UNREACHED) e
+            ∙ by_state-other known_cost H side y.known.items UNREACHED sum (rank_of H l.node);
+        keys = ap (λ q. by_state (option_map weight_cost) H (other side) q None) f
+            ∙ by_state-other (option_map weight_cost) H side y.queue None (Some sum) (rank_of H l.node);
+      }) (
+        ap length e ∙ length-set y.known.items (state_of side (rank_of H l.node)) sum,
+        ap length f
+            ∙ length-set y.queue (state_of side (rank_of H l.node)) (Some sum),
+      )
       (lowered _ _ _ _ _ v (weight_cost weight) s l has low lower)
       (λ m of. elim (Contains-push_cases legs l m of) [
         | inl old ↦ lowered_keeps _ _ _ _ _ v (weight_cost weight) s l has low lower (weight_cost weight) m (p.relaxed m old)
-        | inr is_last ↦ subst (IsRelaxedFrom y.most best (weight_cost weight)) is_last (lowered_relaxes _ _ _ _ _ v (weight_cost weight) s l has low lower)
+        | inr is_last ↦ subst (IsRelaxedFrom y.most best (weight_cost weight)) is_last
+            (lowered_relaxes _ _ _ _ _ v (weight_cost weight) s l has low lower)
       ])
       (lowered_settled _ _ _ _ _ v (weight_cost weight) s l has low lower)
       (lowered_stays _ _ _ _ _ v (weight_cost weight) s l has low lower)
@@ -124,7 +149,8 @@ module _ (H : LevelsAndLegs) (side : Side) (x y z : WeightSearch) (v weight : �
 
 -- the leg at place i is taken
 pub partly_more : (H : LevelsAndLegs) (side : Side) (x y z : WeightSearch) (v weight i : ℕ) (r : RankedLeg) (l : Leg) (state : ℕ) →
-    IsPartlyWeighed H side x y v weight (take i (row (rows_of (weighed H) side) v)) → IsReadLeg H side v i r l → state ≡ state_of side r.rank →
+    IsPartlyWeighed H side x y v weight (take i (row (rows_of (weighed H) side) v)) → IsReadLeg H side v i r l →
+    state ≡ state_of side r.rank →
     ShowsWeight y state (weight + r.weight) z → IsTouched (map known_cost z.known.items) z.touched → IsSameWeighing y z →
     IsPartlyWeighed H side x z v weight (take (i + 1) (row (rows_of (weighed H) side) v))
 partly_more H side x y z v weight i r l state p is at shows touched same =
@@ -146,7 +172,8 @@ partly_more H side x y z v weight i r l state p is at shows touched same =
           (weight_cost (get_or known state 0), stands ∙ light_cost (get_or known state 0) (omega arith), (omega arith, λ _. omega arith)))
       | inr (light, less, e, f) ↦
           let sum : weight + r.weight ≡ weight + l.cost.weight = omega arith in
-          partly_less H side x y z v weight legs p (weighed_leg l) touched same is.has is.node (weight + r.weight) (ap weight_cost (sym sum)) light
+          partly_less H side x y z v weight legs p (weighed_leg l) touched same is.has is.node (weight + r.weight)
+          (ap weight_cost (sym sum)) light
           (record {
             within = omega arith;
             lower = λ c known_there.
@@ -157,7 +184,8 @@ partly_more H side x y z v weight i r l state p is at shows touched same =
     ])
 
 -- all legs are taken
-pub partly_whole : (H : LevelsAndLegs) (side : Side) (x y : WeightSearch) (v weight : ℕ) (legs : List Leg) → IsPartlyWeighed H side x y v weight legs →
+pub partly_whole : (H : LevelsAndLegs) (side : Side) (x y : WeightSearch) (v weight : ℕ) (legs : List Leg) →
+    IsPartlyWeighed H side x y v weight legs →
     legs ≡ row (rows_of (weighed H) side) v → HasGoneOn H side x y
 partly_whole H side x y v weight legs p e = record {
   weighing = record {

@@ -15,14 +15,17 @@ use Rattle.ch_query.specs.declared.weights.search.WeightSearch.{WeightSearch}
 use Rattle.ch_query.specs.Search.{IsSettled, IsUpwardCost, count_unsettled}
 use Rattle.ch_query.specs.Side.{rows_of, other, state_of}
 use Rattle.ch_query.specs.Weighed.{weighed}
-use Rattle.ch_query.specs.Weights.{known_cost, weight_cost, side_costs, side_keys, source_of, IsWeighingOn, IsWeighing, IsSameWeighing, IsSameSide, HasGoneOn, IsLeastState, IsLeastSoFar, count_unsettled_on, count_unsettled_states, without_state}
+use Rattle.ch_query.specs.Weights.{known_cost, weight_cost, side_costs, side_keys, source_of, IsWeighingOn, IsWeighing}
+use Rattle.ch_query.specs.Weights.{IsSameWeighing, IsSameSide, HasGoneOn, IsLeastState, IsLeastSoFar, count_unsettled_on}
+use Rattle.ch_query.specs.Weights.{count_unsettled_states, without_state}
 use Rattle.ch_query.proofs.by_weight.Known.{reached_cost, known_weight}
 use Rattle.ch_query.proofs.by_weight.States.{by_state-at, state_below}
 use Rattle.ch_query.proofs.by_weight.WeighingPops.{least_on_side, pop_settled, pop_there, pop_falls}
 use Rattle.ch_query.proofs.by_weight.WeighingSteps.{side_stays}
 
 -- the weight read at the state of a node, after another state lost its key
-pub read_there : (H : LevelsAndLegs) (x y : WeightSearch) → IsWeighing H x → (state : ℕ) → y ≡ without_state x state → (side : Side) (v at : ℕ) → v < nodes_of H → at ≡ state_of side (rank_of H v) →
+pub read_there : (H : LevelsAndLegs) (x y : WeightSearch) → IsWeighing H x → (state : ℕ) → y ≡ without_state x state →
+    (side : Side) (v at : ℕ) → v < nodes_of H → at ≡ state_of side (rank_of H v) →
     (there : ℕ) → there ≡ get_or y.known.items at there → there ≡ get_or x.known.items (state_of side (rank_of H v)) UNREACHED
 read_there H x y m state is side v at within e there read =
     let low = state_below side (rank_of H v) (nodes_of H) (rank_below H (m.sides side).levelled v within) in
@@ -36,7 +39,8 @@ pub there_small : (H : LevelsAndLegs) (x : WeightSearch) (m : IsWeighing H x) (s
 there_small H x m side v there within read = elim (cases_eq there UNREACHED) [
   | inl same ↦ omega arith
   | inr away ↦
-      let known = by_state-at known_cost H side x.known.items UNREACHED None v within ∙ ap known_cost (sym read) ∙ reached_cost there away in
+      let known = by_state-at known_cost H side x.known.items UNREACHED None v within ∙ ap known_cost (sym read)
+      ∙ reached_cost there away in
       let light = (m.sides side).search.light v (weight_cost there) known in
       let most = m.most in
       omega arith
@@ -45,7 +49,8 @@ there_small H x m side v there within read = elim (cases_eq there UNREACHED) [
 -- e is the sum of two paths, one on each side, that meet
 abbrev IsSumOver : LevelsAndLegs → WeightSearch → Side → ℕ → Type 0
 IsSumOver H x side e =
-    (v : ℕ) × (a b : Cost) × IsUpwardCost (rows_of (weighed H) side) (source_of x side) v a × IsUpwardCost (rows_of (weighed H) (other side)) (source_of x (other side)) v b × (a.weight + b.weight ≡ e)
+    (v : ℕ) × (a b : Cost) × IsUpwardCost (rows_of (weighed H) side) (source_of x side) v a
+    × IsUpwardCost (rows_of (weighed H) (other side)) (source_of x (other side)) v b × (a.weight + b.weight ≡ e)
 
 -- such a sum can be seen from either side
 sum_up : (H : LevelsAndLegs) (x : WeightSearch) (side : Side) (e : ℕ) → IsSumOver H x side e → IsSumOver H x Up e
@@ -53,15 +58,18 @@ sum_up H x Up e sum = sum
 sum_up H x Down e (v, a, b, here, there, is) = (v, b, a, there, here, omega arith)
 
 -- the least sum is at most each settled sum, seen from either side
-seen_from : (H : LevelsAndLegs) (x : WeightSearch) (least : ℕ) → IsLeastSoFar H x least → (side : Side) (u : ℕ) (a b : Cost) → IsSettled (side_costs H side x) (side_keys H side x) u a →
+seen_from : (H : LevelsAndLegs) (x : WeightSearch) (least : ℕ) → IsLeastSoFar H x least → (side : Side) (u : ℕ) (a b : Cost) →
+    IsSettled (side_costs H side x) (side_keys H side x) u a →
     IsSettled (side_costs H (other side) x) (side_keys H (other side) x) u b → least ≤ a.weight + b.weight
 seen_from H x least s Up u a b here there = s.seen u a b here there
 seen_from H x least s Down u a b here there = let le = s.seen u b a there here in omega arith
 
 -- if this holds from one side, it holds from the side up
 seen_up : (H : LevelsAndLegs) (z : WeightSearch) (least : ℕ) (side : Side) →
-    ((u : ℕ) (a b : Cost) → IsSettled (side_costs H side z) (side_keys H side z) u a → IsSettled (side_costs H (other side) z) (side_keys H (other side) z) u b → least ≤ a.weight + b.weight) →
-    (u : ℕ) (a b : Cost) → IsSettled (side_costs H Up z) (side_keys H Up z) u a → IsSettled (side_costs H Down z) (side_keys H Down z) u b → least ≤ a.weight + b.weight
+    ((u : ℕ) (a b : Cost) → IsSettled (side_costs H side z) (side_keys H side z) u a →
+    IsSettled (side_costs H (other side) z) (side_keys H (other side) z) u b → least ≤ a.weight + b.weight) →
+    (u : ℕ) (a b : Cost) → IsSettled (side_costs H Up z) (side_keys H Up z) u a →
+    IsSettled (side_costs H Down z) (side_keys H Down z) u b → least ≤ a.weight + b.weight
 seen_up H z least Up seen u a b up down = seen u a b up down
 seen_up H z least Down seen u a b up down = let le = seen u b a down up in omega arith
 
@@ -79,7 +87,8 @@ sum_falls Down f g here there = omega arith
 
 -- x settles the node v on one side, goes on from there, and becomes z; the other side may know v at the weight
 -- `there`
-module _ (H : LevelsAndLegs) (x z : WeightSearch) (least : ℕ) (s : IsLeastSoFar H x least) (side : Side) (v weight state : ℕ) (within : v < nodes_of H) (is : state ≡ state_of side (rank_of H v))
+module _ (H : LevelsAndLegs) (x z : WeightSearch) (least : ℕ) (s : IsLeastSoFar H x least) (side : Side) (v weight state : ℕ)
+    (within : v < nodes_of H) (is : state ≡ state_of side (rank_of H v))
     (l : IsLeastState x.queue (weight, state)) (g : HasGoneOn H side (without_state x state) z) where
   -- the search has the same ends and the same limit
   same : IsSameWeighing x z
@@ -94,7 +103,8 @@ module _ (H : LevelsAndLegs) (x z : WeightSearch) (least : ℕ) (s : IsLeastSoFa
   now_weighing : IsWeighing H z
   now_weighing = record {
     most = same.most ∙ s.weighing.most;
-    sides = each_side side (λ q. IsWeighingOn H q z) g.weighing (side_stays H (other side) x z (s.weighing.sides (other side)) same other_side g.weighing.sizes);
+    sides = each_side side (λ q. IsWeighingOn H q z) g.weighing
+        (side_stays H (other side) x z (s.weighing.sides (other side)) same other_side g.weighing.sizes);
   }
 
   -- one state fewer is unsettled
@@ -103,11 +113,13 @@ module _ (H : LevelsAndLegs) (x z : WeightSearch) (least : ℕ) (s : IsLeastSoFa
       let falls = pop_falls H side x (s.weighing.sides side) v weight state within is l in
       let measure = g.measure in
       sum_falls side (λ q. count_unsettled_on H q z) (λ q. count_unsettled_on H q x) (omega arith)
-      (ap (λ q. count_unsettled q (side_keys H (other side) z)) other_side.costs ∙ ap (count_unsettled (side_costs H (other side) x)) other_side.keys)
+      (ap (λ q. count_unsettled q (side_keys H (other side) z)) other_side.costs
+      ∙ ap (count_unsettled (side_costs H (other side) x)) other_side.keys)
 
   -- the weight that this side knows of v
   known_here : cost_at (side_costs H side x) v ≡ Some (weight_cost weight)
-  known_here = (s.weighing.sides side).search.queued v (weight_cost weight) (least_on_side H side x (s.weighing.sides side) v weight state within is l).has
+  known_here = (s.weighing.sides side).search.queued v (weight_cost weight)
+      (least_on_side H side x (s.weighing.sides side) v weight state within is l).has
 
   -- the other side knows v at the weight `there`, or not at all, and `now` is the new least sum
   module _ (there : ℕ) (at_there : there ≡ get_or x.known.items (state_of (other side) (rank_of H v)) UNREACHED)

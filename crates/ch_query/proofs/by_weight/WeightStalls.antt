@@ -22,20 +22,23 @@ module _ (H : LevelsAndLegs) (side : Side) (x : WeightSearch) (v weight : ℕ) (
   module _ (i : ℕ) (r : RankedLeg) (l : Leg) (is : IsReadLeg H (other side) v i r l) (state : ℕ) (at : state ≡ state_of side r.rank) where
     -- the state that is read exists
     pub stall_within : state < length x.known.items
-    stall_within = (let there = (read_state H w.levelled side (other side) v i r l is state at).1 in let size = w.sizes.known in omega arith)
+    stall_within = (let there = (read_state H w.levelled side (other side) v i r l is state at).1 in let size = w.sizes.known in
+        omega arith)
 
     -- its weight is known of the leg's node
     known_there : (known : ℕ) → known ≡ get_or x.known.items state known → cost_at (side_costs H side x) l.node ≡ known_cost known
     known_there known e =
         let there = (read_state H w.levelled side (other side) v i r l is state at).0 in
-        by_state-at known_cost H side x.known.items UNREACHED None l.node is.node ∙ ap (λ q. known_cost (get_or x.known.items q UNREACHED)) (sym there)
+        by_state-at known_cost H side x.known.items UNREACHED None l.node is.node
+        ∙ ap (λ q. known_cost (get_or x.known.items q UNREACHED)) (sym there)
         ∙ ap known_cost (get_or_default x.known.items state UNREACHED known stall_within ∙ sym e)
 
     -- its weight is at most UNREACHED
     pub stall_small : (known : ℕ) → known ≡ get_or x.known.items state known → known ≤ UNREACHED
     stall_small known e = elim (cases_eq known UNREACHED) [
       | inl same ↦ omega arith
-      | inr away ↦ let light = w.here.search.light l.node (weight_cost known) (known_there known e ∙ reached_cost known away) in let most = w.here.search.limits in omega arith
+      | inr away ↦ let light = w.here.search.light l.node (weight_cost known) (known_there known e ∙ reached_cost known away) in
+          let most = w.here.search.limits in omega arith
     ]
 
     -- if a sum is less than the weight, v may stay idle

@@ -1,5 +1,5 @@
 -- Lists that are read in order.
-use Rattle.std.proofs.Common.{get_or, ◌≡◌, ℕ, ◌+◌, ◌<◌, ◌≤◌, List, length, Contains, All, sym, ◌∙◌, subst, arith, inl, inr}
+use Rattle.std.proofs.Common.{get_or, ◌≡◌, ℕ, ◌+◌, ◌<◌, List, length, Contains, sym, ◌∙◌, subst, arith, inl, inr}
 use Rattle.std.specs.Prelude.{slice_get, Some, ◌↔◌, false, IsTrue}
 use Rattle.std.proofs.lemmas.List.{get_or_default}
 use Rattle.std.proofs.lemmas.Bool.{cases_lt, false≢true}
@@ -18,10 +18,6 @@ module _ {X : Type 0} (P : X → Type 0) (xs : List X) where
     | inl less ↦ before j d less
     | inr ge ↦ let same : i ≡ j = omega arith in subst (λ k. P (get_or xs k d)) same (subst P (get_or_default xs i e d within) here)
   ]
-
-  -- past the last place, the property holds of all elements
-  pub all_hold : (i : ℕ) → length xs ≤ i → ((j : ℕ) (d : X) → j < i → P (get_or xs j d)) → All P xs
-  all_hold i past before = λ j d lt. before j d (omega arith)
 
   -- the element at this place is the first that fails
   pub first_failing : (i : ℕ) (e : X) → ((j : ℕ) (d : X) → j < i → P (get_or xs j d)) → i < length xs → (IsTrue false ↔ P (get_or xs i e)) →

@@ -1,5 +1,6 @@
 -- The first item that is not right, from the values of all pieces.
-use Rattle.std.proofs.Common.{get_or, ◌≡◌, ℕ, ◌+◌, ◌*◌, ◌<◌, ◌≤◌, min, List, [], ◌∷◌, length, All, Option, Some, None, MatchOption, subst, arith, inl, inr}
+use Rattle.std.proofs.Common.{get_or, ◌≡◌, ℕ, ◌+◌, ◌*◌, ◌<◌, ◌≤◌, min, List, [], ◌∷◌, length, All, Option, Some, None, MatchOption}
+use Rattle.std.proofs.Common.{subst, arith, inl, inr}
 use Rattle.std.specs.Prelude.{◌↔◌, Bool, IsTrue, Result, Ok, Err, IfOk}
 use Rattle.std.proofs.lemmas.Bool.{cases_lt}
 use Rattle.std.proofs.lemmas.List.{get_or_default}
@@ -62,7 +63,8 @@ first_of_nodes H n (Some u) count h =
     let to = h.1 in record { within = omega (arith, count); fails = h.2; first = λ v lt. h.3 v (omega arith) lt }
 
 -- the same for a search that may run out of memory
-pub nodes_named : (H : LevelsAndLegs) (n : ℕ) {E : Type 0} (r : Result (Option ℕ) E) → n ≡ nodes_of H → IfOk r (IsFirstWithout (IsCovered H) 0 n) →
+pub nodes_named : (H : LevelsAndLegs) (n : ℕ) {E : Type 0} (r : Result (Option ℕ) E) → n ≡ nodes_of H →
+    IfOk r (IsFirstWithout (IsCovered H) 0 n) →
     IfOk r (λ first. MatchOption first ((v : ℕ) → v < nodes_of H → IsCovered H v) (IsFirstUncovered H))
 nodes_named H n (Ok first) count h = first_of_nodes H n first count h
 nodes_named H n (Err e) count h = tt

@@ -30,7 +30,8 @@ both_true false b e = absurd (false≢true e)
 pub equal_costs : (a b : Cost) (r : Bool) → r ≡ (eqb a.weight b.weight && eqb a.arcs b.arcs) → IsTrue r ↔ (a ≡ b)
 equal_costs a b r is = (
   λ yes. let both = both_true _ _ (sym is ∙ yes) in same_costs a b (eqb-true _ _ both.0) (eqb-true _ _ both.1),
-  λ same. is ∙ subst (λ (q : Cost). (eqb a.weight q.weight && eqb a.arcs q.arcs) ≡ true) same (λ i. eqb-refl a.weight i && eqb-refl a.arcs i),
+  λ same. is ∙ subst (λ (q : Cost). (eqb a.weight q.weight && eqb a.arcs q.arcs) ≡ true) same
+      (λ i. eqb-refl a.weight i && eqb-refl a.arcs i),
 )
 
 -- the only leg decides whether there is one within the bound
@@ -58,7 +59,8 @@ module _ (H : LevelsAndLegs) (k : IsLevelled H) where
     where
       at : {c : Cost} {m : Option ℕ} → IsLeg H u w c m → ⊥
       at (l, cost, middle, inl (has, node)) = none l (subst (λ xs. Contains xs l) (sym is) has) node
-      at (l, cost, middle, inr (has, node)) = let rise = (leg_up H k Down w l has).higher in let e = ap (slice_index H.level) node in omega arith
+      at (l, cost, middle, inr (has, node)) = let rise = (leg_up H k Down w l has).higher in
+          let e = ap (slice_index H.level) node in omega arith
   cost_up u w le legs is (Some c) (l, has, node, cost) = ((l.middle, (l, cost, refl, inl (here, node))), λ d m leg. at leg)
     where
       here : Contains (row H.up u) l
@@ -67,7 +69,8 @@ module _ (H : LevelsAndLegs) (k : IsLevelled H) where
       at : {d : Cost} {m : Option ℕ} → IsLeg H u w d m → d ≡ c
       at (x, xcost, middle, inl (xhas, xnode)) =
           sym xcost ∙ ap (λ (q : Leg). q.cost) (row_one (row H.up u) (rows_ordered H k Up u) x l xhas here (xnode ∙ sym node)) ∙ cost
-      at (x, xcost, middle, inr (xhas, xnode)) = absurd (let rise = (leg_up H k Down w x xhas).higher in let e = ap (slice_index H.level) xnode in omega arith)
+      at (x, xcost, middle, inr (xhas, xnode)) =
+          absurd (let rise = (leg_up H k Down w x xhas).higher in let e = ap (slice_index H.level) xnode in omega arith)
 
 -- the cost of a leg is its cost in the other direction
 leg_cost_turned : (H : LevelsAndLegs) (u w : ℕ) (answer : Option Cost) → IsLegCost (turned_hierarchy H) w u answer → IsLegCost H u w answer
@@ -76,14 +79,16 @@ leg_cost_turned H u w (Some c) (one, same) =
     ((one.0, turned_leg (turned_hierarchy H) w u c one.0 one.1), λ d m leg. same d m (turned_leg H u w d m leg))
 
 -- the leg from a node that is no lower is in the down row
-pub cost_down : (H : LevelsAndLegs) (k : IsLevelled H) (u w : ℕ) → slice_index H.level w ≤ slice_index H.level u → (legs : List Leg) → legs ≡ row H.down w →
+pub cost_down : (H : LevelsAndLegs) (k : IsLevelled H) (u w : ℕ) → slice_index H.level w ≤ slice_index H.level u →
+    (legs : List Leg) → legs ≡ row H.down w →
     (answer : Option Cost) → IsRowCost legs u answer → IsLegCost H u w answer
 cost_down H k u w le legs is answer cost =
     leg_cost_turned H u w answer (cost_up (turned_hierarchy H) (turned_levelled H k) w u le legs is answer cost)
 
 module _ (H : LevelsAndLegs) (k : IsLevelled H) where
   -- if the middle has both legs, the leg is their sum exactly if the costs add up
-  pub sums_over : (leg : SavedLeg) (v : ℕ) (down up : List Leg) → down ≡ row H.down v → up ≡ row H.up v → (into out : Cost) → IsRowCost down leg.from (Some into) → IsRowCost up leg.to (Some out) →
+  pub sums_over : (leg : SavedLeg) (v : ℕ) (down up : List Leg) → down ≡ row H.down v → up ≡ row H.up v → (into out : Cost) →
+      IsRowCost down leg.from (Some into) → IsRowCost up leg.to (Some out) →
       (cost_sum into out ≡ leg.cost → IsSumOver H leg v) × (IsSumOver H leg v → cost_sum into out ≡ leg.cost)
   sums_over leg v down up isd isu into out (a, hasa, ata, costa) (b, hasb, atb, costb) = (
     λ e. (a, b, herea, ata, hereb, atb, sym e ∙ sym (λ i. cost_sum (costa i) (costb i))),
@@ -98,8 +103,10 @@ module _ (H : LevelsAndLegs) (k : IsLevelled H) where
 
       both : IsSumOver H leg v → cost_sum into out ≡ leg.cost
       both (x, y, hasx, atx, hasy, aty, e) =
-          let p : x.cost ≡ into = ap (λ (q : Leg). q.cost) (row_one (row H.down v) (rows_ordered H k Down v) x a hasx herea (atx ∙ sym ata)) ∙ costa in
-          let q : y.cost ≡ out = ap (λ (q : Leg). q.cost) (row_one (row H.up v) (rows_ordered H k Up v) y b hasy hereb (aty ∙ sym atb)) ∙ costb in
+          let p : x.cost ≡ into = ap (λ (q : Leg). q.cost)
+          (row_one (row H.down v) (rows_ordered H k Down v) x a hasx herea (atx ∙ sym ata)) ∙ costa in
+          let q : y.cost ≡ out = ap (λ (q : Leg). q.cost)
+          (row_one (row H.up v) (rows_ordered H k Up v) y b hasy hereb (aty ∙ sym atb)) ∙ costb in
           sym (e ∙ (λ i. cost_sum (p i) (q i)))
 
   -- the cost of a leg of a row is within the limits

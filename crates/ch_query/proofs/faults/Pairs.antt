@@ -29,7 +29,8 @@ reached_itself rows v = record { path = ([], refl, refl); weight = omega arith }
 pub leg_up_covers : (H : LevelsAndLegs) → IsLevelled H → (s t : ℕ) (most : Cost) → (l : Leg) → Contains (row H.up s) l → l.node ≡ t →
     IsAtMost l.cost most → MeetsWithin H s t most
 leg_up_covers H k s t most l h e le =
-    meeting_within H k s t t l.cost no_cost most (subst (λ q. IsUpwardCost H.up s q l.cost) e (reached_by_leg H k Up s l h)) (reached_itself H.down t)
+    meeting_within H k s t t l.cost no_cost most (subst (λ q. IsUpwardCost H.up s q l.cost) e (reached_by_leg H k Up s l h))
+    (reached_itself H.down t)
     (subst (λ q. IsAtMost q most) (sym (cost_sum-no_cost l.cost)) le)
 
 -- a leg down within the bound gives a way within the bound
@@ -55,10 +56,6 @@ pub all_covered : (H : LevelsAndLegs) (v : ℕ) (items : List Leg) (i : ℕ) (d 
 all_covered H v items i d e past each a b ha hb ne =
     all_read (IsCoveredFrom H v) items d (λ j lt. each j d (omega arith)) a (subst (λ xs. Contains xs a) (sym e) ha) b hb ne
 
--- if the pairs of one leg are not covered, v is not covered
-pub not_covered : (H : LevelsAndLegs) (v : ℕ) (a : Leg) → Contains (row H.down v) a → (IsCoveredFrom H v a → ⊥) → IsCovered H v → ⊥
-not_covered H v a has bad covered = bad (λ b hb ne. covered a b has hb ne)
-
 -- a leg within the bound gives a way within the bound
 pub leg_covers : (H : LevelsAndLegs) → IsLevelled H → (s t : ℕ) (most : Cost) → HasLeg H s t most → MeetsWithin H s t most
 leg_covers H k s t most (c, m, (l, cost, middle, inl (has, node)), le) =
@@ -67,7 +64,8 @@ leg_covers H k s t most (c, m, (l, cost, middle, inr (has, node)), le) =
     leg_down_covers H k s t most l has node (subst (λ q. IsAtMost q most) (sym cost) le)
 
 -- a leg read from a row is a leg of that row
-pub row_leg_up : (H : LevelsAndLegs) → IsLevelled H → (side : Side) (v : ℕ) (legs : List Leg) (i : ℕ) (d : Leg) → legs ≡ row (rows_of H side) v → i < length legs →
+pub row_leg_up : (H : LevelsAndLegs) → IsLevelled H → (side : Side) (v : ℕ) (legs : List Leg) (i : ℕ) (d : Leg) →
+    legs ≡ row (rows_of H side) v → i < length legs →
     Contains (row (rows_of H side) v) (get_or legs i d) × IsLegUp H v (get_or legs i d)
 row_leg_up H k side v legs i d e lt =
     let has = subst (λ xs. Contains xs (get_or legs i d)) e (Contains-get_or legs i d lt) in

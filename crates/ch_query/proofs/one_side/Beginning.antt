@@ -16,7 +16,8 @@ use Rattle.ch_query.proofs.one_side.Expanding.{rows_size}
 use Rattle.ch_query.proofs.one_side.Begun.{never_some, begun_known, begun_fresh as fresh, begun_search}
 
 -- x is clean, and y is x with the source s reached
-module _ (H : LevelsAndLegs) (k : IsLevelled H) (x y : Search) (s : ℕ) (clean : IsClean (nodes_of H) x) (within : s < nodes_of H) (source : y.source ≡ s) (most : y.most ≤ MOST_WEIGHT)
+module _ (H : LevelsAndLegs) (k : IsLevelled H) (x y : Search) (s : ℕ) (clean : IsClean (nodes_of H) x) (within : s < nodes_of H)
+    (source : y.source ≡ s) (most : y.most ≤ MOST_WEIGHT)
     (costs : y.labels.costs ≡ set x.labels.costs (rank_of H s) (Some no_cost)) (queue : y.queue ≡ set x.queue (rank_of H s) (Some no_cost))
     (parents : y.labels.parents ≡ set x.labels.parents (rank_of H s) s) (touched : IsTouched y.labels.costs y.touched) where
   -- at first no node has a cost
@@ -51,7 +52,8 @@ module _ (H : LevelsAndLegs) (k : IsLevelled H) (x y : Search) (s : ℕ) (clean 
 
   -- no node is settled
   pub begun_fresh : IsFresh H y
-  begun_fresh v c settled = fresh (y.most) (rows_of H y.side) s (idle_of H y) (costs_of H x) (keys_of H x) most costs_size keys_size in_rows unknown keyless v c
+  begun_fresh v c settled = fresh (y.most) (rows_of H y.side) s (idle_of H y) (costs_of H x) (keys_of H x) most costs_size keys_size
+      in_rows unknown keyless v c
       (ap (λ q. cost_at q v) (sym costs_then) ∙ settled.0, ap (λ q. cost_at q v) (sym keys_then) ∙ settled.1)
 
   -- the search is underway
@@ -66,10 +68,13 @@ module _ (H : LevelsAndLegs) (k : IsLevelled H) (x y : Search) (s : ℕ) (clean 
     search = subst (λ q. IsSearch y.most (rows_of H y.side) q (idle_of H y) (costs_of H y) (keys_of H y)) (sym source)
         (subst (λ q. IsSearch y.most (rows_of H y.side) s (idle_of H y) (costs_of H y) q) (sym keys_then)
         (subst (λ q. IsSearch y.most (rows_of H y.side) s (idle_of H y) q (set (keys_of H x) s (Some no_cost))) (sym costs_then)
-        (begun_search (y.most) (rows_of H y.side) s (idle_of H y) (costs_of H x) (keys_of H x) most costs_size keys_size in_rows unknown keyless)));
+        (begun_search (y.most) (rows_of H y.side) s (idle_of H y) (costs_of H x) (keys_of H x) most costs_size keys_size in_rows
+        unknown keyless)));
     parents = record {
       size = by_node-size H y.labels.parents 0 ∙ sym (by_node-size H y.labels.costs None);
-      led = λ v c away e. absurd (away ((begun_known (y.most) (rows_of H y.side) s (idle_of H y) (costs_of H x) (keys_of H x) most costs_size keys_size in_rows unknown keyless v c
+      led = λ v c away e. absurd
+          (away ((begun_known (y.most) (rows_of H y.side) s (idle_of H y) (costs_of H x) (keys_of H x) most costs_size keys_size
+          in_rows unknown keyless v c
           (ap (λ q. cost_at q v) (sym costs_then) ∙ e)).0 ∙ sym source));
       first = λ v c settled. absurd (begun_fresh v c settled);
     };

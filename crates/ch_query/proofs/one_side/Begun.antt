@@ -1,5 +1,6 @@
 -- A search at its beginning, as data: its source is reached, and no other node is.
-use Rattle.std.proofs.Common.{◌≡◌, ℕ, ◌<◌, ◌≤◌, List, [], length, Option, Some, None, refl, sym, ◌∙◌, ap, subst, arith, set, length-set, get_or-set_same, get_or-set_other, inl, inr}
+use Rattle.std.proofs.Common.{◌≡◌, ℕ, ◌<◌, ◌≤◌, List, [], length, Option, Some, None, refl, sym, ◌∙◌, ap, subst, arith, set}
+use Rattle.std.proofs.Common.{length-set, get_or-set_same, get_or-set_other, inl, inr}
 use Rattle.std.proofs.lemmas.Bool.{cases_eq}
 use Rattle.std.proofs.lemmas.Option.{same_Some, none-some}
 use Rattle.ch_graph.specs.declared.limits.TheConstants.{MOST_WEIGHT}
@@ -22,8 +23,10 @@ only_written list s v d c empty lt e = elim (cases_eq v s) [
 ]
 
 -- no node has a cost or a key, and then the source gets both
-module _ (most : ℕ) (rows : List (List Leg)) (s : ℕ) (Idle : ℕ → Cost → Type 0) (best queue : List (Option Cost)) (limits : most ≤ MOST_WEIGHT) (size : length best ≡ length rows)
-    (size' : length queue ≡ length rows) (within : s < length rows) (unknown : (v : ℕ) → cost_at best v ≡ None) (keyless : (v : ℕ) → cost_at queue v ≡ None) where
+module _ (most : ℕ) (rows : List (List Leg)) (s : ℕ) (Idle : ℕ → Cost → Type 0) (best queue : List (Option Cost))
+    (limits : most ≤ MOST_WEIGHT) (size : length best ≡ length rows)
+    (size' : length queue ≡ length rows) (within : s < length rows) (unknown : (v : ℕ) → cost_at best v ≡ None)
+    (keyless : (v : ℕ) → cost_at queue v ≡ None) where
   -- the costs after the source was reached
   best' : List (Option Cost)
   best' = set best s (Some no_cost)
@@ -62,7 +65,8 @@ module _ (most : ℕ) (rows : List (List Leg)) (s : ℕ) (Idle : ℕ → Cost �
     limits = limits;
     sizes = (length-set best s _ ∙ size, length-set queue s _ ∙ size');
     start = source_known;
-    sound = λ v c e. let is = begun_known v c e in subst (λ q. IsUpwardCost rows s v q) is.1 (record { path = ([], sym is.0, refl); weight = omega arith });
+    sound = λ v c e. let is = begun_known v c e in
+        subst (λ q. IsUpwardCost rows s v q) is.1 (record { path = ([], sym is.0, refl); weight = omega arith });
     light = λ v c e. let w = ap (λ (q : Cost). q.weight) (begun_known v c e).1 in omega arith;
     queued = λ v c e. let is = begun_keyed v c e in subst (λ q. cost_at best' v ≡ Some q) is.1 (ap (cost_at best') is.0 ∙ source_known);
     order = λ v w c d settled e. absurd (begun_fresh v c settled);

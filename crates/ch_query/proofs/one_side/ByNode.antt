@@ -1,5 +1,6 @@
 -- The lists by rank of a search, read by node.
-use Rattle.std.proofs.Common.{◌≡◌, ℕ, ◌-◌, ◌<◌, List, length, Option, Some, None, sym, ◌∙◌, ap, arith, get_or, set, length-set, get_or-set_same, get_or-set_other, inl, inr}
+use Rattle.std.proofs.Common.{◌≡◌, ℕ, ◌-◌, ◌<◌, List, length, Option, Some, None, sym, ◌∙◌, ap, arith, get_or, set, length-set}
+use Rattle.std.proofs.Common.{get_or-set_same, get_or-set_other, inl, inr}
 use Rattle.std.proofs.lemmas.Bool.{cases_lt, cases_eq}
 use Rattle.std.proofs.lemmas.Option.{none-some}
 use Rattle.std.proofs.lemmas.List.{get_or_past, get_or-map, length-map, ext_get_or}
@@ -20,7 +21,8 @@ pub by_node-at : {A : Type 0} → (H : LevelsAndLegs) (list : List A) (default d
 by_node-at H list default d v lt = get_or-map (λ level. get_or list (nodes_of H - level) default) H.level v 0 d lt
 
 -- a write at the rank of a node is a write at the node
-pub by_node-set : {A : Type 0} → (H : LevelsAndLegs) → IsLevelled H → (list : List A) (default x : A) (v : ℕ) → length list ≡ nodes_of H → v < nodes_of H →
+pub by_node-set : {A : Type 0} → (H : LevelsAndLegs) → IsLevelled H → (list : List A) (default x : A) (v : ℕ) →
+    length list ≡ nodes_of H → v < nodes_of H →
     by_node H (set list (rank_of H v) x) default ≡ set (by_node H list default) v x
 by_node-set H k list default x v size lt =
     let one = by_node-size H (set list (rank_of H v) x) default in
@@ -32,7 +34,8 @@ by_node-set H k list default x v size lt =
     by_node-at H (set list (rank_of H v) x) default default w lt' ∙ elim (cases_eq w v) [
       | inl is ↦
           ap (λ r. get_or (set list (rank_of H v) x) (rank_of H r) default) is ∙ get_or-set_same list (rank_of H v) x default (omega arith)
-          ∙ sym (ap (λ r. get_or (set (by_node H list default) v x) r default) is ∙ get_or-set_same (by_node H list default) v x default (omega arith))
+          ∙ sym (ap (λ r. get_or (set (by_node H list default) v x) r default) is
+          ∙ get_or-set_same (by_node H list default) v x default (omega arith))
       | inr away ↦
           get_or-set_other list (rank_of H v) (rank_of H w) x default (λ same. away (rank_one H k w v lt' lt same))
           ∙ sym (get_or-set_other (by_node H list default) v w x default away ∙ by_node-at H list default default w lt')

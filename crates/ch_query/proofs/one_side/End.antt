@@ -27,8 +27,10 @@ reached_least : (rows : List (List Leg)) (s m : ℕ) (a b : Cost) → IsLeastUpw
     b ≡ a
 reached_least rows s m a b l r le = IsAtMost_antisymm b a le (reached_no_less rows s m a b l r)
 
-module _ {most : ℕ} (rows : List (List Leg)) (s : ℕ) (Idle : ℕ → Cost → Type 0) (best queue : List (Option Cost)) (p : IsSearch most rows s Idle best queue)
-    (m : ℕ) (c : Cost) (light : c.weight ≤ most) (past : (x : ℕ) (d : Cost) → cost_at queue x ≡ Some d → IsBelow c d) (avoids : AvoidsIdle rows Idle m c) where
+module _ {most : ℕ} (rows : List (List Leg)) (s : ℕ) (Idle : ℕ → Cost → Type 0) (best queue : List (Option Cost))
+    (p : IsSearch most rows s Idle best queue)
+    (m : ℕ) (c : Cost) (light : c.weight ≤ most) (past : (x : ℕ) (d : Cost) → cost_at queue x ≡ Some d → IsBelow c d)
+    (avoids : AvoidsIdle rows Idle m c) where
   -- a node with a known cost of at most c is settled
   pub settled : (x : ℕ) (e : Cost) → cost_at best x ≡ Some e → IsAtMost e c → IsSettled best queue x e
   settled x e k le = (k, at (cost_at queue x) refl)
@@ -38,14 +40,16 @@ module _ {most : ℕ} (rows : List (List Leg)) (s : ℕ) (Idle : ℕ → Cost �
       at (Some d) q = absurd (IsBelow_not c d (past x d q) (subst (λ r. IsAtMost r c) (same_Some _ _ (sym k ∙ p.queued x d q)) le))
 
   -- along an upward path of cost at most c, each node is settled at a cost of at most that of the path
-  pub along : (x : ℕ) (e : Cost) (legs : List Leg) → cost_at best x ≡ Some e → IsUpwardPath rows x m legs → IsAtMost (cost_sum e (path_cost legs)) c →
+  pub along : (x : ℕ) (e : Cost) (legs : List Leg) → cost_at best x ≡ Some e → IsUpwardPath rows x m legs →
+      IsAtMost (cost_sum e (path_cost legs)) c →
       (a : Cost) × IsSettled best queue m a × IsAtMost a (cost_sum e (path_cost legs))
   along x e [] k path le =
       let low : IsAtMost e c = IsAtMost_trans e (cost_sum e (path_cost [])) c (IsAtMost-cost_sum_self e _) le in
       (e, subst (λ q. IsSettled best queue q e) path (settled x e k low), IsAtMost-cost_sum_self e _)
   along x e (l ∷ legs) k path le =
       let here = settled x e k (IsAtMost_trans e (cost_sum e (path_cost (l ∷ legs))) c (IsAtMost-cost_sum_self e _) le) in
-      let split : cost_sum e (path_cost (l ∷ legs)) ≡ cost_sum (cost_sum e l.cost) (path_cost legs) = ap (cost_sum e) (path_cost-cons l legs) ∙ sym (cost_sum_assoc e l.cost (path_cost legs)) in
+      let split : cost_sum e (path_cost (l ∷ legs)) ≡ cost_sum (cost_sum e l.cost) (path_cost legs) =
+      ap (cost_sum e) (path_cost-cons l legs) ∙ sym (cost_sum_assoc e l.cost (path_cost legs)) in
       let le' : IsAtMost (cost_sum (cost_sum e l.cost) (path_cost legs)) c = subst (λ q. IsAtMost q c) split le in
       elim (p.frontier x e here) [
         | inl idle ↦ absurd (avoids x e (l ∷ legs) idle path le)
@@ -69,12 +73,14 @@ module _ {most : ℕ} (rows : List (List Leg)) (s : ℕ) (Idle : ℕ → Cost �
       subst (IsSettled best queue m) (reached_least rows s m c r.0 l (p.sound m r.0 r.1.0) (subst (IsAtMost r.0) l.path.2 r.2)) r.1
 
 -- at the end of a search without idle nodes, each cost is the least
-module _ {most : ℕ} (rows : List (List Leg)) (s : ℕ) (Idle : ℕ → Cost → Type 0) (best queue : List (Option Cost)) (p : IsSearch most rows s Idle best queue)
+module _ {most : ℕ} (rows : List (List Leg)) (s : ℕ) (Idle : ℕ → Cost → Type 0) (best queue : List (Option Cost))
+    (p : IsSearch most rows s Idle best queue)
     (never : (v : ℕ) (c : Cost) → Idle v c → ⊥) (done : IsEmpty queue) where
   -- for each upward path of weight at most `most`, its end is settled at no greater cost
   pub covered : (m : ℕ) (legs : List Leg) → IsUpwardPath rows s m legs → (path_cost legs).weight ≤ most →
       (a : Cost) × IsSettled best queue m a × IsAtMost a (path_cost legs)
-  covered m legs path light = matched rows s Idle best queue p m (path_cost legs) light (λ x d e. absurd (done x d e)) (λ x e k idle q le. never x e idle)
+  covered m legs path light = matched rows s Idle best queue p m (path_cost legs) light (λ x d e. absurd (done x d e))
+      (λ x e k idle q le. never x e idle)
       legs path (IsAtMost_refl (path_cost legs))
 
   -- each known cost is the least

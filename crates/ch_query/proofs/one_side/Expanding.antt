@@ -1,5 +1,6 @@
 -- Legs that are taken one after the other.
-use Rattle.std.proofs.Common.{◌≡◌, ℕ, ◌+◌, ◌*◌, ◌^◌, ◌<◌, ◌≤◌, Bool, List, [], ◌∷◌, ◌++◌, length, Contains, Option, Some, refl, sym, ◌∙◌, ap, subst, arith, set, inl, inr}
+use Rattle.std.proofs.Common.{◌≡◌, ℕ, ◌+◌, ◌*◌, ◌^◌, ◌<◌, ◌≤◌, Bool, List, [], ◌∷◌, ◌++◌, length, Contains, Option, Some, refl, sym}
+use Rattle.std.proofs.Common.{◌∙◌, ap, subst, arith, set, inl, inr}
 use Rattle.std.specs.Prelude.{slice_index}
 use Rattle.std.proofs.lemmas.Bool.{cases_lt}
 use Rattle.std.proofs.lemmas.List.{get_or_past}
@@ -19,10 +20,12 @@ use Rattle.ch_query.specs.declared.side.Side.{Side}
 use Rattle.ch_query.specs.declared.side.Side.TheVariants.{Up, Down}
 use Rattle.ch_query.specs.declared.sides.search.Search.{Search}
 use Rattle.ch_query.specs.Search.{IsRelaxedFrom, IsUpwardCost, IsExpanding, OrNode, IsStalled, count_unsettled}
-use Rattle.ch_query.specs.Underway.{back_of, IsSized, IsTouched, RelaxesIn, IsSameSearch, idle_of, IsUnderway, IsExpandingAt, IsPartlyExpanded}
+use Rattle.ch_query.specs.Underway.{back_of, IsSized, IsTouched, RelaxesIn, IsSameSearch, idle_of, IsUnderway}
+use Rattle.ch_query.specs.Underway.{IsPartlyExpanded}
 use Rattle.ch_query.specs.Side.{rows_of}
 use Rattle.ch_query.specs.Parents.{AreParents, IsNoEarlier}
-use Rattle.ch_query.proofs.one_side.Parents.{lowered_parents, lowered_no_earlier, lowered_itself, equal_parents, equal_falls, equal_here, finish_parents}
+use Rattle.ch_query.proofs.one_side.Parents.{lowered_parents, lowered_no_earlier, lowered_itself, equal_parents, equal_falls}
+use Rattle.ch_query.proofs.one_side.Parents.{equal_here, finish_parents}
 use Rattle.ch_query.proofs.one_side.PathLaws.{AreRising, path_arcs}
 use Rattle.ch_query.proofs.one_side.Steps.{lowered, lowered_settled, lowered_keeps, lowered_relaxes, lowered_counts, expanded}
 
@@ -84,7 +87,8 @@ ParentsOf H most side s stalls best queue parents v =
     AreParents most (rows_of H side) s (OrNode (IsStalled (rows_of H side) (back_of H side stalls) s) v) best queue parents
 
 -- the conditions hold of equal parts too
-moved_parents : (H : LevelsAndLegs) (y z : Search) (best queue : List (Option Cost)) (parents : List ℕ) (v : ℕ) → IsSameSearch y z → (costs_of H z) ≡ best →
+moved_parents : (H : LevelsAndLegs) (y z : Search) (best queue : List (Option Cost)) (parents : List ℕ) (v : ℕ) → IsSameSearch y z →
+    (costs_of H z) ≡ best →
     (keys_of H z) ≡ queue → (parents_of H z) ≡ parents → ParentsOf H y.most y.side y.source y.stalls best queue parents v →
     ParentsOf H z.most z.side z.source z.stalls (costs_of H z) (keys_of H z) (parents_of H z) v
 moved_parents H y z best queue parents v same e f g x =
@@ -101,17 +105,21 @@ pub same_then : (x y z : Search) → IsSameSearch x y → IsSameSearch y z → I
 same_then x y z a b = record { side = b.side ∙ a.side; source = b.source ∙ a.source; stalls = b.stalls ∙ a.stalls; most = b.most ∙ a.most }
 
 -- a leg that was taken in one of two equal searches was taken in the other
-still_relaxed : (H : LevelsAndLegs) (y z : Search) (c : Cost) (v : ℕ) (k : Leg) (best : List (Option Cost)) → IsSameSearch y z → (costs_of H z) ≡ best →
-    IsRelaxedFrom y.most best c k × IsNoEarlier y.most best (parents_of H z) v c k → IsRelaxedFrom z.most (costs_of H z) c k × IsNoEarlier z.most (costs_of H z) (parents_of H z) v c k
+still_relaxed : (H : LevelsAndLegs) (y z : Search) (c : Cost) (v : ℕ) (k : Leg) (best : List (Option Cost)) → IsSameSearch y z →
+    (costs_of H z) ≡ best →
+    IsRelaxedFrom y.most best c k × IsNoEarlier y.most best (parents_of H z) v c k →
+    IsRelaxedFrom z.most (costs_of H z) c k × IsNoEarlier z.most (costs_of H z) (parents_of H z) v c k
 still_relaxed H y z c v k best same e r =
     subst (λ most. IsRelaxedFrom most (costs_of H z) c k × IsNoEarlier most (costs_of H z) (parents_of H z) v c k) (sym same.most)
     (subst (λ q. IsRelaxedFrom y.most q c k × IsNoEarlier y.most q (parents_of H z) v c k) (sym e) r)
 
 -- the leg shows no lower cost
-module _ (H : LevelsAndLegs) (x y z : Search) (v : ℕ) (c : Cost) (legs : List Leg) (l : Leg) (p : IsPartlyExpanded H x y v c legs) (e : (costs_of H z) ≡ (costs_of H y))
+module _ (H : LevelsAndLegs) (x y z : Search) (v : ℕ) (c : Cost) (legs : List Leg) (l : Leg) (p : IsPartlyExpanded H x y v c legs)
+    (e : (costs_of H z) ≡ (costs_of H y))
     (f : (keys_of H z) ≡ (keys_of H y)) (sized : IsSized (nodes_of H) z) (t : IsTouched z.labels.costs z.touched) (same : IsSameSearch y z)
     (parents : AreParents y.most (rows_of H y.side) y.source (OrNode (idle_of H y) v) (costs_of H y) (keys_of H y) (parents_of H z))
-    (relaxed : (k : Leg) → Contains (legs ++ l ∷ []) k → IsRelaxedFrom y.most (costs_of H y) c k × IsNoEarlier y.most (costs_of H y) (parents_of H z) v c k) where
+    (relaxed : (k : Leg) → Contains (legs ++ l ∷ []) k →
+    IsRelaxedFrom y.most (costs_of H y) c k × IsNoEarlier y.most (costs_of H y) (parents_of H z) v c k) where
   -- one more leg is taken in that case
   partly_same : IsPartlyExpanded H x z v c (legs ++ l ∷ [])
   unfolding ExpandingOf ParentsOf
@@ -134,12 +142,14 @@ module _ (H : LevelsAndLegs) (x y z : Search) (v : ℕ) (c : Cost) (legs : List 
 
 -- one more leg is taken
 pub partly_more : (H : LevelsAndLegs) (x y z : Search) (v : ℕ) (c : Cost) (legs : List Leg) (l : Leg) → IsPartlyExpanded H x y v c legs →
-    Contains (row (rows_of H y.side) v) l → l.node < length (costs_of H y) → RelaxesIn H y v c l z → IsSized (nodes_of H) z → IsTouched z.labels.costs z.touched →
+    Contains (row (rows_of H y.side) v) l → l.node < length (costs_of H y) → RelaxesIn H y v c l z → IsSized (nodes_of H) z →
+    IsTouched z.labels.costs z.touched →
     IsSameSearch y z → IsPartlyExpanded H x z v c (legs ++ l ∷ [])
 unfolding ExpandingOf ParentsOf
 partly_more H x y z v c legs l p has within (inl (e, f, is, inl (early, g))) sized t same =
     partly_same H x y z v c legs l p e f sized t same
-    (subst (λ q. AreParents y.most (rows_of H y.side) y.source (OrNode (idle_of H y) v) (costs_of H y) (keys_of H y) q) (sym g) p.expanding.parents)
+    (subst (λ q. AreParents y.most (rows_of H y.side) y.source (OrNode (idle_of H y) v) (costs_of H y) (keys_of H y) q) (sym g)
+    p.expanding.parents)
     (λ k of. elim (Contains-push_cases legs l k of) [
       | inl old ↦ ((p.relaxed k old).0, subst (λ q. IsNoEarlier y.most (costs_of H y) q v c k) (sym g) (p.relaxed k old).1)
       | inr new ↦ subst (λ m. IsRelaxedFrom y.most (costs_of H y) c m × IsNoEarlier y.most (costs_of H y) (parents_of H z) v c m) new
@@ -189,29 +199,27 @@ partly_more H x y z v c legs l p has within (inr (light, lower, e, f, g)) sized 
       relaxed = λ k of.
           still_relaxed H y z c v k best same e (subst (λ q. IsRelaxedFrom y.most best c k × IsNoEarlier y.most best q v c k) (sym g)
           (elim (Contains-push_cases legs l k of) [
-            | inl old ↦ (lowered_keeps _ _ _ _ _ v c s l has light lower c k (p.relaxed k old).0, lowered_no_earlier _ _ _ _ _ _ v c s a l has light lower k (p.relaxed k old).1)
+            | inl old ↦ (
+              lowered_keeps _ _ _ _ _ v c s l has light lower c k (p.relaxed k old).0,
+              lowered_no_earlier _ _ _ _ _ _ v c s a l has light lower k (p.relaxed k old).1,
+            )
             | inr is ↦ subst (λ m. IsRelaxedFrom y.most best c m × IsNoEarlier y.most best parents v c m) is
                 (lowered_relaxes _ _ _ _ _ v c s l has light lower, lowered_itself _ _ _ _ _ _ v c s a l has light lower)
           ]));
-      settled = λ w d k. p.settled w d (lowered_settled _ _ _ _ _ v c s l has light lower w d (sym (ap (λ q. cost_at q w) e) ∙ k.0, sym (ap (λ q. cost_at q w) f) ∙ k.1));
-      measure = ap (λ q. count_unsettled q (keys_of H z)) e ∙ ap (count_unsettled best) f ∙ lowered_counts _ _ _ _ _ v c s l has light lower ∙ p.measure;
+      settled = λ w d k. p.settled w d
+          (lowered_settled _ _ _ _ _ v c s l has light lower w d
+          (sym (ap (λ q. cost_at q w) e) ∙ k.0, sym (ap (λ q. cost_at q w) f) ∙ k.1));
+      measure = ap (λ q. count_unsettled q (keys_of H z)) e ∙ ap (count_unsettled best) f
+          ∙ lowered_counts _ _ _ _ _ v c s l has light lower ∙ p.measure;
     }
 
--- no leg is taken yet
-pub partly_none : (H : LevelsAndLegs) (x : Search) (v : ℕ) (c : Cost) → IsExpandingAt H x v c → IsPartlyExpanded H x x v c []
-partly_none H x v c e = record {
-  same = record { side = refl; source = refl; stalls = refl; most = refl };
-  expanding = e;
-  relaxed = λ l of. absurd (let lt = of.1 in omega arith);
-  settled = λ w d k. k;
-  measure = refl;
-}
-
 -- all legs are taken
-pub partly_whole : (H : LevelsAndLegs) (x y : Search) (v : ℕ) (c : Cost) (legs : List Leg) → IsPartlyExpanded H x y v c legs → legs ≡ row (rows_of H x.side) v →
+pub partly_whole : (H : LevelsAndLegs) (x y : Search) (v : ℕ) (c : Cost) (legs : List Leg) → IsPartlyExpanded H x y v c legs →
+    legs ≡ row (rows_of H x.side) v →
     IsUnderway H y
 partly_whole H x y v c legs p e =
-    let whole : (l : Leg) → Contains (row (rows_of H y.side) v) l → Contains legs l = λ l of. subst (λ xs. Contains xs l) (ap (λ q. row (rows_of H q) v) p.same.side ∙ sym e) of in
+    let whole : (l : Leg) → Contains (row (rows_of H y.side) v) l →
+    Contains legs l = λ l of. subst (λ xs. Contains xs l) (ap (λ q. row (rows_of H q) v) p.same.side ∙ sym e) of in
     record {
       levelled = p.expanding.levelled;
       sizes = p.expanding.sizes;

@@ -1,5 +1,6 @@
 -- Labels, and the costs and parents that they stand for.
-use Rattle.std.proofs.Common.{◌≡◌, ℕ, zero, suc, ◌+◌, ◌-◌, ◌*◌, ◌/◌, ◌%◌, ◌<◌, ◌≤◌, List, [], ◌∷◌, length, map, get_or, set, replicate, Option, Some, None, refl, sym, ◌∙◌, ap, arith}
+use Rattle.std.proofs.Common.{◌≡◌, ℕ, zero, suc, ◌+◌, ◌-◌, ◌*◌, ◌/◌, ◌%◌, ◌<◌, ◌≤◌, List, [], ◌∷◌, length, map, get_or, set}
+use Rattle.std.proofs.Common.{replicate, Option, Some, None, refl, sym, ◌∙◌, ap, arith}
 use Rattle.std.specs.Prelude.{if◌then◌else◌}
 use Rattle.std.specs.List.{zip}
 use Rattle.std.proofs.lemmas.Bool.{lt-ltb, le-ltb}
@@ -73,7 +74,8 @@ pub parents_set : (labels labels' : List Label) (parents : List ℕ) (v : ℕ) (
 parents_set labels labels' parents v l same is =
     map-set (λ (k : Label). k.parent) labels' v l ∙ ap (λ q. set q v l.parent) (ap parents_of same ∙ is)
 
-module _ (labels : List Label) (multiples : List ℕ) (costs : List (Option Cost)) (size : length multiples ≡ length labels) (is : map cost_of (zip labels multiples) ≡ costs) where
+module _ (labels : List Label) (multiples : List ℕ) (costs : List (Option Cost)) (size : length multiples ≡ length labels)
+    (is : map cost_of (zip labels multiples) ≡ costs) where
   -- there are as many labels as costs
   pub as_many : length labels ≡ length costs
   as_many =
@@ -86,11 +88,13 @@ module _ (labels : List Label) (multiples : List ℕ) (costs : List (Option Cost
       let lt : v < length labels = (let n = as_many in omega arith) in
       ap (λ q. cost_of (q, get_or multiples v 0)) e
       ∙ ap cost_of (sym (get_or-zip labels multiples v (l, 0) lt (omega (arith, lt, size))))
-      ∙ sym (get_or-map cost_of (zip labels multiples) v (l, 0) None (let n = as_many in let m = length-map (zip labels multiples) cost_of in let k = ap length is in omega arith))
+      ∙ sym (get_or-map cost_of (zip labels multiples) v (l, 0) None
+      (let n = as_many in let m = length-map (zip labels multiples) cost_of in let k = ap length is in omega arith))
       ∙ ap (λ xs. cost_at xs v) is
 
   -- writing a label and its multiple writes the node's cost
-  pub label_set : (v : ℕ) (l : Label) (m : ℕ) (o : Option Cost) (multiples' : List ℕ) → multiples' ≡ set multiples v m → cost_of (l, m) ≡ o →
+  pub label_set : (v : ℕ) (l : Label) (m : ℕ) (o : Option Cost) (multiples' : List ℕ) → multiples' ≡ set multiples v m →
+      cost_of (l, m) ≡ o →
       map cost_of (zip (set labels v l) multiples') ≡ set costs v o
   label_set v l m o multiples' changed e =
       ap (λ q. map cost_of (zip (set labels v l) q)) changed
@@ -111,9 +115,11 @@ module _ (labels : List Label) (multiples : List ℕ) (costs : List (Option Cost
       ∙ set-get_or costs v None
 
   -- the label and the multiple that the program writes stand for the cost
-  pub written : (v weight arcs parent : ℕ) → weight ≤ MOST_WEIGHT → (labels' : List Label) (multiples' : List ℕ) (m a b : ℕ) → labels' ≡ labels →
+  pub written : (v weight arcs parent : ℕ) → weight ≤ MOST_WEIGHT → (labels' : List Label) (multiples' : List ℕ) (m a b : ℕ) →
+      labels' ≡ labels →
       multiples' ≡ set multiples v m → a ≡ b → arcs_of b m ≡ arcs →
-      map cost_of (zip (set labels' v (record { weight = weight; arcs = a; parent = parent })) multiples') ≡ set costs v (Some (record { weight = weight; arcs = arcs }))
+      map cost_of (zip (set labels' v (record { weight = weight; arcs = a; parent = parent })) multiples')
+      ≡ set costs v (Some (record { weight = weight; arcs = arcs }))
   written v weight arcs parent light labels' multiples' m a b same changed is_b split =
       ap (λ q. map cost_of (zip (set q v (record { weight = weight; arcs = a; parent = parent })) multiples')) same
       ∙ label_set v (record { weight = weight; arcs = a; parent = parent }) m _ multiples' changed

@@ -13,7 +13,8 @@ use Rattle.ch_graph.proofs.Lists.{contains_head, contains_tail, contains_cons, c
 -- the same leg in front of two paths keeps their order
 leg_before : (l : Leg) (xs ys : List Leg) → IsAtMost (path_cost xs) (path_cost ys) → IsAtMost (path_cost (l ∷ xs)) (path_cost (l ∷ ys))
 leg_before l xs ys le =
-    subst (λ q. IsAtMost q (path_cost (l ∷ ys))) (sym (path_cost-cons l xs)) (subst (λ q. IsAtMost (cost_sum l.cost (path_cost xs)) q) (sym (path_cost-cons l ys))
+    subst (λ q. IsAtMost q (path_cost (l ∷ ys))) (sym (path_cost-cons l xs))
+    (subst (λ q. IsAtMost (cost_sum l.cost (path_cost xs)) q) (sym (path_cost-cons l ys))
     (IsAtMost-cost_sum l.cost l.cost (path_cost xs) (path_cost ys) (IsAtMost_refl l.cost) le))
 
 -- no path costs less than the empty path
@@ -23,7 +24,8 @@ none_before ks = IsAtMost-no_cost (path_cost ks)
 module _ (rows : List (List Leg)) (m : ℕ) where
   -- there is a path from a to m, and no other costs less
   abbrev pub HasLeast : ℕ → Type 0
-  HasLeast a = (legs : List Leg) × IsUpwardPath rows a m legs × ((ks : List Leg) → IsUpwardPath rows a m ks → IsAtMost (path_cost legs) (path_cost ks))
+  HasLeast a = (legs : List Leg) × IsUpwardPath rows a m legs
+      × ((ks : List Leg) → IsUpwardPath rows a m ks → IsAtMost (path_cost legs) (path_cost ks))
 
   -- there is such a path, or there is no path
   abbrev pub IsDecided : ℕ → Type 0
@@ -35,7 +37,8 @@ module _ (rows : List (List Leg)) (m : ℕ) where
 
   -- there is such a path that costs no more than any other
   abbrev HasLeastOf : List Leg → Type 0
-  HasLeastOf some = (l : Leg) × (legs : List Leg) × Begins some l legs × ((k : Leg) (ks : List Leg) → Begins some k ks → IsAtMost (path_cost (l ∷ legs)) (path_cost (k ∷ ks)))
+  HasLeastOf some = (l : Leg) × (legs : List Leg) × Begins some l legs
+      × ((k : Leg) (ks : List Leg) → Begins some k ks → IsAtMost (path_cost (l ∷ legs)) (path_cost (k ∷ ks)))
 
   -- there is such a least path, or there is no such path
   abbrev IsDecidedOf : List Leg → Type 0

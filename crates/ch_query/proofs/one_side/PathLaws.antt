@@ -11,7 +11,8 @@ use Rattle.ch_hierarchy.specs.Paths.{IsUpwardPath, path_cost}
 
 -- a leg that is taken at c does not lower a cost that was settled before c
 pub not_lower : (c l e : Cost) → IsAtMost e c → IsBelow (cost_sum c l) e → ⊥
-not_lower c l e h k = let le : c.weight ≤ e.weight = omega arith in let p = h.1 le in let ge : e.weight ≤ c.weight + l.weight = omega arith in let q = k.1 ge in omega arith
+not_lower c l e h k = let le : c.weight ≤ e.weight = omega arith in let p = h.1 le in
+    let ge : e.weight ≤ c.weight + l.weight = omega arith in let q = k.1 ge in omega arith
 
 -- no cost is below the empty cost
 pub not_below_nothing : (a : Cost) → IsBelow a no_cost → ⊥
@@ -44,7 +45,8 @@ abbrev pub AreRising : ℕ → (ℕ → ℕ) → List (List Leg) → Type 0
 AreRising n level rows = (v : ℕ) (l : Leg) → Contains (row rows v) l → (level v < level l.node) × (l.cost.arcs < n)
 
 -- each leg of a path has fewer than n arcs and rises by at least one level
-pub path_arcs : (n : ℕ) (level : ℕ → ℕ) (rows : List (List Leg)) → AreRising n level rows → (a b : ℕ) (legs : List Leg) → IsUpwardPath rows a b legs →
+pub path_arcs : (n : ℕ) (level : ℕ → ℕ) (rows : List (List Leg)) → AreRising n level rows → (a b : ℕ) (legs : List Leg) →
+    IsUpwardPath rows a b legs →
     (path_cost legs).arcs + n * level a ≤ n * level b
 path_arcs n level rows rising a b [] p = let e : n * level a ≡ n * level b = ap (λ q. n * level q) p in omega arith
 path_arcs n level rows rising a b (l ∷ legs) p =

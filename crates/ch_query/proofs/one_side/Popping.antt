@@ -1,5 +1,6 @@
 -- The node with the least key leaves the queue.
-use Rattle.std.proofs.Common.{◌≡◌, ◌↔◌, IsTrue, ℕ, ◌+◌, ◌<◌, Bool, true, false, not, List, length, Option, Some, None, refl, sym, ◌∙◌, ap, subst, arith, set, length-set, inl, inr}
+use Rattle.std.proofs.Common.{◌≡◌, ◌↔◌, IsTrue, ℕ, ◌+◌, ◌<◌, Bool, true, false, not, List, length, Option, Some, None, refl, sym}
+use Rattle.std.proofs.Common.{◌∙◌, ap, subst, arith, set, length-set, inl, inr}
 use Rattle.std.specs.Ordering.{is_gt, MatchOrdering}
 use Rattle.std.specs.declared.cmp.Ordering.{Ordering}
 use Rattle.std.specs.declared.cmp.Ordering.TheVariants.{Less, Equal, Greater}
@@ -44,7 +45,8 @@ leads_by : (first second : List (Option Cost)) (a b : Cost × ℕ) → IsLeastEn
 leads_by first second a b l k le v d h = (a.1, a.0, l.has, IsAtMost_trans a.0 b.0 d le ((least_key second b k).least v d h))
 
 -- the test of the least keys of two queues says which of them leads
-pub leads_as_told : (first second : List (Option Cost)) (a b : Cost × ℕ) → IsLeastEntry cost_cmp first a → IsLeastEntry cost_cmp second b → (told : Bool) → IsTrue told ↔ IsBelow b.0 a.0 →
+pub leads_as_told : (first second : List (Option Cost)) (a b : Cost × ℕ) → IsLeastEntry cost_cmp first a →
+    IsLeastEntry cost_cmp second b → (told : Bool) → IsTrue told ↔ IsBelow b.0 a.0 →
     (not told ≡ true → LeadsKeys first second) × (not told ≡ false → LeadsKeys second first)
 leads_as_told first second a b l k true i =
     (λ e. absurd (false≢true e), λ _. leads_by second first b a k l (IsBelow-IsAtMost b.0 a.0 (i.0 refl)))
@@ -69,7 +71,8 @@ pub record IsPopped (H : LevelsAndLegs) (x : Search) (q : List (Option Cost)) (v
   pub rest : keys_of H (with_queue x q) ≡ set (keys_of H x) v None
 
 -- the node of the rank that leaves the queue is such a node
-pub popped_at : (H : LevelsAndLegs) (x : Search) (q : List (Option Cost)) (v rank : ℕ) (c : Cost) → IsUnderway H x → v < nodes_of H → rank_of H v ≡ rank →
+pub popped_at : (H : LevelsAndLegs) (x : Search) (q : List (Option Cost)) (v rank : ℕ) (c : Cost) → IsUnderway H x →
+    v < nodes_of H → rank_of H v ≡ rank →
     IsLeastEntry cost_cmp x.queue (c, rank) → q ≡ set x.queue rank None → IsPopped H x q v c
 popped_at H x q v rank c u within at l e = record {
   key = record {
@@ -77,7 +80,8 @@ popped_at H x q v rank c u within at l e = record {
     least = λ w d known. (least_key x.queue (c, rank) l).least (rank_of H w) d (by_node-some H x.queue w d known).1;
   };
   size = ap length e ∙ length-set x.queue rank None;
-  rest = ap (λ r. by_node H r None) (e ∙ ap (λ r. set x.queue r None) (sym at)) ∙ by_node-set H u.levelled x.queue None None v u.sizes.1 within;
+  rest = ap (λ r. by_node H r None) (e ∙ ap (λ r. set x.queue r None) (sym at))
+      ∙ by_node-set H u.levelled x.queue None None v u.sizes.1 within;
 }
 
 -- a search under way whose node of least key leaves the queue
@@ -94,7 +98,8 @@ module _ (H : LevelsAndLegs) (x : Search) (q : List (Option Cost)) (v : ℕ) (c 
     within = (let a = within in let b = by_node-size H x.queue None in omega arith);
     search = subst (λ r. IsExpanding x.most (rows_of H x.side) x.source (OrNode (idle_of H x) v) (costs_of H x) r v c) (sym p.rest)
         (popped _ _ _ _ _ u.search v c p.key.has p.key.least within);
-    parents = subst (λ r. AreParents x.most (rows_of H x.side) x.source (OrNode (idle_of H x) v) (costs_of H x) r (parents_of H x)) (sym p.rest)
+    parents = subst (λ r. AreParents x.most (rows_of H x.side) x.source (OrNode (idle_of H x) v) (costs_of H x) r (parents_of H x))
+        (sym p.rest)
         (popped_parents _ _ _ _ _ _ u.search u.parents v c p.key.has p.key.least within);
     touched = u.touched;
   }

@@ -1,5 +1,6 @@
 -- Legs by rank, taken one after the other.
-use Rattle.std.proofs.Common.{◌≡◌, ℕ, ◌+◌, ◌^◌, ◌<◌, ◌≤◌, List, length, length-set, Contains, take, map, Some, None, sym, take_all, ◌∙◌, ap, subst, arith, get_or, set, inl, inr}
+use Rattle.std.proofs.Common.{◌≡◌, ℕ, ◌+◌, ◌^◌, ◌<◌, ◌≤◌, List, length, length-set, Contains, take, map, Some, None, sym, take_all}
+use Rattle.std.proofs.Common.{◌∙◌, ap, subst, arith, get_or, set, inl, inr}
 use Rattle.std.specs.Prelude.{slice_index}
 use Rattle.std.proofs.lemmas.List.{take_more, get_or-map, length-map}
 use Rattle.std.proofs.lemmas.Option.{none-some}
@@ -23,7 +24,8 @@ use Rattle.ch_query.proofs.one_side.Touched.{none_unless}
 use Rattle.ch_query.proofs.one_side.Expanding.{leg_up, leg_bounds, partly_more}
 
 -- the change of a leg taken by rank, seen by node
-module _ (H : LevelsAndLegs) (k : IsLevelled H) (y z : Search) (v : ℕ) (c : Cost) (l : Leg) (sizes : IsSized (nodes_of H) y) (within : l.node < nodes_of H) where
+module _ (H : LevelsAndLegs) (k : IsLevelled H) (y z : Search) (v : ℕ) (c : Cost) (l : Leg) (sizes : IsSized (nodes_of H) y)
+    (within : l.node < nodes_of H) where
   -- the cost of the leg's node is the one at its rank
   cost_there : cost_at (costs_of H y) l.node ≡ cost_at y.labels.costs (rank_of H l.node)
   cost_there = by_node-at H y.labels.costs None None l.node within
@@ -52,7 +54,11 @@ module _ (H : LevelsAndLegs) (k : IsLevelled H) (y z : Search) (v : ℕ) (c : Co
   )
   relaxes_by_node (inr (light, lower, e, f, g)) = inr (
     light,
-    record { within = (let size = by_node-size H y.labels.costs None in omega arith); lower = λ d known. lower.lower d (sym cost_there ∙ known) },
+    record {
+      within = (let size = by_node-size H y.labels.costs None in omega arith);
+      lower =
+          λ d known. lower.lower d (sym cost_there ∙ known);
+    },
     ap (λ q. by_node H q None) e ∙ by_node-set H k y.labels.costs None (Some (cost_sum c l.cost)) l.node sizes.0 within,
     ap (λ q. by_node H q None) f ∙ by_node-set H k y.queue None (Some (cost_sum c l.cost)) l.node sizes.1 within,
     parents_then g,
@@ -70,7 +76,8 @@ relaxes_sizes n y z v c r s (inr (light, lower, e, f, g)) = (
 )
 
 -- the program reads the leg at place i of the legs of v
-module _ (H : LevelsAndLegs) (x y : Search) (v : ℕ) (c : Cost) (items : List RankedLeg) (i : ℕ) (d : RankedLeg) (p : IsPartlyExpanded H x y v c (take i (row (rows_of H x.side) v)))
+module _ {H : LevelsAndLegs} {x y : Search} {v : ℕ} {c : Cost} {items : List RankedLeg} {i : ℕ} (d : RankedLeg)
+    (p : IsPartlyExpanded H x y v c (take i (row (rows_of H x.side) v)))
     (e : items ≡ map (ranked_leg H) (row (rows_of H x.side) v)) (lt : i < length items) where
   -- it is a leg of the row
   low : i < length (row (rows_of H x.side) v)
@@ -89,14 +96,16 @@ module _ (H : LevelsAndLegs) (x y : Search) (v : ℕ) (c : Cost) (items : List R
   is = ap (λ q. get_or q i d) e ∙ get_or-map (ranked_leg H) (row (rows_of H x.side) v) i no_leg d low
 
   -- its node exists, and its sum does not overflow
-  bounds : (here.node < length (costs_of H y)) × (c.weight ≤ MOST_WEIGHT) × (here.cost.weight ≤ MOST_WEIGHT) × (c.arcs + here.cost.arcs < 2 ^ 63)
+  bounds : (here.node < length (costs_of H y)) × (c.weight ≤ MOST_WEIGHT) × (here.cost.weight ≤ MOST_WEIGHT)
+      × (c.arcs + here.cost.arcs < 2 ^ 63)
   bounds = leg_bounds H x y v c _ here p has
 
   within : here.node < nodes_of H
   within = (leg_up H p.expanding.levelled y.side v here has).node
 
   pub read_rank : (get_or items i d).rank < length y.labels.costs
-  read_rank = subst (λ (q : RankedLeg). q.rank < length y.labels.costs) (sym is) (let r = rank_below H p.expanding.levelled here.node within in let s = p.expanding.sizes.0 in omega arith)
+  read_rank = subst (λ (q : RankedLeg). q.rank < length y.labels.costs) (sym is)
+      (let r = rank_below H p.expanding.levelled here.node within in let s = p.expanding.sizes.0 in omega arith)
 
   -- if its node is not reached, the node has no key
   unkeyed : UnreachedIsUnkeyed y (rank_of H here.node)
@@ -121,7 +130,8 @@ module _ (H : LevelsAndLegs) (x y : Search) (v : ℕ) (c : Cost) (items : List R
       let by_rank : RelaxesByRank y v c (ranked_leg H here) z = subst (λ q. RelaxesByRank y v c q z) is r in
       subst (IsPartlyExpanded H x z v c) (sym (take_more (row (rows_of H x.side) v) i no_leg low))
       (partly_more H x y z v c (take i (row (rows_of H x.side) v)) here p has bounds.0
-      (relaxes_by_node H p.expanding.levelled y z v c here p.expanding.sizes within by_rank) (relaxes_sizes (nodes_of H) y z v c _ p.expanding.sizes by_rank) t same)
+      (relaxes_by_node H p.expanding.levelled y z v c here p.expanding.sizes within by_rank)
+      (relaxes_sizes (nodes_of H) y z v c _ p.expanding.sizes by_rank) t same)
 
 -- past the last leg, all legs are taken
 pub read_all : (H : LevelsAndLegs) (legs : List Leg) (items : List RankedLeg) (i : ℕ) → items ≡ map (ranked_leg H) legs → length items ≤ i →

@@ -36,7 +36,8 @@ use Rattle.ch_query.proofs.one_side.End.{known_least, least_known}
 sorted_rises : (xs ys : List ℕ) → AllPairs ◌≢◌ xs → IsPermutation xs ys → IsSorted nat_cmp ys → AllPairs (λ a b. a < b) ys
 sorted_rises xs ys distinct p sorted =
     let d : IsDistinct eqb xs = IsDistinct-from_apart eqb xs (λ i j e lt within. not_eqb _ _ (distinct i j e lt within)) in
-    AllPairs-from_increasing ys (IsStrictlyIncreasing-from_distinct ys (IsNonDecreasingBy-from_sort (λ x. x) ys sorted) (IsDistinct-IsPermutation eqb eqb_flips xs ys p d))
+    AllPairs-from_increasing ys (IsStrictlyIncreasing-from_distinct ys (IsNonDecreasingBy-from_sort (λ x. x) ys sorted)
+    (IsDistinct-IsPermutation eqb eqb_flips xs ys p d))
 
 -- a search under way has room for all nodes
 pub underway_room : (H : LevelsAndLegs) (x : Search) → IsUnderway H x → IsRoom x
@@ -57,9 +58,11 @@ pub never_idle : (H : LevelsAndLegs) (x : Search) → x.stalls ≡ false → (v 
 never_idle H x off v c idle = none_in_row v idle.leg (subst (λ b. Contains (row (back_of H x.side b) v) idle.leg) off idle.has)
 
 -- a search that has ended without stalling, and its touched nodes in order
-module _ (H : LevelsAndLegs) (x : Search) (u : IsUnderway H x) (off : x.stalls ≡ false) (done : IsEmpty (keys_of H x)) (limit : Option ℕ) (most : IsMost limit x.most)
+module _ (H : LevelsAndLegs) (x : Search) (u : IsUnderway H x) (off : x.stalls ≡ false) (done : IsEmpty (keys_of H x))
+    (limit : Option ℕ) (most : IsMost limit x.most)
     (nodes : List ℕ) (rises : AllPairs (λ a b. a < b) nodes)
-    (reached : (v : ℕ) → Contains nodes v → is_some (cost_at (costs_of H x) v) ≡ true) (all : (v : ℕ) → is_some (cost_at (costs_of H x) v) ≡ true → Contains nodes v) where
+    (reached : (v : ℕ) → Contains nodes v → is_some (cost_at (costs_of H x) v) ≡ true)
+    (all : (v : ℕ) → is_some (cost_at (costs_of H x) v) ≡ true → Contains nodes v) where
   -- an entry of the list, by its place
   at : (i : ℕ) (d : ℕ × Cost) → i < length nodes → get_or (map (entry (costs_of H x)) nodes) i d ≡ entry (costs_of H x) (get_or nodes i 0)
   at i d lt = get_or-map (entry (costs_of H x)) nodes i 0 d lt
@@ -85,7 +88,8 @@ module _ (H : LevelsAndLegs) (x : Search) (u : IsUnderway H x) (off : x.stalls �
         let is : entry (costs_of H x) (get_or nodes h.0 0) ≡ (v, c) = sym (at h.0 (v, c) low) ∙ h.2 in
         let node : get_or nodes h.0 0 ≡ v = ap (λ (e : ℕ × Cost). e.0) is in
         let has : Contains nodes v = subst (Contains nodes) node (Contains-get_or nodes h.0 0 low) in
-        let cost : unwrap_or (cost_at (costs_of H x) v) no_cost ≡ c = ap (λ q. unwrap_or (cost_at (costs_of H x) q) no_cost) (sym node) ∙ ap (λ (e : ℕ × Cost). e.1) is in
+        let cost : unwrap_or (cost_at (costs_of H x) v) no_cost ≡ c =
+        ap (λ q. unwrap_or (cost_at (costs_of H x) q) no_cost) (sym node) ∙ ap (λ (e : ℕ × Cost). e.1) is in
         let known : cost_at (costs_of H x) v ≡ Some c = some_known _ (reached v has) ∙ ap Some cost in
         (known_least _ _ _ _ _ u.search (never_idle H x off) done v c known, most.sound c.weight (u.search.light v c known));
     whole = λ v c h low.
@@ -102,7 +106,8 @@ empty_by_node : (H : LevelsAndLegs) (x : Search) → IsEmpty x.queue → IsEmpty
 empty_by_node H x done v c e = done (rank_of H v) c (by_node-some H x.queue v c e).1
 
 -- the spread of a search that has ended without stalling
-pub spread_of : (H : LevelsAndLegs) (x : Search) (nodes : List ℕ) (s : ℕ) (side : Side) (limit : Option ℕ) → IsMost limit x.most → IsUnderway H x → x.stalls ≡ false → x.source ≡ s → x.side ≡ side →
+pub spread_of : (H : LevelsAndLegs) (x : Search) (nodes : List ℕ) (s : ℕ) (side : Side) (limit : Option ℕ) → IsMost limit x.most →
+    IsUnderway H x → x.stalls ≡ false → x.source ≡ s → x.side ≡ side →
     IsEmpty x.queue → AreReached (costs_of H x) nodes → IsSpread (rows_of H side) limit s (map (entry (costs_of H x)) nodes)
 spread_of H x nodes s side limit most u off source is done a =
     let spread = spread_is H x u off (empty_by_node H x done) limit most nodes a.order a.sound a.whole in
@@ -110,7 +115,8 @@ spread_of H x nodes s side limit most u off source is done a =
     subst (λ q. IsSpread (rows_of H q) limit s (map (entry (costs_of H x)) nodes)) is from_source
 
 -- the touched nodes, once sorted, are the reached nodes
-module _ (H : LevelsAndLegs) (k : IsLevelled H) (x : Search) (t : IsTouched x.labels.costs x.touched) (nodes sorted : List ℕ) (ranks : map (rank_of H) nodes ≡ x.touched.items)
+module _ (H : LevelsAndLegs) (k : IsLevelled H) (x : Search) (t : IsTouched x.labels.costs x.touched) (nodes sorted : List ℕ)
+    (ranks : map (rank_of H) nodes ≡ x.touched.items)
     (within : (v : ℕ) → Contains nodes v → v < nodes_of H) (p : IsPermutation nodes sorted) (order : IsSorted nat_cmp sorted) where
   -- the nodes are different
   apart : AllPairs ◌≢◌ nodes
@@ -137,7 +143,8 @@ module _ (H : LevelsAndLegs) (k : IsLevelled H) (x : Search) (t : IsTouched x.la
   }
 
 -- a touched rank is a rank
-pub item_rank : (H : LevelsAndLegs) (x : Search) (items : List ℕ) (i : ℕ) → IsSized (nodes_of H) x → IsTouched x.labels.costs x.touched → items ≡ x.touched.items → i < length items →
+pub item_rank : (H : LevelsAndLegs) (x : Search) (items : List ℕ) (i : ℕ) → IsSized (nodes_of H) x →
+    IsTouched x.labels.costs x.touched → items ≡ x.touched.items → i < length items →
     get_or items i 0 < nodes_of H
 item_rank H x items i s t e lt =
     let known = t.reached (get_or items i 0) (subst (λ q. Contains q (get_or items i 0)) e (Contains-get_or items i 0 lt)) in
@@ -146,14 +153,17 @@ item_rank H x items i s t e lt =
     omega arith
 
 -- one more node has its rank
-pub ranks_more : (H : LevelsAndLegs) (touched items nodes new : List ℕ) (i v : ℕ) → items ≡ touched → i < length items → map (rank_of H) nodes ≡ take i touched →
+pub ranks_more : (H : LevelsAndLegs) (touched items nodes new : List ℕ) (i v : ℕ) → items ≡ touched → i < length items →
+    map (rank_of H) nodes ≡ take i touched →
     rank_of H v ≡ get_or items i 0 → new ≡ nodes ++ v ∷ [] → map (rank_of H) new ≡ take (i + 1) touched
 ranks_more H touched items nodes new i v e lt was at is =
-    ap (map (rank_of H)) is ∙ map_push (rank_of H) nodes v ∙ ap (λ q. q ++ rank_of H v ∷ []) was ∙ ap (λ q. take i touched ++ q ∷ []) (at ∙ ap (λ q. get_or q i 0) e)
+    ap (map (rank_of H)) is ∙ map_push (rank_of H) nodes v ∙ ap (λ q. q ++ rank_of H v ∷ []) was
+    ∙ ap (λ q. take i touched ++ q ∷ []) (at ∙ ap (λ q. get_or q i 0) e)
     ∙ sym (take_more touched i 0 (subst (λ q. i < length q) e lt))
 
 -- the one more node is a node
-pub within_more : (H : LevelsAndLegs) (nodes new : List ℕ) (v : ℕ) → ((w : ℕ) → Contains nodes w → w < nodes_of H) → v < nodes_of H → new ≡ nodes ++ v ∷ [] →
+pub within_more : (H : LevelsAndLegs) (nodes new : List ℕ) (v : ℕ) → ((w : ℕ) → Contains nodes w → w < nodes_of H) →
+    v < nodes_of H → new ≡ nodes ++ v ∷ [] →
     (w : ℕ) → Contains new w → w < nodes_of H
 within_more H nodes new v was lt is w h = elim (Contains-push_cases nodes v w (subst (λ q. Contains q w) is h)) [
   | inl old ↦ was w old
@@ -183,15 +193,19 @@ unknown (Some c) r e known never = never c e
 
 -- one more node is in the list
 listed_more : (best : List (Option Cost)) (nodes : List ℕ) (i v : ℕ) (c : Cost) (before after : List (ℕ × Cost)) → i < length nodes →
-    get_or nodes i 0 ≡ v → cost_at best v ≡ Some c → before ≡ map (entry best) (take i nodes) → after ≡ before ++ (v, c) ∷ [] → after ≡ map (entry best) (take (i + 1) nodes)
+    get_or nodes i 0 ≡ v → cost_at best v ≡ Some c → before ≡ map (entry best) (take i nodes) → after ≡ before ++ (v, c) ∷ [] →
+    after ≡ map (entry best) (take (i + 1) nodes)
 listed_more best nodes i v c before after lt node known was is =
     let one : entry best (get_or nodes i 0) ≡ (v, c) = ap (entry best) node ∙ (λ j. (v, ap (λ q. unwrap_or q no_cost) known j)) in
-    let more = ap (map (entry best)) (take_more nodes i 0 lt) ∙ map_push (entry best) (take i nodes) (get_or nodes i 0) ∙ ap (λ q. map (entry best) (take i nodes) ++ q ∷ []) one in
+    let more = ap (map (entry best)) (take_more nodes i 0 lt) ∙ map_push (entry best) (take i nodes) (get_or nodes i 0)
+    ∙ ap (λ q. map (entry best) (take i nodes) ++ q ∷ []) one in
     is ∙ ap (λ q. q ++ (v, c) ∷ []) was ∙ sym more
 
 -- the same as the program reads nodes and costs
-pub listed_step : (best : List (Option Cost)) (nodes items : List ℕ) (i : ℕ) (c : Cost) (r : Option Cost) (before after : List (ℕ × Cost)) → items ≡ nodes →
+pub listed_step : (best : List (Option Cost)) (nodes items : List ℕ) (i : ℕ) (c : Cost) (r : Option Cost)
+    (before after : List (ℕ × Cost)) → items ≡ nodes →
     i < length items → r ≡ cost_at best (get_or items i 0) → r ≡ Some c → before ≡ map (entry best) (take i nodes) →
     after ≡ before ++ (get_or items i 0, c) ∷ [] → after ≡ map (entry best) (take (i + 1) nodes)
 listed_step best nodes items i c r before after e lt known is was new =
-    listed_more best nodes i (get_or items i 0) c before after (subst (λ xs. i < length xs) e lt) (ap (λ xs. get_or xs i 0) (sym e)) (sym known ∙ is) was new
+    listed_more best nodes i (get_or items i 0) c before after (subst (λ xs. i < length xs) e lt) (ap (λ xs. get_or xs i 0) (sym e))
+    (sym known ∙ is) was new

@@ -1,5 +1,6 @@
 -- A node stays unexpanded if a higher node shows a cheaper way to it.
-use Rattle.std.proofs.Common.{◌≡◌, ℕ, ◌+◌, ◌^◌, ◌<◌, ◌≤◌, true, List, length, map, Contains, Some, None, refl, sym, ◌∙◌, ap, subst, arith, get_or, inl}
+use Rattle.std.proofs.Common.{◌≡◌, ℕ, ◌+◌, ◌^◌, ◌<◌, ◌≤◌, true, List, length, map, Contains, Some, None, refl, sym, ◌∙◌, ap, subst}
+use Rattle.std.proofs.Common.{arith, get_or}
 use Rattle.std.proofs.lemmas.List.{get_or-map, length-map}
 use Rattle.ch_graph.specs.declared.limits.TheConstants.{MOST_SUM}
 use Rattle.ch_graph.specs.declared.cost.Cost.{Cost}
@@ -14,11 +15,9 @@ use Rattle.ch_hierarchy.specs.declared.ranked.RankedLeg.{RankedLeg}
 use Rattle.ch_hierarchy.specs.Ranked.{ranked_leg}
 use Rattle.ch_query.specs.declared.side.Side.{Side}
 use Rattle.ch_query.specs.declared.sides.search.Search.{Search}
-use Rattle.ch_query.specs.Underway.{back_of, idle_of, IsUnderway, IsExpandingAt}
+use Rattle.ch_query.specs.Underway.{back_of, idle_of, IsExpandingAt}
 use Rattle.ch_query.specs.Side.{rows_of, other}
 use Rattle.ch_query.proofs.one_side.ByNode.{by_node-size, by_node-at}
-use Rattle.ch_query.proofs.one_side.Steps.{stalled}
-use Rattle.ch_query.proofs.one_side.Parents.{finish_parents}
 use Rattle.std.proofs.lemmas.List.Elements.{Contains-get_or}
 use Rattle.ch_query.proofs.one_side.Expanding.{leg_up, rows_size, reached_arcs}
 
@@ -62,18 +61,9 @@ module _ (H : LevelsAndLegs) (x : Search) (v : ℕ) (c : Cost) (u : IsExpandingA
     below = below;
   }
 
-  -- the legs of an idle node need not be taken
-  pub stalled_underway : idle_of H x v c → IsUnderway H x
-  stalled_underway idle = record {
-    levelled = u.levelled;
-    sizes = u.sizes;
-    search = stalled _ _ _ _ _ v c u.search idle;
-    parents = finish_parents _ _ _ _ _ _ v c u.search.here u.parents (inl idle);
-    touched = u.touched;
-  }
-
   -- the test reads the leg at place i by rank
-  module _ (side : Side) (items : List RankedLeg) (i : ℕ) (d : RankedLeg) (turned : side ≡ other x.side) (e : items ≡ map (ranked_leg H) (row (rows_of H side) v)) (lt : i < length items) where
+  module _ (side : Side) (items : List RankedLeg) (i : ℕ) (d : RankedLeg) (turned : side ≡ other x.side)
+      (e : items ≡ map (ranked_leg H) (row (rows_of H side) v)) (lt : i < length items) where
     low : i < length (row (rows_of H side) v)
     low = (let size = ap length e ∙ length-map (row (rows_of H side) v) (ranked_leg H) in omega arith)
 
@@ -93,14 +83,17 @@ module _ (H : LevelsAndLegs) (x : Search) (v : ℕ) (c : Cost) (u : IsExpandingA
     within = (let b = back.within in let size = by_node-size H x.labels.costs None in omega arith)
 
     pub stall_rank : (get_or items i d).rank < length x.labels.costs
-    stall_rank = subst (λ (q : RankedLeg). q.rank < length x.labels.costs) (sym is) (let r = rank_below H u.levelled here.node within in let s = u.sizes.0 in omega arith)
+    stall_rank = subst (λ (q : RankedLeg). q.rank < length x.labels.costs) (sym is)
+        (let r = rank_below H u.levelled here.node within in let s = u.sizes.0 in omega arith)
 
     -- a cost at its rank is the cost of its node
     known_there : (a : Cost) → cost_at x.labels.costs (get_or items i d).rank ≡ Some a → cost_at (costs_of H x) here.node ≡ Some a
-    known_there a known = by_node-at H x.labels.costs None None here.node within ∙ ap (λ (q : RankedLeg). cost_at x.labels.costs q.rank) (sym is) ∙ known
+    known_there a known = by_node-at H x.labels.costs None None here.node within
+        ∙ ap (λ (q : RankedLeg). cost_at x.labels.costs q.rank) (sym is) ∙ known
 
     -- the sum of the two does not overflow
-    pub stall_sum : (a cost : Cost) → cost_at x.labels.costs (get_or items i d).rank ≡ Some a → cost ≡ record { weight = (get_or items i d).weight; arcs = (get_or items i d).arcs } →
+    pub stall_sum : (a cost : Cost) → cost_at x.labels.costs (get_or items i d).rank ≡ Some a →
+        cost ≡ record { weight = (get_or items i d).weight; arcs = (get_or items i d).arcs } →
         (a.weight + cost.weight ≤ MOST_SUM) × (a.arcs + cost.arcs < 2 ^ 64)
     stall_sum a cost known same = subst (λ (q : Cost). (a.weight + q.weight ≤ MOST_SUM) × (a.arcs + q.arcs < 2 ^ 64))
         (sym (same ∙ ap (λ (q : RankedLeg). record { weight = q.weight; arcs = q.arcs }) is)) (back_sum here a back (known_there a known))

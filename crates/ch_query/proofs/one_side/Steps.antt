@@ -1,5 +1,6 @@
 -- The steps of one side of a search.
-use Rattle.std.proofs.Common.{◌≡◌, ℕ, ◌+◌, ◌<◌, ◌≤◌, Bool, cond, List, [], ◌∷◌, ◌++◌, length, Contains, Option, Some, None, refl, sym, ◌∙◌, ap, subst, arith, get_or, get_or-set_same, get_or-set_other, set, length-set, inl, inr}
+use Rattle.std.proofs.Common.{◌≡◌, ℕ, ◌+◌, ◌<◌, ◌≤◌, Bool, cond, List, [], ◌∷◌, ◌++◌, length, Contains, Option, Some, None, refl}
+use Rattle.std.proofs.Common.{sym, ◌∙◌, ap, subst, arith, get_or, get_or-set_same, get_or-set_other, set, length-set, inl, inr}
 use Rattle.std.specs.Prelude.{◌⊎◌, is_some}
 use Rattle.std.proofs.lemmas.Bool.{cases_eq}
 use Rattle.std.proofs.lemmas.Option.{same_Some, none-some}
@@ -10,7 +11,8 @@ use Rattle.ch_graph.specs.Cost.{IsAtMost, cost_sum, no_cost, cost_at}
 use Rattle.ch_hierarchy.specs.declared.leg.Leg.{Leg}
 use Rattle.ch_hierarchy.specs.Rows.{row}
 use Rattle.ch_graph.proofs.CostOrder.{IsAtMost_refl, IsAtMost_trans, IsBelow-IsAtMost}
-use Rattle.ch_query.specs.Search.{IsSettled, IsRelaxedFrom, IsUpwardCost, IsSearch, IsExpanding, OrNode, is_none, count_unsettled, WouldLower}
+use Rattle.ch_query.specs.Search.{IsSettled, IsRelaxedFrom, IsUpwardCost, IsSearch, IsExpanding, OrNode, is_none, count_unsettled}
+use Rattle.ch_query.specs.Search.{WouldLower}
 use Rattle.ch_graph.proofs.CostSums.{IsAtMost-cost_sum_self}
 use Rattle.ch_query.proofs.one_side.PathLaws.{not_lower, not_below_nothing, cost_push, path_push}
 
@@ -20,8 +22,10 @@ count_by_set : {X : Type 0} (p : X → Bool) (xs : List X) (i : ℕ) (y d : X) �
 count_by_set p xs i y d h = sum_by-set (λ x. cond (p x) 1 0) xs i y d h
 
 -- the least key leaves the queue
-module _ {most : ℕ} (rows : List (List Leg)) (s : ℕ) (Idle : ℕ → Cost → Type 0) (best queue : List (Option Cost)) (p : IsSearch most rows s Idle best queue)
-    (v : ℕ) (c : Cost) (key : cost_at queue v ≡ Some c) (least : (x : ℕ) (d : Cost) → cost_at queue x ≡ Some d → IsAtMost c d) (within : v < length queue) where
+module _ {most : ℕ} (rows : List (List Leg)) (s : ℕ) (Idle : ℕ → Cost → Type 0) (best queue : List (Option Cost))
+    (p : IsSearch most rows s Idle best queue)
+    (v : ℕ) (c : Cost) (key : cost_at queue v ≡ Some c) (least : (x : ℕ) (d : Cost) → cost_at queue x ≡ Some d → IsAtMost c d)
+    (within : v < length queue) where
   -- the queue without v
   left : List (Option Cost)
   left = set queue v None
@@ -113,7 +117,8 @@ module _ {most : ℕ} (rows : List (List Leg)) (s : ℕ) (Idle : ℕ → Cost �
 -- a leg of v that shows a cheaper path
 module _ {most : ℕ} (rows : List (List Leg)) (s : ℕ) (Idle : ℕ → Cost → Type 0) (best queue : List (Option Cost)) (v : ℕ) (c : Cost)
     (x : IsExpanding most rows s Idle best queue v c)
-    (l : Leg) (has : Contains (row rows v) l) (light : c.weight + l.cost.weight ≤ most) (h : WouldLower best l.node (cost_sum c l.cost)) where
+    (l : Leg) (has : Contains (row rows v) l) (light : c.weight + l.cost.weight ≤ most)
+    (h : WouldLower best l.node (cost_sum c l.cost)) where
   -- the cost of the path over the leg
   d : Cost
   d = cost_sum c l.cost
@@ -174,7 +179,12 @@ module _ {most : ℕ} (rows : List (List Leg)) (s : ℕ) (Idle : ℕ → Cost �
   relaxed_stays a k r w =
       let old = r w in
       elim (cases_eq k.node l.node) [
-        | inl here ↦ (d, ap (cost_at best') here ∙ best_here, IsAtMost_trans d old.0 _ (IsBelow-IsAtMost _ _ (h.lower old.0 (sym (ap (cost_at best) here) ∙ old.1))) old.2)
+        | inl here ↦ (
+          d,
+          ap (cost_at best') here ∙ best_here,
+          IsAtMost_trans d old.0 _
+              (IsBelow-IsAtMost _ _ (h.lower old.0 (sym (ap (cost_at best) here) ∙ old.1))) old.2,
+        )
         | inr away ↦ (old.0, best_other k.node away ∙ old.1, old.2)
       ]
 
@@ -184,7 +194,12 @@ module _ {most : ℕ} (rows : List (List Leg)) (s : ℕ) (Idle : ℕ → Cost �
   reached =
       let r = x.search.sound v c x.here.0 in
       record {
-        path = (r.path.0 ++ l ∷ [], path_push rows s v r.path.0 l r.path.1 has, cost_push r.path.0 l ∙ ap (λ q. cost_sum q l.cost) r.path.2);
+        path = (
+          r.path.0 ++ l ∷ [],
+          path_push rows s v r.path.0 l r.path.1 has,
+          cost_push r.path.0 l
+              ∙ ap (λ q. cost_sum q l.cost) r.path.2,
+        );
         weight = (let most = x.search.limits in omega arith);
       }
 
@@ -201,7 +216,8 @@ module _ {most : ℕ} (rows : List (List Leg)) (s : ℕ) (Idle : ℕ → Cost �
   not_heavy : (y : ℕ) (a : Cost) → cost_at best' y ≡ Some a → a.weight ≤ most
   unfolding d
   not_heavy y a e = elim (cases_eq y l.node) [
-    | inl here ↦ let is : d ≡ a = same_Some _ _ (sym best_here ∙ ap (cost_at best') (sym here) ∙ e) in subst (λ (q : Cost). q.weight ≤ most) is light
+    | inl here ↦ let is : d ≡ a = same_Some _ _ (sym best_here ∙ ap (cost_at best') (sym here) ∙ e) in
+        subst (λ (q : Cost). q.weight ≤ most) is light
     | inr away ↦ x.search.light y a (sym (best_other y away) ∙ e)
   ]
 
@@ -242,14 +258,16 @@ module _ {most : ℕ} (rows : List (List Leg)) (s : ℕ) (Idle : ℕ → Cost �
       light = not_heavy;
       queued = queued;
       order = order;
-      frontier = λ y a k. elim (x.search.frontier y a (settled_earlier y a k)) [ inl idle ↦ inl idle | inr legs ↦ inr (λ m of. relaxed_stays a m (legs m of)) ];
+      frontier = λ y a k. elim (x.search.frontier y a (settled_earlier y a k))
+          [ inl idle ↦ inl idle | inr legs ↦ inr (λ m of. relaxed_stays a m (legs m of)) ];
     };
     here = settled_stays v c x.here;
     latest = λ y a k. x.latest y a (settled_earlier y a k);
   }
 
   -- a node that is settled now was settled before
-  pub lowered_settled : (y : ℕ) (a : Cost) → IsSettled (set best l.node (Some (cost_sum c l.cost))) (set queue l.node (Some (cost_sum c l.cost))) y a →
+  pub lowered_settled : (y : ℕ) (a : Cost) →
+      IsSettled (set best l.node (Some (cost_sum c l.cost))) (set queue l.node (Some (cost_sum c l.cost))) y a →
       IsSettled best queue y a
   unfolding d best' queue'
   lowered_settled = settled_earlier
@@ -261,7 +279,8 @@ module _ {most : ℕ} (rows : List (List Leg)) (s : ℕ) (Idle : ℕ → Cost �
   lowered_stays = settled_stays
 
   -- a leg that was relaxed is relaxed now
-  pub lowered_keeps : (a : Cost) (k : Leg) → IsRelaxedFrom most best a k → IsRelaxedFrom most (set best l.node (Some (cost_sum c l.cost))) a k
+  pub lowered_keeps : (a : Cost) (k : Leg) → IsRelaxedFrom most best a k →
+      IsRelaxedFrom most (set best l.node (Some (cost_sum c l.cost))) a k
   unfolding d best' queue'
   lowered_keeps = relaxed_stays
 
@@ -286,7 +305,8 @@ module _ {most : ℕ} (rows : List (List Leg)) (s : ℕ) (Idle : ℕ → Cost �
       omega (arith, rw e at m, rw f at n)
 
   -- the number of unsettled nodes stays the same
-  pub lowered_counts : count_unsettled (set best l.node (Some (cost_sum c l.cost))) (set queue l.node (Some (cost_sum c l.cost))) ≡ count_unsettled best queue
+  pub lowered_counts : count_unsettled (set best l.node (Some (cost_sum c l.cost))) (set queue l.node (Some (cost_sum c l.cost)))
+      ≡ count_unsettled best queue
   unfolding d best' queue'
   lowered_counts = counts _ _ refl refl
 

@@ -54,20 +54,30 @@ pub sum_walk : (H : LevelsAndLegs) (k : IsKeptForSome H) (s t m : ℕ) (a b : Co
 sum_walk H k s t m a b up down = IsWalkCost-cost_sum k.0 s m t a b (walk_up H k s m a up) (walk_down H k t m b down)
 
 -- if the two walks together cost as little as the least meeting, the node is tight from s
-pub tight_up : (H : LevelsAndLegs) (k : IsKeptForSome H) (s t m : ℕ) (a b c : Cost) → IsLeastMeeting H s t c → IsUpwardCost H.up s m a → IsUpwardCost H.down t m b →
+pub tight_up : (H : LevelsAndLegs) (k : IsKeptForSome H) (s t m : ℕ) (a b c : Cost) → IsLeastMeeting H s t c →
+    IsUpwardCost H.up s m a → IsUpwardCost H.down t m b →
     cost_sum a b ≡ c → IsTight H Up s m a
 tight_up H k s t m a b c h up down sum =
     let law = meetings_are_distances k.0 H k.1 k.2 in
     let whole = subst (IsLeast k.0 s t) (sym sum) ((law.least s t c).1 h) in
     let front = IsLeast-front k.0 s m t a b whole (walk_up H k s m a up) (walk_down H k t m b down) in
-    let rises = (kept_has_walks k.0 H k.1 k.2).rises s m in
-    (record { path = up.path; weight = up.weight; least = λ legs path _. IsLeast-IsAtMost k.0 s m a (path_cost legs) front (rises legs path) }, (law.least s m a).0 front)
+    let rises = (kept_has_walks k.0 H k.1 k.2).rises s m in (
+      record {
+        path = up.path;
+        weight = up.weight;
+        least =
+            λ legs path _. IsLeast-IsAtMost k.0 s m a (path_cost legs) front (rises legs path);
+      },
+      (law.least s m a).0 front,
+    )
 
 -- the same from t
-pub tight_down : (H : LevelsAndLegs) (k : IsKeptForSome H) (s t m : ℕ) (a b c : Cost) → IsLeastMeeting H s t c → IsUpwardCost H.up s m a → IsUpwardCost H.down t m b →
+pub tight_down : (H : LevelsAndLegs) (k : IsKeptForSome H) (s t m : ℕ) (a b c : Cost) → IsLeastMeeting H s t c →
+    IsUpwardCost H.up s m a → IsUpwardCost H.down t m b →
     cost_sum a b ≡ c → IsTight H Down t m b
 tight_down H k s t m a b c h up down sum =
-    let back = tight_up (turned_hierarchy H) (kept_turned H k) t s m b a c (least_meeting_turned H s t c h) down up (cost_sum_comm b a ∙ sum) in
+    let back = tight_up (turned_hierarchy H) (kept_turned H k) t s m b a c (least_meeting_turned H s t c h) down up
+    (cost_sum_comm b a ∙ sum) in
     (back.0, least_meeting_turned (turned_hierarchy H) t m b back.1)
 
 -- if a search from s stalls at a node, a walk from s to it costs less. So it stalls at no node on a least path to a
@@ -79,7 +89,8 @@ up_avoids H k s m c tight x e legs i path le =
     let there = sum_walk H k s x i.leg.node i.cost i.leg.cost i.reached (reached_by_leg H k.2.levelled Down x i.leg i.has) in
     let walk = IsWalkCost-cost_sum k.0 s x m cheaper (path_cost legs) there ((kept_has_walks k.0 H k.1 k.2).rises x m legs path) in
     let least = ((meetings_are_distances k.0 H k.1 k.2).least s m c).1 tight.1 in
-    IsBelow_not (cost_sum cheaper (path_cost legs)) c (below_then _ _ c (below_sum cheaper e (path_cost legs) i.below) le) (IsLeast-IsAtMost k.0 s m c _ least walk)
+    IsBelow_not (cost_sum cheaper (path_cost legs)) c (below_then _ _ c (below_sum cheaper e (path_cost legs) i.below) le)
+    (IsLeast-IsAtMost k.0 s m c _ least walk)
 
 -- the same in both directions
 tight_avoids : (H : LevelsAndLegs) → IsKeptForSome H → (side : Side) (s m : ℕ) (c : Cost) → IsTight H side s m c →
@@ -93,10 +104,12 @@ tight_least H Up s m c tight = tight.0
 tight_least H Down s m c tight = tight.0
 
 -- a search that stalls, and a node that is tight for it
-module _ (H : LevelsAndLegs) (k : IsKeptForSome H) (x : Search) (u : IsUnderway H x) (on : x.stalls ≡ true) (m : ℕ) (a : Cost) (tight : IsTight H x.side x.source m a) where
+module _ (H : LevelsAndLegs) (k : IsKeptForSome H) (x : Search) (u : IsUnderway H x) (on : x.stalls ≡ true) (m : ℕ) (a : Cost)
+    (tight : IsTight H x.side x.source m a) where
   -- it stalls at no node on a path to the tight node of least cost
   avoids : AvoidsIdle (rows_of H x.side) (idle_of H x) m a
-  avoids = subst (λ b. AvoidsIdle (rows_of H x.side) (IsStalled (rows_of H x.side) (back_of H x.side b) x.source) m a) (sym on) (tight_avoids H k x.side x.source m a tight)
+  avoids = subst (λ b. AvoidsIdle (rows_of H x.side) (IsStalled (rows_of H x.side) (back_of H x.side b) x.source) m a) (sym on)
+      (tight_avoids H k x.side x.source m a tight)
 
   -- once each remaining key is more, the tight node is settled at that cost
   tight_settled : a.weight ≤ x.most → IsPastCost (keys_of H x) a → IsSettled (costs_of H x) (keys_of H x) m a
@@ -106,4 +119,11 @@ module _ (H : LevelsAndLegs) (k : IsKeptForSome H) (x : Search) (u : IsUnderway 
   pub tight_reached : x.most ≡ MOST_WEIGHT → IsPastCost (keys_of H x) a → HasReached H x m a
   tight_reached most past =
       let least = tight_least H x.side x.source m a tight in
-      record { underway = u; known = (tight_settled (let light = least.weight in omega arith) past).0; least = least; past = past; avoids = avoids }
+      record {
+        underway = u;
+        known = (tight_settled (let light = least.weight in omega arith) past).0;
+        least = least;
+        past =
+            past;
+        avoids = avoids;
+      }

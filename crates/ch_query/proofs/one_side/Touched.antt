@@ -1,5 +1,7 @@
 -- The list of the nodes that have a cost.
-use Rattle.std.proofs.Common.{◌≡◌, ℕ, ◌+◌, ◌<◌, ◌≤◌, Bool, true, false, cond, List, [], ◌∷◌, ◌++◌, length, Contains, Option, Some, None, refl, sym, ◌∙◌, ap, subst, arith, get_or-set_same, get_or-set_other, set, length-set, inl, inr, vec_len, Vec, length-append, replicate}
+use Rattle.std.proofs.Common.{◌≡◌, ℕ, ◌+◌, ◌<◌, ◌≤◌, Bool, true, false, cond, List, [], ◌∷◌, ◌++◌, length, Contains, Option, Some}
+use Rattle.std.proofs.Common.{None, refl, sym, ◌∙◌, ap, subst, arith, get_or-set_same, get_or-set_other, set, length-set, inl, inr}
+use Rattle.std.proofs.Common.{vec_len, Vec, length-append, replicate}
 use Rattle.std.specs.Prelude.{◌≢◌, AllPairs, vec_capacity, is_some}
 use Rattle.std.specs.declared.alloc.Global.{Global}
 use Rattle.std.proofs.lemmas.Bool.{cases_eq, cases_lt, false≢true}
@@ -18,10 +20,12 @@ pub none_unless : {A : Type 0} (o : Option A) → ((a : A) → o ≡ Some a → 
 none_unless None never = refl
 none_unless (Some a) never = absurd (never a refl)
 
-module _ (best : List (Option Cost)) (touched : Vec ℕ Global) (t : IsTouched best touched) (w : ℕ) (within : w < length best) (d : Cost) where
+module _ (best : List (Option Cost)) (touched : Vec ℕ Global) (t : IsTouched best touched) (w : ℕ) (within : w < length best)
+    (d : Cost) where
   -- the number of nodes with a cost after the write
   counted : (b : Bool) → is_some (cost_at best w) ≡ b → count_by is_some (set best w (Some d)) + cond b 1 0 ≡ count_by is_some best + 1
-  counted b e = subst (λ q. count_by is_some (set best w (Some d)) + cond q 1 0 ≡ count_by is_some best + 1) e (sum_by-set (λ x. cond (is_some x) 1 0) best w (Some d) None within)
+  counted b e = subst (λ q. count_by is_some (set best w (Some d)) + cond q 1 0 ≡ count_by is_some best + 1) e
+      (sum_by-set (λ x. cond (is_some x) 1 0) best w (Some d) None within)
 
   -- w has a cost
   here : is_some (cost_at (set best w (Some d)) w) ≡ true
@@ -60,7 +64,8 @@ module _ (best : List (Option Cost)) (touched : Vec ℕ Global) (t : IsTouched b
       | inr away ↦ Contains-append_left touched.items (w ∷ []) v (t.listed v (sym (other v away) ∙ k))
     ]);
     distinct = subst (AllPairs ◌≢◌) (sym items) (all_pairs_push ◌≢◌ touched.items w t.distinct
-        (λ k x lt same. false≢true (sym e ∙ ap (λ q. is_some (cost_at best q)) (sym same) ∙ t.reached _ (Contains-get_or touched.items k x lt))));
+        (λ k x lt same. false≢true (sym e ∙ ap (λ q. is_some (cost_at best q)) (sym same)
+        ∙ t.reached _ (Contains-get_or touched.items k x lt))));
   }
 
   -- w had a cost, and was in the list before
@@ -89,7 +94,8 @@ none_known n v = elim (cases_lt v n) [
 ]
 
 -- the cost of the last touched node is removed
-module _ (best : List (Option Cost)) (touched touched' : Vec ℕ Global) (t : IsTouched best touched) (w : ℕ) (items : touched.items ≡ touched'.items ++ w ∷ [])
+module _ (best : List (Option Cost)) (touched touched' : Vec ℕ Global) (t : IsTouched best touched) (w : ℕ)
+    (items : touched.items ≡ touched'.items ++ w ∷ [])
     (len : vec_len touched' + 1 ≡ vec_len touched) (capacity : vec_capacity touched' ≡ vec_capacity touched) where
   -- the last node has a cost
   was : is_some (cost_at best w) ≡ true
@@ -106,7 +112,8 @@ module _ (best : List (Option Cost)) (touched touched' : Vec ℕ Global) (t : Is
       let lt = h.1 in
       let n = length-append touched'.items (w ∷ []) in
       let pair = subst (AllPairs ◌≢◌) items t.distinct k (length touched'.items) v lt (omega arith) in
-      pair (get_or_append_left touched'.items (w ∷ []) v k lt ∙ h.2 ∙ same ∙ sym (get_or_push touched'.items w v (length touched'.items) refl))
+      pair (get_or_append_left touched'.items (w ∷ []) v k lt ∙ h.2 ∙ same
+      ∙ sym (get_or_push touched'.items w v (length touched'.items) refl))
 
   -- the list is right without the last node, whose cost is removed
   pub touched_less : IsTouched (set best w None) touched'
@@ -117,22 +124,27 @@ module _ (best : List (Option Cost)) (touched touched' : Vec ℕ Global) (t : Is
         let n = subst (λ q. count_by is_some (set best w None) + cond q 1 0 ≡ count_by is_some best + 0) was before in
         let count = t.count in
         omega arith;
-    reached = λ v h. ap is_some (get_or-set_other best w v None None (away v h)) ∙ t.reached v (subst (λ xs. Contains xs v) (sym items) (Contains-append_left touched'.items (w ∷ []) v h));
+    reached = λ v h. ap is_some (get_or-set_other best w v None None (away v h))
+        ∙ t.reached v (subst (λ xs. Contains xs v) (sym items) (Contains-append_left touched'.items (w ∷ []) v h));
     listed = λ v k. elim (cases_eq v w) [
-      | inl is ↦ absurd (false≢true (sym (ap is_some (ap (λ q. cost_at (set best w None) q) is ∙ get_or-set_same best w None None last_within)) ∙ k))
-      | inr ne ↦ elim (Contains-push_cases touched'.items w v (subst (λ xs. Contains xs v) items (t.listed v (sym (ap is_some (get_or-set_other best w v None None ne)) ∙ k)))) [
-        | inl old ↦ old
-        | inr is ↦ absurd (ne (sym is))
-      ]
+      | inl is ↦ absurd (false≢true
+          (sym (ap is_some (ap (λ q. cost_at (set best w None) q) is ∙ get_or-set_same best w None None last_within)) ∙ k))
+      | inr ne ↦ elim (Contains-push_cases touched'.items w v
+          (subst (λ xs. Contains xs v) items (t.listed v (sym (ap is_some (get_or-set_other best w v None None ne)) ∙ k)))) [
+            | inl old ↦ old
+            | inr is ↦ absurd (ne (sym is))
+          ]
     ];
     distinct = λ i j d lt within.
         let n = length-append touched'.items (w ∷ []) in
         let pair = subst (AllPairs ◌≢◌) items t.distinct i j d lt (omega arith) in
-        λ same. pair (get_or_append_left touched'.items (w ∷ []) d i (omega arith) ∙ same ∙ sym (get_or_append_left touched'.items (w ∷ []) d j within));
+        λ same. pair (get_or_append_left touched'.items (w ∷ []) d i (omega arith) ∙ same
+        ∙ sym (get_or_append_left touched'.items (w ∷ []) d j within));
   }
 
 -- without costs no node is touched
-pub untouched : (n : ℕ) (best : List (Option Cost)) (touched : Vec ℕ Global) → best ≡ replicate n None → touched.items ≡ [] → vec_len touched ≡ 0 →
+pub untouched : (n : ℕ) (best : List (Option Cost)) (touched : Vec ℕ Global) → best ≡ replicate n None → touched.items ≡ [] →
+    vec_len touched ≡ 0 →
     n ≤ vec_capacity touched → IsTouched best touched
 untouched n best touched none items len capacity = record {
   room = (let size = ap length none in let same = length-replicate {A = Option Cost} n None in omega arith);

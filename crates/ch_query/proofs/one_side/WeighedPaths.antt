@@ -62,7 +62,8 @@ leg_of_weighed rows v l has = contains_map_of weighed_leg (row rows v) l (subst 
 -- the cost of a path by weights alone is its weight
 pub path_cost-weighed : (legs : List Leg) → path_cost (map weighed_leg legs) ≡ weighed_cost (path_cost legs)
 path_cost-weighed [] = refl
-path_cost-weighed (l ∷ legs) = path_cost-cons (weighed_leg l) (map weighed_leg legs) ∙ ap (cost_sum (weighed_cost l.cost)) (path_cost-weighed legs)
+path_cost-weighed (l ∷ legs) =
+    path_cost-cons (weighed_leg l) (map weighed_leg legs) ∙ ap (cost_sum (weighed_cost l.cost)) (path_cost-weighed legs)
     ∙ ap weighed_cost (sym (path_cost-cons l legs))
 
 -- a path is a path by weights alone
@@ -80,7 +81,8 @@ pub path_of_weighed : (rows : List (List Leg)) (a b : ℕ) (legs : List Leg) →
 path_of_weighed rows a b [] path = ([], path, refl)
 path_of_weighed rows a b (l ∷ legs) path =
     let first = leg_of_weighed rows a l path.0 in
-    let rest = path_of_weighed rows first.0.node b legs (subst (λ (k : Leg). IsUpwardPath (map (map weighed_leg) rows) k.node b legs) (sym first.2) path.1) in
+    let rest = path_of_weighed rows first.0.node b legs
+    (subst (λ (k : Leg). IsUpwardPath (map (map weighed_leg) rows) k.node b legs) (sym first.2) path.1) in
     (first.0 ∷ rest.0, (first.1, rest.1), ap (λ k. k ∷ map weighed_leg rest.0) first.2 ∙ ap (λ ks. l ∷ ks) rest.2)
 
 -- a reached node is reached by weights alone
@@ -117,12 +119,14 @@ up_avoids H k s m a tight x e legs i path le =
     let node = ap (λ (q : Leg). q.node) back.2 in
     let reached = subst (λ q. IsUpwardCost H.up s q there.0) (sym node) there.1 in
     let first = sum_walk H k s x back.0.node there.0 back.0.cost reached (reached_by_leg H k.2.levelled Down x back.0 back.1) in
-    let walk = IsWalkCost-cost_sum k.0 s x m (cost_sum there.0 back.0.cost) (path_cost on.0) first ((kept_has_walks k.0 H k.1 k.2).rises x m on.0 on.1) in
+    let walk = IsWalkCost-cost_sum k.0 s x m (cost_sum there.0 back.0.cost) (path_cost on.0) first
+    ((kept_has_walks k.0 H k.1 k.2).rises x m on.0 on.1) in
     let least = ((meetings_are_distances k.0 H k.1 k.2).least s m a).1 tight.1 in
     let low = (IsLeast-IsAtMost k.0 s m a _ least walk).0 in
     let weight = there.2 in
     let leg : back.0.cost.weight ≡ i.leg.cost.weight = ap (λ (q : Leg). q.cost.weight) back.2 in
-    let rest : (path_cost on.0).weight ≡ (path_cost legs).weight = ap (λ (q : Cost). q.weight) (sym (path_cost-weighed on.0) ∙ ap path_cost on.2) in
+    let rest : (path_cost on.0).weight ≡ (path_cost legs).weight =
+    ap (λ (q : Cost). q.weight) (sym (path_cost-weighed on.0) ∙ ap path_cost on.2) in
     let below = i.below in
     let light = below.0 in
     let most = le.0 in

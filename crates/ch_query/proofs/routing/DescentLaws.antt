@@ -33,7 +33,8 @@ module _ (rows : List (List Leg)) (a : ℕ) where
       same_costs _ _ (omega arith) (omega arith)
   descent_cost x (step ∷ steps) c d l =
       let last = d.1.last in
-      steps_cost-cons step steps ∙ ap (λ q. cost_sum q step.leg.cost) (descent_cost step.low steps last.2 d.2 last.3) ∙ least_same rows a x _ c last.4 l
+      steps_cost-cons step steps ∙ ap (λ q. cost_sum q step.leg.cost) (descent_cost step.low steps last.2 d.2 last.3)
+      ∙ least_same rows a x _ c last.4 l
 
   -- two ways back from x are equal
   pub descent_one : ((v : ℕ) → IsRow (row rows v)) → (x : ℕ) (ks ls : List DescentStep) → IsDescent rows a x ks → IsDescent rows a x ls →
@@ -45,7 +46,8 @@ module _ (rows : List (List Leg)) (a : ℕ) where
       let le = d.1.least l.low l.leg e.1.last in
       let ge = e.1.least k.low k.leg d.1.last in
       let low : k.low ≡ l.low = omega arith in
-      let leg : k.leg ≡ l.leg = row_one (row rows k.low) (order k.low) k.leg l.leg d.1.last.0 (subst (λ q. Contains (row rows q) l.leg) (sym low) e.1.last.0)
+      let leg : k.leg ≡ l.leg = row_one (row rows k.low) (order k.low) k.leg l.leg d.1.last.0
+      (subst (λ q. Contains (row rows q) l.leg) (sym low) e.1.last.0)
       (d.1.last.1 ∙ sym e.1.last.1) in
       let rest : ks ≡ ls = descent_one order k.low ks ls d.2 (subst (λ q. IsDescent rows a q ls) (sym low) e.2) in
       λ i. record { low = low i; leg = leg i } ∷ rest i

@@ -1,5 +1,6 @@
 -- The way back, step by step.
-use Rattle.std.proofs.Common.{◌≡◌, ℕ, ◌+◌, ◌<◌, ◌≤◌, List, [], ◌∷◌, ◌++◌, map, Contains, Some, refl, sym, ◌∙◌, ap, subst, arith, inl, inr, Vec, vec_len}
+use Rattle.std.proofs.Common.{◌≡◌, ℕ, ◌+◌, ◌<◌, ◌≤◌, List, [], ◌∷◌, ◌++◌, map, Contains, Some, refl, sym, ◌∙◌, ap, subst, arith}
+use Rattle.std.proofs.Common.{inl, inr, Vec, vec_len}
 use Rattle.std.specs.Prelude.{◌≢◌, slice_index, vec_capacity}
 use Rattle.std.specs.declared.alloc.Global.{Global}
 use Rattle.std.proofs.lemmas.List.{append_assoc, append-nil, map_push}
@@ -31,7 +32,8 @@ use Rattle.ch_query.proofs.routing.Rows.{row_one, rows_ordered, has_row}
 use Rattle.ch_query.proofs.one_side.ByNode.{by_node-at, by_node-some}
 
 -- the chosen steps from m back to x were appended, and x is on a least path to m
-pub record IsPartlyTraced (H : LevelsAndLegs) (y : Search) (m x : ℕ) (c : Cost) (old : List PendingLeg) (new : Vec PendingLeg Global) : Type 0 where
+pub record IsPartlyTraced (H : LevelsAndLegs) (y : Search) (m x : ℕ) (c : Cost) (old : List PendingLeg)
+    (new : Vec PendingLeg Global) : Type 0 where
   pub cost : Cost
   pub known : cost_at (costs_of H y) x ≡ Some cost
   pub least : IsLeastUpwardPath (rows_of H y.side) y.source x cost
@@ -71,11 +73,17 @@ tracing_starts H y m pending r = record {
   room = r.2;
 }
 
-module _ (H : LevelsAndLegs) (k : IsKeptForSome H) (y : Search) (m x : ℕ) (c : Cost) (r : HasReached H y m c) (old : List PendingLeg) (pending : Vec PendingLeg Global)
+module _ (H : LevelsAndLegs) (k : IsKeptForSome H) (y : Search) (m x : ℕ) (c : Cost) (r : HasReached H y m c)
+    (old : List PendingLeg) (pending : Vec PendingLeg Global)
     (t : IsPartlyTraced H y m x c old pending) where
   -- at the source the way back is complete
   pub tracing_ends : x ≡ y.source → IsTraced H y m old pending.items
-  tracing_ends is = record { steps = t.done; descent = subst (IsDescent (rows_of H y.side) y.source m) (append-nil t.done) (t.descent [] is); pushed = t.pushed }
+  tracing_ends is = record {
+    steps = t.done;
+    descent =
+        subst (IsDescent (rows_of H y.side) y.source m) (append-nil t.done) (t.descent [] is);
+    pushed = t.pushed;
+  }
 
   -- the node is a node of the hierarchy
   pub node_at_within : x < nodes_of H
@@ -124,7 +132,8 @@ module _ (H : LevelsAndLegs) (k : IsKeptForSome H) (y : Search) (m x : ℕ) (c :
 
         -- the parent is lower than the node
         pub parent_lower : slice_index H.level p < slice_index H.level x
-        parent_lower = let up = leg_up H r.underway.levelled y.side p l l_has in let higher = up.higher in let at = ap (slice_index H.level) found.1 in omega arith
+        parent_lower = let up = leg_up H r.underway.levelled y.side p l l_has in let higher = up.higher in
+            let at = ap (slice_index H.level) found.1 in omega arith
 
         -- the leg stands for at least one arc
         some : 0 < l.cost.arcs
@@ -142,20 +151,24 @@ module _ (H : LevelsAndLegs) (k : IsKeptForSome H) (y : Search) (m x : ℕ) (c :
         least : IsLeastUpwardPath (rows_of H y.side) y.source p of.cost
         unfolding of
         least = subst (λ q. IsLeastUpwardPath (rows_of H y.side) y.source q of.cost) is
-            (parent_least _ _ _ _ _ _ r.underway.search r.underway.parents m c light r.past r.avoids x ne t.cost t.known t.least t.tail t.path t.cheap)
+            (parent_least _ _ _ _ _ _ r.underway.search r.underway.parents m c light r.past r.avoids x ne t.cost t.known t.least
+            t.tail t.path t.cheap)
 
         -- the step is the chosen one
         choice : IsChosen (rows_of H y.side) y.source x p l
         unfolding of
         choice = subst (IsChosen (rows_of H y.side) y.source x p) same (subst (λ q. IsChosen (rows_of H y.side) y.source x q of.leg) is
-            (chosen _ _ _ _ _ _ r.underway.search r.underway.parents m c light r.past r.avoids x ne t.cost t.known t.least t.tail t.path t.cheap))
+            (chosen _ _ _ _ _ _ r.underway.search r.underway.parents m c light r.past r.avoids x ne t.cost t.known t.least t.tail
+            t.path t.cheap))
 
         -- the leg and the path from the node on have the cost of the path from the parent on
         total : cost_sum of.cost (path_cost (l ∷ t.tail)) ≡ cost_sum t.cost (path_cost t.tail)
-        total = ap (cost_sum of.cost) (path_cost-cons l t.tail) ∙ sym (cost_sum_assoc of.cost l.cost (path_cost t.tail)) ∙ ap (λ q. cost_sum q (path_cost t.tail)) sum
+        total = ap (cost_sum of.cost) (path_cost-cons l t.tail) ∙ sym (cost_sum_assoc of.cost l.cost (path_cost t.tail))
+            ∙ ap (λ q. cost_sum q (path_cost t.tail)) sum
 
         -- one more step is appended
-        pub tracing_step : (new : Vec PendingLeg Global) → new.items ≡ pending.items ++ pending_of y.side (record { low = p; leg = l }) ∷ [] → vec_len new ≡ vec_len pending + 1 →
+        pub tracing_step : (new : Vec PendingLeg Global) → new.items ≡ pending.items
+            ++ pending_of y.side (record { low = p; leg = l }) ∷ [] → vec_len new ≡ vec_len pending + 1 →
             vec_capacity new ≡ vec_capacity pending → IsPartlyTraced H y m p c old new
         tracing_step new pushed len capacity =
             let step : DescentStep = record { low = p; leg = l } in
@@ -167,8 +180,10 @@ module _ (H : LevelsAndLegs) (k : IsKeptForSome H) (y : Search) (m x : ℕ) (c :
               path = (l_has, subst (λ q. IsUpwardPath (rows_of H y.side) q m t.tail) (sym found.1) t.path);
               cheap = subst (λ q. IsAtMost q c) (sym total) t.cheap;
               done = t.done ++ step ∷ [];
-              descent = λ rest d. subst (IsDescent (rows_of H y.side) y.source m) (sym (append_assoc t.done (step ∷ []) rest)) (t.descent (step ∷ rest) (ne, choice, d));
-              pushed = pushed ∙ ap (λ q. q ++ pending_of y.side step ∷ []) t.pushed ∙ append_assoc old (map (pending_of y.side) t.done) (pending_of y.side step ∷ [])
+              descent = λ rest d. subst (IsDescent (rows_of H y.side) y.source m) (sym (append_assoc t.done (step ∷ []) rest))
+                  (t.descent (step ∷ rest) (ne, choice, d));
+              pushed = pushed ∙ ap (λ q. q ++ pending_of y.side step ∷ []) t.pushed
+                  ∙ append_assoc old (map (pending_of y.side) t.done) (pending_of y.side step ∷ [])
                   ∙ ap (λ q. old ++ q) (sym (map_push (pending_of y.side) t.done step));
               room = (let one = some in let cost = ap (λ (q : Cost). q.arcs) sum in let room = t.room in omega arith);
             }

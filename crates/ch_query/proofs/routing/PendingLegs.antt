@@ -1,5 +1,6 @@
 -- Pending legs and the arcs that they stand for.
-use Rattle.std.proofs.Common.{◌≡◌, ℕ, suc, ◌+◌, ◌-◌, ◌<◌, ◌≤◌, List, [], ◌∷◌, ◌++◌, length, Contains, Some, refl, sym, ◌∙◌, ap, subst, arith, inl, inr}
+use Rattle.std.proofs.Common.{◌≡◌, ℕ, suc, ◌+◌, ◌-◌, ◌<◌, ◌≤◌, List, [], ◌∷◌, ◌++◌, length, Contains, Some, refl, sym, ◌∙◌, ap}
+use Rattle.std.proofs.Common.{subst, arith, inl, inr}
 use Rattle.std.specs.List.{sum_by}
 use Rattle.std.proofs.lemmas.List.{append_assoc, append-nil}
 use Rattle.std.proofs.lemmas.List.Elements.{Contains-push, Contains-append_left, Contains-push_cases}
@@ -39,13 +40,15 @@ module _ (H : LevelsAndLegs) where
 
   -- the arcs of a leg on top come first
   pub pending_arcs_pop : (pending : List PendingLeg) (p : PendingLeg) (arcs : List InArc) → ArePendingArcs H (pending ++ p ∷ []) arcs →
-      (here after : List InArc) × IsUnpacked H p.from p.to p.cost.weight p.middle here × ArePendingArcs H pending after × (arcs ≡ here ++ after)
+      (here after : List InArc) × IsUnpacked H p.from p.to p.cost.weight p.middle here × ArePendingArcs H pending after
+      × (arcs ≡ here ++ after)
   pending_arcs_pop pending p arcs a =
       let r = pending_arcs_append pending (p ∷ []) arcs a in
       (r.2.1, r.1, r.2.3, r.3, r.4 ∙ ap (λ z. z ++ r.1) (r.2.4 ∙ ap (λ z. z ++ r.2.1) r.2.2))
 
   -- the arcs of a leg that is pushed come first
-  pub pending_arcs_push : (pending : List PendingLeg) (p : PendingLeg) (here after : List InArc) → IsUnpacked H p.from p.to p.cost.weight p.middle here →
+  pub pending_arcs_push : (pending : List PendingLeg) (p : PendingLeg) (here after : List InArc) →
+      IsUnpacked H p.from p.to p.cost.weight p.middle here →
       ArePendingArcs H pending after → ArePendingArcs H (pending ++ p ∷ []) (here ++ after)
   pending_arcs_push [] p here after u a = ([], here, refl, u, ap (λ z. here ++ z) a ∙ append-nil here)
   pending_arcs_push (q ∷ pending) p here after u a =
@@ -114,13 +117,15 @@ module _ (H : LevelsAndLegs) where
         pub split_cost : p.cost ≡ cost_sum s.a.cost s.b.cost
         split_cost =
             let h = s.halves in
-            let one = halves_one H k.2.levelled p.from v p.to halves.0 halves.1 s.a s.b halves.2 halves.3 halves.4 halves.5 h.first.0 h.first.1 h.second.0 h.second.1 in
+            let one = halves_one H k.2.levelled p.from v p.to halves.0 halves.1 s.a s.b halves.2 halves.3 halves.4 halves.5
+            h.first.0 h.first.1 h.second.0 h.second.1 in
             halves.6 ∙ ap (λ (r : Leg). cost_sum r.cost halves.1.cost) one.0 ∙ ap (λ (r : Leg). cost_sum s.a.cost r.cost) one.1
 
         -- all pending legs are legs of the hierarchy again
         pub split_pending : ArePending H old → ArePending H new
         unfolding first second
-        split_pending are = subst (ArePending H) (sym s.pushed) (pending_push (old ++ second ∷ []) first (pending_push old second are second_is) first_is)
+        split_pending are = subst (ArePending H) (sym s.pushed)
+            (pending_push (old ++ second ∷ []) first (pending_push old second are second_is) first_is)
 
         -- they stand for the same number of arcs
         pub split_sum : pending_arcs new ≡ pending_arcs old + p.cost.arcs
@@ -144,11 +149,6 @@ module _ (H : LevelsAndLegs) where
             let b = pending_has_arc second second_is in
             omega arith
 
-        -- the leg stands for at least two arcs
-        pub split_long : 2 ≤ p.cost.arcs
-        unfolding first second
-        split_long = let cost = ap (λ (c : Cost). c.arcs) split_cost in let a = pending_has_arc first first_is in let b = pending_has_arc second second_is in omega arith
-
         -- the arcs of the two legs are those of the leg
         pub split_arcs : (arcs : List InArc) → ArePendingArcs H new arcs → ArePendingArcs H (old ++ p ∷ []) arcs
         unfolding first second
@@ -158,4 +158,5 @@ module _ (H : LevelsAndLegs) where
             let h = s.halves in
             let leg_arcs = shortcut {weight = p.cost.weight} h.first.0 h.first.1 h.second.0 h.second.1 one.2 two.2 in
             subst (ArePendingArcs H (old ++ p ∷ [])) (parts_connected arcs one.0 one.1 two.0 two.1 one.4 two.4)
-            (pending_arcs_push old p (one.0 ++ two.0) two.1 (subst (λ m. IsUnpacked H p.from p.to p.cost.weight m (one.0 ++ two.0)) (sym e) leg_arcs) two.3)
+            (pending_arcs_push old p (one.0 ++ two.0) two.1
+            (subst (λ m. IsUnpacked H p.from p.to p.cost.weight m (one.0 ++ two.0)) (sym e) leg_arcs) two.3)

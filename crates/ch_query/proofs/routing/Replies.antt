@@ -17,5 +17,6 @@ module _ (H : LevelsAndLegs) (s t : ℕ) where
   pub reply_some : (route : Route) → IsRoute H s t route →
       IsReply H true (s, t) (record { from = s; to = t; weight = Some route.weight; arcs = Some route.arcs })
   reply_some route is =
-      let least : IsLeastWeight H s t (Some route.weight) = subst (λ w. IsLeastWeight H s t (Some w)) (sym is.weight) (least_weight H s t (Some (is.cost, is.meet)) is.meets) in
+      let least : IsLeastWeight H s t (Some route.weight) = subst (λ w. IsLeastWeight H s t (Some w)) (sym is.weight)
+      (least_weight H s t (Some (is.cost, is.meet)) is.meets) in
       record { from = refl; to = refl; least = least; distance = weight_is_distance H s t (Some route.weight) least; arcs = is }

@@ -66,7 +66,8 @@ module _ (H : LevelsAndLegs) (s t : ℕ) where
 
 -- the conditions of each call after the meet was found
 module _ (H : LevelsAndLegs) (k : IsKeptForSome H) (x y : Search) (m : ℕ) (c : Cost) (meeting : AreMeeting H x y (Some (c, m)))
-    (past : IsPast x.queue (Some (c, m)) × IsPast y.queue (Some (c, m))) (sides : (x.side ≡ Up) × (y.side ≡ Down)) (meet : IsMeet H x.source y.source m c)
+    (past : IsPast x.queue (Some (c, m)) × IsPast y.queue (Some (c, m))) (sides : (x.side ≡ Up) × (y.side ≡ Down))
+    (meet : IsMeet H x.source y.source m c)
     (start : Vec PendingLeg Global) (none : start.items ≡ []) (len : vec_len start ≡ 0) (exact : vec_capacity start ≡ c.arcs) where
   -- the cost of the way up to the meet
   up : Cost
@@ -91,29 +92,35 @@ module _ (H : LevelsAndLegs) (k : IsKeptForSome H) (x y : Search) (m : ℕ) (c :
   pub room_down : HasReachedWithRoom H y m start
   room_down = (down, reached_both.1, let sum = both in omega arith)
 
-  module _ (fallen turned : Vec PendingLeg Global) (fall : IsTraced H y m start.items fallen.items) (same : vec_capacity fallen ≡ vec_capacity start)
+  module _ (fallen turned : Vec PendingLeg Global) (fall : IsTraced H y m start.items fallen.items)
+      (same : vec_capacity fallen ≡ vec_capacity start)
       (turn : IsPermutation fallen.items turned.items) (long : vec_len turned ≡ vec_len fallen)
       (same' : vec_capacity turned ≡ vec_capacity fallen) where
     -- the legs of the way back to the end are legs of the hierarchy
     fallen_pending : ArePending H fallen.items
-    fallen_pending = traced_pending H y m down reached_both.1 start.items fallen.items fall (λ p has. absurd (let e = ap length none in let lt = has.1 in omega arith))
+    fallen_pending = traced_pending H y m down reached_both.1 start.items fallen.items fall
+        (λ p has. absurd (let e = ap length none in let lt = has.1 in omega arith))
 
     -- these legs stand for as many arcs as the way down has
     fallen_arcs : pending_arcs fallen.items ≡ down.arcs
-    fallen_arcs = let sum = traced_arcs H y m down reached_both.1 start.items fallen.items fall in let nothing = ap pending_arcs none in omega arith
+    fallen_arcs = let sum = traced_arcs H y m down reached_both.1 start.items fallen.items fall in
+        let nothing = ap pending_arcs none in omega arith
 
     -- there is room for the way back to the start
     pub room_up : HasReachedWithRoom H x m turned
     room_up = (
       up,
       reached_both.0,
-      let sum = both in let few = pending_few H k fallen.items fallen_pending in let arcs = fallen_arcs in let ok = fallen.ok in omega arith,
+      let sum = both in let few = pending_few H k fallen.items fallen_pending in let arcs = fallen_arcs in let ok = fallen.ok in
+          omega arith,
     )
 
-    module _ (all : Vec PendingLeg Global) (rise : IsTraced H x m turned.items all.items) (same'' : vec_capacity all ≡ vec_capacity turned) where
+    module _ (all : Vec PendingLeg Global) (rise : IsTraced H x m turned.items all.items)
+        (same'' : vec_capacity all ≡ vec_capacity turned) where
       -- all pending legs are legs of the hierarchy
       pub all_pending : ArePending H all.items
-      all_pending = traced_pending H x m up reached_both.0 turned.items all.items rise (turned_pending H fallen.items turned.items turn fallen_pending)
+      all_pending = traced_pending H x m up reached_both.0 turned.items all.items rise
+          (turned_pending H fallen.items turned.items turn fallen_pending)
 
       -- there is room for their arcs
       pub room_for_all : (arcs : Vec InArc Global) → vec_len arcs ≡ 0 → vec_capacity arcs ≡ c.arcs → HasRoomToUnpack all arcs

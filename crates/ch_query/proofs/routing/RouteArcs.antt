@@ -40,12 +40,14 @@ steps_arcs side (step ∷ steps) =
     omega arith
 
 -- a way back appends legs of the hierarchy, which stand for as many arcs as the cost of the meet has
-module _ (H : LevelsAndLegs) (x : Search) (m : ℕ) (c : Cost) (r : HasReached H x m c) (old new : List PendingLeg) (t : IsTraced H x m old new) where
+module _ (H : LevelsAndLegs) (x : Search) (m : ℕ) (c : Cost) (r : HasReached H x m c) (old new : List PendingLeg)
+    (t : IsTraced H x m old new) where
   pub traced_pending : ArePending H old → ArePending H new
-  traced_pending are = subst (ArePending H) (sym t.pushed) (λ p has. elim (Contains-append_cases old (map (pending_of x.side) t.steps) p has) [
-    | inl before ↦ are p before
-    | inr after ↦ steps_pending H x.side x.source m t.steps t.descent p after
-  ])
+  traced_pending are = subst (ArePending H) (sym t.pushed)
+      (λ p has. elim (Contains-append_cases old (map (pending_of x.side) t.steps) p has) [
+        | inl before ↦ are p before
+        | inr after ↦ steps_pending H x.side x.source m t.steps t.descent p after
+      ])
 
   pub traced_arcs : pending_arcs new ≡ pending_arcs old + c.arcs
   traced_arcs =
@@ -75,7 +77,8 @@ module _ (H : LevelsAndLegs) where
   are_down_arcs [] arcs a = a
   are_down_arcs (step ∷ steps) arcs a =
       let turn = reverse-append (pending_of Down step ∷ []) (map (pending_of Down) steps) in
-      let r = pending_arcs_pop H (reverse (map (pending_of Down) steps)) (pending_of Down step) arcs (subst (λ q. ArePendingArcs H q arcs) turn a) in
+      let r = pending_arcs_pop H (reverse (map (pending_of Down) steps)) (pending_of Down step) arcs
+      (subst (λ q. ArePendingArcs H q arcs) turn a) in
       (r.0, r.1, r.2, are_down_arcs steps r.1 r.3, r.4)
 
 -- a way back on this side, by its parts
@@ -88,7 +91,8 @@ unfolding TracedBy
 traced_by H x m old new side is t = subst (λ q. TracedBy H q x.source m old new) is (t.steps, t.descent, t.pushed)
 
 -- the arcs of both ways back make the route
-pub route_found : (H : LevelsAndLegs) (x y : Search) → x.side ≡ Up → y.side ≡ Down → (m : ℕ) (c : Cost) → IsMeet H x.source y.source m c → (falling turned both : List PendingLeg) →
+pub route_found : (H : LevelsAndLegs) (x y : Search) → x.side ≡ Up → y.side ≡ Down → (m : ℕ) (c : Cost) →
+    IsMeet H x.source y.source m c → (falling turned both : List PendingLeg) →
     IsTraced H y m [] falling → turned ≡ reverse falling → IsTraced H x m turned both → (arcs : List InArc) → ArePendingArcs H both arcs →
     IsRoute H x.source y.source (record { weight = c.weight; arcs = arcs })
 unfolding TracedBy

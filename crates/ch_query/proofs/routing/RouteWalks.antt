@@ -28,8 +28,10 @@ module _ (g : Network) (H : LevelsAndLegs) (kept : IsKept g H) where
       let last = d.1.last in
       let front = up_walk s step.low steps are.0 d.2 are.2 in
       let here = unpacked_walk g H kept are.3 step.leg.cost (step.leg, refl, refl, inl (last.0, refl)) refl in (
-        subst (IsWalk g s m) (sym are.4) (walk_append g s step.low m are.0 are.1 front.0 (subst (λ q. IsWalk g step.low q are.1) last.1 here.0)),
-        ap cost_of are.4 ∙ cost_of-append are.0 are.1 ∙ ap (λ q. cost_sum q (cost_of are.1)) front.1 ∙ ap (cost_sum (steps_cost steps)) here.1 ∙ sym (steps_cost-cons step steps),
+        subst (IsWalk g s m) (sym are.4)
+            (walk_append g s step.low m are.0 are.1 front.0 (subst (λ q. IsWalk g step.low q are.1) last.1 here.0)),
+        ap cost_of are.4 ∙ cost_of-append are.0 are.1 ∙ ap (λ q. cost_sum q (cost_of are.1)) front.1
+            ∙ ap (cost_sum (steps_cost steps)) here.1 ∙ sym (steps_cost-cons step steps),
       )
 
   -- the arcs of the steps down from m are a walk of their cost
@@ -40,7 +42,8 @@ module _ (g : Network) (H : LevelsAndLegs) (kept : IsKept g H) where
       let last = d.1.last in
       let back = down_walk t step.low steps are.1 d.2 are.3 in
       let here = unpacked_walk g H kept are.2 step.leg.cost (step.leg, refl, refl, inr (last.0, refl)) refl in (
-        subst (IsWalk g m t) (sym are.4) (walk_append g m step.low t are.0 are.1 (subst (λ q. IsWalk g q step.low are.0) last.1 here.0) back.0),
+        subst (IsWalk g m t) (sym are.4)
+            (walk_append g m step.low t are.0 are.1 (subst (λ q. IsWalk g q step.low are.0) last.1 here.0) back.0),
         ap cost_of are.4 ∙ cost_of-append are.0 are.1 ∙ ap (λ q. cost_sum q (cost_of are.1)) here.1 ∙ ap (cost_sum step.leg.cost) back.1
             ∙ cost_sum_comm step.leg.cost (steps_cost steps) ∙ sym (steps_cost-cons step steps),
       )
@@ -55,7 +58,8 @@ module _ (g : Network) (H : LevelsAndLegs) (kept : IsKept g H) where
       let first = up.1 ∙ descent_cost H.up s r.meet r.ups m.0 r.rise m.2 in
       let second = down.1 ∙ descent_cost H.down t r.meet r.downs m.1 r.fall m.3 in
       let cost : cost_of route.arcs ≡ r.cost =
-      ap cost_of r.arcs ∙ cost_of-append r.first r.second ∙ ap (λ q. cost_sum q (cost_of r.second)) first ∙ ap (cost_sum m.0) second ∙ m.4 in (
+      ap cost_of r.arcs ∙ cost_of-append r.first r.second ∙ ap (λ q. cost_sum q (cost_of r.second)) first ∙ ap (cost_sum m.0) second
+      ∙ m.4 in (
         record {
           walk = subst (IsWalk g s t) (sym r.arcs) (walk_append g s r.meet t r.first r.second up.0 down.0);
           least = subst (IsLeast g s t) (sym cost) ((meetings_are_distances g H limits kept).meet s t r.meet r.cost r.meets);
@@ -89,10 +93,13 @@ module _ (H : LevelsAndLegs) (k : IsLevelled H) where
       let low = ge.1 (sym cost) in
       let high = le.1 cost in
       let meet : p.meet ≡ q.meet = omega arith in
-      let ups = descent_one H.up s (rows_ordered H k Up) p.meet p.ups q.ups p.rise (subst (λ m. IsDescent H.up s m q.ups) (sym meet) q.rise) in
-      let downs = descent_one H.down t (rows_ordered H k Down) p.meet p.downs q.downs p.fall (subst (λ m. IsDescent H.down t m q.downs) (sym meet) q.fall) in
+      let ups = descent_one H.up s (rows_ordered H k Up) p.meet p.ups q.ups p.rise
+      (subst (λ m. IsDescent H.up s m q.ups) (sym meet) q.rise) in
+      let downs = descent_one H.down t (rows_ordered H k Down) p.meet p.downs q.downs p.fall
+      (subst (λ m. IsDescent H.down t m q.downs) (sym meet) q.fall) in
       let first = up_arcs_one p.ups p.first q.first p.up_arcs (subst (λ steps. AreUpArcs H steps q.first) (sym ups) q.up_arcs) in
-      let second = down_arcs_one p.downs p.second q.second p.down_arcs (subst (λ steps. AreDownArcs H steps q.second) (sym downs) q.down_arcs) in
+      let second = down_arcs_one p.downs p.second q.second p.down_arcs
+      (subst (λ steps. AreDownArcs H steps q.second) (sym downs) q.down_arcs) in
       let weight : a.weight ≡ b.weight = p.weight ∙ ap (λ (c : Cost). c.weight) cost ∙ sym q.weight in
       let arcs : a.arcs ≡ b.arcs = p.arcs ∙ (λ i. first i ++ second i) ∙ sym q.arcs in
       λ i. record { weight = weight i; arcs = arcs i }

@@ -13,9 +13,11 @@ use Rattle.ch_query.proofs.one_side.Expanding.{rows_size}
 -- two legs of a row at the same node are equal
 pub row_one : (legs : List Leg) → IsRow legs → (a b : Leg) → Contains legs a → Contains legs b → a.node ≡ b.node → a ≡ b
 row_one legs order a b ha hb same = elim (cases_lt ha.0 hb.0) [
-  | inl lt ↦ absurd (let r = order ha.0 hb.0 a lt hb.1 in let x = ap (λ (l : Leg). l.node) ha.2 in let y = ap (λ (l : Leg). l.node) at_b in omega arith)
+  | inl lt ↦ absurd (let r = order ha.0 hb.0 a lt hb.1 in let x = ap (λ (l : Leg). l.node) ha.2 in
+      let y = ap (λ (l : Leg). l.node) at_b in omega arith)
   | inr ge ↦ elim (cases_lt hb.0 ha.0) [
-    | inl lt ↦ absurd (let r = order hb.0 ha.0 a lt ha.1 in let x = ap (λ (l : Leg). l.node) ha.2 in let y = ap (λ (l : Leg). l.node) at_b in omega arith)
+    | inl lt ↦ absurd (let r = order hb.0 ha.0 a lt ha.1 in let x = ap (λ (l : Leg). l.node) ha.2 in
+        let y = ap (λ (l : Leg). l.node) at_b in omega arith)
     | inr le ↦ let k : ha.0 ≡ hb.0 = omega arith in sym ha.2 ∙ ap (λ i. get_or legs i a) k ∙ at_b
   ]
 ]

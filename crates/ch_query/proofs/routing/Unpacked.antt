@@ -22,17 +22,21 @@ use Rattle.ch_query.specs.Routes.{IsUnpacked, arc, shortcut}
 use Rattle.ch_query.proofs.routing.Rows.{row_one, rows_ordered}
 
 -- the two legs of a middle are determined
-pub halves_one : (H : LevelsAndLegs) → IsLevelled H → (u v w : ℕ) (a b a' b' : Leg) → Contains (row H.down v) a → a.node ≡ u → Contains (row H.up v) b → b.node ≡ w →
+pub halves_one : (H : LevelsAndLegs) → IsLevelled H → (u v w : ℕ) (a b a' b' : Leg) → Contains (row H.down v) a → a.node ≡ u →
+    Contains (row H.up v) b → b.node ≡ w →
     Contains (row H.down v) a' → a'.node ≡ u → Contains (row H.up v) b' → b'.node ≡ w → (a ≡ a') × (b ≡ b')
-halves_one H k u v w a b a' b' ha na hb nb ha' na' hb' nb' =
-    (row_one (row H.down v) (rows_ordered H k Down v) a a' ha ha' (na ∙ sym na'), row_one (row H.up v) (rows_ordered H k Up v) b b' hb hb' (nb ∙ sym nb'))
+halves_one H k u v w a b a' b' ha na hb nb ha' na' hb' nb' = (
+  row_one (row H.down v) (rows_ordered H k Down v) a a' ha ha' (na ∙ sym na'),
+  row_one (row H.up v) (rows_ordered H k Up v) b b' hb hb' (nb ∙ sym nb'),
+)
 
 module _ (H : LevelsAndLegs) (k : IsLevelled H) where
   -- the arcs of a leg are determined
   pub unpacked_one : {u w weight : ℕ} {middle : Option ℕ} {xs ys : List InArc} → IsUnpacked H u w weight middle xs →
       IsUnpacked H u w weight middle ys → xs ≡ ys
   unpacked_one arc arc = refl
-  unpacked_one (shortcut {u = u} {w = w} {v = v} {a = a} {b = b} ha na hb nb p q) (shortcut {a = a'} {b = b'} {xs = xs'} {ys = ys'} ha' na' hb' nb' p' q') =
+  unpacked_one (shortcut {u = u} {w = w} {v = v} {a = a} {b = b} ha na hb nb p q)
+      (shortcut {a = a'} {b = b'} {xs = xs'} {ys = ys'} ha' na' hb' nb' p' q') =
       let one = halves_one H k u v w a b a' b' ha na hb nb ha' na' hb' nb' in
       let first = unpacked_one p (subst (λ (l : Leg). IsUnpacked H u v l.cost.weight l.middle xs') (sym one.0) p') in
       let second = unpacked_one q (subst (λ (l : Leg). IsUnpacked H v w l.cost.weight l.middle ys') (sym one.1) q') in
@@ -46,11 +50,16 @@ module _ (g : Network) (H : LevelsAndLegs) (kept : IsKept g H) where
       some : (arcs : List InArc) → IsWalk g u w arcs → cost_of arcs ≡ c → 0 < c.arcs
       some [] same e =
           let level = ap (slice_index H.level) same in
-          elim (rises_or_falls g H kept u w c middle l) [ inl up ↦ (let lt = up.4 in absurd (omega arith)) | inr down ↦ (let lt = down.4 in absurd (omega arith)) ]
+          elim (rises_or_falls g H kept u w c middle l) [
+            | inl up ↦ (let lt = up.4 in absurd (omega arith))
+            | inr down ↦
+                (let lt = down.4 in absurd (omega arith))
+          ]
       some (x ∷ xs) walk e = let n = ap (λ (q : Cost). q.arcs) e in omega arith
 
   -- the arcs of a leg are a walk of its cost
-  pub unpacked_walk : {u w weight : ℕ} {middle : Option ℕ} {xs : List InArc} → IsUnpacked H u w weight middle xs → (c : Cost) → IsLeg H u w c middle → weight ≡ c.weight →
+  pub unpacked_walk : {u w weight : ℕ} {middle : Option ℕ} {xs : List InArc} → IsUnpacked H u w weight middle xs → (c : Cost) →
+      IsLeg H u w c middle → weight ≡ c.weight →
       IsWalk g u w xs × (cost_of xs ≡ c)
   unpacked_walk (arc {u = u} {w = w} {weight = weight}) c l e =
       let x : InArc = record { from = u; to = w; weight = weight } in

@@ -1,5 +1,6 @@
 -- Two searches that look for a way up and down within a bound.
-use Rattle.std.proofs.Common.{get_or, ◌≡◌, ℕ, ◌+◌, ◌<◌, ◌≤◌, false, List, [], ◌∷◌, length, map, Option, Some, None, refl, sym, ◌∙◌, ap, subst, arith, set, inl, inr}
+use Rattle.std.proofs.Common.{get_or, ◌≡◌, ℕ, ◌+◌, ◌<◌, ◌≤◌, false, List, [], ◌∷◌, length, map, Option, Some, None, refl, sym, ◌∙◌}
+use Rattle.std.proofs.Common.{ap, subst, arith, set, inl, inr}
 use Rattle.std.specs.Prelude.{slice_index, true}
 use Rattle.std.proofs.lemmas.Bool.{false≢true}
 use Rattle.std.proofs.lemmas.List.{get_or-map, length-map}
@@ -86,14 +87,16 @@ settled_apart Past e = refl
 
 -- one side settles v at cost c, and takes its legs
 module _ (H : LevelsAndLegs) (x y : Search) (most : Cost) (m : AreApart H x y most) (q : List (Option Cost)) (v : ℕ) (c : Cost)
-    (l : IsLeastKey (keys_of H x) v c) (e : keys_of H (with_queue x q) ≡ set (keys_of H x) v None) (z : Search) (u : IsUnderway H z) (same : IsSameSearch (with_queue x q) z) (settled : KeepsSettled H (with_queue x q) z) where
+    (l : IsLeastKey (keys_of H x) v c) (e : keys_of H (with_queue x q) ≡ set (keys_of H x) v None) (z : Search) (u : IsUnderway H z)
+    (same : IsSameSearch (with_queue x q) z) (settled : KeepsSettled H (with_queue x q) z) where
   -- the known cost of v on this side is c
   known : cost_at (costs_of H x) v ≡ Some c
   known = m.here.search.queued v c l.has
 
   -- a path to v costs c
   here_at : IsUpwardCost (rows_of H z.side) z.source v c
-  here_at = subst (λ s. IsUpwardCost (rows_of H z.side) s v c) (sym same.source) (subst (λ s. IsUpwardCost (rows_of H s) x.source v c) (sym same.side) (m.here.search.sound v c known))
+  here_at = subst (λ s. IsUpwardCost (rows_of H z.side) s v c) (sym same.source)
+      (subst (λ s. IsUpwardCost (rows_of H s) x.source v c) (sym same.side) (m.here.search.sound v c known))
 
   -- if the other side knows v at a cost within the bound, the searches are connected
   pub connected_at : (d : Cost) → cost_at (costs_of H y) v ≡ Some d → IsAtMost (cost_sum c d) most → AreConnected H z y most
@@ -143,8 +146,12 @@ pub meeting_within : (H : LevelsAndLegs) → IsLevelled H → (s t m : ℕ) (a b
     IsUpwardCost H.down t m b → IsAtMost (cost_sum a b) most → MeetsWithin H s t most
 meeting_within H k s t m a b most up down le =
     let rise = least_within H k Up s m a up in
-    let fall = least_within H k Down t m b down in
-    (m, cost_sum rise.0 fall.0, (rise.0, fall.0, rise.1, fall.1, refl), IsAtMost_trans _ (cost_sum a b) _ (IsAtMost-cost_sum rise.0 a fall.0 b rise.2 fall.2) le)
+    let fall = least_within H k Down t m b down in (
+      m,
+      cost_sum rise.0 fall.0,
+      (rise.0, fall.0, rise.1, fall.1, refl),
+      IsAtMost_trans _ (cost_sum a b) _ (IsAtMost-cost_sum rise.0 a fall.0 b rise.2 fall.2) le,
+    )
 
 -- searches that are connected give a way within the bound
 pub connected_covers : (H : LevelsAndLegs) → IsLevelled H → (x y : Search) (s t : ℕ) (most : Cost) → x.side ≡ Up → y.side ≡ Down →
@@ -155,12 +162,14 @@ connected_covers H k x y s t most up down xs yt j =
     meeting_within H k s t j.0 j.1 j.2 most a b j.5
 
 -- if each remaining key is above the bound, each node whose least cost is within the bound is settled
-settled_within : (H : LevelsAndLegs) (x : Search) (most : Cost) (side : Side) (s m : ℕ) (a : Cost) → IsUnderway H x → x.stalls ≡ false → IsMost (Some most.weight) x.most → IsPastCost (keys_of H x) most → x.side ≡ side → x.source ≡ s →
+settled_within : (H : LevelsAndLegs) (x : Search) (most : Cost) (side : Side) (s m : ℕ) (a : Cost) → IsUnderway H x →
+    x.stalls ≡ false → IsMost (Some most.weight) x.most → IsPastCost (keys_of H x) most → x.side ≡ side → x.source ≡ s →
     IsLeastUpwardPath (rows_of H side) s m a → IsAtMost a most → IsSettled (costs_of H x) (keys_of H x) m a
 settled_within H x most side s m a u off all past is from least le =
     let is_there = subst (λ q. IsLeastUpwardPath (rows_of H q) s m a) (sym is) least in
     let there = subst (λ q. IsLeastUpwardPath (rows_of H x.side) q m a) (sym from) is_there in
-    settled_least (rows_of H x.side) x.source _ (costs_of H x) (keys_of H x) u.search m a (all.whole a.weight least.weight le.0) (λ w d k. then_below a most d le (past w d k))
+    settled_least (rows_of H x.side) x.source _ (costs_of H x) (keys_of H x) u.search m a (all.whole a.weight least.weight le.0)
+    (λ w d k. then_below a most d le (past w d k))
     (λ w e legs idle p q. never_idle H x off w e idle) there
 
 -- if the searches are apart and each remaining key is above the bound, there is no way within the bound
@@ -173,11 +182,13 @@ apart_covers H x y s t most up down xs yt m px py w =
     let low : IsAtMost a most = IsAtMost_trans a (cost_sum a b) most (IsAtMost-cost_sum_self a b) sum in
     let right : IsAtMost b (cost_sum a b) = subst (IsAtMost b) (cost_sum_comm b a) (IsAtMost-cost_sum_self b a) in
     let here = settled_within H x most Up s w.0 a m.here m.stalls.0 m.limits.0 px up xs w.2.2 low in
-    let there = settled_within H y most Down t w.0 b m.there m.stalls.1 m.limits.1 py down yt w.2.3 (IsAtMost_trans b (cost_sum a b) most right sum) in
+    let there = settled_within H y most Down t w.0 b m.there m.stalls.1 m.limits.1 py down yt w.2.3
+    (IsAtMost_trans b (cost_sum a b) most right sum) in
     IsBelow_not most (cost_sum a b) (m.apart w.0 a b here there) sum
 
 -- the leg of v at place i, read by rank
-module _ (H : LevelsAndLegs) (x : Search) (v : ℕ) (items : List RankedLeg) (i : ℕ) (d : RankedLeg) (u : IsUnderway H x) (e : items ≡ map (ranked_leg H) (row (rows_of H x.side) v)) (lt : i < length items) where
+module _ (H : LevelsAndLegs) (x : Search) (v : ℕ) (items : List RankedLeg) (i : ℕ) (d : RankedLeg) (u : IsUnderway H x)
+    (e : items ≡ map (ranked_leg H) (row (rows_of H x.side) v)) (lt : i < length items) where
   low : i < length (row (rows_of H x.side) v)
   low = (let size = ap length e ∙ length-map (row (rows_of H x.side) v) (ranked_leg H) in omega arith)
 
@@ -188,25 +199,26 @@ module _ (H : LevelsAndLegs) (x : Search) (v : ℕ) (items : List RankedLeg) (i 
   -- the node of the leg is a node of the hierarchy
   within : node < nodes_of H
   unfolding node
-  within = (leg_up H u.levelled x.side v (get_or (row (rows_of H x.side) v) i no_leg) (Contains-get_or (row (rows_of H x.side) v) i no_leg low)).node
+  within = (leg_up H u.levelled x.side v (get_or (row (rows_of H x.side) v) i no_leg)
+      (Contains-get_or (row (rows_of H x.side) v) i no_leg low)).node
 
   -- the node of the leg has the rank that is read
   pub own_rank : IsSomeRank H (get_or items i d).rank
   unfolding node
-  own_rank = (node, within, ap (λ (q : RankedLeg). q.rank) (ap (λ q. get_or q i d) e ∙ get_or-map (ranked_leg H) (row (rows_of H x.side) v) i no_leg d low))
+  own_rank = (
+    node,
+    within,
+    ap (λ (q : RankedLeg). q.rank)
+        (ap (λ q. get_or q i d) e ∙ get_or-map (ranked_leg H) (row (rows_of H x.side) v) i no_leg d low),
+  )
 
 -- what the last result of the loop means
-pub shown_covers : (H : LevelsAndLegs) → IsLevelled H → (x y : Search) (s t : ℕ) (most : Cost) (shown : Shown) → x.side ≡ Up → y.side ≡ Down → x.source ≡ s → y.source ≡ t →
-    IsShown H x y most shown → is_settled shown ≡ false → (is_connected shown ≡ true → MeetsWithin H s t most) × (MeetsWithin H s t most → is_connected shown ≡ true)
+pub shown_covers : (H : LevelsAndLegs) → IsLevelled H → (x y : Search) (s t : ℕ) (most : Cost) (shown : Shown) → x.side ≡ Up →
+    y.side ≡ Down → x.source ≡ s → y.source ≡ t →
+    IsShown H x y most shown → is_settled shown ≡ false →
+    (is_connected shown ≡ true → MeetsWithin H s t most) × (MeetsWithin H s t most → is_connected shown ≡ true)
 shown_covers H k x y s t most Connected up down xs yt is end = (λ _. connected_covers H k x y s t most up down xs yt is, λ _. refl)
 shown_covers H k x y s t most Settled up down xs yt is end = absurd (false≢true (sym end))
 shown_covers H k x y s t most Past up down xs yt is end =
     let never = apart_covers H x y s t most up down xs yt is.0 (past_cost_by_node H x most is.1) (past_cost_by_node H y most is.2) in
     (λ e. absurd (false≢true e), λ w. absurd (never w))
-
--- the clauses of a step, in one statement
-pub shown_by : (H : LevelsAndLegs) (x y : Search) (most : Cost) (shown : Shown) → (is_connected shown ≡ true → AreConnected H x y most) → (is_settled shown ≡ true → AreApart H x y most) →
-    (shown ≡ Past → AreApart H x y most × IsPastCost x.queue most × IsPastCost y.queue most) → IsShown H x y most shown
-shown_by H x y most Connected j s p = j refl
-shown_by H x y most Settled j s p = s refl
-shown_by H x y most Past j s p = p refl

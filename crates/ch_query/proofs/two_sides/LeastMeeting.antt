@@ -35,7 +35,8 @@ reached_settled : (H : LevelsAndLegs) (x : Search) (m : ℕ) (a : Cost) → HasR
 reached_settled H x m a r =
     settled _ _ _ _ _ r.underway.search m a (r.underway.search.light m a r.known) r.past r.avoids m a r.known (IsAtMost_refl a)
 
-module _ (H : LevelsAndLegs) (k : IsKeptForSome H) (x y : Search) (least : Option (Cost × ℕ)) (meeting : AreMeeting H x y least) (up : x.side ≡ Up) (down : y.side ≡ Down)
+module _ (H : LevelsAndLegs) (k : IsKeptForSome H) (x y : Search) (least : Option (Cost × ℕ)) (meeting : AreMeeting H x y least)
+    (up : x.side ≡ Up) (down : y.side ≡ Down)
     (past_here : IsPast x.queue least) (past_there : IsPast y.queue least) where
   -- least meetings are distances
   law : MeetingsAreDistances k.0 H
@@ -44,8 +45,13 @@ module _ (H : LevelsAndLegs) (k : IsKeptForSome H) (x y : Search) (least : Optio
   -- the known sum is that of a path up and a path down
   found : IsFound H x.source y.source least
   found e is =
-      let f = meeting.found e is in
-      (f.0, f.1, subst (λ q. IsUpwardCost (rows_of H q) x.source e.1 f.0) up f.2, subst (λ q. IsUpwardCost (rows_of H q) y.source e.1 f.1) down f.3, f.4)
+      let f = meeting.found e is in (
+        f.0,
+        f.1,
+        subst (λ q. IsUpwardCost (rows_of H q) x.source e.1 f.0) up f.2,
+        subst (λ q. IsUpwardCost (rows_of H q) y.source e.1 f.1) down f.3,
+        f.4,
+      )
 
   -- the known sum is the cost of a walk
   found_walks : (e : Cost × ℕ) → least ≡ Some e → IsWalkCost k.0 x.source y.source e.0
@@ -71,8 +77,10 @@ module _ (H : LevelsAndLegs) (k : IsKeptForSome H) (x y : Search) (least : Optio
         let tight' = subst (λ q. IsTight H q y.source m b) (sym down) (tight_down H k x.source y.source m a b c h from to sum) in
         let low = subst (IsAtMost a) sum (IsAtMost-cost_sum_self a b) in
         let low' = subst (IsAtMost b) (cost_sum_comm b a ∙ sum) (IsAtMost-cost_sum_self b a) in (
-          tight_reached H k x meeting.here meeting.stalls.0 m a tight meeting.most.0 (above (keys_of H x) (past_by_node H x least past_here) a low),
-          tight_reached H k y meeting.there meeting.stalls.1 m b tight' meeting.most.1 (above (keys_of H y) (past_by_node H y least past_there) b low'),
+          tight_reached H k x meeting.here meeting.stalls.0 m a tight meeting.most.0
+              (above (keys_of H x) (past_by_node H x least past_here) a low),
+          tight_reached H k y meeting.there meeting.stalls.1 m b tight' meeting.most.1
+              (above (keys_of H y) (past_by_node H y least past_there) b low'),
         )
 
     -- the known sum is c, at a node that is at most that of each least meeting

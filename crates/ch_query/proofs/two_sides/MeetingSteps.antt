@@ -1,5 +1,5 @@
 -- One side of two searches settles a node.
-use Rattle.std.proofs.Common.{◌≡◌, ℕ, ◌+◌, ◌^◌, ◌<◌, ◌≤◌, List, length, Option, Some, None, refl, sym, ◌∙◌, ap, subst, arith, set, inl, inr}
+use Rattle.std.proofs.Common.{◌≡◌, ℕ, ◌<◌, ◌≤◌, List, length, Option, Some, None, refl, sym, ◌∙◌, ap, subst, arith, set, inl, inr}
 use Rattle.std.proofs.lemmas.Option.{same_Some, none-some}
 use Rattle.ch_graph.specs.declared.limits.TheConstants.{MOST_WEIGHT, MOST_PATH_ARCS}
 use Rattle.ch_graph.specs.declared.cost.Cost.{Cost}
@@ -63,7 +63,8 @@ pub past_by_node : (H : LevelsAndLegs) (x : Search) (least : Option (Cost × ℕ
 past_by_node H x least past v d e = past (rank_of H v) d (by_node-some H x.queue v d e).1
 
 -- one side settles v at cost c
-module _ (H : LevelsAndLegs) (x y : Search) (least : Option (Cost × ℕ)) (m : AreMeeting H x y least) (q : List (Option Cost)) (v : ℕ) (c : Cost)
+module _ (H : LevelsAndLegs) (x y : Search) (least : Option (Cost × ℕ)) (m : AreMeeting H x y least) (q : List (Option Cost))
+    (v : ℕ) (c : Cost)
     (l : IsLeastKey (keys_of H x) v c) (e : keys_of H (with_queue x q) ≡ set (keys_of H x) v None)
     (least' : Option (Cost × ℕ)) (met : IsLeastAfter (cost_at (costs_of H y) v) v c least least') where
   -- the known cost of v on this side is c
@@ -84,15 +85,20 @@ module _ (H : LevelsAndLegs) (x y : Search) (least : Option (Cost × ℕ)) (m : 
 
   -- the new sum is at most that of each node that both sides have settled
   seen : IsSeen (costs_of H x) (keys_of H (with_queue x q)) (costs_of H y) (keys_of H y) least'
-  seen w a b h k = elim (popped_settled _ _ _ _ _ m.here.search v c l.has l.least (key_within (keys_of H x) v c l.has) w a (subst (λ r. IsSettled (costs_of H x) r w a) e h)) [
-    | inl was ↦
-        let old = m.seen w a b was k in
-        let new = keeps _ met old.0 old.1 in
-        (new.0, new.1, first_trans new.0 old.0 (cost_sum a b, w) new.2 old.2)
-    | inr is ↦
-        let r = gains _ b (ap (cost_at (costs_of H y)) (sym is.0) ∙ k.0) met in
-        (r.0, r.1, subst (λ z. MeetsFirst r.0 (cost_sum a b, z)) (sym is.0) (subst (λ z. MeetsFirst r.0 (cost_sum z b, v)) (sym is.1) r.2))
-  ]
+  seen w a b h k = elim (popped_settled _ _ _ _ _ m.here.search v c l.has l.least (key_within (keys_of H x) v c l.has) w a
+      (subst (λ r. IsSettled (costs_of H x) r w a) e h)) [
+        | inl was ↦
+            let old = m.seen w a b was k in
+            let new = keeps _ met old.0 old.1 in
+            (new.0, new.1, first_trans new.0 old.0 (cost_sum a b, w) new.2 old.2)
+        | inr is ↦
+            let r = gains _ b (ap (cost_at (costs_of H y)) (sym is.0) ∙ k.0) met in (
+              r.0,
+              r.1,
+              subst (λ z. MeetsFirst r.0 (cost_sum a b, z)) (sym is.0)
+                  (subst (λ z. MeetsFirst r.0 (cost_sum z b, v)) (sym is.1) r.2),
+            )
+      ]
 
   -- the new sum is the sum of two paths
   found_at : (o : Option Cost) → cost_at (costs_of H y) v ≡ o → IsLeastAfter o v c least least' → IsFoundBy H x y least'
@@ -100,13 +106,15 @@ module _ (H : LevelsAndLegs) (x y : Search) (least : Option (Cost × ℕ)) (m : 
   found_at (Some d) at is f e' = elim is.chosen [
     | inl new ↦
         let same : (cost_sum c d, v) ≡ f = same_Some _ _ (sym new ∙ e') in
-        subst (λ (r : Cost × ℕ). (a b : Cost) × IsUpwardCost (rows_of H x.side) x.source r.1 a × IsUpwardCost (rows_of H y.side) y.source r.1 b × (cost_sum a b ≡ r.0)) same
+        subst (λ (r : Cost × ℕ). (a b : Cost) × IsUpwardCost (rows_of H x.side) x.source r.1 a
+        × IsUpwardCost (rows_of H y.side) y.source r.1 b × (cost_sum a b ≡ r.0)) same
         (c, d, m.here.search.sound v c known, m.there.search.sound v d at, refl)
     | inr old ↦ m.found f (sym old ∙ e')
   ]
 
   -- after the node's legs were taken, or it stayed idle, the searches are still meeting
-  pub met_then : (z : Search) → IsUnderway H z → IsSameSearch (with_queue x q) z → KeepsSettled H (with_queue x q) z → AreMeeting H z y least'
+  pub met_then : (z : Search) → IsUnderway H z → IsSameSearch (with_queue x q) z → KeepsSettled H (with_queue x q) z →
+      AreMeeting H z y least'
   met_then z u same settled = record {
     here = u;
     there = m.there;
@@ -114,19 +122,20 @@ module _ (H : LevelsAndLegs) (x y : Search) (least : Option (Cost × ℕ)) (m : 
     most = (same.most ∙ m.most.0, m.most.1);
     seen = λ w a b h k. seen w a b (settled w a h) k;
     found = λ f e'.
-        let r = found_at _ refl met f e' in
-        (r.0, r.1, subst (λ s. IsUpwardCost (rows_of H z.side) s f.1 r.0) (sym same.source) (subst (λ s. IsUpwardCost (rows_of H s) x.source f.1 r.0) (sym same.side) r.2), r.3, r.4);
+        let r = found_at _ refl met f e' in (
+          r.0,
+          r.1,
+          subst (λ s. IsUpwardCost (rows_of H z.side) s f.1 r.0) (sym same.source)
+              (subst (λ s. IsUpwardCost (rows_of H s) x.source f.1 r.0) (sym same.side) r.2),
+          r.3,
+          r.4,
+        );
   }
 
 -- a known cost is within the limits
 pub known_arcs : (H : LevelsAndLegs) (x : Search) (v : ℕ) (c : Cost) → IsUnderway H x → cost_at (costs_of H x) v ≡ Some c →
     (c.weight ≤ MOST_WEIGHT) × (c.arcs ≤ MOST_PATH_ARCS)
 known_arcs H x v c u known = let r = u.search.sound v c known in (r.weight, reached_arcs H u.levelled x.side x.source v c r)
-
--- the sum of the arcs that both sides know of a node does not overflow
-pub both_arcs : (H : LevelsAndLegs) (y : Search) (v : ℕ) (c d : Cost) → IsUnderway H y → c.arcs ≤ MOST_PATH_ARCS →
-    cost_at (costs_of H y) v ≡ Some d → c.arcs + d.arcs < 2 ^ 64
-both_arcs H y v c d u few known = let there = (known_arcs H y v d u known).1 in omega arith
 
 -- a rank is below the length of a search's lists
 pub rank_in_labels : (H : LevelsAndLegs) (x : Search) (rank : ℕ) → IsUnderway H x → IsSomeRank H rank → rank < length x.labels.costs

@@ -100,7 +100,8 @@ module _ (H : LevelsAndLegs) (k : IsKeptForSome H) (limit : Option ℕ) (s t : �
 
   -- the least of the sums within the limit, or none if there is no sum
   abbrev IsLeastSum : Option ℕ → Type 0
-  IsLeastSum o = MatchOption o ((x : ℕ) → IsNodeSum P Q x → IsWithin limit x → ⊥) (λ x. IsNodeSum P Q x × IsWithin limit x × ((y : ℕ) → IsNodeSum P Q y → IsWithin limit y → x ≤ y))
+  IsLeastSum o = MatchOption o ((x : ℕ) → IsNodeSum P Q x → IsWithin limit x → ⊥)
+      (λ x. IsNodeSum P Q x × IsWithin limit x × ((y : ℕ) → IsNodeSum P Q y → IsWithin limit y → x ≤ y))
 
   -- the least sum within the limit is the least weight, if that is within the limit
   least_sum_cuts : (c : Cost) → IsLeastMeeting H s t c → (o : Option ℕ) → IsLeastSum o → IsCut limit (Some c.weight) o
@@ -123,20 +124,29 @@ module _ (H : LevelsAndLegs) (k : IsKeptForSome H) (limit : Option ℕ) (s t : �
         let c = found.0 in
         let meeting = (law.least s t c).0 found.1 in
         let least : IsLeastWeight H s t (Some c.weight) = (c, meeting, refl) in
-        record { whole = Some c.weight; least = least; distance = weight_is_distance H s t (Some c.weight) least; cut = least_sum_cuts c meeting o sum }
+        record {
+          whole = Some c.weight;
+          least = least;
+          distance = weight_is_distance H s t (Some c.weight) least;
+          cut =
+              least_sum_cuts c meeting o sum;
+        }
     | inr away ↦
         let never = (law.never s t).0 away in
         record { whole = None; least = never; distance = weight_is_distance H s t None never; cut = no_sum_cuts never o sum }
   ]
 
 -- two search spaces within a limit give the distance within that limit
-pub spaces_give_distance : (H : LevelsAndLegs) (limit : Option ℕ) (s t : ℕ) (ups downs : List (ℕ × ℕ)) (answer : Option ℕ) → IsKeptForSome H → IsSearchSpace H Up limit s ups →
+pub spaces_give_distance : (H : LevelsAndLegs) (limit : Option ℕ) (s t : ℕ) (ups downs : List (ℕ × ℕ)) (answer : Option ℕ) →
+    IsKeptForSome H → IsSearchSpace H Up limit s ups →
     IsSearchSpace H Down limit t downs → IsLeastSharedSum limit ups downs answer → IsDistanceWithin H limit s t answer
 spaces_give_distance H limit s t ups downs answer k up down least =
-    least_sum_is_distance H k limit s t (λ v x. Contains ups (v, x)) (λ v x. Contains downs (v, x)) up.sound up.whole down.sound down.whole answer least
+    least_sum_is_distance H k limit s t (λ v x. Contains ups (v, x)) (λ v x. Contains downs (v, x)) up.sound up.whole down.sound
+    down.whole answer least
 
 -- the weight that a ranked space has for a node, found by the node's rank
-module _ (H : LevelsAndLegs) (levelled : IsLevelled H) (side : Side) (limit : Option ℕ) (s : ℕ) (list : List (ℕ × ℕ)) (space : IsRankedSpace H side limit s list) where
+module _ (H : LevelsAndLegs) (levelled : IsLevelled H) (side : Side) (limit : Option ℕ) (s : ℕ) (list : List (ℕ × ℕ))
+    (space : IsRankedSpace H side limit s list) where
   abbrev pub IsSaidOf : ℕ → ℕ → Type 0
   IsSaidOf v x = (v < nodes_of H) × Contains list (rank_of H v, x)
 
@@ -148,7 +158,8 @@ module _ (H : LevelsAndLegs) (levelled : IsLevelled H) (side : Side) (limit : Op
       (subst (λ w. IsPathWeight (rows_of H side) s w x) one r.3, r.4)
 
 -- two ranked spaces
-module _ (H : LevelsAndLegs) (k : IsKeptForSome H) (limit : Option ℕ) (s t : ℕ) (ups downs : List (ℕ × ℕ)) (up : IsRankedSpace H Up limit s ups) (down : IsRankedSpace H Down limit t downs) where
+module _ (H : LevelsAndLegs) (k : IsKeptForSome H) (limit : Option ℕ) (s t : ℕ) (ups downs : List (ℕ × ℕ))
+    (up : IsRankedSpace H Up limit s ups) (down : IsRankedSpace H Down limit t downs) where
   abbrev Ups : ℕ → ℕ → Type 0
   Ups = IsSaidOf H k.2.levelled Up limit s ups up
 
@@ -158,20 +169,28 @@ module _ (H : LevelsAndLegs) (k : IsKeptForSome H) (limit : Option ℕ) (s t : �
   -- a sum that they share by rank is shared by node
   by_node : (x : ℕ) → IsSharedSum ups downs x → IsNodeSum Ups Downs x
   by_node x h =
-      let r = up.sound h.0 h.1 h.3 in
-      (r.0, h.1, h.2, (r.1, subst (λ q. Contains ups (q, h.1)) (sym r.2) h.3), (r.1, subst (λ q. Contains downs (q, h.2)) (sym r.2) h.4), h.5)
+      let r = up.sound h.0 h.1 h.3 in (
+        r.0,
+        h.1,
+        h.2,
+        (r.1, subst (λ q. Contains ups (q, h.1)) (sym r.2) h.3),
+        (r.1, subst (λ q. Contains downs (q, h.2)) (sym r.2) h.4),
+        h.5,
+      )
 
   -- a sum that they share by node is shared by rank
   by_rank : (x : ℕ) → IsNodeSum Ups Downs x → IsSharedSum ups downs x
   by_rank x h = (rank_of H h.0, h.1, h.2, h.3.1, h.4.1, h.5)
 
   least_by_node : (answer : Option ℕ) → IsLeastSharedSum limit ups downs answer →
-      MatchOption answer ((x : ℕ) → IsNodeSum Ups Downs x → IsWithin limit x → ⊥) (λ x. IsNodeSum Ups Downs x × IsWithin limit x × ((y : ℕ) → IsNodeSum Ups Downs y → IsWithin limit y → x ≤ y))
+      MatchOption answer ((x : ℕ) → IsNodeSum Ups Downs x → IsWithin limit x → ⊥)
+      (λ x. IsNodeSum Ups Downs x × IsWithin limit x × ((y : ℕ) → IsNodeSum Ups Downs y → IsWithin limit y → x ≤ y))
   least_by_node None none = λ x sum. none x (by_rank x sum)
   least_by_node (Some x) least = (by_node x least.0, least.1, λ y sum. least.2 y (by_rank y sum))
 
   -- two ranked spaces within a limit give the distance within that limit
   pub ranked_spaces_give_distance : (answer : Option ℕ) → IsLeastSharedSum limit ups downs answer → IsDistanceWithin H limit s t answer
   ranked_spaces_give_distance answer least =
-      least_sum_is_distance H k limit s t Ups Downs (said_sound H k.2.levelled Up limit s ups up) up.whole (said_sound H k.2.levelled Down limit t downs down) down.whole
+      least_sum_is_distance H k limit s t Ups Downs (said_sound H k.2.levelled Up limit s ups up) up.whole
+      (said_sound H k.2.levelled Down limit t downs down) down.whole
       answer (least_by_node answer least)

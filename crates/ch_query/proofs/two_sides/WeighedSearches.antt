@@ -13,15 +13,15 @@ use Rattle.ch_hierarchy.specs.KeptLaws.{IsLeastMeeting, MeetingsAreDistances}
 use Rattle.ch_hierarchy.proofs.theory.KeptWalks.{kept_has_walks, meetings_are_distances}
 use Rattle.ch_query.specs.declared.side.Side.{Side}
 use Rattle.ch_query.specs.declared.side.Side.TheVariants.{Up, Down}
-use Rattle.ch_query.specs.Distance.{IsKeptForSome, IsDistanceBy, IsLeastWeight}
+use Rattle.ch_query.specs.Distance.{IsKeptForSome, IsLeastWeight}
 use Rattle.ch_query.specs.Search.{IsSettled, IsUpwardCost}
 use Rattle.ch_query.specs.SearchSpace.{IsTight}
 use Rattle.ch_query.specs.Side.{rows_of}
-use Rattle.ch_query.specs.Weighed.{weighed_cost, IsWeightSearchTo, IsWeightSearch, IsWeightSeen, IsWeightFound, IsPastWeight, WeightsAreEnough}
+use Rattle.ch_query.specs.Weighed.{weighed_cost, IsWeightSearchTo, IsWeightSearch, IsWeightSeen, IsWeightFound, IsPastWeight}
+use Rattle.ch_query.specs.Weighed.{WeightsAreEnough}
 use Rattle.ch_query.proofs.one_side.End.{least_reached, matched}
 use Rattle.ch_query.proofs.one_side.TightNodes.{sum_walk, tight_up, tight_down, tight_least}
 use Rattle.ch_query.proofs.one_side.WeighedPaths.{weighed_rows, weighed_reached, reached_weight, weighed_avoids}
-use Rattle.ch_query.proofs.two_sides.Distances.{weight_is_distance}
 
 -- each remaining key weighs more than x
 abbrev pub IsPastAll : List (Option Cost) → ℕ → Type 0
@@ -29,19 +29,23 @@ IsPastAll queue x = (v : ℕ) (d : Cost) → cost_at queue v ≡ Some d → x < 
 
 -- once each remaining key weighs more, a tight node that weighs at most `most` is settled at no more than its least
 -- weight
-pub tight_settled : {most : ℕ} (H : LevelsAndLegs) → IsKeptForSome H → (side : Side) (s m : ℕ) (a : Cost) (best queue : List (Option Cost)) → IsWeightSearchTo most H side s best queue →
+pub tight_settled : {most : ℕ} (H : LevelsAndLegs) → IsKeptForSome H →
+    (side : Side) (s m : ℕ) (a : Cost) (best queue : List (Option Cost)) → IsWeightSearchTo most H side s best queue →
     IsTight H side s m a → a.weight ≤ most → IsPastAll queue a.weight → (b : Cost) × IsSettled best queue m b × (b.weight ≤ a.weight)
 tight_settled H k side s m a best queue is_search tight light past =
     let least = tight_least H side s m a tight in
     let reached = weighed_reached (rows_of H side) s m a (least_reached (rows_of H side) s m a least) in
     let there = subst (λ rows. IsUpwardCost rows s m (weighed_cost a)) (sym (weighed_rows H side)) reached in
-    let is = matched _ s _ best queue is_search m (weighed_cost a) light (λ x d key. (let more = past x d key in omega arith, λ tie. let more = past x d key in omega arith))
-    (weighed_avoids H k side s m a tight) there.path.0 there.path.1 (subst (λ q. IsAtMost q (weighed_cost a)) (sym there.path.2) (IsAtMost_refl (weighed_cost a))) in
+    let is = matched _ s _ best queue is_search m (weighed_cost a) light
+    (λ x d key. (let more = past x d key in omega arith, λ tie. let more = past x d key in omega arith))
+    (weighed_avoids H k side s m a tight) there.path.0 there.path.1
+    (subst (λ q. IsAtMost q (weighed_cost a)) (sym there.path.2) (IsAtMost_refl (weighed_cost a))) in
     let low = subst (IsAtMost is.0) there.path.2 is.2 in
     (is.0, is.1, low.0)
 
 module _ (H : LevelsAndLegs) (k : IsKeptForSome H) (s t : ℕ) (least : Option ℕ) (best_up queue_up best_down queue_down : List (Option Cost))
-    (up : IsWeightSearch H Up s best_up queue_up) (down : IsWeightSearch H Down t best_down queue_down) (seen : IsWeightSeen best_up queue_up best_down queue_down least)
+    (up : IsWeightSearch H Up s best_up queue_up) (down : IsWeightSearch H Down t best_down queue_down)
+    (seen : IsWeightSeen best_up queue_up best_down queue_down least)
     (found : IsWeightFound H s t least) (past_up : IsPastWeight queue_up least) (past_down : IsPastWeight queue_down least) where
   -- the least meetings of the hierarchy are the distances
   law : MeetingsAreDistances k.0 H
@@ -115,10 +119,6 @@ module _ (H : LevelsAndLegs) (k : IsKeptForSome H) (s t : ℕ) (least : Option �
     | inl some ↦ known some.0 ((law.least s t some.0).0 some.1) least refl
     | inr none ↦ nothing_found none least refl
   ]
-
-  -- the known sum is the distance
-  pub weighed_distance : IsDistanceBy H s t least
-  weighed_distance = weight_is_distance H s t least weighed_least
 
 -- two searches by weights alone are enough
 pub weights_are_enough : WeightsAreEnough

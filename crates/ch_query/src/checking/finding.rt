@@ -2,7 +2,7 @@
 ghost use Rattle.std.specs.Prelude.{ℕ, ◌≡◌, ◌<◌, ◌≤◌, ◌↔◌, IfOk, IfSome, IsTrue};
 ghost use Rattle.ch_query.specs.Finding.{IsFirstWithout, IsWithoutBelow, first_some};
 
-use ch_work::{Crew, Gate, RoomJob, run_pieces_with_rooms};
+use ch_work::{Crew, Gate, RoomJob, run_pieces_in};
 use std::alloc::{AllocError, Global};
 use std::thread::Threads;
 
@@ -115,9 +115,8 @@ pub(crate) fn first_wrong<R: Threads + Sync, G: Gate, C: ItemCheck>(
     requires { items ≡ C.size check.now }
     ensures { IfOk result (IsFirstWithout (C.right check.now) 0 items) }
 {
-    // This call tells the proof that a piece has at least one item.
-    let _ = crew.plan.piece();
-    let known = run_pieces_with_rooms(crew, items, &CheckRanges { check })?;
+    let mut finders = Vec::new(crew.alloc);
+    let known = run_pieces_in(crew, items, &mut finders, &CheckRanges { check })?;
     Ok(first_of(&known))
 }
 

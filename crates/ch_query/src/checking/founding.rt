@@ -1,6 +1,5 @@
-//! What the legs of a saved hierarchy stand for, and the legs of a graph's arcs.
-ghost use Rattle.std.specs.Prelude.{◌<◌, ◌↔◌, All, Contains, IfOk, IsTrue, MatchOption};
-ghost use Rattle.ch_graph.specs.declared.arc.InArc.{InArc as AnyArc};
+//! The checks of single legs of a saved hierarchy, and of single arcs of a graph.
+ghost use Rattle.std.specs.Prelude.{◌<◌, ◌↔◌, ◌^◌, All, Contains, IfOk, IsTrue, MatchOption, length};
 ghost use Rattle.ch_graph.specs.Graph.{Network, IsWithinLimits};
 ghost use Rattle.ch_hierarchy.specs.Hierarchy.{nodes_of};
 ghost use Rattle.ch_hierarchy.specs.Assembling.{IsFirstFailing};
@@ -8,9 +7,13 @@ ghost use Rattle.ch_query.specs.Checking.{AreArcRows, IsArcIfBase, IsSumOver, Is
 
 use super::arcs::{arc_rows, has_arc};
 use super::leg_costs::{cost_in_row, is_leg_within};
+use super::lists::{ListCheck, first_failing, first_failing_by};
 use ch_graph::{Cost, Graph, InArc, Rows, SavedLeg};
 use ch_hierarchy::Hierarchy;
+use ch_work::{Crew, Gate};
 use std::alloc::{AllocError, Global};
+use std::marker::Model;
+use std::thread::Threads;
 
 /// Returns the place of the first leg without a middle that is not an arc of the graph.
 pub(crate) fn first_without_arc(
@@ -20,19 +23,93 @@ pub(crate) fn first_without_arc(
 ) -> Result<Option<usize>, AllocError>
     ensures { IfOk result (λ found. MatchOption found (All (IsArcIfBase graph.now) legs.now) (IsFirstFailing (IsArcIfBase graph.now) legs.now)) }
 {
-    // This call tells the proof that the graph keeps the limits.
-    let _ = graph.arcs();
     let rows = arc_rows(alloc, graph)?;
-    for (place, leg) in legs.iter().enumerate() {
-        if !is_arc_if_base(&rows, *leg) {
-            return Ok(Some(place));
-        }
+    let check = ArcCheck { graph, rows: &rows };
+    Ok(first_failing(&check, legs))
+}
+
+/// Returns the same as [`first_without_arc`]. The workers of a crew share the legs.
+pub(crate) fn first_without_arc_by<R: Threads + Sync, G: Gate>(
+    crew: &Crew<'_, R, G>,
+    graph: &Graph,
+    legs: &[SavedLeg],
+) -> Result<Option<usize>, AllocError>
+    requires { length legs.now < 2 ^ 32 }
+    ensures { IfOk result (λ found. MatchOption found (All (IsArcIfBase graph.now) legs.now) (IsFirstFailing (IsArcIfBase graph.now) legs.now)) }
+{
+    let rows = arc_rows(crew.alloc, graph)?;
+    let check = ArcCheck { graph, rows: &rows };
+    first_failing_by(crew, &check, legs)
+}
+
+/// Checks that each leg without a middle is an arc of the graph.
+#[derive(Drop)]
+struct ArcCheck<'a> {
+    graph: &'a Graph,
+    rows: &'a Rows<InArc>,
+}
+
+impl<'a> Model for ArcCheck<'a> {
+    ghost use Rattle.ch_graph.specs.Graph.{Network, IsWithinLimits};
+    ghost use Rattle.ch_query.specs.Checking.{AreArcRows};
+
+    ghost Value = { Network };
+
+    ghost view = { λ check. check.graph.now };
+
+    ghost invariant = { λ check. IsWithinLimits check.graph.now × AreArcRows check.graph.now check.rows.now };
+}
+
+impl ListCheck for ArcCheck<'_> {
+    type Item = SavedLeg;
+
+    ghost takes = { λ check leg. Unit {0} };
+
+    ghost right = { λ check leg. IsArcIfBase check leg };
+
+    fn is_right(&self, item: &SavedLeg) -> bool {
+        is_arc_if_base(self.rows, *item)
     }
-    Ok(None)
+}
+
+/// Checks that each leg with a middle is the sum of the two legs of that middle.
+#[derive(Drop)]
+pub(crate) struct SumCheck<'a> {
+    pub(crate) hierarchy: &'a Hierarchy,
+}
+
+impl ListCheck for SumCheck<'_> {
+    type Item = SavedLeg;
+
+    ghost takes = { λ check leg. Unit {0} };
+
+    ghost right = { λ check leg. IsSumIfShortcut check.hierarchy.now leg };
+
+    fn is_right(&self, item: &SavedLeg) -> bool {
+        is_sum_if_shortcut(self.hierarchy, *item)
+    }
+}
+
+/// Checks that each arc is a loop, or has a leg that costs at most as much.
+#[derive(Drop)]
+pub(crate) struct ServedCheck<'a> {
+    pub(crate) hierarchy: &'a Hierarchy,
+}
+
+impl ListCheck for ServedCheck<'_> {
+    type Item = InArc;
+
+    ghost takes = { λ check arc. (arc.from < nodes_of check.hierarchy.now) × (arc.to < nodes_of check.hierarchy.now) };
+
+    ghost right = { λ check arc. IsServed check.hierarchy.now arc };
+
+    fn is_right(&self, item: &InArc) -> bool {
+        is_served(self.hierarchy, *item)
+    }
 }
 
 /// Whether the leg has a middle, or is an arc of the graph with these rows.
-pub(crate) fn is_arc_if_base(rows: &Rows<InArc>, leg: SavedLeg) -> bool
+fn is_arc_if_base(rows: &Rows<InArc>, leg: SavedLeg) -> bool
     requires { (g : Network) × AreArcRows g rows.now }
     ensures { (g : Network) → IsWithinLimits g → AreArcRows g rows.now → (IsTrue result ↔ IsArcIfBase g leg) }
 {
@@ -47,20 +124,8 @@ fn is_arc(rows: &Rows<InArc>, leg: SavedLeg) -> bool
     leg.from < rows.row_count() && has_arc(rows.row(leg.from), leg.to, leg.cost.weight)
 }
 
-/// Returns the place of the first leg with a middle that is not the sum of the two legs of that middle.
-pub(crate) fn first_false_shortcut(hierarchy: &Hierarchy, legs: &[SavedLeg]) -> Option<usize>
-    ensures { MatchOption result (All (IsSumIfShortcut hierarchy.now) legs.now) (IsFirstFailing (IsSumIfShortcut hierarchy.now) legs.now) }
-{
-    for (place, leg) in legs.iter().enumerate() {
-        if !is_sum_if_shortcut(hierarchy, *leg) {
-            return Some(place);
-        }
-    }
-    None
-}
-
 /// Whether the leg has no middle, or is the sum of the two legs of its middle.
-pub(crate) fn is_sum_if_shortcut(hierarchy: &Hierarchy, leg: SavedLeg) -> bool
+fn is_sum_if_shortcut(hierarchy: &Hierarchy, leg: SavedLeg) -> bool
     ensures { IsTrue result ↔ IsSumIfShortcut hierarchy.now leg }
 {
     match leg.middle {
@@ -86,21 +151,8 @@ fn is_sum_over(hierarchy: &Hierarchy, leg: SavedLeg, middle: u32) -> bool
     into.plus(out) == leg.cost
 }
 
-/// Returns the place of the first arc that is no loop and has no leg that costs at most as much.
-pub(crate) fn first_unserved(hierarchy: &Hierarchy, arcs: &[InArc]) -> Option<usize>
-    requires { (a : AnyArc) → Contains arcs.now a → (a.from < nodes_of hierarchy.now) × (a.to < nodes_of hierarchy.now) }
-    ensures { MatchOption result (All (IsServed hierarchy.now) arcs.now) (IsFirstFailing (IsServed hierarchy.now) arcs.now) }
-{
-    for (place, arc) in arcs.iter().enumerate() {
-        if !is_served(hierarchy, *arc) {
-            return Some(place);
-        }
-    }
-    None
-}
-
 /// Whether the arc is a loop, or has a leg that costs at most as much.
-pub(crate) fn is_served(hierarchy: &Hierarchy, arc: InArc) -> bool
+fn is_served(hierarchy: &Hierarchy, arc: InArc) -> bool
     requires from { arc.from < nodes_of hierarchy.now }
     requires to { arc.to < nodes_of hierarchy.now }
     ensures { IsTrue result ↔ IsServed hierarchy.now arc }

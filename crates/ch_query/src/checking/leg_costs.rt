@@ -1,6 +1,6 @@
 //! The costs of legs, found in the rows of their lower nodes.
 ghost use Rattle.std.specs.Prelude.{◌<◌, ◌↔◌, IsTrue};
-ghost use Rattle.ch_hierarchy.specs.Hierarchy.{nodes_of};
+ghost use Rattle.ch_hierarchy.specs.Hierarchy.{nodes_of, IsLevelled};
 ghost use Rattle.ch_hierarchy.specs.Rows.{IsRow};
 ghost use Rattle.ch_query.specs.Checking.{HasLeg, IsRowCost, IsLegCost};
 
@@ -24,7 +24,8 @@ pub(crate) fn cost_in_row(row: &[Leg], node: u32) -> Option<Cost>
 fn leg_cost(hierarchy: &Hierarchy, start: u32, end: u32) -> Option<Cost>
     requires start { start < nodes_of hierarchy.now }
     requires end { end < nodes_of hierarchy.now }
-    ensures { IsLegCost hierarchy.now start end result }
+    ensures cost { IsLegCost hierarchy.now start end result }
+    ensures levelled { IsLevelled hierarchy.now }
 {
     if hierarchy.level(start) < hierarchy.level(end) {
         cost_in_row(hierarchy.up(start), end)
@@ -37,7 +38,8 @@ fn leg_cost(hierarchy: &Hierarchy, start: u32, end: u32) -> Option<Cost>
 pub(crate) fn is_leg_within(hierarchy: &Hierarchy, start: u32, end: u32, most: Cost) -> bool
     requires start { start < nodes_of hierarchy.now }
     requires end { end < nodes_of hierarchy.now }
-    ensures { IsTrue result ↔ HasLeg hierarchy.now start end most }
+    ensures within { IsTrue result ↔ HasLeg hierarchy.now start end most }
+    ensures levelled { IsLevelled hierarchy.now }
 {
     match leg_cost(hierarchy, start, end) {
         Some(cost) => !is_below(most, cost),

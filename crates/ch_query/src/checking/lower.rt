@@ -30,8 +30,6 @@ fn is_pair_covered(
     ensures covered { IsTrue result ↔ MeetsWithin hierarchy.now start end most }
     ensures sides { sides.new ≡ sides.old }
 {
-    // This call tells the proof that the hierarchy has levels.
-    let _ = hierarchy.nodes();
     if is_leg_within(hierarchy, start, end, most) {
         return true;
     }

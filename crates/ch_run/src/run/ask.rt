@@ -1,19 +1,20 @@
 //! Runs that answer requests as they come.
 ghost use Rattle.std.specs.Prelude.{◌≡◌, ◌⊎◌, IsErrAnd};
 ghost use Rattle.ch_contract.specs.Legs.{IsHopBound};
-ghost use Rattle.ch_run.specs.declared.source.Source.TheVariants as SourceOf;
+ghost use Rattle.ch_job.specs.declared.source.Source.TheVariants as SourceOf;
+ghost use Rattle.ch_job.specs.Job.{IsSourceAllowed, source_map};
 ghost use Rattle.ch_run.specs.Stories.{RunsAsk};
 ghost use Rattle.ch_run.specs.Ask.{ServesBy};
 ghost use Rattle.ch_run.specs.Run.{reading};
-ghost use Rattle.ch_run.specs.Source.{IsOfLoading, IsSourceAllowed, source_origin, source_reading};
+ghost use Rattle.ch_run.specs.Source.{IsOfLoading, source_reading};
 
 use super::answering::Answering;
 use super::loading::loaded_from;
 use super::serving::serve;
 use crate::fault::RunFault;
-use crate::options::Options;
+use crate::orders::building_order;
 use crate::plan::{Crew, Gate};
-use crate::source::Source;
+use ch_job::{Options, Source};
 use ch_text::{Input, Output};
 use std::thread::Threads;
 
@@ -58,10 +59,10 @@ pub fn run_ask<R: Threads + Sync, I: Input, S: Input + Drop, J: Input, O: Output
         O.write_gives output.old output.new result }
 
     // The graph and the saved hierarchy are still the same inputs.
-    ensures same { (I.origin graph.new ≡ I.origin graph.old) × (source_origin S.origin source.new ≡ source_origin S.origin source.old) }
+    ensures same { (I.origin graph.new ≡ I.origin graph.old) × (source_map S.origin source.new ≡ source_map S.origin source.old) }
 {
     let loaded = loaded_from(crew, graph, source, true)?;
-    let order = options.building_order();
+    let order = building_order(options);
     let checked = loaded.checked(crew, options.hops, order)?;
     let by = Answering {
         checked: &checked,

@@ -3,10 +3,11 @@ ghost use Rattle.std.specs.Prelude.{◌≡◌, ◌≤◌, length, IfOk, IsNone};
 ghost use Rattle.ch_graph.specs.declared.limits.TheConstants.{MOST_QUERIES};
 ghost use Rattle.ch_contract.specs.Legs.{IsHopBound};
 ghost use Rattle.ch_query.specs.Replies.{AreQueries};
-ghost use Rattle.ch_run.specs.declared.source.Source.TheVariants as SourceOf;
+ghost use Rattle.ch_job.specs.declared.source.Source.TheVariants as SourceOf;
+ghost use Rattle.ch_job.specs.Job.{IsSourceAllowed, source_map};
 ghost use Rattle.ch_run.specs.DistRun.{IsAnsweredBy};
 ghost use Rattle.ch_run.specs.Run.{Delivers, reading};
-ghost use Rattle.ch_run.specs.Source.{IsOfRoutes, IsSourceAllowed, source_origin, source_reading};
+ghost use Rattle.ch_run.specs.Source.{IsOfRoutes, source_reading};
 ghost use Rattle.ch_run.specs.Stories.{RunsDist};
 ghost use Rattle.ch_run.specs.Text.{IsTextBy, writes_routes};
 
@@ -15,9 +16,9 @@ use super::loading::{Loaded, loaded_from};
 use super::output::write_text;
 use super::texts::{answers_by, plain_text};
 use crate::fault::RunFault;
-use crate::options::Options;
+use crate::orders::order_for_queries;
 use crate::plan::{Crew, Gate};
-use crate::source::Source;
+use ch_job::{Options, Source};
 use ch_text::{Input, Output};
 use std::alloc::AllocError;
 use std::thread::Threads;
@@ -58,7 +59,7 @@ pub fn run_dist<R: Threads + Sync, I: Input, S: Input + Drop, J: Input, O: Outpu
         (IsAnsweredBy options.now (reading I.read_gives graph.old graph.new) (source_reading S.read_gives source.old source.new) (reading J.read_gives queries.old queries.new)) }
 
     // Each input is still the same one.
-    ensures same { (I.origin graph.new ≡ I.origin graph.old) × (source_origin S.origin source.new ≡ source_origin S.origin source.old) × (J.origin queries.new ≡ J.origin queries.old) }
+    ensures same { (I.origin graph.new ≡ I.origin graph.old) × (source_map S.origin source.new ≡ source_map S.origin source.old) × (J.origin queries.new ≡ J.origin queries.old) }
 {
     let loaded = loaded_from(crew, graph, source, options.routes)?;
     let queries = queries_from(crew.alloc, queries, loaded.graph())?;
@@ -81,7 +82,7 @@ fn text_of<R: Threads + Sync, G: Gate>(
     if options.plain {
         return plain_text(crew.alloc, loaded.graph(), queries, crew.gate);
     }
-    let order = options.order_for_queries(crew.plan.workers(), loaded.graph().nodes());
+    let order = order_for_queries(options, crew.plan.workers(), loaded.graph().nodes());
     let hierarchy = loaded.hierarchy(crew, options.hops, order)?;
     answers_by(crew, &hierarchy, queries, options.routes)
 }

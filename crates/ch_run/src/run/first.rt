@@ -13,9 +13,9 @@ ghost use Rattle.ch_run.specs.NearRows.{HasNearRows};
 ghost use Rattle.ch_run.specs.Serving.{AnswersFirst, AreFirstOf, IsRoomFor, asked_for, near_row_of, places_of, routes_for};
 
 use super::answering::{Answering, Room};
-use super::texts::{answers_in, plain_text, table_by};
-use crate::options::Options;
+use super::texts::{answers_in, table_by};
 use crate::plan::{Crew, Gate};
+use ch_job::Options;
 use ch_near::NearTargets;
 use ch_query::Scratch;
 use ch_read::{NearPlaces, Request, TableLists};
@@ -127,18 +127,8 @@ fn pairs_text<R: Threads + Sync, G: Gate>(
     ensures text { (places : PlaceList) → IfOk result (λ text. AreAnswered (IsTextOfRequest by.now.options.now by.now.checked.now.graph by.now.checked.now.hierarchy) places (map (asked_for routed) pairs.now) text.items) }
     ensures scratches { All (λ scratch. scratch ≡ nodes_of by.now.checked.now.hierarchy) scratches.new.items }
 {
-    if is_plain(by.options, routed) {
-        return plain_text(crew.alloc, by.checked.graph(), pairs, crew.gate);
-    }
     let routes = tells_routes(by.options, routed);
     answers_in(crew, by.checked.hierarchy(), scratches, pairs, routes)
-}
-
-/// Returns whether queries are answered by rounds over all arcs, which give no route.
-fn is_plain(options: &Options, routed: bool) -> bool
-    ensures { result ≡ true → routes_for options.now routed ≡ false }
-{
-    options.plain && !routed
 }
 
 /// Returns whether routes are written: if the queries ask for them, or if the run writes them.

@@ -5,26 +5,27 @@ ghost use Rattle.ch_hierarchy.specs.Hierarchy.{LevelsAndLegs};
 ghost use Rattle.ch_hierarchy.specs.Kept.{IsKept};
 ghost use Rattle.ch_contract.specs.Legs.{IsHopBound};
 ghost use Rattle.ch_contract.specs.Like.{IsHierarchyLike};
-ghost use Rattle.ch_run.specs.declared.source.Source.TheVariants as SourceOf;
+ghost use Rattle.ch_job.specs.declared.source.Source.TheVariants as SourceOf;
+ghost use Rattle.ch_job.specs.Job.{IsSourceAllowed, source_map};
 ghost use Rattle.ch_run.specs.Loaded.{IsRight};
-ghost use Rattle.ch_run.specs.Run.{reading};
+ghost use Rattle.ch_run.specs.Run.{reading, ReadsAll};
 ghost use Rattle.ch_read.specs.declared.form.Form.TheVariants as FormOf;
-ghost use Rattle.ch_read.specs.Names.{NamesGraph, NamesSaved};
+ghost use Rattle.ch_read.specs.Names.{NamesGraph, NamesOrder, NamesSaved};
 ghost use Rattle.ch_graph.specs.Graph.{IsWithinLimits};
 ghost use Rattle.ch_hierarchy.specs.Saved.{IsOrderOf, NamesKept};
 ghost use Rattle.ch_run.specs.Story.{EndsAt, IsOrderFault, IsOrderRefusedOn, IsRefused, IsSavedRefusedOn, Loads, NamesLike, Reads};
-ghost use Rattle.ch_run.specs.Source.{IsInPlaceOf, IsServing, IsSourceAllowed, ReadsSaved, source_origin, source_reading};
+ghost use Rattle.ch_run.specs.Source.{IsInPlaceOf, IsServing, ReadsSaved, source_reading};
 
 use super::inputs::{bytes_from, graph_from};
 use crate::building::{build_by, build_in_order};
 use crate::fault::{RunFault, Which};
 use crate::plan::{Crew, Gate, Stage};
-use crate::source::Source;
 use ch_contract::{CheckError, Hierarchy, OrderBy};
 use ch_graph::{Graph, Saved};
+use ch_job::Source;
 use ch_order::OrderError;
 use ch_query::check_watched;
-use ch_read::read_saved_by;
+use ch_read::{read_order_by, read_saved_by};
 use ch_text::Input;
 use std::alloc::AllocError;
 use std::marker::Model;
@@ -96,7 +97,7 @@ pub(crate) fn loaded_from<R: Threads + Sync, I: Input, S: Input + Drop, G: Gate>
         IsOkAnd result (λ loaded. (loaded.graph ≡ g) × IsInPlaceOf named g h loaded.saved)) }
     ensures built { IfOk result (λ loaded. IsNone loaded.saved → source.old ≡ SourceOf.Built) }
     ensures same_graph { I.origin graph.new ≡ I.origin graph.old }
-    ensures same_source { source_origin S.origin source.new ≡ source_origin S.origin source.old }
+    ensures same_source { source_map S.origin source.new ≡ source_map S.origin source.old }
 {
     match source {
         Source::Built => {
@@ -139,7 +140,7 @@ fn checked_from<R: Threads + Sync, I: Input, S: Input, G: Gate>(
     crew.gate.watch(Stage::Reading, 0, 2);
     let graph = graph_from(crew, graph)?;
     crew.gate.watch(Stage::Reading, 1, 2);
-    let saved = saved_from(crew, saved, &graph, Which::Saved)?;
+    let saved = saved_from(crew, saved, &graph)?;
     match check_watched(crew, &graph, saved) {
         Ok(hierarchy) => Ok(Checked { graph, hierarchy }),
         Err(CheckError::Fault(fault)) => Err(RunFault::Check(fault)),
@@ -169,8 +170,7 @@ fn built_from<R: Threads + Sync, I: Input, S: Input, G: Gate>(
     crew.gate.watch(Stage::Reading, 0, 2);
     let graph = graph_from(crew, graph)?;
     crew.gate.watch(Stage::Reading, 1, 2);
-    let saved = saved_from(crew, order, &graph, Which::Order)?;
-    let given = order_in(saved);
+    let given = order_from(crew, order, &graph)?;
     let hierarchy = built_like(crew, &graph, &given, fresh, hops, named)?;
     Ok(Checked { graph, hierarchy })
 }
@@ -196,15 +196,6 @@ fn built_like<R: Threads + Sync, G: Gate>(
         Err(OrderError::Order) => Err(RunFault::Order),
         Err(OrderError::NoMemory) => Err(RunFault::Memory),
     }
-}
-
-/// Returns the order of a saved hierarchy, and drops its legs.
-fn order_in(saved: Saved) -> Vec<u32>
-    ensures { result.items ≡ saved.order }
-{
-    let Saved { order, legs } = saved;
-    drop(legs);
-    order
 }
 
 impl Loaded {
@@ -253,21 +244,37 @@ impl Loaded {
     }
 }
 
-/// Reads an input to its end, as a saved hierarchy on this graph, or as an order in the form of one. All workers
-/// read its bytes.
+/// Reads an input to its end, as a saved hierarchy on this graph. All workers read its bytes.
 fn saved_from<R: Threads + Sync, S: Input, G: Gate>(
     crew: &Crew<'_, R, G>,
     input: &mut S,
     graph: &Graph,
-    which: Which,
 ) -> Result<Saved, RunFault>
     ensures value { IfOk result (ReadsSaved (reading S.read_gives input.old input.new) graph.now.nodes) }
     ensures same { S.origin input.new ≡ S.origin input.old }
-    ensures ends { IfErr result (EndsAt which (reading S.read_gives input.old input.new) (IsRefused which (FormOf.Saved graph.now.nodes))) }
+    ensures ends { IfErr result (EndsAt Which.Saved (reading S.read_gives input.old input.new) (IsRefused Which.Saved (FormOf.Saved graph.now.nodes))) }
 {
-    let bytes = bytes_from(crew.alloc, input, which)?;
+    let bytes = bytes_from(crew.alloc, input, Which::Saved)?;
     match read_saved_by(crew, &bytes, graph.nodes()) {
         Ok(saved) => Ok(saved),
-        Err(error) => Err(which.refusal(error)),
+        Err(error) => Err(Which::Saved.refusal(error)),
+    }
+}
+
+/// Reads an input to its end, as an order of the nodes of this graph in the form of a saved hierarchy. All workers read
+/// its bytes, and no leg is kept.
+fn order_from<R: Threads + Sync, S: Input, G: Gate>(
+    crew: &Crew<'_, R, G>,
+    input: &mut S,
+    graph: &Graph,
+) -> Result<Vec<u32>, RunFault>
+    ensures value { IfOk result (λ order. ReadsAll (reading S.read_gives input.old input.new) (λ bytes. NamesOrder bytes graph.now.nodes order.items)) }
+    ensures same { S.origin input.new ≡ S.origin input.old }
+    ensures ends { IfErr result (EndsAt Which.Order (reading S.read_gives input.old input.new) (IsRefused Which.Order (FormOf.Saved graph.now.nodes))) }
+{
+    let bytes = bytes_from(crew.alloc, input, Which::Order)?;
+    match read_order_by(crew, &bytes, graph.nodes()) {
+        Ok(order) => Ok(order),
+        Err(error) => Err(Which::Order.refusal(error)),
     }
 }

@@ -1,11 +1,12 @@
 //! Runs that write the nearest targets of each source of a list, or of each node of the graph.
 ghost use Rattle.std.specs.Prelude.{◌≡◌, IfOk, IsNone};
 ghost use Rattle.ch_contract.specs.Legs.{IsHopBound};
-ghost use Rattle.ch_run.specs.declared.source.Source.TheVariants as SourceOf;
+ghost use Rattle.ch_job.specs.declared.source.Source.TheVariants as SourceOf;
+ghost use Rattle.ch_job.specs.Job.{IsSourceAllowed, source_map, sources_map};
 ghost use Rattle.ch_run.specs.Stories.{RunsNear};
-ghost use Rattle.ch_run.specs.NearRun.{AreNodeLists, IsNearBy, sources_origin, sources_reading};
+ghost use Rattle.ch_run.specs.NearRun.{AreNodeLists, IsNearBy, sources_reading};
 ghost use Rattle.ch_run.specs.Run.{Delivers, reading};
-ghost use Rattle.ch_run.specs.Source.{IsSourceAllowed, source_origin, source_reading};
+ghost use Rattle.ch_run.specs.Source.{source_reading};
 ghost use Rattle.ch_run.specs.Text.{IsNearTextFor};
 
 use super::lists::Lists;
@@ -14,10 +15,9 @@ use super::near_texts::near_by;
 use super::node_lists::node_lists_from;
 use super::output::write_text;
 use crate::fault::RunFault;
-use crate::options::{Options, quick_order};
+use crate::orders::quick_order;
 use crate::plan::{Crew, Gate};
-use crate::source::Source;
-use crate::sources::Sources;
+use ch_job::{Options, Source, Sources};
 use ch_text::{Input, Output};
 use std::alloc::AllocError;
 use std::thread::Threads;
@@ -74,8 +74,8 @@ pub fn run_near<
         (sources_reading J.read_gives sources.old sources.new) (reading L.read_gives targets.old targets.new)) }
 
     // Each input is still the same one.
-    ensures same { (I.origin graph.new ≡ I.origin graph.old) × (source_origin S.origin source.new ≡ source_origin S.origin source.old)
-        × (sources_origin J.origin sources.new ≡ sources_origin J.origin sources.old) × (L.origin targets.new ≡ L.origin targets.old) }
+    ensures same { (I.origin graph.new ≡ I.origin graph.old) × (source_map S.origin source.new ≡ source_map S.origin source.old)
+        × (sources_map J.origin sources.new ≡ sources_map J.origin sources.old) × (L.origin targets.new ≡ L.origin targets.old) }
 {
     let loaded = loaded_from(crew, graph, source, false)?;
     let lists = node_lists_from(crew.alloc, sources, targets, loaded.graph())?;

@@ -8,9 +8,9 @@ ghost use Rattle.ch_run.specs.NearRun.{AreNodeLists};
 ghost use Rattle.ch_run.specs.NearRows.{HasNearRows};
 ghost use Rattle.ch_run.specs.Text.{IsNearTextFor};
 
-use crate::options::Options;
 use crate::plan::{Crew, Gate, Stage};
 use ch_contract::Hierarchy;
+use ch_job::Options;
 use ch_near::NearTargets;
 use ch_text::{push_near_row, push_near_rows};
 use std::alloc::AllocError;

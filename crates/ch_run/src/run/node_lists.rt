@@ -2,16 +2,17 @@
 ghost use Rattle.std.specs.Prelude.{◌≡◌, ◌<◌, IfOk, OnErr, ⊤};
 ghost use Rattle.ch_read.specs.declared.form.Form.TheVariants as FormOf;
 ghost use Rattle.ch_read.specs.Names.{NamesNodes};
+ghost use Rattle.ch_job.specs.Job.{sources_map};
 ghost use Rattle.ch_run.specs.Story.{IsRefused, Reads, ReadsIf};
-ghost use Rattle.ch_run.specs.NearRun.{AreNodeLists, ReadsNodeLists, sources_origin, sources_reading};
+ghost use Rattle.ch_run.specs.NearRun.{AreNodeLists, ReadsNodeLists, sources_reading};
 ghost use Rattle.ch_text.specs.NearText.{nodes_in_order};
 ghost use Rattle.ch_run.specs.Run.{OneInput, ReadsNodes, reading};
 
 use super::inputs::nodes_from;
 use super::lists::Lists;
 use crate::fault::{RunFault, Which};
-use crate::sources::Sources;
 use ch_graph::Graph;
+use ch_job::Sources;
 use ch_text::Input;
 use std::alloc::{AllocError, Global};
 
@@ -30,7 +31,7 @@ pub(crate) fn node_lists_from<J: Input + Drop, L: Input>(
     ensures ends { OnErr result (
         ReadsIf Which.Sources (sources_reading J.read_gives sources.old sources.new) (λ bytes from. NamesNodes bytes graph.now.nodes from) (IsRefused Which.Sources (FormOf.Nodes graph.now.nodes)) result (targets.new ≡ targets.old) (λ _.
         Reads Which.Targets (reading L.read_gives targets.old targets.new) (λ bytes to. NamesNodes bytes graph.now.nodes to) (IsRefused Which.Targets (FormOf.Nodes graph.now.nodes)) result ⊤ (λ _. ⊥))) }
-    ensures same_sources { sources_origin J.origin sources.new ≡ sources_origin J.origin sources.old }
+    ensures same_sources { sources_map J.origin sources.new ≡ sources_map J.origin sources.old }
     ensures same_targets { L.origin targets.new ≡ L.origin targets.old }
 {
     match sources {

@@ -1,9 +1,10 @@
 //! Runs that save the hierarchy of a graph.
 ghost use Rattle.std.specs.Prelude.{◌≡◌, IfOk, IsNone};
 ghost use Rattle.ch_contract.specs.Legs.{IsHopBound};
-ghost use Rattle.ch_run.specs.declared.source.Source.TheVariants as SourceOf;
+ghost use Rattle.ch_job.specs.declared.source.Source.TheVariants as SourceOf;
+ghost use Rattle.ch_job.specs.Job.{IsSourceAllowed, source_map};
 ghost use Rattle.ch_run.specs.Run.{Delivers, reading};
-ghost use Rattle.ch_run.specs.Source.{IsOfRoutes, IsSourceAllowed, source_origin, source_reading};
+ghost use Rattle.ch_run.specs.Source.{IsOfRoutes, source_reading};
 ghost use Rattle.ch_run.specs.Stories.{RunsSave};
 ghost use Rattle.ch_run.specs.SaveRun.{IsSavedBy};
 ghost use Rattle.ch_run.specs.Text.{IsSaveTextOf};
@@ -11,9 +12,8 @@ ghost use Rattle.ch_run.specs.Text.{IsSaveTextOf};
 use super::loading::{Loaded, loaded_from};
 use super::output::write_text;
 use crate::fault::RunFault;
-use crate::options::Options;
 use crate::plan::{Crew, Gate};
-use crate::source::Source;
+use ch_job::{Options, Source};
 use ch_text::{Input, Output, save_text};
 use std::alloc::AllocError;
 use std::thread::Threads;
@@ -53,7 +53,7 @@ pub fn run_save<R: Threads + Sync, I: Input, S: Input + Drop, O: Output, G: Gate
         (IsSavedBy options.now (reading I.read_gives graph.old graph.new) (source_reading S.read_gives source.old source.new)) }
 
     // Each input is still the same one.
-    ensures same { (I.origin graph.new ≡ I.origin graph.old) × (source_origin S.origin source.new ≡ source_origin S.origin source.old) }
+    ensures same { (I.origin graph.new ≡ I.origin graph.old) × (source_map S.origin source.new ≡ source_map S.origin source.old) }
 {
     let loaded = loaded_from(crew, graph, source, true)?;
     let text = save_text_of(crew, loaded, options)?;

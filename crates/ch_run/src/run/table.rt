@@ -2,10 +2,11 @@
 ghost use Rattle.std.specs.Prelude.{◌≡◌, ◌^◌, ◌<◌, length, flat_map, IfOk, IsNone};
 ghost use Rattle.ch_contract.specs.Legs.{IsHopBound};
 ghost use Rattle.ch_text.specs.TableText.{IsTableText};
-ghost use Rattle.ch_run.specs.declared.source.Source.TheVariants as SourceOf;
+ghost use Rattle.ch_job.specs.declared.source.Source.TheVariants as SourceOf;
+ghost use Rattle.ch_job.specs.Job.{IsSourceAllowed, source_map};
 ghost use Rattle.ch_run.specs.Lists.{AreLists};
 ghost use Rattle.ch_run.specs.Run.{Delivers, reading};
-ghost use Rattle.ch_run.specs.Source.{IsSourceAllowed, source_origin, source_reading};
+ghost use Rattle.ch_run.specs.Source.{source_reading};
 ghost use Rattle.ch_run.specs.Stories.{RunsTable};
 ghost use Rattle.ch_run.specs.TableRun.{IsTabledBy};
 
@@ -14,9 +15,9 @@ use super::loading::{Loaded, loaded_from};
 use super::output::write_parts;
 use super::texts::table_parts_by;
 use crate::fault::RunFault;
-use crate::options::{Options, quick_order};
+use crate::orders::quick_order;
 use crate::plan::{Crew, Gate};
-use crate::source::Source;
+use ch_job::{Options, Source};
 use ch_text::{Input, Output};
 use std::alloc::AllocError;
 use std::thread::Threads;
@@ -69,7 +70,7 @@ pub fn run_table<
         (reading J.read_gives sources.old sources.new) (reading L.read_gives targets.old targets.new)) }
 
     // Each input is still the same one.
-    ensures same { (I.origin graph.new ≡ I.origin graph.old) × (source_origin S.origin source.new ≡ source_origin S.origin source.old)
+    ensures same { (I.origin graph.new ≡ I.origin graph.old) × (source_map S.origin source.new ≡ source_map S.origin source.old)
         × (J.origin sources.new ≡ J.origin sources.old) × (L.origin targets.new ≡ L.origin targets.old) }
 {
     let loaded = loaded_from(crew, graph, source, false)?;

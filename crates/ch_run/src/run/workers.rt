@@ -99,7 +99,7 @@ pub(crate) fn answers_text_by<R: Threads + Sync, G: Gate>(
     requires { length answers.now < 2 ^ 32 }
     ensures { IfOk result (λ text. text.items ≡ flat_map answer_text answers.now) }
 {
-    if crew.plan.workers() == 1 || answers.len() <= ANSWERS as usize {
+    if !crew.plan.shares(answers.len(), ANSWERS as usize + 1) {
         return answers_text(crew.alloc, answers);
     }
     let texts = run_pieces(

@@ -81,9 +81,10 @@ class Answers:
     ) -> None:
         coordinates = network.coordinates
         self.network, self.limits, self.profiles = network, limits, profiles
-        steps = Steps(Crossings(network.roads, coordinates.copies(), streets))
-        drawings = {form: Drawing(network.roads.lines, form) for form in options.FORMS}
-        self.voice = telling.Voice(steps, numbers, MODES.get(profile_of(coordinates.comments), "driving"), drawings)
+        mode = MODES.get(profile_of(coordinates.comments), "driving")
+        steps = Steps(Crossings(network.roads, coordinates.copies(), streets), mode)
+        drawings = {form: Drawing(network.roads.lines, network.nodes, form) for form in options.FORMS}
+        self.voice = telling.Voice(steps, numbers, drawings)
 
     def question(self, words: url.Words) -> Question:
         """The question of a request, which is read before anything is looked up."""
@@ -223,7 +224,7 @@ class Answers:
         """The durations of a table, the metres of the routes that these are of, or both."""
         own, general = question.own, question.general
         spots = self.own_spots(question)
-        starts, ends = spots[own.sources], spots[own.destinations]
+        starts, ends = (spots if some == list(range(len(spots))) else spots[some] for some in (own.sources, own.destinations))
         best, ways = table_ways(self.network._trips, starts, ends)
         is_there, parts = best < FAR, []
         if own.has_durations:
@@ -242,7 +243,7 @@ class Answers:
         metres = numpy.zeros(best.shape)
         for first in range(0, len(rows), BATCH):
             row, column = rows[first:first + BATCH], columns[first:first + BATCH]
-            metres[row, column] = metres_by(self.network._trips, starts[row], ends[column], best[row, column], ways[row, column])
+            metres[row, column] = metres_by(self.network._trips, starts, row, ends, column, best[row, column], ways[row, column])
         return metres
 
     # The nearest roads.

@@ -1,40 +1,62 @@
-"""Cells of tables as texts of JSON, all of a table at once by numpy, because a table has more numbers than all other answers."""
+"""Cells of tables as texts of JSON, all of a table at once by numpy, because a table has more numbers than all other answers.
+
+A number is put together from words of four letters each: three digits or fewer, or the digits behind the point. Letters that are not told are zeros,
+which are left out at the end.
+"""
 from __future__ import annotations
 
-from typing import TYPE_CHECKING, Any
+import functools
+from collections.abc import Iterable
+from typing import TYPE_CHECKING
 
 import numpy
 
 if TYPE_CHECKING:
+    from numpy.typing import NDArray
     from chtab.typing import Integers, Marks
 
 # Above this not each whole number is one of JSON's readers, which take numbers of 53 bits.
 MOST = 1 << 53
-BETWEEN, BEHIND_ROW, NULL = (numpy.frombuffer(text, numpy.uint8) for text in (b", ", b"], [", b"null"))
-ZERO, POINT = b"0."
+# How many numbers a word has before the point.
+THOUSAND = 1_000
+
+
+def words(texts: Iterable[str]) -> NDArray[numpy.uint32]:
+    """Texts of at most four letters as words."""
+    return numpy.frombuffer(b"".join([text.encode().rjust(4, b"\0") for text in texts]), numpy.uint32)
+
+
+@functools.cache
+def endings(digits: int) -> NDArray[numpy.uint32]:
+    """The point and the last digits, so many, of each number. None ends with a zero, but where it is the only digit."""
+    return words("." + (f"{rest:0{digits}}".rstrip("0") or "0") for rest in range(10**digits))
+
+
+# The lowest three digits before the point, without zeros before them, and from `THOUSAND` on with these, where higher digits come before.
+LOWEST = words([*map(str, range(THOUSAND)), *(f"{part:03}" for part in range(THOUSAND))])
+# The same of the digits above, where 0 is written only behind higher ones.
+HIGHER = numpy.append(numpy.uint32(0), LOWEST[1:])
+BETWEEN, BEHIND_ROW, NULL = words([", ", "], [", "null"])
 
 
 def rows(numbers: Integers, digits: int, is_there: Marks) -> str:
     """The text of a table of at least one cell: whole numbers (n, m) from 0 to `MOST`, of each of which the last digits, so many, lie behind the
     point; null where nothing is there."""
-    table = numpy.where(is_there, numbers, 0)
-    width = max(len(str(table.max())), digits + 1) + 1
-    point = width - digits - 1
-    letters = numpy.empty((*table.shape, width + len(NULL) + len(BEHIND_ROW)), numpy.uint8)
-    is_told = numpy.zeros(letters.shape, bool)
-    rest, power = table, 1
-    is_needed: Any
-    for place in range(width - 1, -1, -1):
-        if place == point:
-            letters[..., place], is_told[..., place] = POINT, is_there
-            continue
-        whole = rest // 10
-        letters[..., place] = rest - 10 * whole + ZERO
-        # Before the point no number begins with a zero, but 0 itself; behind it none ends with one, but where it is the only digit.
-        is_needed = table >= power if place < point - 1 else True if place in (point - 1, point + 1) else table % (10 * power) > 0
-        is_told[..., place] = is_there & is_needed
-        rest, power = whole, 10 * power
-    letters[..., width:width + 4], is_told[..., width:width + 4] = NULL, ~is_there[..., None]
-    letters[:, :, width + 4:width + 6], is_told[:, :-1, width + 4:width + 6] = BETWEEN, True
-    letters[:, -1, width + 4:], is_told[:, -1, width + 4:] = BEHIND_ROW, True
-    return f"[[{letters[is_told].tobytes().decode('ascii')[:-3]}]"
+    is_whole = bool(is_there.all())
+    rest, behind = numpy.divmod(numbers if is_whole else numpy.where(is_there, numbers, 0), 10**digits)
+    columns, most, table = [endings(digits).take(behind)], int(rest.max()), LOWEST
+    while most >= THOUSAND:
+        above, part = numpy.divmod(rest, THOUSAND)
+        columns.append(table.take(part + THOUSAND * (above > 0)))
+        rest, most, table = above, most // THOUSAND, HIGHER
+    columns.append(table.take(rest))
+    letters = numpy.empty((*numbers.shape, len(columns) + 1), numpy.uint32)
+    for place, column in enumerate(reversed(columns)):
+        letters[..., place] = column
+    if not is_whole:
+        letters[~is_there] = 0
+        letters[~is_there, 0] = NULL
+    letters[..., -1] = BETWEEN
+    letters[:, -1, -1] = BEHIND_ROW
+    text = letters.tobytes().translate(None, b"\0").decode("ascii")
+    return f"[[{text[:-3]}]"

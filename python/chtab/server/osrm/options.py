@@ -22,6 +22,8 @@ TIMESTAMP = re.compile(r"\d{1,18}", re.ASCII)
 FORMS = "polyline", "polyline6", "geojson"
 # How many cells take as long as the distance of one.
 DISTANCE = 8
+# How much longer a leg takes than one without a line: with a line, with steps, and with annotations.
+OF_LINES, OF_STEPS, OF_ANNOTATIONS = {"false": 0.0, "full": 0.5, "simplified": 3.5}, 1.5, 10.0
 # Queries that were read last are kept, of so many characters and for so many coordinates at most.
 QUERIES_KEPT, LONGEST_KEPT, MOST_KEPT = 1_024, 256, 64
 
@@ -85,6 +87,11 @@ class Route(NamedTuple):
     overview: str
     has_steps: bool
     annotations: tuple[str, ...]
+
+    @property
+    def work(self) -> float:
+        """How long a leg takes, beside one without a line, steps and annotations."""
+        return 1 + OF_LINES[self.overview] + OF_STEPS * self.has_steps + OF_ANNOTATIONS * bool(self.annotations)
 
     @property
     def has_traces(self) -> bool:

@@ -25,12 +25,11 @@ METADATA = {"datasource_names": ["graph"]}
 
 
 class Voice(NamedTuple):
-    """What the texts of a network's routes are made with: the steps of its crossings, the map's numbers of nodes or None, OSRM's word for the way of
-    travelling, and what draws lines in each form."""
+    """What the texts of a network's routes are made with: the steps of its crossings, the map's numbers of nodes or None, and what draws lines in each
+    form."""
 
     steps: Steps
     numbers: Integers | None
-    mode: str
     drawings: Mapping[str, Drawing]
 
 
@@ -79,7 +78,7 @@ def steps_of(voice: Voice, drafts: Drafts, parts: Sequence[list[int]], options: 
             stepping.setdefault(option.geometries, []).extend(part)
     for form, some in stepping.items():
         lines = Lines(voice.drawings[form], drafts.of(form, some))
-        found |= zip(some, voice.steps.of(drafts.legs, numpy.array(some), lines, voice.mode))
+        found |= zip(some, voice.steps.of(drafts.legs, numpy.array(some), lines))
     return found
 
 
@@ -97,7 +96,7 @@ def leg_text(voice: Voice, legs: Legs, leg: int, options: Route, told: OfLegs) -
     if options.annotations:
         trace = told.traces.of(told.places[leg]) if leg in told.places else None
         more = f' "annotation": {json.dumps(annotation(legs, leg, trace, options.annotations, voice.numbers))},'
-    summary, listed = (json.dumps(steps.summary), steps.steps) if steps else ('""', "[]")
+    summary, listed = (steps.summary, steps.steps) if steps else ('""', "[]")
     return f'{{"distance": {round(told.metres[leg], 1)}, "duration": {weight}, "weight": {weight}, "summary": {summary},{more} "steps": {listed}}}'
 
 

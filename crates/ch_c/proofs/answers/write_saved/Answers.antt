@@ -26,5 +26,6 @@ returns c =
     let copy : copied ≡ text = search rules in
     let fits : length text ≤ length (copied ++ drop n out) = search rules in
     let written : take (length text) (copied ++ drop n out) ≡ text =
-    subst (λ (xs : List ℕ). take (length text) (xs ++ drop n out) ≡ text) (sym copy) (take-append-le (length text) text (drop n out) (omega arith) ∙ take-length text) in
+    subst (λ (xs : List ℕ). take (length text) (xs ++ drop n out) ≡ text) (sym copy)
+    (take-append-le (length text) text (drop n out) (omega arith) ∙ take-length text) in
     inl (text, c.in-Ok.ensures, size, inl (refl, fits, written, behind_copied text copied out n count (ap length copy)))

@@ -9,6 +9,9 @@ returns-clause-answered c =
     let status = c.write_rows-status.result in
     let args = c.args in
     let new = c.write_rows-status.new in
-    let Says : Held → Type 0 = λ held. AreRowsAnswered held args.sources.now (record { rows = args.rows.now; ends = args.ends.now; weights = args.weights.now; places = args.places.now }) (record { rows = new.rows; ends = new.ends; weights = new.weights; places = new.places }) status in
-    subst (λ network. OfNetwork network status ((new.rows ≡ args.rows.now) × (new.ends ≡ args.ends.now) × (new.weights ≡ args.weights.now) × (new.places ≡ args.places.now)) Says) (sym c.in-Some.ensures.taken)
+    let Says : Held → Type 0 = λ held. AreRowsAnswered held args.sources.now
+    (record { rows = args.rows.now; ends = args.ends.now; weights = args.weights.now; places = args.places.now })
+    (record { rows = new.rows; ends = new.ends; weights = new.weights; places = new.places }) status in
+    subst (λ network. OfNetwork network status ((new.rows ≡ args.rows.now) × (new.ends ≡ args.ends.now)
+    × (new.weights ≡ args.weights.now) × (new.places ≡ args.places.now)) Says) (sym c.in-Some.ensures.taken)
     (c.in-Some.ensures.kept, subst Says c.deref_mut.ensures.value c.write_rows-status.ensures.answered)

@@ -9,6 +9,7 @@ returns-clause-answered c =
     let status = c.write_sums-status.result in
     let args = c.args in
     let new = c.write_sums-status.new in
-    let Says : Held → Type 0 = λ held. AreSumsAnswered held args.sources.now args.values.now args.limits.now (record { rows = args.rows.now; sums = args.sums.now }) (record { rows = new.rows; sums = new.sums }) status in
+    let Says : Held → Type 0 = λ held. AreSumsAnswered held args.sources.now args.values.now args.limits.now
+    (record { rows = args.rows.now; sums = args.sums.now }) (record { rows = new.rows; sums = new.sums }) status in
     subst (λ network. OfNetwork network status ((new.rows ≡ args.rows.now) × (new.sums ≡ args.sums.now)) Says) (sym c.in-Some.ensures.taken)
     (c.in-Some.ensures.kept, subst Says c.deref_mut.ensures.value c.write_sums-status.ensures.answered)

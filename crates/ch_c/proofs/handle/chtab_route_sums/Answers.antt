@@ -9,6 +9,9 @@ returns-clause-answered c =
     let status = c.write_route_sums-status.result in
     let args = c.args in
     let new = c.write_route_sums-status.new in
-    let Says : Held → Type 0 = λ held. ArePairSumsAnswered held args.sources.now args.targets.now args.values.now (record { pairs = args.pairs.now; weights = args.weights.now; sums = args.sums.now }) (record { pairs = new.pairs; weights = new.weights; sums = new.sums }) status in
-    subst (λ network. OfNetwork network status ((new.pairs ≡ args.pairs.now) × (new.weights ≡ args.weights.now) × (new.sums ≡ args.sums.now)) Says) (sym c.in-Some.ensures.taken)
+    let Says : Held → Type 0 = λ held. ArePairSumsAnswered held args.sources.now args.targets.now args.values.now
+    (record { pairs = args.pairs.now; weights = args.weights.now; sums = args.sums.now })
+    (record { pairs = new.pairs; weights = new.weights; sums = new.sums }) status in
+    subst (λ network. OfNetwork network status ((new.pairs ≡ args.pairs.now) × (new.weights ≡ args.weights.now)
+    × (new.sums ≡ args.sums.now)) Says) (sym c.in-Some.ensures.taken)
     (c.in-Some.ensures.kept, subst Says c.deref_mut.ensures.value c.write_route_sums-status.ensures.answered)

@@ -18,8 +18,16 @@ returns c =
     let node = c.args.leg.node in
     let bound = subst (λ (z : List Leg). i ≤ length z) e c.place_of-place.ensures.bound in
     let before = subst (λ (z : List Leg). (k : ℕ) (d : Leg) → k < i → (get_or z k d).node < node) e c.place_of-place.ensures.before in
-    let after = subst (λ (z : List Leg). (k : ℕ) (d : Leg) → i ≤ k → k < length z → node ≤ (get_or z k d).node) e c.place_of-place.ensures.after in
+    let after = subst (λ (z : List Leg). (k : ℕ) (d : Leg) → i ≤ k → k < length z → node ≤ (get_or z k d).node) e
+    c.place_of-place.ensures.after in
     let set_is = c.in_ok-insert.ensures.ok in
-    let here = ap (λ l. row l c.args.list) set_is ∙ get_or-set_same c.args.lists.now c.args.list (insert old i c.args.leg) [] c.requires.list in
+    let here = ap (λ l. row l c.args.list) set_is
+    ∙ get_or-set_same c.args.lists.now c.args.list (insert old i c.args.leg) [] c.requires.list in
     let is = inserted old (row c.insert.new.self c.args.list) i c.args.leg c.requires.row bound before after c.requires.free here in
-    record { size = ap length set_is ∙ length-set c.args.lists.now c.args.list (insert old i c.args.leg); edited = set_is ∙ ap (set c.args.lists.now c.args.list) (sym here); row = is.0; legs = is.1 }
+    record {
+      size = ap length set_is ∙ length-set c.args.lists.now c.args.list (insert old i c.args.leg);
+      edited =
+          set_is ∙ ap (set c.args.lists.now c.args.list) (sym here);
+      row = is.0;
+      legs = is.1;
+    }

@@ -8,4 +8,5 @@ pub returns-clause-edited : goal.returns-clause-edited
 returns-clause-edited c =
     let lists = c.args.lists.now in
     let list = c.args.list in
-    c.in_ok-insert_leg.ensures.edited ∙ ap (λ l. set l list (row c.insert_leg.new.lists list)) c.take_leg.ensures.edited ∙ set-set lists list (row c.take_leg.new.lists list) (row c.insert_leg.new.lists list)
+    c.in_ok-insert_leg.ensures.edited ∙ ap (λ l. set l list (row c.insert_leg.new.lists list)) c.take_leg.ensures.edited
+    ∙ set-set lists list (row c.take_leg.new.lists list) (row c.insert_leg.new.lists list)

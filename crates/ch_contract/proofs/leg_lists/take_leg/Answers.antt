@@ -7,7 +7,8 @@ use Rattle.ch_hierarchy.specs.declared.leg.Leg.{Leg}
 use Rattle.ch_hierarchy.specs.Rows.{row}
 use Rattle.ch_hierarchy.proofs.theory.NoLeg.{no_leg}
 use Rattle.ch_contract.proofs.code.RowEdits.{taken, not_there}
-use Rattle.ch_contract.proofs.leg_lists.take_leg.Goals.{After-remove, else-place-legs-via-then-place-legs+else-legs-place, else-place-legs-via-else-place-legs}
+use Rattle.ch_contract.proofs.leg_lists.take_leg.Goals.{After-remove, else-place-legs-via-then-place-legs+else-legs-place}
+use Rattle.ch_contract.proofs.leg_lists.take_leg.Goals.{else-place-legs-via-else-place-legs}
 use Rattle.ch_contract.proofs.leg_lists.take_leg.Goals as goal
 
 -- the row after the leg is taken out
@@ -36,11 +37,13 @@ returns-else-place-legs-clause-legs c =
     let legs = row c.args.lists.now c.args.list in
     let bound = subst (λ (z : List Leg). i ≤ length z) e c.place_of-place.ensures.bound in
     let before = subst (λ (z : List Leg). (k : ℕ) (d : Leg) → k < i → (get_or z k d).node < node) e c.place_of-place.ensures.before in
-    let after = subst (λ (z : List Leg). (k : ℕ) (d : Leg) → i ≤ k → k < length z → node ≤ (get_or z k d).node) e c.place_of-place.ensures.after in
+    let after = subst (λ (z : List Leg). (k : ℕ) (d : Leg) → i ≤ k → k < length z → node ≤ (get_or z k d).node) e
+    c.place_of-place.ensures.after in
     not_there legs i node no_leg c.requires.row bound before (λ lt. elim c.else-place-legs.branch [
       | else-place-legs-via-then-place-legs+else-legs-place w ↦
           let le = after i no_leg (omega arith) lt in
-          let other : (get_or legs i no_leg).node ≢ node = subst (λ (z : List Leg). (get_or z i no_leg).node ≢ node) e w.if-legs-place.false in
+          let other : (get_or legs i no_leg).node ≢ node =
+          subst (λ (z : List Leg). (get_or z i no_leg).node ≢ node) e w.if-legs-place.false in
           omega arith
       | else-place-legs-via-else-place-legs w ↦ absurd (let size = ap length e in omega (arith, w.if-place-legs.false, size))
     ])

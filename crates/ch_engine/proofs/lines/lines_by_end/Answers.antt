@@ -17,7 +17,9 @@ build-requires c =
     let arcs = c.arcs-arcs.result.now in
     let end : c.loop-line.line ≡ length arcs = omega (arith, c.loop-line-test.false, c.loop-line.auto.line-end) in
     let is : c.deref.result.now ≡ ended_lines side g.arcs =
-    c.deref.ensures.value ∙ c.loop-line.invariant ∙ ap (λ (n : ℕ). map (with_key (λ line. near_end side (arc_on arcs line))) (range_with_len 0 n)) end ∙ ap (λ (them : List InArc). ended_lines side them) c.arcs-arcs.ensures.arcs in
+    c.deref.ensures.value ∙ c.loop-line.invariant
+    ∙ ap (λ (n : ℕ). map (with_key (λ line. near_end side (arc_on arcs line))) (range_with_len 0 n)) end
+    ∙ ap (λ (them : List InArc). ended_lines side them) c.arcs-arcs.ensures.arcs in
     subst (λ (n : ℕ). All (λ (p : ℕ × ℕ). p.0 < n) c.deref.result.now) (sym c.nodes.ensures)
     (subst (All (λ (p : ℕ × ℕ). p.0 < g.nodes)) (sym is) (ended_low g c.arcs-arcs.ensures.limits side))
 
@@ -28,8 +30,11 @@ returns c =
     let arcs = c.arcs-arcs.result.now in
     let end : c.loop-line.line ≡ length arcs = omega (arith, c.loop-line-test.false, c.loop-line.auto.line-end) in
     let is : c.deref.result.now ≡ ended_lines side g.arcs =
-    c.deref.ensures.value ∙ c.loop-line.invariant ∙ ap (λ (n : ℕ). map (with_key (λ line. near_end side (arc_on arcs line))) (range_with_len 0 n)) end ∙ ap (λ (them : List InArc). ended_lines side them) c.arcs-arcs.ensures.arcs in
-    subst (λ (q : List (ℕ × ℕ)). IfOk c.build.result (AreRowsOf g.nodes q)) is (subst (λ (n : ℕ). IfOk c.build.result (AreRowsOf n c.deref.result.now)) c.nodes.ensures c.build.ensures)
+    c.deref.ensures.value ∙ c.loop-line.invariant
+    ∙ ap (λ (n : ℕ). map (with_key (λ line. near_end side (arc_on arcs line))) (range_with_len 0 n)) end
+    ∙ ap (λ (them : List InArc). ended_lines side them) c.arcs-arcs.ensures.arcs in
+    subst (λ (q : List (ℕ × ℕ)). IfOk c.build.result (AreRowsOf g.nodes q)) is
+    (subst (λ (n : ℕ). IfOk c.build.result (AreRowsOf n c.deref.result.now)) c.nodes.ensures c.build.ensures)
 
 pub loop-line-preserved : goal.loop-line-preserved
 loop-line-preserved c =

@@ -10,5 +10,6 @@ invariant-loop-node l = record {
   count : length l.rows ≡ l.node;
   long : (v : ℕ) → v < l.node → length (slice_index_or l.rows v []) ≡ length (row (rows_of l.hierarchy l.side) v);
   each : (v k : ℕ) → v < l.node → k < length (row (rows_of l.hierarchy l.side) v) →
-      IsLineWord l.arcs (Leads l.arcs (tail_of l.side v (node_at (row (rows_of l.hierarchy l.side) v) k)) (head_of l.side v (node_at (row (rows_of l.hierarchy l.side) v) k))) (slice_index (slice_index_or l.rows v []) k);
+      IsLineWord l.arcs (Leads l.arcs (tail_of l.side v (node_at (row (rows_of l.hierarchy l.side) v) k))
+      (head_of l.side v (node_at (row (rows_of l.hierarchy l.side) v) k))) (slice_index (slice_index_or l.rows v []) k);
 }

@@ -19,7 +19,9 @@ note_line-requires c =
       order = c.requires.order;
       long = l.invariant.long;
       words = λ k low. line_or_none arcs (IsSeen arcs c.args.side c.args.seen.now l.i (node_at c.args.legs.now k)) (slice_index l.row k)
-          (λ line among. subst (λ n. n < length arcs) among.2 (c.requires.seen among.0 (omega (arith, among.1, c.loop-i-test.true)))) (l.invariant.each k (omega (arith, low, l.invariant.long)));
+          (λ line among. subst (λ n. n < length arcs) among.2
+          (c.requires.seen among.0 (omega (arith, among.1, c.loop-i-test.true))))
+          (l.invariant.each k (omega (arith, low, l.invariant.long)));
     }
 
 pub loop-i-preserved : goal.loop-i-preserved
@@ -29,8 +31,11 @@ loop-i-preserved c =
     let new = c.note_line.new.row in
     record {
       long = c.note_line.ensures.long ∙ l.invariant.long;
-      each = λ k low. noted arcs c.args.side c.args.seen.now l.i (node_at c.args.legs.now k) (slice_index l.row k) (slice_index new k) c.requires.few
-          (λ line among. subst (λ n. n < length arcs) among.2 (c.requires.seen among.0 (omega (arith, among.1, c.loop-i-test.true)))) (l.invariant.each k low) (c.note_line.ensures.here k low) (c.note_line.ensures.others k low);
+      each = λ k low. noted arcs c.args.side c.args.seen.now l.i (node_at c.args.legs.now k) (slice_index l.row k)
+          (slice_index new k) c.requires.few
+          (λ line among. subst (λ n. n < length arcs) among.2
+          (c.requires.seen among.0 (omega (arith, among.1, c.loop-i-test.true)))) (l.invariant.each k low)
+          (c.note_line.ensures.here k low) (c.note_line.ensures.others k low);
     }
 
 pub returns-clause-each : goal.returns-clause-each
@@ -39,4 +44,5 @@ returns-clause-each c =
     let seen = c.args.seen.now in
     let legs = c.args.legs.now in
     let end : c.loop-i.i ≡ length seen = omega (arith, c.loop-i-test.false, c.loop-i.auto.i-end) in
-    subst (λ (n : ℕ). (k : ℕ) → k < length legs → IsLineWord arcs (IsSeen arcs c.args.side seen n (node_at legs k)) (slice_index c.loop-i.row k)) end c.loop-i.invariant.each
+    subst (λ (n : ℕ). (k : ℕ) → k < length legs → IsLineWord arcs (IsSeen arcs c.args.side seen n (node_at legs k))
+    (slice_index c.loop-i.row k)) end c.loop-i.invariant.each

@@ -9,11 +9,14 @@ use Rattle.ch_engine.proofs.lines.place_in.Goals as goal
 pub returns-in-Ok : goal.returns-in-Ok
 returns-in-Ok c =
     let e = c.in-Ok.ensures in
-    let found = found_leg c.args.legs.now c.args.node c.in-Ok.place no_leg e.bound (e.position (λ l. l.node) (answers_always _ _ _ (λ f a r g called. search rules))) in
+    let found = found_leg c.args.legs.now c.args.node c.in-Ok.place no_leg e.bound
+    (e.position (λ l. l.node) (answers_always _ _ _ (λ f a r g called. search rules))) in
     (e.bound, found.1)
 
 pub returns-in-Err : goal.returns-in-Err
 returns-in-Err c =
     let e = c.in-Err.ensures in
     let legs = c.args.legs.now in
-    λ k low at. not_missed legs c.args.node (get_or legs k no_leg) c.requires (k, low, get_or_default legs k (get_or legs k no_leg) no_leg low) at c.in-Err.field-0 (e.position (λ l. l.node) (answers_always _ _ _ (λ f a r g called. search rules)))
+    λ k low at. not_missed legs c.args.node (get_or legs k no_leg) c.requires
+    (k, low, get_or_default legs k (get_or legs k no_leg) no_leg low) at c.in-Err.field-0
+    (e.position (λ l. l.node) (answers_always _ _ _ (λ f a r g called. search rules)))

@@ -23,7 +23,8 @@ returns-in-Err-Fault-read_saved-clause-error c =
       (
         c.in-Ok.roads,
         (c.in-Ok.ensures.value c.in-Ok.roads).0 refl,
-        subst (λ e. IsFault (Saved c.in-Ok.roads.nodes) c.args.saved.now e.line e.kind) (sym c.in-Err-Fault-read_saved.fault-is) (subst (λ n. IsFault (Saved n) c.args.saved.now f.line f.kind) c.nodes.ensures faulty),
+        subst (λ e. IsFault (Saved c.in-Ok.roads.nodes) c.args.saved.now e.line e.kind) (sym c.in-Err-Fault-read_saved.fault-is)
+            (subst (λ n. IsFault (Saved n) c.args.saved.now f.line f.kind) c.nodes.ensures faulty),
       ),
     )
 
@@ -33,12 +34,14 @@ returns-clause-value c =
     let saved = c.in-Ok-read_saved.hierarchy in
     let right = c.in-Ok-check_alone.right in
     let same : c.in_ok-lined-2.lined.0 ≡ right = c.in_ok-lined-2.ensures.hierarchy in
-    let named = subst (λ (n : ℕ). NamesSaved c.args.saved.now n saved) c.nodes.ensures ((c.in-Ok-read_saved.ensures.value saved).0 refl) in (
+    let named = subst (λ (n : ℕ). NamesSaved c.args.saved.now n saved) c.nodes.ensures
+    ((c.in-Ok-read_saved.ensures.value saved).0 refl) in (
       roads,
       (c.in-Ok.ensures.value roads).0 refl,
       c.arcs.ensures.limits,
       subst (IsKept roads) (sym same) c.in-Ok-check_alone.ensures.hierarchy.1,
-      subst (IsSavedOrBuilt roads c.args.saved.now) (sym same) (saved_named roads c.args.saved.now saved right (search rules) named c.in-Ok-check_alone.ensures.hierarchy.0),
+      subst (IsSavedOrBuilt roads c.args.saved.now) (sym same)
+          (saved_named roads c.args.saved.now saved right (search rules) named c.in-Ok-check_alone.ensures.hierarchy.0),
       c.in_ok-lined-2.ensures.lines,
     )
 
@@ -63,6 +66,7 @@ returns-then-is_empty-clause-value c =
       (c.in-Ok.ensures.value roads).0 refl,
       c.in_ok-built.ensures.limits,
       subst (IsKept roads) (sym same) c.in_ok-built.ensures.kept,
-      subst (IsSavedOrBuilt roads c.args.saved.now) (sym same) (built roads c.args.saved.now c.in_ok-built.built (search rules) c.in_ok-built.ensures.hierarchy),
+      subst (IsSavedOrBuilt roads c.args.saved.now) (sym same)
+          (built roads c.args.saved.now c.in_ok-built.built (search rules) c.in_ok-built.ensures.hierarchy),
       c.in_ok-lined.ensures.lines,
     )

@@ -7,7 +7,8 @@ use Rattle.ch_engine.proofs.words.are_nodes.Goals as goal
 
 pub loop-number-preserved : goal.loop-number-preserved
 loop-number-preserved c =
-    All-more (λ node. node < c.args.nodes) c.args.numbers.now c.loop-number.number-index 0 c.loop-number-test.true c.loop-number.invariant (omega (arith, c.if-number-nodes.false))
+    All-more (λ node. node < c.args.nodes) c.args.numbers.now c.loop-number.number-index 0 c.loop-number-test.true
+    c.loop-number.invariant (omega (arith, c.if-number-nodes.false))
 
 pub returns : goal.returns
 returns c =

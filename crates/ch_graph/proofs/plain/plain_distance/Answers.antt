@@ -15,7 +15,8 @@ settled : (g : Network) (s t : ℕ) (best : List (Option ℕ)) (o : Option ℕ) 
 settled g s t best None e p relaxed = λ arcs w. let r = relaxed_walk g best s t 0 arcs relaxed p.start w in none-some _ (e ∙ r.1)
 settled g s t best (Some x) e p relaxed = record {
   walk = p.walks t x (sym e);
-  least = λ arcs w. let r = relaxed_walk g best s t 0 arcs relaxed p.start w in let same = same_Some _ _ (e ∙ r.1) in let le = r.2 in omega arith;
+  least = λ arcs w. let r = relaxed_walk g best s t 0 arcs relaxed p.start w in let same = same_Some _ _ (e ∙ r.1) in
+      let le = r.2 in omega arith;
 }
 
 -- a read from the vector after its slice was lent
@@ -34,8 +35,10 @@ relax_to_rest-requires c = (c.args.start, first _ _ _ _ _ c.requires.start c.nod
 
 pub returns : goal.returns
 returns c =
-    let known = c.relax_to_rest.ensures.known c.args.start (first _ _ _ _ _ c.requires.start c.nodes.ensures c.in_ok-best.ensures c.deref_mut.ensures.value) in
+    let known = c.relax_to_rest.ensures.known c.args.start
+    (first _ _ _ _ _ c.requires.start c.nodes.ensures c.in_ok-best.ensures c.deref_mut.ensures.value) in
     let size = known.nodes in
     let kept = c.relax_to_rest.auto.best in
     let len = c.deref_mut.ensures.len in
-    settled _ _ _ c.relax_to_rest.new.best _ (read c.relax_to_rest.new.best _ _ _ _ (omega arith) (omega arith) c.index.ensures) known c.relax_to_rest.ensures.relaxed
+    settled _ _ _ c.relax_to_rest.new.best _ (read c.relax_to_rest.new.best _ _ _ _ (omega arith) (omega arith) c.index.ensures)
+    known c.relax_to_rest.ensures.relaxed

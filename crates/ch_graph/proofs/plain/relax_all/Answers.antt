@@ -1,5 +1,6 @@
 -- No sum of a label and a weight overflows, labels stay weights of walks, and a round without a change finds all arcs relaxed.
-use Rattle.std.proofs.Common.{◌≡◌, ℕ, ◌+◌, ◌<◌, ◌≤◌, ◌||◌, Bool, true, false, List, All, Contains, Option, length, get_or, take, take_all, arith, ap, subst, sym, refl, ◌∙◌}
+use Rattle.std.proofs.Common.{◌≡◌, ℕ, ◌+◌, ◌<◌, ◌≤◌, ◌||◌, Bool, true, false, List, All, Contains, Option, length, get_or, take}
+use Rattle.std.proofs.Common.{take_all, arith, ap, subst, sym, refl, ◌∙◌}
 use Rattle.std.proofs.lemmas.List.Elements.{All-more, Contains-get_or}
 use Rattle.ch_graph.specs.declared.arc.InArc.{InArc}
 use Rattle.ch_graph.specs.Graph.{Network, IsArcWithin, IsWithinLimits}
@@ -33,9 +34,22 @@ module _ (g : Network) (lent : List InArc) (i : ℕ) (d : InArc) (whole : lent �
     round : (changed one : Bool) (s : ℕ) → IsPartial g s mid → IsRound changed old mid (take i g.arcs) →
         (one ≡ true → IsLowered mid new (get_or lent i d)) → (one ≡ false → (new ≡ mid) × IsRelaxed mid (get_or lent i d)) →
         IsRound (changed || one) old new (take (i + 1) g.arcs)
-    round true true s p before lowered same = record { less = λ _. omega (arith, before.less refl, total_falls g s mid new _ p stands (fits limits) (lowered refl)); same = λ e. cc }
-    round true false s p before lowered same = record { less = λ _. omega (arith, before.less refl, ap total (same refl).0); same = λ e. cc }
-    round false true s p before lowered same = record { less = λ _. omega (arith, ap total (before.same refl).0, total_falls g s mid new _ p stands (fits limits) (lowered refl)); same = λ e. cc }
+    round true true s p before lowered same =
+        record {
+          less = λ _. omega (arith, before.less refl, total_falls g s mid new _ p stands (fits limits) (lowered refl));
+          same = λ e. cc;
+        }
+    round true false s p before lowered same =
+        record { less = λ _. omega (arith, before.less refl, ap total (same refl).0); same = λ e. cc }
+    round false true s p before lowered same =
+        record {
+          less = λ _. omega (
+            arith,
+            ap total (before.same refl).0,
+            total_falls g s mid new _ p stands (fits limits) (lowered refl),
+          );
+          same = λ e. cc;
+        }
     round false false s p before lowered same = record { less = λ e. cc; same = λ _. kept before (same refl) }
 
 pub relax-changed-requires-clause-sum : goal.relax-changed-requires-clause-sum
@@ -46,8 +60,11 @@ relax-changed-requires-clause-sum c before e =
 
 pub loop-arc-preserved : goal.loop-arc-preserved
 loop-arc-preserved c = record {
-  known = λ s p. known _ _ _ _ c.arcs-arc-items.ensures.arcs c.loop-arc-test.true c.arcs-arc-items.ensures.limits c.args.best.now _ _ _ s (c.loop-arc.invariant.known s p) c.relax-changed.ensures.lowered c.relax-changed.ensures.same;
-  round = round _ _ _ _ c.arcs-arc-items.ensures.arcs c.loop-arc-test.true c.arcs-arc-items.ensures.limits _ _ _ _ _ _ (c.loop-arc.invariant.known c.requires.0 c.requires.1) c.loop-arc.invariant.round c.relax-changed.ensures.lowered c.relax-changed.ensures.same;
+  known = λ s p. known _ _ _ _ c.arcs-arc-items.ensures.arcs c.loop-arc-test.true c.arcs-arc-items.ensures.limits c.args.best.now _
+      _ _ s (c.loop-arc.invariant.known s p) c.relax-changed.ensures.lowered c.relax-changed.ensures.same;
+  round = round _ _ _ _ c.arcs-arc-items.ensures.arcs c.loop-arc-test.true c.arcs-arc-items.ensures.limits _ _ _ _ _ _
+      (c.loop-arc.invariant.known c.requires.0 c.requires.1) c.loop-arc.invariant.round c.relax-changed.ensures.lowered
+      c.relax-changed.ensures.same;
 }
 
 -- past the last arc, the round covers all arcs

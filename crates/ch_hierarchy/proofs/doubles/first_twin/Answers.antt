@@ -4,7 +4,8 @@ use Rattle.std.proofs.lemmas.List.{get_or_default}
 use Rattle.std.proofs.lemmas.List.Elements.{Contains-get_or}
 use Rattle.ch_hierarchy.specs.declared.placing.Placed.{Placed}
 use Rattle.ch_hierarchy.specs.Doubles.{IsLessened}
-use Rattle.ch_hierarchy.proofs.code.Doubled.{IsTwinBelow, none_met, met_before, none_before, next_last, twin_met, none_more, twins_all, lessened_none}
+use Rattle.ch_hierarchy.proofs.code.Doubled.{IsTwinBelow, none_met, met_before, none_before, next_last, twin_met, none_more}
+use Rattle.ch_hierarchy.proofs.code.Doubled.{twins_all, lessened_none}
 use Rattle.ch_hierarchy.proofs.doubles.first_twin.Goals.{then-index-entry, else-index-entry}
 use Rattle.ch_hierarchy.proofs.doubles.first_twin.Goals as goal
 
@@ -48,11 +49,14 @@ loop-entry-preserved c =
       last = next_last n entries order nodes i last blank lt was.last;
       least = elim c.if-index-entry.branch [
         | then-index-entry w ↦ subst (IsLessened (IsTwinBelow entries (i + 1)) c.args.known) (sym w.least-is)
-            (twin_met n entries order nodes i last blank lt was.last c.args.known c.loop-entry.least w.lesser-least.result (met_before n entries order nodes i last blank lt was.last (read ∙ w.if-index-entry.true)) was.least w.lesser-least.ensures)
+            (twin_met n entries order nodes i last blank lt was.last c.args.known c.loop-entry.least w.lesser-least.result
+            (met_before n entries order nodes i last blank lt was.last (read ∙ w.if-index-entry.true)) was.least w.lesser-least.ensures)
         | else-index-entry w ↦ subst (IsLessened (IsTwinBelow entries (i + 1)) c.args.known) (sym w.least-is)
-            (none_more n entries order nodes i last blank lt was.last c.args.known c.loop-entry.least (none_before n entries order nodes i last blank lt was.last (λ same. w.if-index-entry.false (sym read ∙ same))) was.least)
+            (none_more n entries order nodes i last blank lt was.last c.args.known c.loop-entry.least
+            (none_before n entries order nodes i last blank lt was.last (λ same. w.if-index-entry.false (sym read ∙ same))) was.least)
       ];
     }
 
 pub returns : goal.returns
-returns c = twins_all c.args.n c.args.entries.now c.requires.order c.requires.below c.loop-entry.entry-index _ _ c.loop-entry-test.false c.loop-entry.invariant.least
+returns c = twins_all c.args.n c.args.entries.now c.requires.order c.requires.below c.loop-entry.entry-index _ _
+    c.loop-entry-test.false c.loop-entry.invariant.least

@@ -30,8 +30,10 @@ push_where_up-requires-in-loop-place-clause-higher c =
 
 pub loop-place-preserved : goal.loop-place-preserved
 loop-place-preserved c = record {
-  up = placed_more from_of to_of c.args.levels.now c.args.legs.now c.loop-place.place _ _ c.loop-place.invariant.up c.loop-place-test.true c.in_ok-push_where_up.ensures;
-  down = placed_more to_of from_of c.args.levels.now c.args.legs.now c.loop-place.place _ _ c.loop-place.invariant.down c.loop-place-test.true c.in_ok-push_where_up-2.ensures;
+  up = placed_more from_of to_of c.args.levels.now c.args.legs.now c.loop-place.place _ _ c.loop-place.invariant.up
+      c.loop-place-test.true c.in_ok-push_where_up.ensures;
+  down = placed_more to_of from_of c.args.levels.now c.args.legs.now c.loop-place.place _ _ c.loop-place.invariant.down
+      c.loop-place-test.true c.in_ok-push_where_up-2.ensures;
 }
 
 pub returns-clause-up : goal.returns-clause-up

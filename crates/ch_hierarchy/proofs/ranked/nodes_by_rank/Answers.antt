@@ -4,7 +4,8 @@ use Rattle.ch_hierarchy.proofs.code.Ranked.{rank_in_below, one_by_rank, all_by_r
 use Rattle.ch_hierarchy.proofs.ranked.nodes_by_rank.Goals as goal
 
 pub index_mut-requires : goal.index_mut-requires
-index_mut-requires c = let below = rank_in_below c.args.levels.now c.requires.levels c.loop-node.node c.loop-node-test.true in omega (arith, below, c.loop-node.invariant.count)
+index_mut-requires c = let below = rank_in_below c.args.levels.now c.requires.levels c.loop-node.node c.loop-node-test.true in
+    omega (arith, below, c.loop-node.invariant.count)
 
 pub loop-node-preserved : goal.loop-node-preserved
 loop-node-preserved c =

@@ -16,7 +16,9 @@ returns-clause-unopened g c = not-all-opened g.F.Files.opens _ g.F.Files.known g
 
 pub returns-clause-missing : goal.returns-clause-missing
 returns-clause-missing g c = λ files old new result fault same.
-    ends-at g.F.Files.opens _ g.F.Files.known g.met.F.Files.tells files old new result fault (subst (λ (r : Result Unit RunFault). IsErrAnd r (λ other. other ≡ fault)) (sym same) refl)
+    ends-at g.F.Files.opens _ g.F.Files.known g.met.F.Files.tells files old new result fault
+    (subst (λ (r : Result Unit RunFault). IsErrAnd r (λ other. other ≡ fault)) (sym same) refl)
 
 pub returns-clause-all : goal.returns-clause-all
-returns-clause-all g c = λ files inputs old new result are. goes-on (g.F.Files.known old) files result (all-there g.F.Files.opens _ g.F.Files.known g.met.F.Files.tells files inputs old new are)
+returns-clause-all g c = λ files inputs old new result are. goes-on (g.F.Files.known old) files result
+    (all-there g.F.Files.opens _ g.F.Files.known g.met.F.Files.tells files inputs old new are)

@@ -8,4 +8,5 @@ pub returns : goal.returns
 returns c =
     let long = length-map c.args.places.now closed in
     same_lists c.loop-place.places (map closed c.args.places.now) (omega (arith, c.loop-place.auto.places)) (λ k d low.
-    c.loop-place.invariant.before k d (omega (arith, c.loop-place.auto.places)) ∙ sym (get_or-map closed c.args.places.now k d d (omega (arith, c.loop-place.auto.places))))
+    c.loop-place.invariant.before k d (omega (arith, c.loop-place.auto.places))
+    ∙ sym (get_or-map closed c.args.places.now k d d (omega (arith, c.loop-place.auto.places))))

@@ -18,14 +18,18 @@ loop-list-preserved c =
       | then-place-gt0 w ↦ record {
         room = omega (arith, ap vec_capacity w.entries-is, w.push_reserved.ensures.capacity, i.room);
         few = omega (arith, ap vec_len w.entries-is, w.push_reserved.ensures.len, i.few);
-        listed = subst (λ items. AreListed places (n + 1) items) (sym (ap (λ v. v.items) w.entries-is ∙ w.push_reserved.ensures.items)) (listed_more places n c.loop-list.entries.items p i.listed at w.if-place-gt0.true);
+        listed = subst (λ items. AreListed places (n + 1) items)
+            (sym (ap (λ v. v.items) w.entries-is ∙ w.push_reserved.ensures.items))
+            (listed_more places n c.loop-list.entries.items p i.listed at w.if-place-gt0.true);
       }
       | else-place-gt0 w ↦ record {
         room = omega (arith, ap vec_capacity w.entries-is, i.room);
         few = omega (arith, ap vec_len w.entries-is, i.few);
-        listed = subst (λ items. AreListed places (n + 1) items) (sym (ap (λ v. v.items) w.entries-is)) (listed_empty places n c.loop-list.entries.items p i.listed at (omega (arith, w.if-place-gt0.false)));
+        listed = subst (λ items. AreListed places (n + 1) items) (sym (ap (λ v. v.items) w.entries-is))
+            (listed_empty places n c.loop-list.entries.items p i.listed at (omega (arith, w.if-place-gt0.false)));
       }
     ]
 
 pub returns : goal.returns
-returns c = subst (λ n. AreListed c.args.places.now n c.loop-list.entries.items) (omega (arith, c.loop-list-test.false, c.loop-list.auto.list-end)) c.loop-list.invariant.listed
+returns c = subst (λ n. AreListed c.args.places.now n c.loop-list.entries.items)
+    (omega (arith, c.loop-list-test.false, c.loop-list.auto.list-end)) c.loop-list.invariant.listed

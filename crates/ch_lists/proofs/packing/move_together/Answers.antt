@@ -3,7 +3,8 @@ use Rattle.std.proofs.Common.{◌≡◌, ◌+◌, ◌∙◌, length, arith, refl
 use Rattle.std.specs.List.{SameBelow, SameFrom, CopiedTo}
 use Rattle.std.proofs.lemmas.List.Elements.{Contains-get_or}
 use Rattle.ch_lists.specs.Packing.{IsMovedUpTo}
-use Rattle.ch_lists.proofs.Moved.{none_moved, next, next_place, next_here, next_at, next_stands, within_after, places_after, lists_after, moved_after, all_moved}
+use Rattle.ch_lists.proofs.Moved.{none_moved, next, next_place, next_here, next_at, next_stands, within_after, places_after}
+use Rattle.ch_lists.proofs.Moved.{lists_after, moved_after, all_moved}
 use Rattle.ch_lists.proofs.packing.move_together.Goals as goal
 
 pub loop-entry-init : goal.loop-entry-init
@@ -17,13 +18,15 @@ loop-entry-init g c = record {
 
 pub copy_within-requires-clause-in_bounds : goal.copy_within-requires-clause-in_bounds
 copy_within-requires-clause-in_bounds g c =
-    let w = next_stands c.loop-entry.places c.args.order.now c.loop-entry.entry-index c.loop-entry.end c.loop-entry.invariant.moved c.loop-entry-test.true (length c.loop-entry.values.items) c.loop-entry.invariant.placed in
+    let w = next_stands c.loop-entry.places c.args.order.now c.loop-entry.entry-index c.loop-entry.end c.loop-entry.invariant.moved
+    c.loop-entry-test.true (length c.loop-entry.values.items) c.loop-entry.invariant.placed in
     let within = w.1 in
     omega arith
 
 pub copy_within-requires-clause-dest_in_bounds : goal.copy_within-requires-clause-dest_in_bounds
 copy_within-requires-clause-dest_in_bounds g c =
-    let w = next_stands c.loop-entry.places c.args.order.now c.loop-entry.entry-index c.loop-entry.end c.loop-entry.invariant.moved c.loop-entry-test.true (length c.loop-entry.values.items) c.loop-entry.invariant.placed in
+    let w = next_stands c.loop-entry.places c.args.order.now c.loop-entry.entry-index c.loop-entry.end c.loop-entry.invariant.moved
+    c.loop-entry-test.true (length c.loop-entry.values.items) c.loop-entry.invariant.placed in
     let from = w.0 in
     let within = w.1 in
     omega arith
@@ -49,16 +52,20 @@ loop-entry-preserved g c =
     let below : SameBelow old new end = by.1 in
     let above : SameFrom old new (end + p.len) = (λ j d from. by.2 j d (omega arith)) in
     record {
-      within = within_after old new places entries k end e p i.placed i.moved order.listed.once order.rising here at long copied below above;
+      within = within_after old new places entries k end e p i.placed i.moved order.listed.once order.rising here at long copied
+          below above;
       numbers = i.numbers;
-      placed = places_after old new places entries k end e p i.placed i.moved order.listed.once order.rising here at long copied below above;
-      same = lists_after old new places entries k end e p i.placed i.moved order.listed.once order.rising here at long copied below above ∙ i.same;
+      placed = places_after old new places entries k end e p i.placed i.moved order.listed.once order.rising here at long copied
+          below above;
+      same = lists_after old new places entries k end e p i.placed i.moved order.listed.once order.rising here at long copied below
+          above ∙ i.same;
       moved = moved_after old new places entries k end e p i.placed i.moved order.listed.once order.rising here at long copied below above;
     }
 
 pub returns-clause-packed : goal.returns-clause-packed
 returns-clause-packed g c =
     let i = c.loop-entry.invariant in
-    let last : c.loop-entry.entry-index ≡ length c.args.order.now = omega (arith, c.loop-entry-test.false, c.loop-entry.auto.entry-index-end) in
+    let last : c.loop-entry.entry-index ≡ length c.args.order.now =
+    omega (arith, c.loop-entry-test.false, c.loop-entry.auto.entry-index-end) in
     let moved = subst (λ k. IsMovedUpTo c.loop-entry.places c.args.order.now k c.loop-entry.end) last i.moved in
     all_moved _ _ _ _ _ _ i.placed i.same moved i.within

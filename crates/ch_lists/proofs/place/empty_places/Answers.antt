@@ -15,5 +15,7 @@ loop-room-preserved c =
       room = omega arith;
       start = omega arith;
       placed = subst (λ items. AreEmptyPlaces (i + 1) (c.loop-room.start + get_or rooms i 0) items) (sym c.push_reserved.ensures.items)
-          (push_places c.loop-room.places.items i c.loop-room.start (record { start = c.loop-room.start; len = 0; room = get_or rooms i 0 }) c.loop-room.invariant.placed refl refl (omega arith) (omega arith));
+          (push_places c.loop-room.places.items i c.loop-room.start
+          (record { start = c.loop-room.start; len = 0; room = get_or rooms i 0 }) c.loop-room.invariant.placed refl refl
+          (omega arith) (omega arith));
     }

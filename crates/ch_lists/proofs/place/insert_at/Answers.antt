@@ -9,6 +9,8 @@ pub returns-clause-ok : goal.returns-clause-ok
 returns-clause-ok g c =
     let long = c.insert_value.auto.values ∙ c.deref_mut.ensures.len in
     let within : c.args.place.start + c.args.place.room ≤ length c.args.values.now.items = omega arith in
-    let made = subst (λ middle. HasInserted middle c.insert_value.new.values (c.in_ok-now.now.start + c.args.index) (c.in_ok-now.now.start + c.in_ok-now.now.len) c.args.value) c.deref_mut.ensures.value c.insert_value.ensures in
+    let made = subst (λ middle. HasInserted middle c.insert_value.new.values (c.in_ok-now.now.start + c.args.index)
+    (c.in_ok-now.now.start + c.in_ok-now.now.len) c.args.value) c.deref_mut.ensures.value c.insert_value.ensures in
     rw (with_items_is c.place_with_room.new.values c.insert_value.new.values long)
-    (inserted c.args.values.now.items c.place_with_room.new.values.items c.insert_value.new.values c.args.place c.in_ok-now.now c.args.index c.args.value c.requires.index c.requires.fits within c.in_ok-now.ensures.ok made)
+    (inserted c.args.values.now.items c.place_with_room.new.values.items c.insert_value.new.values c.args.place c.in_ok-now.now
+    c.args.index c.args.value c.requires.index c.requires.fits within c.in_ok-now.ensures.ok made)

@@ -7,5 +7,7 @@ use Rattle.ch_near.proofs.nearest.near.Goals as goal
 
 pub returns : goal.returns
 returns g c = subst
-    (λ (w : Wanted). IfOk c.rows.result (λ rows. AllZip (λ s (row : Vec (ℕ × ℕ) Global). IsNearRow w.hierarchy w.limit w.count w.targets s row.items) c.args.sources.now rows.items))
+    (λ (w : Wanted). IfOk c.rows.result
+    (λ rows. AllZip (λ s (row : Vec (ℕ × ℕ) Global). IsNearRow w.hierarchy w.limit w.count w.targets s row.items)
+    c.args.sources.now rows.items))
     c.in_ok-near.ensures c.rows.ensures.rows

@@ -13,8 +13,12 @@ pub returns : goal.returns
 returns g c =
     let a = c.args in
     let H = a.hierarchy.now in
-    IfOk-weaker c.run_list.result
-    (λ spaces. AllZip (λ t (space : Vec (ℕ × ℕ) Global). IsRankedSpace H (target_side a.direction) a.within t space.items) a.targets.now spaces.items)
-    (λ spaces. AllZip (λ t (space : Vec (ℕ × ℕ) Global). IsRankedSpace (facing a.direction H) Down a.within t space.items) a.targets.now spaces.items)
+    IfOk-weaker c.ranked_spaces.result
+    (λ spaces. AllZip (λ t (space : Vec (ℕ × ℕ) Global). IsRankedSpace H (target_side a.direction) a.within t space.items)
+    a.targets.now spaces.items)
+    (λ spaces. AllZip (λ t (space : Vec (ℕ × ℕ) Global). IsRankedSpace (facing a.direction H) Down a.within t space.items)
+    a.targets.now spaces.items)
     (λ spaces each. target_spaces a.direction H a.within a.targets.now spaces.items each)
-    (subst (λ side. IfOk c.run_list.result (λ spaces. AllZip (λ t (space : Vec (ℕ × ℕ) Global). IsRankedSpace H side a.within t space.items) a.targets.now spaces.items)) c.target_side.ensures c.run_list.ensures)
+    (subst (λ side. IfOk c.ranked_spaces.result
+    (λ spaces. AllZip (λ t (space : Vec (ℕ × ℕ) Global). IsRankedSpace H side a.within t space.items) a.targets.now
+    spaces.items)) c.target_side-side.ensures c.ranked_spaces.ensures.spaces)

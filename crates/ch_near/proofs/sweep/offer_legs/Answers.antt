@@ -34,7 +34,8 @@ loop-leg-preserved c =
     let low : i < length space = omega arith in
     let is : get_or space i (0, 0) ≡ entry_of_leg leg = get_or-map entry_of_leg a.legs.now i no_leg (0, 0) lt in
     let more = subst (λ e. take (i + 1) space ≡ take i space ++ e ∷ []) is (take_more space i (0, 0) low) in
-    spaces_more a.within i space a.rows.now (entry_of_leg leg) more a.offers.now c.loop-leg.offers c.offer_row.new.offers c.loop-leg.invariant
+    spaces_more a.within i space a.rows.now (entry_of_leg leg) more a.offers.now c.loop-leg.offers c.offer_row.new.offers
+    c.loop-leg.invariant
     (subst (λ l. AreOffered (IsSum a.within leg.weight l) c.loop-leg.offers c.offer_row.new.offers) c.row.ensures c.in_ok-offer_row.ensures)
 
 pub returns : goal.returns
@@ -42,4 +43,5 @@ returns c =
     let a = c.args in
     let space = map entry_of_leg a.legs.now in
     let size = length-map a.legs.now entry_of_leg in
-    subst (λ l. AreOffered (IsSumOf a.within l a.rows.now) a.offers.now c.loop-leg.offers) (take_all c.loop-leg.leg-index space (omega arith)) c.loop-leg.invariant
+    subst (λ l. AreOffered (IsSumOf a.within l a.rows.now) a.offers.now c.loop-leg.offers)
+    (take_all c.loop-leg.leg-index space (omega arith)) c.loop-leg.invariant

@@ -6,4 +6,6 @@ use Rattle.ch_query.specs.Replies.{IsReply}
 use Rattle.ch_query.proofs.answer.answer_all.Goals as goal
 
 pub returns-then-routes : goal.returns-then-routes
-returns-then-routes g c = subst (λ wanted. IfOk c.run_list.result (λ answers. AllZip (IsReply c.args.hierarchy.now wanted) c.args.queries.now answers.items)) (sym c.if-routes.true) c.run_list.ensures
+returns-then-routes g c =
+    subst (λ wanted. IfOk c.run_list.result (λ answers.
+    AllZip (IsReply c.args.hierarchy.now wanted) c.args.queries.now answers.items)) (sym c.if-routes.true) c.run_list.ensures

@@ -10,20 +10,22 @@ pub returns-in-Some : goal.returns-in-Some
 returns-in-Some c =
     base_first c.args.graph.now c.args.saved.now c.args.hierarchy.now c.requires.named c.in-Some.place (rw c.in-Some.is at c.requires.bases)
 
-pub returns-in-Some-first_false_shortcut : goal.returns-in-Some-first_false_shortcut
-returns-in-Some-first_false_shortcut c =
+pub returns-in-Some-first_failing : goal.returns-in-Some-first_failing
+returns-in-Some-first_failing c =
     let is = c.as_slice-legs.ensures.value ∙ ap (λ (q : OrderAndLegs). q.legs) c.saved.view_is in
     let bases = rw c.in_default.is at c.requires.bases in
-    middle_first c.args.graph.now c.args.saved.now c.args.hierarchy.now c.requires.named bases c.in-Some-first_false_shortcut.place
-    (subst (λ q. IsFirstFailing (IsSumIfShortcut c.args.hierarchy.now) q c.in-Some-first_false_shortcut.place) is c.in-Some-first_false_shortcut.ensures)
+    middle_first c.args.graph.now c.args.saved.now c.args.hierarchy.now c.requires.named bases c.in-Some-first_failing.place
+    (subst (λ q. IsFirstFailing (IsSumIfShortcut c.args.hierarchy.now) q c.in-Some-first_failing.place) is
+    c.in-Some-first_failing.ensures)
 
-pub returns-in-Some-first_unserved : goal.returns-in-Some-first_unserved
-returns-in-Some-first_unserved c =
+pub returns-in-Some-first_failing-2 : goal.returns-in-Some-first_failing-2
+returns-in-Some-first_failing-2 c =
     let is = c.as_slice-legs.ensures.value ∙ ap (λ (q : OrderAndLegs). q.legs) c.saved.view_is in
     let bases = rw c.in_default.is at c.requires.bases in
-    let sums = subst (All (IsSumIfShortcut c.args.hierarchy.now)) is c.in_default-first_false_shortcut.ensures in
-    arc_first c.args.graph.now c.args.saved.now c.args.hierarchy.now c.requires.named bases sums c.in-Some-first_unserved.place
-    (subst (λ q. IsFirstFailing (IsServed c.args.hierarchy.now) q c.in-Some-first_unserved.place) c.arcs.ensures.arcs c.in-Some-first_unserved.ensures)
+    let sums = subst (All (IsSumIfShortcut c.args.hierarchy.now)) is c.in_default-first_failing.ensures in
+    arc_first c.args.graph.now c.args.saved.now c.args.hierarchy.now c.requires.named bases sums c.in-Some-first_failing-2.place
+    (subst (λ q. IsFirstFailing (IsServed c.args.hierarchy.now) q c.in-Some-first_failing-2.place) c.arcs.ensures.arcs
+    c.in-Some-first_failing-2.ensures)
 
 pub returns : goal.returns
 returns c =
@@ -31,6 +33,6 @@ returns c =
     record {
       names = c.requires.named;
       bases = rw c.in_default.is at c.requires.bases;
-      sums = subst (All (IsSumIfShortcut c.args.hierarchy.now)) is c.in_default-first_false_shortcut.ensures;
-      served = subst (All (IsServed c.args.hierarchy.now)) c.arcs.ensures.arcs c.in_default-first_unserved.ensures;
+      sums = subst (All (IsSumIfShortcut c.args.hierarchy.now)) is c.in_default-first_failing.ensures;
+      served = subst (All (IsServed c.args.hierarchy.now)) c.arcs.ensures.arcs c.in_default-first_failing-2.ensures;
     }

@@ -23,7 +23,8 @@ returns-in-Some-3 g c =
     let bases = rw c.in_default.is at c.requires.bases in
     let sums = subst (All (IsSumIfShortcut c.args.hierarchy.now)) is (rw c.in_default-2.is at c.in_ok-place.ensures) in
     arc_first c.args.graph.now c.args.saved.now c.args.hierarchy.now c.requires.named bases sums c.in-Some-3.place
-    (subst (λ q. IsFirstFailing (IsServed c.args.hierarchy.now) q c.in-Some-3.place) c.arcs.ensures.arcs (rw c.in-Some-3.is at c.in_ok-place-2.ensures))
+    (subst (λ q. IsFirstFailing (IsServed c.args.hierarchy.now) q c.in-Some-3.place) c.arcs.ensures.arcs
+    (rw c.in-Some-3.is at c.in_ok-place-2.ensures))
 
 pub returns : goal.returns
 returns g c =

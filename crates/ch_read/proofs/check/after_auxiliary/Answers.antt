@@ -10,4 +10,5 @@ returns-in_err-after_word c =
     rw (c.from_residual.ensures) (other_front (codes "aux" ∷ []) (codes "sp" ∷ []) (words c.args.rest.now) c.in_err-after_word.ensures)
 
 pub returns : goal.returns
-returns c = and_next (codes "aux" ∷ []) (codes "sp" ∷ []) (words c.args.rest.now) _ c.after_word-2.result c.in_ok-after_word.ensures c.after_word-2.ensures
+returns c = and_next (codes "aux" ∷ []) (codes "sp" ∷ []) (words c.args.rest.now) _ c.after_word-2.result c.in_ok-after_word.ensures
+    c.after_word-2.ensures

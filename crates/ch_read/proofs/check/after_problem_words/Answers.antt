@@ -7,15 +7,18 @@ use Rattle.ch_read.proofs.check.after_problem_words.Goals as goal
 
 pub returns-in_err-after_auxiliary-in-Queries : goal.returns-in_err-after_auxiliary-in-Queries
 returns-in_err-after_auxiliary-in-Queries c =
-    rw (c.from_residual.ensures, c.in-Queries.is) (other_front (codes "aux" ∷ codes "sp" ∷ []) (codes "p2p" ∷ []) (words c.args.rest.now) c.in_err-after_auxiliary-in-Queries.ensures)
+    rw (c.from_residual.ensures, c.in-Queries.is) (other_front (codes "aux" ∷ codes "sp" ∷ []) (codes "p2p" ∷ [])
+    (words c.args.rest.now) c.in_err-after_auxiliary-in-Queries.ensures)
 
 pub returns-in_err-after_auxiliary-in-Nodes : goal.returns-in_err-after_auxiliary-in-Nodes
 returns-in_err-after_auxiliary-in-Nodes c =
-    rw (c.from_residual-in_err-after_auxiliary-in-Nodes.ensures, c.in-Nodes.is) (other_front (codes "aux" ∷ codes "sp" ∷ []) (codes "ss" ∷ []) (words c.args.rest.now) c.in_err-after_auxiliary-in-Nodes.ensures)
+    rw (c.from_residual-in_err-after_auxiliary-in-Nodes.ensures, c.in-Nodes.is)
+    (other_front (codes "aux" ∷ codes "sp" ∷ []) (codes "ss" ∷ []) (words c.args.rest.now) c.in_err-after_auxiliary-in-Nodes.ensures)
 
 pub returns-in_ok-after_auxiliary-in-Queries : goal.returns-in_ok-after_auxiliary-in-Queries
 returns-in_ok-after_auxiliary-in-Queries c =
-    rw (c.in-Queries.is) (and_next (codes "aux" ∷ codes "sp" ∷ []) (codes "p2p" ∷ []) (words c.args.rest.now) _ c.after_word-in-Queries.result
+    rw (c.in-Queries.is) (and_next (codes "aux" ∷ codes "sp" ∷ []) (codes "p2p" ∷ []) (words c.args.rest.now) _
+    c.after_word-in-Queries.result
     c.in_ok-after_auxiliary-in-Queries.ensures c.after_word-in-Queries.ensures)
 
 pub returns-in_ok-after_auxiliary-in-Nodes : goal.returns-in_ok-after_auxiliary-in-Nodes

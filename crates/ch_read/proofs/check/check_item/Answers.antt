@@ -5,30 +5,35 @@ use Rattle.ch_read.proofs.check.check_item.Goals as goal
 
 pub returns-then-not-are_in_range : goal.returns-then-not-are_in_range
 returns-then-not-are_in_range c =
-    let read = read_item c.args.form c.args.part c.args.seen c.in-Some.heading c.args.count c.of.result _ _ c.in-Some-numbers_of.values c.in-Some.is (omega arith)
+    let read = read_item c.args.form c.args.part c.args.seen c.in-Some.heading c.args.count c.of.result _ _
+    c.in-Some-numbers_of.values c.in-Some.is (omega arith)
     c.item_size.ensures c.in-Some-numbers_of.ensures c.of.ensures c.if-count-of.false in
     out_of_range _ _ _ _ _ _ _ read (sym c.if-not-are_in_range.ensures)
 
 pub returns-then-not-is_light : goal.returns-then-not-is_light
 returns-then-not-is_light c =
-    let read = read_item c.args.form c.args.part c.args.seen c.in-Some.heading c.args.count c.of.result _ _ c.in-Some-numbers_of.values c.in-Some.is (omega arith)
+    let read = read_item c.args.form c.args.part c.args.seen c.in-Some.heading c.args.count c.of.result _ _
+    c.in-Some-numbers_of.values c.in-Some.is (omega arith)
     c.item_size.ensures c.in-Some-numbers_of.ensures c.of.ensures c.if-count-of.false in
     too_heavy _ _ _ _ _ _ _ read (sym c.if-not-are_in_range.ensures) (sym c.if-not-is_light.ensures)
 
 pub item_of-requires-clause-second : goal.item_of-requires-clause-second
 item_of-requires-clause-second c =
-    let read = read_item c.args.form c.args.part c.args.seen c.in-Some.heading c.args.count c.of.result _ _ c.in-Some-numbers_of.values c.in-Some.is (omega arith)
+    let read = read_item c.args.form c.args.part c.args.seen c.in-Some.heading c.args.count c.of.result _ _
+    c.in-Some-numbers_of.values c.in-Some.is (omega arith)
     c.item_size.ensures c.in-Some-numbers_of.ensures c.of.ensures c.if-count-of.false in
     (values_small _ _ _ _ _ _ _ read (sym c.if-not-are_in_range.ensures) (sym c.if-not-is_light.ensures)).1
 
 pub item_of-requires-clause-middle : goal.item_of-requires-clause-middle
 item_of-requires-clause-middle c =
-    let read = read_item c.args.form c.args.part c.args.seen c.in-Some.heading c.args.count c.of.result _ _ c.in-Some-numbers_of.values c.in-Some.is (omega arith)
+    let read = read_item c.args.form c.args.part c.args.seen c.in-Some.heading c.args.count c.of.result _ _
+    c.in-Some-numbers_of.values c.in-Some.is (omega arith)
     c.item_size.ensures c.in-Some-numbers_of.ensures c.of.ensures c.if-count-of.false in
     (values_small _ _ _ _ _ _ _ read (sym c.if-not-are_in_range.ensures) (sym c.if-not-is_light.ensures)).2
 
 pub returns : goal.returns
 returns c =
-    let read = read_item c.args.form c.args.part c.args.seen c.in-Some.heading c.args.count c.of.result _ _ c.in-Some-numbers_of.values c.in-Some.is (omega arith)
+    let read = read_item c.args.form c.args.part c.args.seen c.in-Some.heading c.args.count c.of.result _ _
+    c.in-Some-numbers_of.values c.in-Some.is (omega arith)
     c.item_size.ensures c.in-Some-numbers_of.ensures c.of.ensures c.if-count-of.false in
     rw (c.item_of.ensures) (passes_as_item _ _ _ _ _ _ _ read (sym c.if-not-are_in_range.ensures) (sym c.if-not-is_light.ensures))

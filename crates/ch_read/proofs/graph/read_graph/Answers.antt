@@ -6,7 +6,8 @@ use Rattle.ch_read.proofs.Limits.{fault_both_ways, graph_within}
 use Rattle.ch_read.proofs.graph.read_graph.Goals as goal
 
 pub returns-in_err-heading-clause-fault : goal.returns-in_err-heading-clause-fault
-returns-in_err-heading-clause-fault c = fault_both_ways Graph c.args.bytes.now c.from_residual.result c.in_err-heading.field-0.0 c.from_residual.ensures.1 c.in_err-heading.ensures
+returns-in_err-heading-clause-fault c = fault_both_ways Graph c.args.bytes.now c.from_residual.result c.in_err-heading.field-0.0
+    c.from_residual.ensures.1 c.in_err-heading.ensures
 
 pub from_judged-requires : goal.from_judged-requires
 from_judged-requires c =

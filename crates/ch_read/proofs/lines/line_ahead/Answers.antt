@@ -11,5 +11,6 @@ returns-in-Some c =
 
 pub returns-in-None : goal.returns-in-None
 returns-in-None c =
-    let some : 0 < length c.args.bytes.now = (let e = c.if-not-is_empty.ensures in let t = c.if-not-is_empty.true in grind (arith, nat_tests)) in
+    let some : 0 < length c.args.bytes.now =
+    (let e = c.if-not-is_empty.ensures in let t = c.if-not-is_empty.true in grind (arith, nat_tests)) in
     (λ more comes. last_ahead c.args.bytes.now more (sym c.in-None.ensures) some (comes c.if-ended.true), some, omega arith)

@@ -6,40 +6,55 @@ use Rattle.ch_read.proofs.reader.read_lines.Goals as goal
 pub loop-rest-preserved-in-Ok-Skipped : goal.loop-rest-preserved-in-Ok-Skipped
 loop-rest-preserved-in-Ok-Skipped g c =
     let holds = rw (c.in-Ok-Skipped.field-0-is) at c.in-Ok-Skipped.ensures in
-    skipped g.A.FromItem.from_item_gives g.B.FromItem.from_item_gives c.args.form c.args.begun c.args.bytes.now c.loop-rest.rest.now _ _ c.loop-rest.line c.new.result c.loop-rest.seen c.loop-rest.first.items c.loop-rest.second.items
-    c.loop-rest.invariant c.split_line.ensures.line c.split_line.ensures.less (counted_by _ c.len.result c.len-in-loop-rest.result _ _ c.new.ensures (omega arith) (omega arith)) holds.0 holds.1 holds.2
+    skipped g.A.FromItem.from_item_gives g.B.FromItem.from_item_gives c.args.form c.args.begun c.args.bytes.now c.loop-rest.rest.now
+    _ _ c.loop-rest.line c.new.result c.loop-rest.seen c.loop-rest.first.items c.loop-rest.second.items
+    c.loop-rest.invariant c.split_line.ensures.line c.split_line.ensures.less
+    (counted_by _ c.len.result c.len-in-loop-rest.result _ _ c.new.ensures (omega arith) (omega arith)) holds.0 holds.1 holds.2
 
 pub loop-rest-preserved-in-Ok-Problem : goal.loop-rest-preserved-in-Ok-Problem
 loop-rest-preserved-in-Ok-Problem g c =
     let holds = rw (c.in-Ok-Problem.field-0-is) at c.in-Ok-Problem.ensures in
-    found g.A.FromItem.from_item_gives g.B.FromItem.from_item_gives c.args.form c.args.begun c.args.bytes.now c.loop-rest.rest.now _ _ c.loop-rest.line c.new.result c.loop-rest.seen c.loop-rest.first.items c.loop-rest.second.items
-    c.loop-rest.invariant c.split_line.ensures.line c.split_line.ensures.less (counted_by _ c.len.result c.len-in-loop-rest.result _ _ c.new.ensures (omega arith) (omega arith)) c.in-Ok-Problem.heading holds.0 holds.1 holds.2
+    found g.A.FromItem.from_item_gives g.B.FromItem.from_item_gives c.args.form c.args.begun c.args.bytes.now c.loop-rest.rest.now _
+    _ c.loop-rest.line c.new.result c.loop-rest.seen c.loop-rest.first.items c.loop-rest.second.items
+    c.loop-rest.invariant c.split_line.ensures.line c.split_line.ensures.less
+    (counted_by _ c.len.result c.len-in-loop-rest.result _ _ c.new.ensures (omega arith) (omega arith)) c.in-Ok-Problem.heading
+    holds.0 holds.1 holds.2
 
 pub loop-rest-preserved-in_ok-push-in-Ok-First : goal.loop-rest-preserved-in_ok-push-in-Ok-First
 loop-rest-preserved-in_ok-push-in-Ok-First g c =
     let holds = rw (c.in-Ok-First.field-0-is) at c.in-Ok-First.ensures in
     rw (c.in_ok-push-in-Ok-First.ensures.items, c.from_item.ensures)
-    (taken_first g.A.FromItem.from_item_gives g.B.FromItem.from_item_gives c.args.form c.args.begun c.args.bytes.now c.loop-rest.rest.now _ _ c.loop-rest.line c.new.result c.loop-rest.seen c.loop-rest.first.items c.loop-rest.second.items
-    c.loop-rest.invariant c.split_line.ensures.line c.split_line.ensures.less (counted_by _ c.len.result c.len-in-loop-rest.result _ _ c.new.ensures (omega arith) (omega arith)) c.in-Ok-First.item holds.0 holds.1 holds.2 holds.3)
+    (taken_first g.A.FromItem.from_item_gives g.B.FromItem.from_item_gives c.args.form c.args.begun c.args.bytes.now
+    c.loop-rest.rest.now _ _ c.loop-rest.line c.new.result c.loop-rest.seen c.loop-rest.first.items c.loop-rest.second.items
+    c.loop-rest.invariant c.split_line.ensures.line c.split_line.ensures.less
+    (counted_by _ c.len.result c.len-in-loop-rest.result _ _ c.new.ensures (omega arith) (omega arith)) c.in-Ok-First.item
+    holds.0 holds.1 holds.2 holds.3)
 
 pub loop-rest-preserved : goal.loop-rest-preserved
 loop-rest-preserved g c =
     let holds = rw (c.in-Ok-Second.field-0-is) at c.in-Ok-Second.ensures in
     rw (c.in_ok-push-in-Ok-Second.ensures.items, c.from_item-in-Ok-Second.ensures)
-    (taken_second g.A.FromItem.from_item_gives g.B.FromItem.from_item_gives c.args.form c.args.begun c.args.bytes.now c.loop-rest.rest.now _ _ c.loop-rest.line c.new.result c.loop-rest.seen c.loop-rest.first.items c.loop-rest.second.items
-    c.loop-rest.invariant c.split_line.ensures.line c.split_line.ensures.less (counted_by _ c.len.result c.len-in-loop-rest.result _ _ c.new.ensures (omega arith) (omega arith)) c.in-Ok-Second.item holds.0 holds.1 holds.2 holds.3)
+    (taken_second g.A.FromItem.from_item_gives g.B.FromItem.from_item_gives c.args.form c.args.begun c.args.bytes.now
+    c.loop-rest.rest.now _ _ c.loop-rest.line c.new.result c.loop-rest.seen c.loop-rest.first.items c.loop-rest.second.items
+    c.loop-rest.invariant c.split_line.ensures.line c.split_line.ensures.less
+    (counted_by _ c.len.result c.len-in-loop-rest.result _ _ c.new.ensures (omega arith) (omega arith)) c.in-Ok-Second.item
+    holds.0 holds.1 holds.2 holds.3)
 
 pub returns-in-Err : goal.returns-in-Err
-returns-in-Err g c = fault_here g.A.FromItem.from_item_gives g.B.FromItem.from_item_gives c.args.form c.args.begun c.args.bytes.now c.loop-rest.rest.now _ _ c.loop-rest.line c.new.result c.loop-rest.seen c.loop-rest.first.items c.loop-rest.second.items
-    c.loop-rest.invariant c.split_line.ensures.line c.split_line.ensures.less (counted_by _ c.len.result c.len-in-loop-rest.result _ _ c.new.ensures (omega arith) (omega arith)) c.in-Err.kind c.in-Err.ensures
+returns-in-Err g c = fault_here g.A.FromItem.from_item_gives g.B.FromItem.from_item_gives c.args.form c.args.begun c.args.bytes.now
+    c.loop-rest.rest.now _ _ c.loop-rest.line c.new.result c.loop-rest.seen c.loop-rest.first.items c.loop-rest.second.items
+    c.loop-rest.invariant c.split_line.ensures.line c.split_line.ensures.less
+    (counted_by _ c.len.result c.len-in-loop-rest.result _ _ c.new.ensures (omega arith) (omega arith)) c.in-Err.kind c.in-Err.ensures
 
 pub loop-rest-init : goal.loop-rest-init
-loop-rest-init g c = rw (c.new-first.ensures.items, c.new-second.ensures.items) (nothing_read g.A.FromItem.from_item_gives g.B.FromItem.from_item_gives c.args.form c.args.begun c.args.bytes.now c.requires)
+loop-rest-init g c = rw (c.new-first.ensures.items, c.new-second.ensures.items)
+    (nothing_read g.A.FromItem.from_item_gives g.B.FromItem.from_item_gives c.args.form c.args.begun c.args.bytes.now c.requires)
 
 pub returns : goal.returns
 returns g c =
     let room = c.loop-rest.invariant.room in (
-      all_lines g.A.FromItem.from_item_gives g.B.FromItem.from_item_gives c.args.form c.args.begun c.args.bytes.now c.loop-rest.rest.now c.loop-rest.line c.loop-rest.seen c.loop-rest.first.items c.loop-rest.second.items
+      all_lines g.A.FromItem.from_item_gives g.B.FromItem.from_item_gives c.args.form c.args.begun c.args.bytes.now
+          c.loop-rest.rest.now c.loop-rest.line c.loop-rest.seen c.loop-rest.first.items c.loop-rest.second.items
           c.loop-rest.invariant c.loop-rest-test.ensures,
       omega arith,
     )

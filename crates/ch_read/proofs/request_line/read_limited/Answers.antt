@@ -1,5 +1,4 @@
 -- The numbers are as many as are asked for, or one more, which is the limit.
-use Rattle.std.proofs.Common.{◌≡◌}
 use Rattle.ch_read.specs.Words.{words}
 use Rattle.ch_read.proofs.RequestNumbers.{with_limit, without_limit}
 use Rattle.ch_read.proofs.request_line.read_limited.Goals as goal

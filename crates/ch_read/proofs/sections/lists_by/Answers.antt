@@ -4,4 +4,5 @@ use Rattle.ch_read.proofs.sections.lists_by.Goals as goal
 
 pub returns : goal.returns
 returns g c =
-    all_sections g.A.FromItem.from_item_gives g.B.FromItem.from_item_gives c.args.form c.args.heading c.args.sections.now c.in_ok-read.read.items c.in_ok-read.ensures c.lists_of.result c.lists_of.ensures
+    all_sections g.A.FromItem.from_item_gives g.B.FromItem.from_item_gives c.args.form c.args.heading c.args.sections.now
+    c.in_ok-read.read.items c.in_ok-read.ensures c.lists_of.result c.lists_of.ensures

@@ -11,18 +11,25 @@ use Rattle.ch_contract.proofs.theory.RoundOrders.{hierarchies_by_rounds_kept}
 use Rattle.ch_rounds.specs.RoundProgress.{IsRoundStep, IsRoundsEnd}
 use Rattle.ch_rounds.specs.RoundConstruction.{round_progress_of}
 use Rattle.ch_contract.proofs.theory.OrderSteps.{then_legs}
-use Rattle.ch_rounds.proofs.RoundsMade.{rounds_at_start, rounds_next, rounds_some, rounds_at_end, left_within, neighbour_left, rounds_depth, rounds_counts, rounds_levelled}
+use Rattle.ch_rounds.proofs.RoundsMade.{rounds_at_start, rounds_next, rounds_some, rounds_at_end, left_within, neighbour_left}
+use Rattle.ch_rounds.proofs.RoundsMade.{rounds_depth, rounds_counts, rounds_levelled}
 use Rattle.ch_rounds.proofs.rounds.build_by_rounds.Goals as goal
 
 pub loop-next-init : goal.loop-next-init
 loop-next-init g c =
-    let first = c.in_ok-construction.ensures in
-    (first.sizes, first.nodes, ([], λ r. opening c.args.graph.now, rounds_at_start c.args.graph.now c.args.hops _ first.begun), first.rooms, first.keys)
+    let first = c.in_ok-construction.ensures in (
+      first.sizes,
+      first.nodes,
+      ([], λ r. opening c.args.graph.now, rounds_at_start c.args.graph.now c.args.hops _ first.begun),
+      first.rooms,
+      first.keys,
+    )
 
 pub contract-requires-clause-limits : goal.contract-requires-clause-limits
 contract-requires-clause-limits g c lifetimes bounds =
     let i = c.loop-next.invariant in
-    subst (λ n. AreLegsWithin n (legs_of c.loop-next.construction.remaining)) (sym i.1) (left_within c.ask_ahead.ensures c.requires.hops i.2.2)
+    subst (λ n. AreLegsWithin n (legs_of c.loop-next.construction.remaining)) (sym i.1)
+    (left_within c.ask_ahead.ensures c.requires.hops i.2.2)
 
 pub contract-requires-clause-near : goal.contract-requires-clause-near
 contract-requires-clause-near g c lifetimes bounds = neighbour_left c.ask_ahead.ensures c.requires.hops c.loop-next.invariant.2.2
@@ -48,9 +55,11 @@ loop-next-smaller g c =
     let i = c.loop-next.invariant in
     let next = c.in_ok-construction-2.ensures in
     let left = c.loop-next.construction.left.items in
-    let step = subst (λ n. IsRoundStep n c.args.hops (round_progress_of c.loop-next.construction) next.step.0 (round_progress_of c.in_ok-construction-2.construction)) i.1 next.step.1 in
+    let step = subst (λ n. IsRoundStep n c.args.hops (round_progress_of c.loop-next.construction) next.step.0
+    (round_progress_of c.in_ok-construction-2.construction)) i.1 next.step.1 in
     let some : 0 < length left = (let e = c.is_empty.ensures in let t = c.loop-next-test.true in grind (arith, nat_tests)) in
-    let more = rounds_some c.ask_ahead.ensures c.requires.hops i.2.2 next.step.0 step.round (get_or left 0 0) (Contains-get_or left 0 0 some) in
+    let more = rounds_some c.ask_ahead.ensures c.requires.hops i.2.2 next.step.0 step.round (get_or left 0 0)
+    (Contains-get_or left 0 0 some) in
     omega (arith, i.0.count, next.sizes.count, next.nodes, step.contracted, more)
 
 pub loop-next-preserved : goal.loop-next-preserved
@@ -59,12 +68,17 @@ loop-next-preserved g c =
     let next = c.in_ok-construction-2.ensures in
     let left = c.loop-next.construction.left.items in
     let nodes = next.step.0 in
-    let step = subst (λ n. IsRoundStep n c.args.hops (round_progress_of c.loop-next.construction) nodes (round_progress_of c.in_ok-construction-2.construction)) i.1 next.step.1 in
+    let step = subst (λ n. IsRoundStep n c.args.hops (round_progress_of c.loop-next.construction) nodes
+    (round_progress_of c.in_ok-construction-2.construction)) i.1 next.step.1 in
     let some : 0 < length left = (let e = c.is_empty.ensures in let t = c.loop-next-test.true in grind (arith, nat_tests)) in
     let more = rounds_some c.ask_ahead.ensures c.requires.hops i.2.2 nodes step.round (get_or left 0 0) (Contains-get_or left 0 0 some) in (
       next.sizes,
       next.nodes ∙ i.1,
-      (i.2.0 ++ nodes ∷ [], then_legs (length i.2.0) i.2.1 (legs_of c.in_ok-construction-2.construction.remaining), rounds_next c.ask_ahead.ensures c.requires.hops i.2.2 more step),
+      (
+        i.2.0 ++ nodes ∷ [],
+        then_legs (length i.2.0) i.2.1 (legs_of c.in_ok-construction-2.construction.remaining),
+        rounds_next c.ask_ahead.ensures c.requires.hops i.2.2 more step,
+      ),
       next.rooms,
       next.keys,
     )
@@ -73,13 +87,17 @@ pub finish-requires-clause-levelled : goal.finish-requires-clause-levelled
 finish-requires-clause-levelled g c lifetimes bounds H end =
     let i = c.loop-next.invariant in
     let u = i.2 in
-    rounds_levelled c.args.graph.now c.args.hops u.0 u.1 _ H c.ask_ahead.ensures c.requires.hops (omega (arith, i.0.nodes, i.1)) u.2 (subst (λ n. IsRoundsEnd n (round_progress_of c.loop-next.construction) H) i.1 end)
+    rounds_levelled c.args.graph.now c.args.hops u.0 u.1 _ H c.ask_ahead.ensures c.requires.hops (omega (arith, i.0.nodes, i.1)) u.2
+    (subst (λ n. IsRoundsEnd n (round_progress_of c.loop-next.construction) H) i.1 end)
 
 pub returns-clause-hierarchy : goal.returns-clause-hierarchy
 returns-clause-hierarchy g c =
     let i = c.loop-next.invariant in
     let u = i.2 in
-    IfOk-weaker c.finish.result _ _ (λ H end. rounds_at_end c.args.graph.now c.args.hops u.0 u.1 _ H u.2 (subst (λ n. IsRoundsEnd n (round_progress_of c.loop-next.construction) H) i.1 end)) c.finish.ensures
+    IfOk-weaker c.finish.result _ _ (λ H end. rounds_at_end c.args.graph.now c.args.hops u.0 u.1 _ H u.2
+    (subst (λ n. IsRoundsEnd n (round_progress_of c.loop-next.construction) H) i.1 end)) c.finish.ensures
 
 pub returns-clause-kept : goal.returns-clause-kept
-returns-clause-kept g c = IfOk-weaker c.finish.result _ _ (λ H is. hierarchies_by_rounds_kept c.args.graph.now c.args.hops H c.ask_ahead.ensures c.requires.hops is) (returns-clause-hierarchy g c)
+returns-clause-kept g c =
+    IfOk-weaker c.finish.result _ _ (λ H is. hierarchies_by_rounds_kept c.args.graph.now c.args.hops H c.ask_ahead.ensures
+    c.requires.hops is) (returns-clause-hierarchy g c)

@@ -11,7 +11,10 @@ pub set_each-requires-clause-nodes : goal.set_each-requires-clause-nodes
 set_each-requires-clause-nodes g c k d lt = let node = c.requires.nodes k d lt in omega (arith, c.requires.size)
 
 pub set_each-requires-clause-values : goal.set_each-requires-clause-values
-set_each-requires-clause-values g c = ap length c.as_slice.ensures.value ∙ zipped_length (IsCount c.args.remaining.now.nodes c.args.hops (legs_of c.args.remaining.now)) c.args.nodes.now _ c.in_ok-values.ensures.values
+set_each-requires-clause-values g c =
+    ap length c.as_slice.ensures.value
+    ∙ zipped_length (IsCount c.args.remaining.now.nodes c.args.hops (legs_of c.args.remaining.now)) c.args.nodes.now _
+    c.in_ok-values.ensures.values
 
 pub returns-clause-counts : goal.returns-clause-counts
 returns-clause-counts g c =
@@ -19,6 +22,7 @@ returns-clause-counts g c =
     let all = subst (λ (l : List ℕ). AllZip R c.args.nodes.now l) (sym c.as_slice.ensures.value) c.in_ok-values.ensures.values in
     record {
       size = c.set_each.ensures.size;
-      anew = λ x here. given_by R c.args.nodes.now c.as_slice.result.now c.args.counts.now c.set_each.new.list all c.set_each.ensures x 0 here;
+      anew = λ x here. given_by R c.args.nodes.now c.as_slice.result.now c.args.counts.now c.set_each.new.list all
+          c.set_each.ensures x 0 here;
       kept = λ x away. c.set_each.ensures.kept x 0 away;
     }

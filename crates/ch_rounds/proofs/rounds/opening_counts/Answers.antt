@@ -20,6 +20,8 @@ pub returns-clause-counts : goal.returns-clause-counts
 returns-clause-counts g c =
     let n = c.args.remaining.now.nodes in
     let C = AreCounted n c.args.hops (legs_of c.args.remaining.now) c.args.nodes.now in
-    let first = c.deref_mut.ensures.value ∙ c.in_ok-counts.ensures.items_if_clones_equal (λ y p. p) ∙ ap (λ k. replicate k 0) c.nodes-all.ensures.nodes in
+    let first = c.deref_mut.ensures.value ∙ c.in_ok-counts.ensures.items_if_clones_equal (λ y p. p)
+    ∙ ap (λ k. replicate k 0) c.nodes-all.ensures.nodes in
     let written = with_items_is c.in_ok-counts.counts c.count.new.counts (c.in_ok-count.ensures.counts.size ∙ c.deref_mut.ensures.len) in
-    subst (λ (l : List ℕ). C (replicate n 0) l) (sym written) (subst (λ (l : List ℕ). C l c.count.new.counts) first c.in_ok-count.ensures.counts)
+    subst (λ (l : List ℕ). C (replicate n 0) l) (sym written)
+    (subst (λ (l : List ℕ). C l c.count.new.counts) first c.in_ok-count.ensures.counts)

@@ -23,4 +23,5 @@ loop-node-preserved c =
 pub returns : goal.returns
 returns c =
     let past : length c.args.nodes.now ≤ c.loop-node.node-index = omega arith in
-    subst (λ l. AreRanked l c.args.contracted c.args.levels.now c.loop-node.levels) (take_all c.loop-node.node-index c.args.nodes.now past) c.loop-node.invariant.0
+    subst (λ l. AreRanked l c.args.contracted c.args.levels.now c.loop-node.levels)
+    (take_all c.loop-node.node-index c.args.nodes.now past) c.loop-node.invariant.0

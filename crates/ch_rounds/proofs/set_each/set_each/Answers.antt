@@ -17,9 +17,11 @@ loop-place-preserved g c =
     let node = c.requires.nodes i 0 c.loop-place-test.true in
     let inside : i < length c.args.values.now = omega (arith, c.requires.values) in
     let within : get_or nodes i 0 < length c.loop-place.list = omega arith in
-    given_more nodes i c.args.values.now c.args.list.now c.loop-place.list _ c.loop-place-test.true within (λ d. get_or_default c.args.values.now i d _ inside ∙ sym c.index-values-place.is) known
+    given_more nodes i c.args.values.now c.args.list.now c.loop-place.list _ c.loop-place-test.true within
+    (λ d. get_or_default c.args.values.now i d _ inside ∙ sym c.index-values-place.is) known
 
 pub returns : goal.returns
 returns g c =
     let past : length c.args.nodes.now ≤ c.loop-place.place = omega arith in
-    subst (λ l. AreGiven l c.args.values.now c.args.list.now c.loop-place.list) (take_all c.loop-place.place c.args.nodes.now past) c.loop-place.invariant
+    subst (λ l. AreGiven l c.args.values.now c.args.list.now c.loop-place.list) (take_all c.loop-place.place c.args.nodes.now past)
+    c.loop-place.invariant

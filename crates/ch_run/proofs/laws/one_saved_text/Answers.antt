@@ -4,10 +4,14 @@ use Rattle.ch_run.proofs.OneSavedText.{one_like_text, one_save_text, one_saved_t
 use Rattle.ch_run.proofs.laws.one_saved_text.Goals as goal
 
 pub returns-clause-answers : goal.returns-clause-answers
-returns-clause-answers g c = λ graph graph' saved saved' queries queries'. one_saved_text_of (reading g.I.Input.read_gives graph graph') (reading g.S.Input.read_gives saved saved') (reading g.J.Input.read_gives queries queries')
+returns-clause-answers g c =
+    λ graph graph' saved saved' queries queries'. one_saved_text_of (reading g.I.Input.read_gives graph graph')
+    (reading g.S.Input.read_gives saved saved') (reading g.J.Input.read_gives queries queries')
 
 pub returns-clause-tables : goal.returns-clause-tables
-returns-clause-tables g c = λ graph graph' saved saved' sources sources' targets targets'. one_saved_table (reading g.I.Input.read_gives graph graph') (reading g.S.Input.read_gives saved saved') (reading g.J.Input.read_gives sources sources') (reading g.L.Input.read_gives targets targets')
+returns-clause-tables g c = λ graph graph' saved saved' sources sources' targets targets'. one_saved_table
+    (reading g.I.Input.read_gives graph graph') (reading g.S.Input.read_gives saved saved')
+    (reading g.J.Input.read_gives sources sources') (reading g.L.Input.read_gives targets targets')
 
 pub returns-clause-hierarchies : goal.returns-clause-hierarchies
 returns-clause-hierarchies g c = λ graph graph'. one_save_text (reading g.I.Input.read_gives graph graph')

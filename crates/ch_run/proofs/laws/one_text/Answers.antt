@@ -8,4 +8,5 @@ returns-clause-answers g c =
     λ graph graph' queries queries'. one_text_of (reading g.I.Input.read_gives graph graph') (reading g.J.Input.read_gives queries queries')
 
 pub returns-clause-tables : goal.returns-clause-tables
-returns-clause-tables g c = λ graph graph' sources sources' targets targets'. one_table (reading g.I.Input.read_gives graph graph') (reading g.J.Input.read_gives sources sources') (reading g.L.Input.read_gives targets targets')
+returns-clause-tables g c = λ graph graph' sources sources' targets targets'. one_table (reading g.I.Input.read_gives graph graph')
+    (reading g.J.Input.read_gives sources sources') (reading g.L.Input.read_gives targets targets')

@@ -17,11 +17,13 @@ loop-place-preserved c =
     let more = entries_more rows a.within a.nodes.now place c.in_ok-reached.reached.items c.in_ok-reached.ensures.spread before i.entries in
     record {
       scratch = c.spread.ensures.scratch ∙ i.scratch;
-      entries = subst (AreEntries rows a.within a.nodes.now (place + 1)) (sym c.in_ok-push_entries.ensures) (subst Next (sym c.deref.ensures.value) more);
+      entries = subst (AreEntries rows a.within a.nodes.now (place + 1)) (sym c.in_ok-push_entries.ensures)
+          (subst Next (sym c.deref.ensures.value) more);
     }
 
 pub returns : goal.returns
 returns c =
     let a = c.args in
     let e : c.loop-place.place ≡ length a.nodes.now = omega arith in
-    subst (λ k. AreEntries (rows_of a.hierarchy.now a.side) a.within a.nodes.now k c.loop-place.entries.items) e c.loop-place.invariant.entries
+    subst (λ k. AreEntries (rows_of a.hierarchy.now a.side) a.within a.nodes.now k c.loop-place.entries.items) e
+    c.loop-place.invariant.entries

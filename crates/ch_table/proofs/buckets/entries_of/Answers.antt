@@ -19,7 +19,8 @@ loop-place-preserved c =
     let same : slice_index_or lists place [] ≡ c.deref.result.now
     = get_or-map items vecs place list [] c.loop-place-test.true ∙ ap items (sym c.index-lists-place.is) ∙ sym c.deref.ensures.value in
     let more = entries_of_more item lists place before c.loop-place.invariant in
-    subst (AreEntriesOf item lists (place + 1)) (ap (λ (l : List (ℕ × ℕ)). before ++ map (entry_of item place) l) same ∙ sym c.in_ok-push_list.ensures) more
+    subst (AreEntriesOf item lists (place + 1))
+    (ap (λ (l : List (ℕ × ℕ)). before ++ map (entry_of item place) l) same ∙ sym c.in_ok-push_list.ensures) more
 
 pub returns : goal.returns
 returns c =

@@ -20,15 +20,28 @@ returns g c =
     let sides = c.in_ok-sums.ensures in
     let p = a.crew.now.plan.piece in
     let cells = c.in_ok-cells.cells.items in
-    let Least : ℕ × BothSides → Type 0 = λ t. (cell : ℕ) (d : Option ℕ) → cell < length sources * length targets → IsLeastOwed (IsOwedAmong t.1) t.0 p cell (slice_index_or cells cell d) in
+    let Least : ℕ × BothSides → Type 0 = λ t. (cell : ℕ) (d : Option ℕ) → cell < length sources * length targets →
+    IsLeastOwed (IsOwedAmong t.1) t.0 p cell (slice_index_or cells cell d) in
     let count = c.nodes-nodes.ensures.nodes ∙ sym sides.rise.held.count in
-    let least = subst Least (λ k. (count k, record { ups = S.ups; downs = S.downs; rows = sides.rows k; columns = sides.columns k; limit = sides.limit k })) c.in_ok-cells.ensures.least in
-    let positive = c.piece.ensures.limits.piece.0 in
+    let least = subst Least
+    (λ k. (
+      count k,
+      record {
+        ups = S.ups;
+        downs = S.downs;
+        rows = sides.rows k;
+        columns = sides.columns k;
+        limit =
+            sides.limit k;
+      },
+    )) c.in_ok-cells.ensures.least in
+    let positive = c.pieces.ensures.limits.piece.0 in
     let deal = deal_of a.hierarchy.now p in
     let H = a.hierarchy.now in
     let cut = c.in_ok-rows.ensures ∙ ap (rows_of_cells (length sources) (length targets)) c.deref.ensures.value in
     subst (AllZip (IsRowBy H a.within targets) sources) (sym cut)
-    (table_is a.hierarchy.now a.within (item_of deal) sources targets S.ups S.downs sides.rise sides.fall p cells positive c.requires.kept (items_apart deal positive) c.in_ok-cells.ensures.count least)
+    (table_is a.hierarchy.now a.within (item_of deal) sources targets S.ups S.downs sides.rise sides.fall p cells positive
+    c.requires.kept (items_apart deal positive) c.in_ok-cells.ensures.count least)
 
 pub invariant_of-result : goal.invariant_of-result
 invariant_of-result g c =

@@ -16,5 +16,8 @@ returns g c =
     let sources = a.sources.now in
     let n = length sources in
     let p = a.crew.now.plan.piece in
-    let pieces = subst (λ (asked : Asked). IfOk c.run_pieces_in.result (λ values. AreValues (λ from to x. IsGathered M asked.hierarchy asked.limit asked.targets (slice_range sources from to) x) n p 0 (pieces_of n p) values.items)) c.in_ok-rows.ensures c.run_pieces_in.ensures.values in
-    IfOk-weaker c.run_pieces_in.result _ _ (λ values v. parts_of (IsGathered M a.hierarchy.now a.within a.targets.now) sources n p values.items refl c.piece.ensures.limits.piece.0 v) pieces
+    let pieces = subst (λ (asked : Asked). IfOk c.run_pieces_in.result
+    (λ values. AreValues (λ from to x. IsGathered M asked.hierarchy asked.limit asked.targets (slice_range sources from to) x) n
+    p 0 (pieces_of n p) values.items)) c.in_ok-rows.ensures c.run_pieces_in.ensures.values in
+    IfOk-weaker c.run_pieces_in.result _ _ (λ values v. parts_of (IsGathered M a.hierarchy.now a.within a.targets.now) sources n p
+    values.items refl c.run_pieces_in.ensures.limits.piece.0 v) pieces

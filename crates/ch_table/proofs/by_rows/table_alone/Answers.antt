@@ -10,13 +10,16 @@ use Rattle.ch_table.proofs.by_rows.table_alone.Goals as goal
 pub invariant_of-result : goal.invariant_of-result
 invariant_of-result c =
     let a = c.args in
-    let asked = subst (λ (b : Asked). AllZip (λ s (row : Vec (Option ℕ) Global). IsRowBy b.hierarchy b.limit b.targets s row.items) a.sources.now c.in_ok-rows.rows.items) c.in_ok-source_rows.ensures c.in_ok-rows.ensures.rows in
-    let count = zipped_length (λ s (row : Vec (Option ℕ) Global). IsRowBy a.hierarchy.now a.within a.targets.now s row.items) a.sources.now c.in_ok-rows.rows.items asked in
+    let asked = subst (λ (b : Asked). AllZip (λ s (row : Vec (Option ℕ) Global). IsRowBy b.hierarchy b.limit b.targets s row.items)
+    a.sources.now c.in_ok-rows.rows.items) c.in_ok-source_rows.ensures c.in_ok-rows.ensures.rows in
+    let count = zipped_length (λ s (row : Vec (Option ℕ) Global). IsRowBy a.hierarchy.now a.within a.targets.now s row.items)
+    a.sources.now c.in_ok-rows.rows.items asked in
     omega (arith, c.in_ok-rows.rows.ok.0, count, c.requires.lists.0)
 
 pub returns-clause-table : goal.returns-clause-table
 returns-clause-table c =
     let a = c.args in
     let items : Vec (Option ℕ) Global → List (Option ℕ) = λ row. row.items in
-    let asked = subst (λ (b : Asked). AllZip (λ s (row : Vec (Option ℕ) Global). IsRowBy b.hierarchy b.limit b.targets s row.items) a.sources.now c.in_ok-rows.rows.items) c.in_ok-source_rows.ensures c.in_ok-rows.ensures.rows in
+    let asked = subst (λ (b : Asked). AllZip (λ s (row : Vec (Option ℕ) Global). IsRowBy b.hierarchy b.limit b.targets s row.items)
+    a.sources.now c.in_ok-rows.rows.items) c.in_ok-source_rows.ensures c.in_ok-rows.ensures.rows in
     zipped_map (IsRowBy a.hierarchy.now a.within a.targets.now) items a.sources.now c.in_ok-rows.rows.items asked

@@ -14,5 +14,7 @@ pub returns-in_ok-push : goal.returns-in_ok-push
 returns-in_ok-push g c =
     let a = c.args in
     let M = g.J.RowJob.meaning a.job.now in
-    subst (AreGathered M a.hierarchy.now a.within a.targets.now a.sources.now) (sym (c.in_ok-push.ensures.items ∙ ap (λ l. l ++ c.in_ok-whole.whole ∷ []) c.in_ok-values.ensures.items))
-    (one_part M a.hierarchy.now a.within a.targets.now a.sources.now c.in_ok-table.table c.in_ok-whole.whole c.in_ok-table.ensures c.in_ok-whole.ensures)
+    subst (AreGathered M a.hierarchy.now a.within a.targets.now a.sources.now)
+    (sym (c.in_ok-push.ensures.items ∙ ap (λ l. l ++ c.in_ok-whole.whole ∷ []) c.in_ok-values.ensures.items))
+    (one_part M a.hierarchy.now a.within a.targets.now a.sources.now c.in_ok-table.table c.in_ok-whole.whole c.in_ok-table.ensures
+    c.in_ok-whole.ensures)

@@ -15,5 +15,6 @@ loop-place-preserved c =
     let among = (c.requires.bucket i (0, 0) c.loop-place-test.true).0 in
     let size = c.loop-place.invariant.size in
     let there : entry.0 < length c.loop-place.row = omega arith in
-    rw c.min.ensures (bucket_more a.weight i a.bucket.now entry (take_more a.bucket.now i (0, 0) c.loop-place-test.true) a.row.now c.loop-place.row _ c.loop-place.invariant
+    rw c.min.ensures (bucket_more a.weight i a.bucket.now entry (take_more a.bucket.now i (0, 0) c.loop-place-test.true) a.row.now
+    c.loop-place.row _ c.loop-place.invariant
     (lowered_one entry.0 (a.weight + entry.1) c.loop-place.row there))

@@ -22,5 +22,6 @@ loop-rank-preserved c =
     let a = c.args in
     let i = c.loop-rank.rank-index in
     let entry = get_or a.space.now i (0, 0) in
-    space_more i a.space.now a.buckets.now entry (take_more a.space.now i (0, 0) c.loop-rank-test.true) a.row.now c.loop-rank.row c.lower.new.row c.loop-rank.invariant
+    space_more i a.space.now a.buckets.now entry (take_more a.space.now i (0, 0) c.loop-rank-test.true) a.row.now c.loop-rank.row
+    c.lower.new.row c.loop-rank.invariant
     (subst (λ l. AreLowered (IsSumAt entry.1 l) c.loop-rank.row c.lower.new.row) c.row.ensures c.lower.ensures)

@@ -14,5 +14,6 @@ loop-target-preserved c =
     let i = c.loop-target.target-index in
     let step = take_more a.targets.now i (0, 0) c.loop-target-test.true in (
       c.pay_within.ensures.board,
-      row_more a.within a.first a.weight i a.targets.now (get_or a.targets.now i (0, 0)) step (view_of a.pass.now) (view_of c.loop-target.pass) (view_of c.pay_within.new.pass) c.loop-target.invariant.1 c.pay_within.ensures.paid,
+      row_more a.within a.first a.weight i a.targets.now (get_or a.targets.now i (0, 0)) step (view_of a.pass.now)
+          (view_of c.loop-target.pass) (view_of c.pay_within.new.pass) c.loop-target.invariant.1 c.pay_within.ensures.paid,
     )

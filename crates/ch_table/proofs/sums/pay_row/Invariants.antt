@@ -6,4 +6,5 @@ use Rattle.ch_work.specs.Passes.{view_of, IsPassOf}
 use Rattle.ch_table.proofs.sums.pay_row.Given as goal
 
 abbrev pub invariant-loop-target : goal.invariant-loop-target
-invariant-loop-target l = IsPassOf l.board l.pass × HasPaid (IsOwedInRow l.within l.first l.weight (take l.target-index l.targets)) (view_of l.fn.pass) (view_of l.pass)
+invariant-loop-target l = IsPassOf l.board l.pass
+    × HasPaid (IsOwedInRow l.within l.first l.weight (take l.target-index l.targets)) (view_of l.fn.pass) (view_of l.pass)

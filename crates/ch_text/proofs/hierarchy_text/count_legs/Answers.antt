@@ -15,6 +15,7 @@ loop-node-preserved c =
     let down_most : length (row H.down v) ≤ MOST_NODES = row_short H c.down.ensures.levelled H.down c.down.ensures.levelled.down v in
     let few = c.loop-node.invariant.few in
     record {
-      counts = counted H c.args.nodes.now c.loop-node.node-index c.loop-node.count v _ _ c.loop-node-test.true refl c.loop-node.invariant.counts ups downs;
+      counts = counted H c.args.nodes.now c.loop-node.node-index c.loop-node.count v _ _ c.loop-node-test.true refl
+          c.loop-node.invariant.counts ups downs;
       few = omega arith;
     }

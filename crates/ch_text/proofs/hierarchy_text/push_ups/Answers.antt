@@ -8,5 +8,6 @@ use Rattle.ch_text.proofs.hierarchy_text.push_ups.Goals as goal
 
 pub returns : goal.returns
 returns c =
-    all_grown (λ leg. leg_text (leg_up c.args.node leg)) c.args.legs.now c.loop-leg.leg-index c.args.text.now.items c.loop-leg.text.items c.loop-leg-test.false c.loop-leg.invariant
+    all_grown (λ leg. leg_text (leg_up c.args.node leg)) c.args.legs.now c.loop-leg.leg-index c.args.text.now.items
+    c.loop-leg.text.items c.loop-leg-test.false c.loop-leg.invariant
     ∙ ap (λ t. c.args.text.now.items ++ t) (sym (text_of_turned leg_text (leg_up c.args.node) c.args.legs.now))

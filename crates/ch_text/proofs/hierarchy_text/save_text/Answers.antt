@@ -24,5 +24,9 @@ returns c =
     let nodes : vec_len c.in_ok-order.order ≡ length order = let ok = c.in_ok-order.order.ok in omega arith in
     let legs = rw c.deref.ensures.value at c.count_legs-legs.ensures in
     let ordered = rw c.deref-2.ensures.value at c.in_ok-push_order.ensures in
-    let rows = rw c.deref-3.ensures.value at c.in_ok-push_rows.ensures in
-    (order, c.in_ok-order.ensures.order, whole_text order (flat_map (legs_at c.args.hierarchy.now) order) _ _ _ _ _ (c.len.ensures ∙ nodes) legs c.in_ok-text.ensures ordered rows)
+    let rows = rw c.deref-3.ensures.value at c.in_ok-push_rows.ensures in (
+      order,
+      c.in_ok-order.ensures.order,
+      whole_text order (flat_map (legs_at c.args.hierarchy.now) order) _ _ _ _ _
+          (c.len.ensures ∙ nodes) legs c.in_ok-text.ensures ordered rows,
+    )

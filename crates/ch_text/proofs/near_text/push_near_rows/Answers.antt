@@ -22,7 +22,8 @@ loop-place-preserved c =
     let inside : i < length a.rows.now = omega arith in
     let row : c.deref.result.now ≡ get_or (map items a.rows.now) i []
     = c.deref.ensures.value ∙ ap items c.index-rows-place.is ∙ sym (get_or-map items a.rows.now i c.index-rows-place.result [] inside) in
-    row_grown f a.sources.now (map items a.rows.now) i 0 [] a.text.now.items before c.push_near_row.new.text.items low (length-map a.rows.now items ∙ same) c.loop-place.invariant
+    row_grown f a.sources.now (map items a.rows.now) i 0 [] a.text.now.items before c.push_near_row.new.text.items low
+    (length-map a.rows.now items ∙ same) c.loop-place.invariant
     (c.in_ok-push_near_row.ensures ∙ ap (λ (cells : List (ℕ × ℕ)). before ++ f (get_or a.sources.now i 0, cells)) row)
 
 pub returns : goal.returns
@@ -31,4 +32,5 @@ returns c =
     let rows = map items a.rows.now in
     let past = c.loop-place-test.false in
     let long = length-zip a.sources.now rows in
-    all_grown (near_row_text a.targets.now) (zip a.sources.now rows) c.loop-place.place a.text.now.items c.loop-place.text.items (omega arith) c.loop-place.invariant
+    all_grown (near_row_text a.targets.now) (zip a.sources.now rows) c.loop-place.place a.text.now.items c.loop-place.text.items
+    (omega arith) c.loop-place.invariant

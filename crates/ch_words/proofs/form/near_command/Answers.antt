@@ -11,7 +11,8 @@ use Rattle.ch_words.proofs.form.near_command.Goals as goal
 
 pub returns : goal.returns
 returns c =
-    let named : app_of c.override_usage-command.result ≡ new_app (codes "near") = ap app_of_fields c.override_usage-command.ensures ∙ c.named.ensures.form in
+    let named : app_of c.override_usage-command.result ≡ new_app (codes "near") =
+    ap app_of_fields c.override_usage-command.ensures ∙ c.named.ensures.form in
     let local : (out-Command c.override_usage-command.result).has_globals ≡ false =
     ap (λ (fields : Command-F Command). fields.has_globals) c.override_usage-command.ensures ∙ c.named.ensures.local in
     let with_options = c.with_graph.ensures (new_app (codes "near")) near_rules c.near_options.ensures (named, local) in

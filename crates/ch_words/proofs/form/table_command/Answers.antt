@@ -7,7 +7,8 @@ use Rattle.ch_words.proofs.form.table_command.Goals as goal
 
 pub returns : goal.returns
 returns c =
-    let with_options = c.with_graph-command.ensures (new_app (codes "table")) table_rules c.table_options.ensures (c.named-command.ensures.form, c.named-command.ensures.local) in
+    let with_options = c.with_graph-command.ensures (new_app (codes "table")) table_rules c.table_options.ensures
+    (c.named-command.ensures.form, c.named-command.ensures.local) in
     let with_sources = c.with_arg.ensures _ _ with_options c.file-sources.ensures.rule c.file-sources.ensures.local in
     let made = c.with_arg-2.ensures _ _ with_sources c.file-targets.ensures.rule c.file-targets.ensures.local in
     record {

@@ -7,6 +7,9 @@ use Rattle.ch_words.proofs.form.with_graph.Goals as goal
 
 pub returns : goal.returns
 returns c = λ form rules same given.
-    let with_own = subst (λ (some : List Rule). IfOk c.with_options-command.result (HasForm (fold with_rule form some))) same (c.with_options-command.ensures form given) in
-    let with_shared = subst (λ (some : List Rule). IfOk c.with_options.result (HasForm (fold with_rule (fold with_rule form rules) some))) c.shared_options.ensures (c.with_options.ensures _ with_own) in
+    let with_own = subst (λ (some : List Rule). IfOk c.with_options-command.result (HasForm (fold with_rule form some))) same
+    (c.with_options-command.ensures form given) in
+    let with_shared = subst
+    (λ (some : List Rule). IfOk c.with_options.result (HasForm (fold with_rule (fold with_rule form rules) some)))
+    c.shared_options.ensures (c.with_options.ensures _ with_own) in
     c.with_arg.ensures _ _ with_shared c.graph.ensures.rule c.graph.ensures.local

@@ -7,4 +7,5 @@ use Rattle.ch_words.specs.Options.{rules_of}
 use Rattle.ch_words.proofs.form.with_options.Given as goal
 
 abbrev pub invariant-loop-row : goal.invariant-loop-row
-invariant-loop-row l = (form : App) → IfOk l.initial.command (HasForm form) → IfOk l.command (HasForm (fold with_rule form (rules_of (take l.row-index l.rows))))
+invariant-loop-row l = (form : App) → IfOk l.initial.command (HasForm form) →
+    IfOk l.command (HasForm (fold with_rule form (rules_of (take l.row-index l.rows))))

@@ -13,10 +13,13 @@ loop-pass-preserved g c =
     let before = c.loop-pass.yielded in
     let rest = c.next.new.self.rest.items in
     let len : length all ≡ vec_len c.args.worked = search rules in
-    let now = next_split all before c.loop-pass.pass-iterator.rest.items (c.in-Some.pass, c.in-Some.outcome) rest c.loop-pass.invariant.2 c.in-Some.ensures.steps.0 in
-    let has = item_has (λ i r. HandsBack owes payments.items payments.piece payments.board.now r.0 r.1) all (vec_len c.args.worked) len c.requires before rest (c.in-Some.pass, c.in-Some.outcome) now in
+    let now = next_split all before c.loop-pass.pass-iterator.rest.items (c.in-Some.pass, c.in-Some.outcome) rest
+    c.loop-pass.invariant.2 c.in-Some.ensures.steps.0 in
+    let has = item_has (λ i r. HandsBack owes payments.items payments.piece payments.board.now r.0 r.1) all (vec_len c.args.worked)
+    len c.requires before rest (c.in-Some.pass, c.in-Some.outcome) now in
     let is = rw c.in_ok-outcome.was at has in (
       omega (arith, c.in_ok-push.ensures.len, c.loop-pass.invariant.0, length-append before ((c.in-Some.pass, c.in-Some.outcome) ∷ [])),
-      rw c.in_ok-push.ensures.items (All-push (HasPaidOff owes payments.items payments.piece payments.board.now) c.loop-pass.passes.items c.in-Some.pass c.loop-pass.invariant.1 is.1),
+      rw c.in_ok-push.ensures.items (All-push (HasPaidOff owes payments.items payments.piece payments.board.now)
+          c.loop-pass.passes.items c.in-Some.pass c.loop-pass.invariant.1 is.1),
       next_done all before rest (c.in-Some.pass, c.in-Some.outcome) now,
     )

@@ -20,8 +20,17 @@ returns-clause-least g c =
     let count = ap (λ (k : Size). k.pieces) made ∙ c.div_ceil-pieces.ensures in
     let cells = ap (λ (k : Size). k.cells) made in
     let len : length passes ≡ vec_len c.in_ok-passes.passes = search rules in
-    let some_one : 0 < length passes = omega (arith, len, c.in_ok-passes.ensures.len, c.in_ok-worked.ensures.len, c.in_ok-board.ensures.count, c.max-workers.ensures) in
-    subst (λ q. IfOk c.close.result (λ v. (i : ℕ) (d : _) → i < c.args.cells → IsLeastOwed owes n q i (slice_index_or v.items i d))) c.piece-piece.ensures.piece
+    let some_one : 0 < length passes =
+    omega (
+      arith,
+      len,
+      c.in_ok-passes.ensures.len,
+      c.in_ok-worked.ensures.len,
+      c.in_ok-board.ensures.count,
+      c.workers_for-workers.ensures.limits.0,
+    ) in
+    subst (λ q. IfOk c.close.result (λ v. (i : ℕ) (d : _) → i < c.args.cells → IsLeastOwed owes n q i (slice_index_or v.items i d)))
+    c.piece-piece.ensures.piece
     (both_ok c.close.result (λ v. Settled size (map view_of passes) v.items) (λ v. Settled size (map view_of passes) v.items)
     (λ v. (i : ℕ) (d : _) → i < c.args.cells → IsLeastOwed owes n p i (slice_index_or v.items i d))
     c.close.ensures c.close.ensures

@@ -23,12 +23,15 @@ loop-pass-preserved g c =
     let rest = c.next.new.self.rest.items in
     let so_far = c.loop-pass.invariant in
     let len : length all ≡ vec_len c.args.worked = search rules in
-    let now = next_split all before c.loop-pass.pass-iterator.rest.items (c.in-Some.pass, c.in-Some.outcome) rest so_far.3 c.in-Some.ensures.steps.0 in
-    let has = item_has (λ i r. HasWorked meaning clean work.items work.piece board r.0 r.1) all (vec_len c.args.worked) len c.requires.each before rest (c.in-Some.pass, c.in-Some.outcome) now in
+    let now = next_split all before c.loop-pass.pass-iterator.rest.items (c.in-Some.pass, c.in-Some.outcome) rest so_far.3
+    c.in-Some.ensures.steps.0 in
+    let has = item_has (λ i r. HasWorked meaning clean work.items work.piece board r.0 r.1) all (vec_len c.args.worked) len
+    c.requires.each before rest (c.in-Some.pass, c.in-Some.outcome) now in
     let is = rw c.in_ok-room.was at has in
     let room = c.in_ok-room.room in
     let more = c.in_ok-room.done.items in
-    let gathered = gathers_one meaning work.items work.piece board c.loop-pass.passes.items c.loop-pass.all.items c.in-Some.pass more so_far.1 is.0 is.1.0 is.1.1 is.1.2 in (
+    let gathered = gathers_one meaning work.items work.piece board c.loop-pass.passes.items c.loop-pass.all.items c.in-Some.pass
+    more so_far.1 is.0 is.1.0 is.1.1 is.1.2 in (
       omega (arith, c.in_ok-push.ensures.len, so_far.0, length-append before ((c.in-Some.pass, c.in-Some.outcome) ∷ [])),
       rw (c.in_ok-push.ensures.items, c.in_ok-append.ensures.items) gathered,
       rw c.in_ok-push-2.ensures.items (All-push clean c.loop-pass.rooms.items room so_far.2 is.1.3),

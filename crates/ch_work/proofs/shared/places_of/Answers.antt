@@ -8,14 +8,16 @@ pub loop-number-preserved-in-Some : goal.loop-number-preserved-in-Some
 loop-number-preserved-in-Some g c =
     let work = c.args.work.now in
     let so_far = c.loop-number.invariant in
-    places_next (g.J.RoomJob.meaning work.job.now) work.items work.piece c.args.done.items c.loop-number.yielded c.loop-number.number-iterator.rest.items c.next.new.self.rest.items c.in-Some.field-0
+    places_next (g.J.RoomJob.meaning work.job.now) work.items work.piece c.args.done.items c.loop-number.yielded
+    c.loop-number.number-iterator.rest.items c.next.new.self.rest.items c.in-Some.field-0
     c.loop-number.places.items so_far.2 c.in-Some.ensures.steps.0 c.requires.each so_far.0 so_far.1
 
 pub loop-number-preserved : goal.loop-number-preserved
 loop-number-preserved g c =
     let work = c.args.work.now in
     let so_far = c.loop-number.invariant in
-    places_next (g.J.RoomJob.meaning work.job.now) work.items work.piece c.args.done.items c.loop-number.yielded c.loop-number.number-iterator.rest.items c.next.new.self.rest.items c.in-Some.field-0
+    places_next (g.J.RoomJob.meaning work.job.now) work.items work.piece c.args.done.items c.loop-number.yielded
+    c.loop-number.number-iterator.rest.items c.next.new.self.rest.items c.in-Some.field-0
     c.loop-number.places.items so_far.2 c.in-Some.ensures.steps.0 c.requires.each so_far.0 so_far.1
 
 pub returns-clause-each : goal.returns-clause-each

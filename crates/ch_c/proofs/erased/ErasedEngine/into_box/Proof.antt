@@ -1,5 +1,10 @@
 -- The box owns the memory behind the pointer.
-use Rattle.ch_c.proofs.Steps.{◌≡◌, [], ◌∷◌, refl, sym, ap, ◌∙◌, proved, full_share, id⊢, emp, ftrue, fact, fact_i, tables, ‵, raw, ◌⊛◌, some, later, at_ret, ◌$◌, ◌∵◌, !, qed, done, move, keep, drop, use0, use1, use2, split, join, fsplit, feq_i, pick, await, rewrite, suffices, enter, of_opd, stop, fld, whole, sub, no_more, and_then, first, blocks, exec, returns, alloc_all, pass_all, free_all, look_at, get, get_in, sets, lands_last, env, yes, no, plain, nothing, owned, heard, peeks, calls_at_last, triple_of, framed, Stays, walk_of, says, stay_dropped, Goes-dropped, ends_at}
+use Rattle.ch_c.proofs.Steps.{◌≡◌, [], ◌∷◌, refl, sym, ap, ◌∙◌, proved, full_share, id⊢, emp, ftrue, fact, fact_i, tables, ‵, raw}
+use Rattle.ch_c.proofs.Steps.{◌⊛◌, some, later, at_ret, ◌$◌, ◌∵◌, !, qed, done, move, keep, drop, use0, use1, use2, split, join}
+use Rattle.ch_c.proofs.Steps.{fsplit, feq_i, pick, await, rewrite, suffices, enter, of_opd, stop, fld, whole, sub, no_more}
+use Rattle.ch_c.proofs.Steps.{and_then, first, blocks, exec, returns, alloc_all, pass_all, free_all, look_at, get, get_in, sets}
+use Rattle.ch_c.proofs.Steps.{lands_last, env, yes, no, plain, nothing, owned, heard, peeks, calls_at_last, triple_of, framed}
+use Rattle.ch_c.proofs.Steps.{Stays, walk_of, says, stay_dropped, Goes-dropped, ends_at}
 use Rattle.std.specs.Prelude.{Option, None, Some, IsSome}
 use Rattle.std.proofs.lemmas.Bool.{false≢true}
 use mir.Raw.{raw as bare}
@@ -57,32 +62,49 @@ into_box_spec {M} 𝓤 𝓛 𝓜 𝓡 wired =
     let c = f.clauses 𝓛 𝓜.mem 𝓡.returns in let W = walk_of 𝓛 f.ended stayed c in let 𝓣 = tables 𝓤 𝓛.H 𝓜 𝓡 𝓡.env in
     let γ = 𝓡.env in
     let known = met 𝓤 𝓛 𝓜 𝓡 (code.calls-std_alloc::boxed::Box::from_raw γ wired) X Z LX LZ ghosts dict let_go
-    (passed γ (code.calls-std_heap::GlobalAllocator::allocate γ wired) (code.calls-std_heap::GlobalAllocator::deallocate γ wired) (code.calls-std_heap::GlobalAllocator::grow γ wired) (code.calls-std_heap::GlobalAllocator::shrink γ wired) M 𝓤 𝓛 𝓜 𝓡)
+    (passed γ (code.calls-std_heap::GlobalAllocator::allocate γ wired) (code.calls-std_heap::GlobalAllocator::deallocate γ wired)
+    (code.calls-std_heap::GlobalAllocator::grow γ wired) (code.calls-std_heap::GlobalAllocator::shrink γ wired) M 𝓤 𝓛 𝓜 𝓡)
     (glues "ch_c::Destruct++none::drop" γ (code.calls-ch_c::Destruct++none::drop γ wired) Z LZ M 𝓤 𝓛 𝓜 𝓡) in
     proved 𝓛 f.ended stayed c 𝓜 𝓡 (Goes-dropped 𝓛 0 (plain (λ _. Erased.the_row)) yes (λ κs x w. refl), tt)
     f.Key.name code.function (code.unfolded 𝓤 𝓛.H 𝓜 𝓡 wired)
-    (λ κs. (owning.vals Erased.the_type erased.the_laws, tt)) (λ κs. (owning.tells Erased.the_type erased.the_laws, tt)) (λ κs qs bounds a n are.
+    (λ κs. (owning.vals Erased.the_type erased.the_laws, tt)) (λ κs. (owning.tells Erased.the_type erased.the_laws, tt))
+    (λ κs qs bounds a n are.
     let v = a.0 in let w = word v.at v.alloc in
     let y : W.Ghost = ((κs, qs, bounds, a, (w ∷ [], tt)), n) in
     let G = triple_of 𝓛 (g.signature X Z ghosts dict let_go) (g.spec X Z ghosts dict let_go 𝓛 𝓜.mem 𝓡.returns) in
     qed 𝓛 ((‵ ftrue ⊛ ‵ (Erased.the_row.own_val v (w ∷ [])) ⊛ ‵ ftrue) ∷ raw (fact 𝓤 (IsSome v.network)) ∷ []) ∵
-    split ! $ drop ! $ split ! $ keep ! (2 ∷ 0 ∷ []) $ heard ! _ (λ some_network. let found = the_some v.network some_network in let x = found.0 in
+    split ! $ drop ! $ split ! $ keep ! (2 ∷ 0 ∷ []) $ heard ! _ (λ some_network. let found = the_some v.network some_network in
+    let x = found.0 in
     fsplit ! $ drop ! $ rewrite ! 0 (λ (o : Option Engine.the_row.Denot). ‵ (owns_network v.alloc v.at o)) found.1 refl $
     enter ! _ _ _ _ _ $ alloc_all ! (λ l. pass_all ! refl (word_fits v.at, tt) $
     sets ! (of_opd ! (get_in ! (fld ! refl (stop !)) (sub ! 0 refl (whole !)))) refl (ptr_fits v.at) $
     sets ! (of_opd ! (get_in ! (fld ! refl (stop !)) (sub ! 1 refl (whole !)))) refl (tt, ((tt, tt), tt)) $
     first ! $ blocks ! $ sets ! (of_opd ! (get ! refl)) refl (ptr_fits v.at) $
     lft_new ! tt (λ α. lft_new ! tt (λ β.
-    let z : G.Ghost = (((α ∷ [], (β ∷ [], tt)), (full_share, (full_share, tt)), tt, (v.alloc, (v.at, tt)), (heap_word v.alloc ∷ [], (ptr_val v.at ∷ [], tt))), x) in
+    let z : G.Ghost = (
+      (
+        (α ∷ [], (β ∷ [], tt)),
+        (full_share, (full_share, tt)),
+        tt,
+        (v.alloc, (v.at, tt)),
+        (heap_word v.alloc ∷ [], (ptr_val v.at ∷ [], tt)),
+      ),
+      x,
+    ) in
     -- [the token of the allocator's lifetime; that of the engine's; the memory]
-    use0 𝓛 (raw (fact 𝓤 ((β ∷ []) ⊑ Z.lives))) (fact_i 𝓤 _ (emp 𝓤) (⊑_static (β ∷ []))) $ use0 𝓛 (raw (fact 𝓤 ((α ∷ []) ⊑ X.lives))) (fact_i 𝓤 _ (emp 𝓤) (⊑_static (α ∷ []))) $
+    use0 𝓛 (raw (fact 𝓤 ((β ∷ []) ⊑ Z.lives))) (fact_i 𝓤 _ (emp 𝓤) (⊑_static (β ∷ []))) $ use0 𝓛 (raw (fact 𝓤 ((α ∷ []) ⊑ X.lives)))
+    (fact_i 𝓤 _ (emp 𝓤) (⊑_static (α ∷ []))) $
     move ! (1 ∷ 4 ∷ []) $ join ! $ move ! (1 ∷ 0 ∷ []) $ join ! $
-    nothing ! $ feq_i ! _ (ptr_val v.at ∷ []) _ refl $ join ! $ owned ! Heap.the_row _ (struct.makes Heap.the_type heap.the_plain 𝓛) v.alloc (heap_word v.alloc ∷ []) (heap_is v.alloc) $ join ! $
+    nothing ! $ feq_i ! _ (ptr_val v.at ∷ []) _ refl $ join ! $ owned ! Heap.the_row _ (struct.makes Heap.the_type heap.the_plain 𝓛)
+    v.alloc (heap_word v.alloc ∷ []) (heap_is v.alloc) $ join ! $
     nothing ! $ move ! (3 ∷ 0 ∷ []) $ join ! $ move ! (3 ∷ 0 ∷ []) $ join ! $ join ! $ use2 𝓛 (raw (G.pre z)) (id⊢ 𝓤 _) $
     calls_at_last ! (framed 𝓤 𝓛.H 𝓜 𝓣) G known z (and_then ! (get ! refl) (and_then ! (get ! refl) (no_more !))) (λ u.
-    use1 𝓛 (later (some (λ (r : (Boxed Engine.the_row).D). ((‵ (flft (α ∷ []) full_share) ⊛ ‵ (flft (β ∷ []) full_share) ⊛ ‵ ftrue) ⊛ ‵ ((Box.the_row (param 0 X) (param 1 Z) ghosts).own_val r (u ∷ []))) ⊛
-    some (λ (ws : Lasts (g.ended X Z ghosts dict let_go) z.0.0 z.0.3). ‵ (lasts (g.ended X Z ghosts dict let_go) z.0.0 z.0.3 ws) ⊛ (raw (fact 𝓤 (r.value ≡ x)) ⊛ raw (fact 𝓤 (r.alloc ≡ v.alloc))))))) (id⊢ 𝓤 _) $
-    await ! tt $ pick ! (λ r. split ! $ split ! $ drop ! $ move ! (1 ∷ []) $ pick ! (λ ws. split ! $ drop ! $ split ! $ heard ! _ (λ same. drop ! $
+    use1 𝓛 (later (some (λ (r : (Boxed Engine.the_row).D). ((‵ (flft (α ∷ []) full_share) ⊛ ‵ (flft (β ∷ []) full_share) ⊛ ‵ ftrue)
+    ⊛ ‵ ((Box.the_row (param 0 X) (param 1 Z) ghosts).own_val r (u ∷ []))) ⊛
+    some (λ (ws : Lasts (g.ended X Z ghosts dict let_go) z.0.0 z.0.3). ‵ (lasts (g.ended X Z ghosts dict let_go) z.0.0 z.0.3 ws)
+    ⊛ (raw (fact 𝓤 (r.value ≡ x)) ⊛ raw (fact 𝓤 (r.alloc ≡ v.alloc))))))) (id⊢ 𝓤 _) $
+    await ! tt $ pick ! (λ r. split ! $ split ! $ drop ! $ move ! (1 ∷ []) $ pick !
+    (λ ws. split ! $ drop ! $ split ! $ heard ! _ (λ same. drop ! $
     use1 𝓛 (‵ (Whole.own_val r (u ∷ []))) (id⊢ 𝓤 _) $ peeks ! Whole _ (shows 𝓛 Whole) r (u ∷ []) (λ is.
     let fits = ((owning.lawful (Boxed Engine.the_row) (box_laws Engine.the_row) 𝓛).typed r (u ∷ []) is).0 in
     lands_last ! refl fits $ exec ! 𝓣.C 𝓣.Λ (env code.Mir.locals l) code.Mir.t-4 (at_ret _ (W.post y)) $

@@ -1,5 +1,7 @@
 -- A null pointer owns nothing.
-use Rattle.ch_c.proofs.Steps.{[], ◌∷◌, refl, proved, emp, raw, ‵, id⊢, use1, lit<, ◌$◌, ◌∵◌, !, qed, done, drop, join, fjoin, suffices, enter, lit, no_more, and_then, agg, returns, alloc_all, pass_all, free_all, look_at, get, sets, yes, plain, nothing, owned, on_entry, Stays, walk_of, says, stay_dropped, Goes-dropped, ends_at}
+use Rattle.ch_c.proofs.Steps.{[], ◌∷◌, refl, proved, emp, raw, ‵, id⊢, use1, lit<, ◌$◌, ◌∵◌, !, qed, done, drop, join, fjoin}
+use Rattle.ch_c.proofs.Steps.{suffices, enter, lit, no_more, and_then, agg, returns, alloc_all, pass_all, free_all, look_at, get}
+use Rattle.ch_c.proofs.Steps.{sets, yes, plain, nothing, owned, on_entry, Stays, walk_of, says, stay_dropped, Goes-dropped, ends_at}
 use Rattle.std.specs.Prelude.{None}
 use denote.RawPtr.{null_ptr}
 use denote.Struct.Laws as struct
@@ -25,9 +27,12 @@ none_spec 𝓤 𝓛 𝓜 𝓡 wired =
     let y : W.Ghost = ((κs, qs, bounds, a, (heap_word a.0 ∷ [], tt)), n) in
     qed 𝓛 (raw (on_entry 𝓛 f.signature κs qs a y.0.4) ∷ raw (emp 𝓤) ∷ []) ∵ drop ! $ drop ! $
     enter ! _ _ _ _ _ $ alloc_all ! (λ l. pass_all ! refl ((tt, ((tt, tt), tt)), tt) $
-    sets ! (agg ! (and_then ! (lit ! tt) (and_then ! (get ! refl) (no_more !)))) refl (tt, (record { fits = lit< tt }, (((tt, tt), tt), tt))) $
+    sets ! (agg ! (and_then ! (lit ! tt) (and_then ! (get ! refl) (no_more !)))) refl
+    (tt, (record { fits = lit< tt }, (((tt, tt), tt), tt))) $
     returns ! (look_at ! 0 refl) $ free_all ! refl $
-    nothing ! $ owned ! Fields.the_row _ (struct.makes Fields.the_type fields.the_plain 𝓛) (record { at = null_ptr; alloc = a.0 }) (word null_ptr a.0 ∷ []) (fields_word null_ptr a.0) $ fjoin ! $
+    nothing ! $ owned ! Fields.the_row _ (struct.makes Fields.the_type fields.the_plain 𝓛) (record { at = null_ptr; alloc = a.0 })
+    (word null_ptr a.0 ∷ []) (fields_word null_ptr a.0) $ fjoin ! $
     use1 𝓛 (‵ (Erased.the_row.own_val (record { at = null_ptr; alloc = a.0; network = None }) (word null_ptr a.0 ∷ []))) (id⊢ 𝓤 _) $
-    suffices ! _ (ends_at 𝓛 f.ended stayed c y (word null_ptr a.0) (record { at = null_ptr; alloc = a.0; network = None }) (tt, tt) (tt, tt)) $ says ! refl $
+    suffices ! _ (ends_at 𝓛 f.ended stayed c y (word null_ptr a.0) (record { at = null_ptr; alloc = a.0; network = None }) (tt, tt)
+    (tt, tt)) $ says ! refl $
     nothing ! $ nothing ! $ join ! $ nothing ! $ done !))

@@ -22,17 +22,29 @@ returns-clause-lowers g c =
           let both = and_parts wanted _ w.if-is_less.true in
           let less = subst (IsAtMost (cost held_cost)) here (dearer _ _ _ c.is_at_most.ensures (not-true _ both.1)) in
           let touched = pushed _ c.push_where.new.list.items h.touched.items node c.push_where.ensures.items w.if-is_less.true in
-          let next = pushed _ c.push_where-2.new.list.items h.next.items (record { node = node; cost = held_cost }) c.push_where-2.ensures.items w.if-is_less.true in
-          lowers_as (IsOnly node (cost held_cost)) (IsOnlyWhere wanted node (cost held_cost)) (known_of cost h) _ (λ x d m. (both.0, m)) (λ x d m. m.1)
-          (subst (λ z. Lowers (IsOnly node (cost held_cost)) (known_of cost h) (record { costs = map cost (set h.costs.items node z); touched = c.push_where.new.list.items; next = map (chain_start_of cost) c.push_where-2.new.list.items })) (sym w.t-28-is)
+          let next = pushed _ c.push_where-2.new.list.items h.next.items (record { node = node; cost = held_cost })
+          c.push_where-2.ensures.items w.if-is_less.true in
+          lowers_as (IsOnly node (cost held_cost)) (IsOnlyWhere wanted node (cost held_cost)) (known_of cost h) _
+          (λ x d m. (both.0, m)) (λ x d m. m.1)
+          (subst (λ z. Lowers (IsOnly node (cost held_cost)) (known_of cost h)
+          (record {
+            costs = map cost (set h.costs.items node z);
+            touched = c.push_where.new.list.items;
+            next =
+                map (chain_start_of cost) c.push_where-2.new.list.items;
+          })) (sym w.t-28-is)
           (lowers_one cost h node held_cost _ _ c.requires.node less touched next))
       | else-is_less w ↦
           let touched = not_pushed _ c.push_where.new.list.items h.touched.items node c.push_where.ensures.items w.if-is_less.false in
-          let next = not_pushed _ c.push_where-2.new.list.items h.next.items (record { node = node; cost = held_cost }) c.push_where-2.ensures.items w.if-is_less.false in
-          let known : IsTrue wanted → IsAtMost (known_at (known_of cost h) node) (cost held_cost) = λ yes. elim (and_cases wanted _ w.if-is_less.false) [
+          let next = not_pushed _ c.push_where-2.new.list.items h.next.items (record { node = node; cost = held_cost })
+          c.push_where-2.ensures.items w.if-is_less.false in
+          let known : IsTrue wanted → IsAtMost (known_at (known_of cost h) node) (cost held_cost) =
+          λ yes. elim (and_cases wanted _ w.if-is_less.false) [
             | inl off ↦ absurd (both_ways wanted off yes)
             | inr is ↦ subst (λ z. IsAtMost z (cost held_cost)) here (c.is_at_most.ensures.0 (not-false _ is))
           ] in
-          lowers_nothing cost h node _ c.index-known.result.now _ _ (IsOnlyWhere wanted node (cost held_cost)) (w.t-28-is ∙ c.index-known.ensures) touched next
-          (λ x d m. subst (λ z. IsAtMost (known_at (known_of cost h) z) d) (sym m.1.0) (subst (IsAtMost (known_at (known_of cost h) node)) (sym m.1.1) (known m.0)))
+          lowers_nothing cost h node _ c.index-known.result.now _ _ (IsOnlyWhere wanted node (cost held_cost))
+          (w.t-28-is ∙ c.index-known.ensures) touched next
+          (λ x d m. subst (λ z. IsAtMost (known_at (known_of cost h) z) d) (sym m.1.0)
+          (subst (IsAtMost (known_at (known_of cost h) node)) (sym m.1.1) (known m.0)))
     ]

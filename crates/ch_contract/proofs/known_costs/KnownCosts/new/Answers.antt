@@ -16,7 +16,8 @@ none_known n x = elim (cases_lt x n) [
 pub loop-preserved : goal.loop-preserved
 loop-preserved g c =
     let cost = g.K.HeldCost.cost in
-    ap (map cost) c.in_ok-push.ensures.items ∙ map-append cost c.loop.costs.items (c.never.result ∷ []) ∙ ap (λ (l : List Cost). l ++ cost c.never.result ∷ []) c.loop.invariant
+    ap (map cost) c.in_ok-push.ensures.items ∙ map-append cost c.loop.costs.items (c.never.result ∷ [])
+    ∙ ap (λ (l : List Cost). l ++ cost c.never.result ∷ []) c.loop.invariant
     ∙ ap (λ (k : Cost). replicate c.loop.counter never ++ k ∷ []) c.never.ensures ∙ replicate_more c.loop.counter never
 
 pub returns : goal.returns

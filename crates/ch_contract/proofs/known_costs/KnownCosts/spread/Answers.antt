@@ -12,7 +12,8 @@ loop-leg-init g c =
     let step = chain_start_of cost c.args.step in
     let old = known_of cost c.args.self.now in
     let room = c.in_ok-reserve.ensures.room in (
-      subst (λ z. Lowers (IsOneMore [] step c.args.wanted) old z) (sym c.reserve.ensures.known) (lowers_none _ old (λ x d m. absurd (no_more step c.args.wanted x d m))),
+      subst (λ z. Lowers (IsOneMore [] step c.args.wanted) old z) (sym c.reserve.ensures.known)
+          (lowers_none _ old (λ x d m. absurd (no_more step c.args.wanted x d m))),
       (omega (arith, room.0), omega (arith, room.1)),
     )
 
@@ -30,6 +31,8 @@ loop-leg-preserved g c =
     let lt = c.loop-leg-test.true in
     let room = c.loop-leg.invariant.1 in (
       rw (take_more legs i no_leg lt)
-          (legs_more (take i legs) (get_or legs i no_leg) (chain_start_of cost c.args.step) c.args.wanted (known_of cost c.args.self.now) (known_of cost c.loop-leg.self) (known_of cost c.spread_leg.new.self) c.loop-leg.invariant.0 c.spread_leg.ensures.lowers),
+          (legs_more (take i legs) (get_or legs i no_leg) (chain_start_of cost c.args.step) c.args.wanted
+          (known_of cost c.args.self.now) (known_of cost c.loop-leg.self) (known_of cost c.spread_leg.new.self)
+          c.loop-leg.invariant.0 c.spread_leg.ensures.lowers),
       c.spread_leg.ensures.room (length legs - (i + 1)) (omega (arith, room.0), omega (arith, room.1)),
     )

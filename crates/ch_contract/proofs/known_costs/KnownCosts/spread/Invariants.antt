@@ -5,4 +5,5 @@ use Rattle.ch_contract.proofs.known_costs.KnownCosts.spread.Given as goal
 
 -- the legs so far were put in front, and there is room for the others
 abbrev pub invariant-loop-leg : goal.invariant-loop-leg
-invariant-loop-leg g l = Lowers (IsOneMore (take l.leg-index l.legs) (chain_start_of g.K.HeldCost.cost l.step) l.wanted) (known_of g.K.HeldCost.cost l.fn.self) (known_of g.K.HeldCost.cost l.self) × HasRoom (length l.legs - l.leg-index) l.self
+invariant-loop-leg g l = Lowers (IsOneMore (take l.leg-index l.legs) (chain_start_of g.K.HeldCost.cost l.step) l.wanted)
+    (known_of g.K.HeldCost.cost l.fn.self) (known_of g.K.HeldCost.cost l.self) × HasRoom (length l.legs - l.leg-index) l.self

@@ -19,4 +19,5 @@ loop-step-preserved g c =
     let one = take_more front i f c.loop-step-test.true ∙ ap (λ y. take i front ++ y ∷ []) (sym c.step-item.is) in
     let more = ap (map (chain_start_of cost)) one ∙ map-append (chain_start_of cost) (take i front) (f ∷ []) in
     subst (λ (z : List ChainStart). Lowers (IsOneMoreOf c.args.lists.now.rows z c.args.wanted) old new) (sym more)
-    (one_step_more c.args.lists.now.rows (map (chain_start_of cost) (take i front)) step c.args.wanted old mid new c.loop-step.invariant low)
+    (one_step_more c.args.lists.now.rows (map (chain_start_of cost) (take i front)) step c.args.wanted old mid new
+    c.loop-step.invariant low)

@@ -17,8 +17,11 @@ returns-clause-lowers g c =
     let old = known_of cost c.args.self.now in
     let new = known_of cost c.lower.new.self in
     let sum = c.plus-cost.ensures ∙ ap (λ z. cost_sum z step.cost) c.of.ensures in
-    let within = λ (t : IsTrue c.is_at_most.result). subst (λ z. IsAtMost z wanted.most) sum (subst (IsAtMost (cost c.plus-cost.result)) c.of-2.ensures (c.is_at_most.ensures.0 t)) in
-    let kept = λ (le : IsAtMost (cost_sum leg.cost step.cost) wanted.most). c.is_at_most.ensures.1 (subst (IsAtMost (cost c.plus-cost.result)) (sym c.of-2.ensures) (subst (λ z. IsAtMost z wanted.most) (sym sum) le)) in
+    let within = λ (t : IsTrue c.is_at_most.result). subst (λ z. IsAtMost z wanted.most) sum
+    (subst (IsAtMost (cost c.plus-cost.result)) c.of-2.ensures (c.is_at_most.ensures.0 t)) in
+    let kept = λ (le : IsAtMost (cost_sum leg.cost step.cost) wanted.most).
+    c.is_at_most.ensures.1 (subst (IsAtMost (cost c.plus-cost.result)) (sym c.of-2.ensures)
+    (subst (λ z. IsAtMost z wanted.most) (sym sum) le)) in
     let is_wanted = c.is_at_most.result && not (nat_eq leg.node wanted.avoided) in
     leg_where leg step wanted is_wanted old new (
       (λ t. let both = and_parts c.is_at_most.result _ t in (within both.0, eqb-false leg.node wanted.avoided (not-true _ both.1))),

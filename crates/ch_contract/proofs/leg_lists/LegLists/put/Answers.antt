@@ -18,6 +18,7 @@ pub returns : goal.returns
 returns c =
     let rows = ap (λ (m : NodeLegs). m.rows) c.self.view_is in
     record {
-      legs = edited_set _ _ _ _ rows c.requires.node _ c.in_ok-put_leg.ensures.edited c.args.leg.node (Some (label_of c.args.leg)) c.requires.rows c.in_ok-put_leg.ensures.row c.in_ok-put_leg.ensures.legs;
+      legs = edited_set _ _ _ _ rows c.requires.node _ c.in_ok-put_leg.ensures.edited c.args.leg.node (Some (label_of c.args.leg))
+          c.requires.rows c.in_ok-put_leg.ensures.row c.in_ok-put_leg.ensures.legs;
       aside = edited_aside _ _ _ _ rows c.requires.node _ c.in_ok-put_leg.ensures.edited ∙ ap (λ (m : NodeLegs). m.aside) c.self.view_is;
     }

@@ -13,7 +13,11 @@ loop-shortcut-init c = (overridden_none (legs_at c.args.end) c.args.v c.args.sel
 pub put-requires : goal.put-requires
 put-requires c =
     let inside = c.requires.ends c.loop-shortcut.shortcut-index no_shortcut c.loop-shortcut-test.true in
-    record { node = omega (arith, inside, c.nodes_of-node.ensures.0, c.loop-shortcut.invariant.0.size); rows = c.loop-shortcut.invariant.0.rows }
+    record {
+      node = omega (arith, inside, c.nodes_of-node.ensures.0, c.loop-shortcut.invariant.0.size);
+      rows =
+          c.loop-shortcut.invariant.0.rows;
+    }
 
 pub loop-shortcut-preserved : goal.loop-shortcut-preserved
 loop-shortcut-preserved c =
@@ -22,9 +26,13 @@ loop-shortcut-preserved c =
     let s = get_or list i no_shortcut in
     let end = c.args.end in
     let ends = c.nodes_of-node.ensures in
-    let made = subst (λ (l : Leg). IsSet c.nodes_of-node.result.0 l.node (Some (label_of l)) c.loop-shortcut.self.rows c.put.new.self.rows) c.leg_of.ensures c.in_ok-put.ensures.legs in
-    let here = subst (λ x. IsSet x c.nodes_of-node.result.1 (Some (shortcut_label c.args.v s)) c.loop-shortcut.self.rows c.put.new.self.rows) ends.0 made in
-    let set = subst (λ x. IsSet (end_of end s) x (Some (shortcut_label c.args.v s)) c.loop-shortcut.self.rows c.put.new.self.rows) ends.1 here in (
-      overridden_at end c.args.v list i no_shortcut c.args.self.now.rows c.loop-shortcut.self.rows c.put.new.self.rows c.loop-shortcut-test.true c.requires.ordered c.loop-shortcut.invariant.0 set,
+    let made = subst (λ (l : Leg). IsSet c.nodes_of-node.result.0 l.node (Some (label_of l)) c.loop-shortcut.self.rows
+    c.put.new.self.rows) c.leg_of.ensures c.in_ok-put.ensures.legs in
+    let here = subst (λ x. IsSet x c.nodes_of-node.result.1 (Some (shortcut_label c.args.v s)) c.loop-shortcut.self.rows
+    c.put.new.self.rows) ends.0 made in
+    let set = subst (λ x. IsSet (end_of end s) x (Some (shortcut_label c.args.v s)) c.loop-shortcut.self.rows c.put.new.self.rows)
+    ends.1 here in (
+      overridden_at end c.args.v list i no_shortcut c.args.self.now.rows c.loop-shortcut.self.rows c.put.new.self.rows
+          c.loop-shortcut-test.true c.requires.ordered c.loop-shortcut.invariant.0 set,
       c.in_ok-put.ensures.aside ∙ c.loop-shortcut.invariant.1,
     )

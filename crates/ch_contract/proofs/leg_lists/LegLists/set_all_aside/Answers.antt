@@ -20,9 +20,11 @@ loop-node-preserved c =
     let node = c.requires.nodes i 0 c.loop-node-test.true in
     let size = c.loop-node.invariant.sizes.0 in
     let within : get_or c.args.nodes.now i 0 < length c.loop-node.self.rows = omega arith in
-    aside_more c.args.nodes.now i c.args.self.now c.loop-node.self c.set_aside.new.self c.loop-node-test.true c.requires.distinct within c.loop-node.invariant c.set_aside.ensures.rows c.set_aside.ensures.aside
+    aside_more c.args.nodes.now i c.args.self.now c.loop-node.self c.set_aside.new.self c.loop-node-test.true c.requires.distinct
+    within c.loop-node.invariant c.set_aside.ensures.rows c.set_aside.ensures.aside
 
 pub returns : goal.returns
 returns c =
     let past : length c.args.nodes.now ≤ c.loop-node.node-index = omega arith in
-    subst (λ l. AreAllAside l c.args.self.now c.loop-node.self) (take_all c.loop-node.node-index c.args.nodes.now past) c.loop-node.invariant
+    subst (λ l. AreAllAside l c.args.self.now c.loop-node.self) (take_all c.loop-node.node-index c.args.nodes.now past)
+    c.loop-node.invariant

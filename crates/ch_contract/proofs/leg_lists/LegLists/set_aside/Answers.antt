@@ -1,7 +1,8 @@
 -- The legs of the node are now in its list set aside, its own list is empty, and all other lists stay as they are.
 use Rattle.std.proofs.Common.{◌≡◌, ◌+◌, ◌<◌, ℕ, List, [], length, set, take, drop, ◌∙◌, ap, subst, arith}
 use Rattle.std.proofs.Math.Seq.{take-set-lt}
-use Rattle.std.proofs.lemmas.List.{take-set-le, drop-set-lt, drop-set-add, length-take, length-drop, length-set, get_or-set_same, get_or-set_other}
+use Rattle.std.proofs.lemmas.List.{take-set-le, drop-set-lt, drop-set-add, length-take, length-drop, length-set, get_or-set_same}
+use Rattle.std.proofs.lemmas.List.{get_or-set_other}
 use Rattle.ch_hierarchy.specs.declared.leg.Leg.{Leg}
 use Rattle.ch_hierarchy.specs.Rows.{row}
 use Rattle.ch_contract.specs.LegLists.{NodeLegs, IsReplaced}
@@ -12,7 +13,8 @@ pub hand_over-requires : goal.hand_over-requires
 hand_over-requires c =
     let rows = ap (λ (m : NodeLegs). m.rows) c.self.view_is in
     let within = list_within _ _ _ _ rows c.requires in
-    let below : c.args.node < c.self.inside.nodes = omega (arith, ap length rows, length-take c.self.inside.nodes c.self.inside.lists, c.requires) in
+    let below : c.args.node < c.self.inside.nodes =
+    omega (arith, ap length rows, length-take c.self.inside.nodes c.self.inside.lists, c.requires) in
     let size = c.self.invariant.0 in
     record { from = within; to = omega arith; two = omega arith }
 
@@ -44,5 +46,7 @@ returns c =
     let put = handed_aside n c.args.node all new below c.hand_over.ensures c.self.invariant.0 in
     record {
       rows = handed_rows n c.args.node all new below c.hand_over.ensures ∙ ap (λ l. set l c.args.node []) rows;
-      aside = subst (λ l. IsReplaced c.args.node l c.args.self.now.aside (drop n new)) (list_row n c.args.node all _ rows c.requires) (subst (λ l. IsReplaced c.args.node (row all c.args.node) l (drop n new)) aside put);
+      aside = subst (λ l. IsReplaced c.args.node l c.args.self.now.aside (drop n new))
+          (list_row n c.args.node all _ rows c.requires)
+          (subst (λ l. IsReplaced c.args.node (row all c.args.node) l (drop n new)) aside put);
     }

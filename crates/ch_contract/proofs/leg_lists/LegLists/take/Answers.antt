@@ -17,6 +17,7 @@ pub returns : goal.returns
 returns c =
     let rows = ap (λ (m : NodeLegs). m.rows) c.self.view_is in
     record {
-      legs = edited_set _ _ _ _ rows c.requires.node _ c.take_leg.ensures.edited c.args.other None c.requires.rows c.take_leg.ensures.row c.take_leg.ensures.legs;
+      legs = edited_set _ _ _ _ rows c.requires.node _ c.take_leg.ensures.edited c.args.other None c.requires.rows
+          c.take_leg.ensures.row c.take_leg.ensures.legs;
       aside = edited_aside _ _ _ _ rows c.requires.node _ c.take_leg.ensures.edited ∙ ap (λ (m : NodeLegs). m.aside) c.self.view_is;
     }

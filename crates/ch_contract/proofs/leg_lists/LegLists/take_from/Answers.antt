@@ -23,7 +23,8 @@ loop-leg-preserved c =
     let i = c.loop-leg.leg-index in
     let l = get_or others i no_leg in (
       subst (λ z. AreTaken c.args.v z c.args.self.now.rows c.take.new.self.rows) (sym (take_more others i no_leg c.loop-leg-test.true))
-          (taken_more c.args.v (take i others) l c.args.self.now.rows c.loop-leg.self.rows c.take.new.self.rows c.loop-leg.invariant.0 c.take.ensures.legs),
+          (taken_more c.args.v (take i others) l c.args.self.now.rows c.loop-leg.self.rows c.take.new.self.rows
+          c.loop-leg.invariant.0 c.take.ensures.legs),
       c.take.ensures.aside ∙ c.loop-leg.invariant.1,
     )
 
@@ -31,5 +32,12 @@ pub returns : goal.returns
 returns c =
     let others = c.args.others.now in
     let past : length others ≤ c.loop-leg.leg-index = omega arith in
-    let t = subst (λ z. AreTaken c.args.v z c.args.self.now.rows c.loop-leg.self.rows) (take_all c.loop-leg.leg-index others past) c.loop-leg.invariant.0 in
-    record { size = t.size; rows = t.rows; legs = taken_all c.args.v others c.args.self.now.rows c.loop-leg.self.rows t c.requires.covers; aside = c.loop-leg.invariant.1 }
+    let t = subst (λ z. AreTaken c.args.v z c.args.self.now.rows c.loop-leg.self.rows) (take_all c.loop-leg.leg-index others past)
+    c.loop-leg.invariant.0 in
+    record {
+      size = t.size;
+      rows = t.rows;
+      legs = taken_all c.args.v others c.args.self.now.rows c.loop-leg.self.rows t
+          c.requires.covers;
+      aside = c.loop-leg.invariant.1;
+    }

@@ -46,9 +46,12 @@ put_at-requires c =
     let v : ℕ = get_or c.args.nodes.now i 0 in
     let put = zipped_at (IsPut n) c.args.nodes.now c.args.lists.now i 0 list.result c.requires.puts c.loop-place-test.true in
     let lent = ap (λ (l : Vec Shortcut). l.items) (sym list.is) ∙ sym c.as_slice.ensures.value in
-    let within : All (λ (s : Shortcut). IsLegWithin n s.from s.to (shortcut_label v s)) c.as_slice.result.now = subst (All (λ (s : Shortcut). IsLegWithin n s.from s.to (shortcut_label v s))) lent put.1 in
+    let within : All (λ (s : Shortcut). IsLegWithin n s.from s.to (shortcut_label v s)) c.as_slice.result.now =
+    subst (All (λ (s : Shortcut). IsLegWithin n s.from s.to (shortcut_label v s))) lent put.1 in
     record {
-      ends = subst (λ m. All (λ (s : Shortcut). end_of c.args.end s < m) c.as_slice.result.now) (sym known.2) (All-from_get_or (λ (s : Shortcut). end_of c.args.end s < n) c.as_slice.result.now no_shortcut (λ k lt. end_within c.args.end n (get_or c.as_slice.result.now k no_shortcut) v (within k no_shortcut lt)));
+      ends = subst (λ m. All (λ (s : Shortcut). end_of c.args.end s < m) c.as_slice.result.now) (sym known.2)
+          (All-from_get_or (λ (s : Shortcut). end_of c.args.end s < n) c.as_slice.result.now no_shortcut
+          (λ k lt. end_within c.args.end n (get_or c.as_slice.result.now k no_shortcut) v (within k no_shortcut lt)));
       rows = known.1;
       ordered = subst (AllPairs IsPairBefore) lent put.0;
     }
@@ -62,8 +65,10 @@ loop-place-preserved c =
     let lists = c.args.lists.now in
     let put = c.in_ok-put_at.ensures in
     let size = zipped_length (IsPut (length c.args.self.rows)) nodes lists c.requires.puts in
-    let legs = subst (λ l. AreOverridden (legs_at c.args.end) (get_or nodes i 0) l c.loop-place.self.rows c.put_at.new.self.rows) (c.as_slice.ensures.value ∙ ap (λ (l : Vec Shortcut). l.items) list.is) put.legs in (
-      put_next (legs_at c.args.end) nodes lists i list.result c.args.self.rows c.loop-place.self.rows c.put_at.new.self.rows (sym size) c.loop-place-test.true known.0 legs,
+    let legs = subst (λ l. AreOverridden (legs_at c.args.end) (get_or nodes i 0) l c.loop-place.self.rows c.put_at.new.self.rows)
+    (c.as_slice.ensures.value ∙ ap (λ (l : Vec Shortcut). l.items) list.is) put.legs in (
+      put_next (legs_at c.args.end) nodes lists i list.result c.args.self.rows c.loop-place.self.rows c.put_at.new.self.rows
+          (sym size) c.loop-place-test.true known.0 legs,
       put.legs.rows,
       put.legs.size ∙ known.2,
       put.aside ∙ known.3,
@@ -78,4 +83,5 @@ returns-clause-legs c =
     let past : length nodes ≤ i = omega arith in
     let all : length lists ≤ i = omega arith in
     subst (λ (l : List ℕ). ArePutInTurn (legs_at c.args.end) l lists c.args.self.rows c.loop-place.self.rows) (take_all i nodes past)
-    (subst (λ (l : List (Vec Shortcut)). ArePutInTurn (legs_at c.args.end) (take i nodes) l c.args.self.rows c.loop-place.self.rows) (take_all i lists all) c.loop-place.invariant.0)
+    (subst (λ (l : List (Vec Shortcut)). ArePutInTurn (legs_at c.args.end) (take i nodes) l c.args.self.rows c.loop-place.self.rows)
+    (take_all i lists all) c.loop-place.invariant.0)

@@ -14,4 +14,5 @@ take_each-requires c =
     }
 
 pub returns : goal.returns
-returns c = away_by c.args.nodes.now c.args.near.now c.args.owners.now c.args.self c.set_all_aside.new.self c.take_each.new.self c.requires c.set_all_aside.ensures c.take_each.ensures.taken c.take_each.ensures.aside
+returns c = away_by c.args.nodes.now c.args.near.now c.args.owners.now c.args.self c.set_all_aside.new.self c.take_each.new.self
+    c.requires c.set_all_aside.ensures c.take_each.ensures.taken c.take_each.ensures.aside

@@ -13,7 +13,8 @@ pub invariant_of-judging : goal.invariant_of-judging
 invariant_of-judging g c = record {
   bound = c.requires.hops;
   light = c.requires.light;
-  touches = are_touching (legs_of c.args.self.now) _ _ _ c.touching-touching.ensures.up c.touching-touching.ensures.down _ _ c.nodes.ensures.limits c.requires.light;
+  touches = are_touching (legs_of c.args.self.now) _ _ _ c.touching-touching.ensures.up c.touching-touching.ensures.down _ _
+      c.touching-touching.ensures.limits c.requires.light;
 }
 
 -- the list has the shortcuts of the node
@@ -22,23 +23,26 @@ listed : (g : _) (c : In_ok-fill g) →
 listed g c =
     let t = c.touching-touching in
     subst (λ v. AreShortcuts c.args.self.now.nodes c.args.hops (legs_of c.args.self.now) v c.fill.new.list.items) t.ensures.node
-    (own_shortcuts (legs_of c.args.self.now) t.result.node t.result.up.now t.result.down.now t.ensures.up t.ensures.down _ _ _ c.in_ok-fill.ensures.list)
+    (own_shortcuts (legs_of c.args.self.now) t.result.node t.result.up.now t.result.down.now t.ensures.up t.ensures.down _ _ _
+    c.in_ok-fill.ensures.list)
 
 pub invariant_of-result : goal.invariant_of-result
 invariant_of-result g c =
     let n = c.args.self.now.nodes in
     let L = legs_of c.args.self.now in
-    let known = c.nodes.ensures in
+    let known = c.touching-touching.ensures in
     let t = c.touching-touching in
     let count = rows_touching n t.result.node L t.result.up.now t.result.down.now known.limits t.ensures.up t.ensures.down in
-    let few = shortcuts_most n c.args.hops L c.args.v c.fill.new.list.items known.limits (listed g (goal.at.invariant_of-result g c).In_ok-fill) in
+    let few = shortcuts_most n c.args.hops L c.args.v c.fill.new.list.items known.limits
+    (listed g (goal.at.invariant_of-result g c).In_ok-fill) in
     let square : n * n ≤ 2 ^ 50 = mul-le-mul {n₁ = n} {m₁ = n} {n₂ = MOST_NODES} {m₂ = MOST_NODES} known.count known.count in
     record { small = (omega (arith, few, square, c.len.ensures), omega (arith, count, touching_most n L t.result.node, known.count)) }
 
 pub returns-clause-measure : goal.returns-clause-measure
 returns-clause-measure g c =
     let t = c.touching-touching in
-    let count = rows_touching c.args.self.now.nodes t.result.node (legs_of c.args.self.now) t.result.up.now t.result.down.now c.nodes.ensures.limits t.ensures.up t.ensures.down in
+    let count = rows_touching c.args.self.now.nodes t.result.node (legs_of c.args.self.now) t.result.up.now t.result.down.now
+    c.touching-touching.ensures.limits t.ensures.up t.ensures.down in
     let same = ap (count_touching c.args.self.now.nodes (legs_of c.args.self.now)) t.ensures.node in
     (c.fill.new.list.items, listed g (goal.at.returns-clause-measure g c).In_ok-fill, omega arith, omega arith)
 

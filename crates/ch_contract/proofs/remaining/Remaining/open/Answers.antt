@@ -12,8 +12,11 @@ use Rattle.ch_contract.proofs.remaining.Remaining.open.Goals.{then-arc+in_ok-put
 use Rattle.ch_contract.proofs.remaining.Remaining.open.Goals as goal
 
 pub loop-arc-init : goal.loop-arc-init
-loop-arc-init c =
-    (open_none c.nodes-nodes.result c.in_ok-outs.outs.rows c.in_ok-ins.ins.rows (ap (λ (m : NodeLegs). m.rows) c.in_ok-outs.ensures) (ap (λ (m : NodeLegs). m.rows) c.in_ok-ins.ensures), (ap (λ (m : NodeLegs). m.aside) c.in_ok-outs.ensures, ap (λ (m : NodeLegs). m.aside) c.in_ok-ins.ensures))
+loop-arc-init c = (
+  open_none c.nodes-nodes.result c.in_ok-outs.outs.rows c.in_ok-ins.ins.rows (ap (λ (m : NodeLegs). m.rows) c.in_ok-outs.ensures)
+      (ap (λ (m : NodeLegs). m.rows) c.in_ok-ins.ensures),
+  (ap (λ (m : NodeLegs). m.aside) c.in_ok-outs.ensures, ap (λ (m : NodeLegs). m.aside) c.in_ok-ins.ensures),
+)
 
 pub loop-arc-preserved : goal.loop-arc-preserved
 loop-arc-preserved c =
@@ -27,7 +30,9 @@ loop-arc-preserved c =
           let ins = ap (λ (m : NodeLegs). m.aside) w.ins-is ∙ w.in_ok-put_arc-2.ensures.aside ∙ so_far.1.1 in (
             subst (λ (z : NodeLegs). AreOpenLists n (filter joins (take (i + 1) arcs)) z.rows c.if-arc.ins.rows) (sym w.outs-is)
                 (subst (λ (z : NodeLegs). AreOpenLists n (filter joins (take (i + 1) arcs)) w.put_arc.new.self.rows z.rows) (sym w.ins-is)
-                (open_next n arcs i no_arc c.loop-arc.outs.rows c.loop-arc.ins.rows w.put_arc.new.self.rows w.put_arc-then-arc.new.self.rows c.loop-arc-test.true w.if-arc.true so_far.0 w.in_ok-put_arc.ensures.legs w.in_ok-put_arc-2.ensures.legs)),
+                (open_next n arcs i no_arc c.loop-arc.outs.rows c.loop-arc.ins.rows w.put_arc.new.self.rows
+                w.put_arc-then-arc.new.self.rows c.loop-arc-test.true w.if-arc.true so_far.0 w.in_ok-put_arc.ensures.legs
+                w.in_ok-put_arc-2.ensures.legs)),
             (outs, ins),
           )
       | else-arc w ↦
@@ -42,10 +47,17 @@ loop-arc-preserved c =
 
 pub invariant_of-result : goal.invariant_of-result
 invariant_of-result c =
-    let opened = open_all c.args.graph.now c.nodes-nodes.result c.arcs-arc-items.result.now c.loop-arc.arc-index c.loop-arc.outs.rows c.loop-arc.ins.rows c.arcs-arc-items.ensures.limits c.nodes-nodes.ensures c.arcs-arc-items.ensures.arcs c.loop-arc-test.false c.loop-arc.invariant.0 in
-    (opened.0, λ light. opened_light MOST_LIGHT c.args.graph.now (legs_from c.loop-arc.outs.rows) (subst (All (λ a. a.weight ≤ MOST_LIGHT)) c.arcs-2.ensures.arcs (c.are_light_arcs.ensures light)) opened.1)
+    let opened = open_all c.args.graph.now c.nodes-nodes.result c.arcs-arc-items.result.now c.loop-arc.arc-index
+    c.loop-arc.outs.rows c.loop-arc.ins.rows c.arcs-arc-items.ensures.limits c.nodes-nodes.ensures c.arcs-arc-items.ensures.arcs
+    c.loop-arc-test.false c.loop-arc.invariant.0 in (
+      opened.0,
+      λ light. opened_light MOST_LIGHT c.args.graph.now (legs_from c.loop-arc.outs.rows)
+          (subst (All (λ a. a.weight ≤ MOST_LIGHT)) c.arcs-2.ensures.arcs (c.are_light_arcs.ensures light)) opened.1,
+    )
 
 pub returns-clause-legs : goal.returns-clause-legs
 unfolding legs_of
 returns-clause-legs c =
-    (open_all c.args.graph.now c.nodes-nodes.result c.arcs-arc-items.result.now c.loop-arc.arc-index c.loop-arc.outs.rows c.loop-arc.ins.rows c.arcs-arc-items.ensures.limits c.nodes-nodes.ensures c.arcs-arc-items.ensures.arcs c.loop-arc-test.false c.loop-arc.invariant.0).1
+    (open_all c.args.graph.now c.nodes-nodes.result c.arcs-arc-items.result.now c.loop-arc.arc-index c.loop-arc.outs.rows
+    c.loop-arc.ins.rows c.arcs-arc-items.ensures.limits c.nodes-nodes.ensures c.arcs-arc-items.ensures.arcs
+    c.loop-arc-test.false c.loop-arc.invariant.0).1

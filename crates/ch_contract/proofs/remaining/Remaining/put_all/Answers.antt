@@ -34,9 +34,11 @@ invariant_of-result g c =
     let all = subst (λ n. AreAllPutIn n nodes lists) (sym (ap (λ (m : RemainingLegs). m.nodes) c.self.view_is)) c.requires in
     let put = rw c.in_ok-outs.was at c.both-outs.ensures.first in
     let turned = rw c.in_ok-ins.was at c.both-outs.ensures.second in (
-      puts_leave inside.nodes nodes lists all inside.outs.rows inside.ins.rows c.in_ok-outs.field-0.rows c.in_ok-ins.field-0.rows c.self.invariant.0 put.0 turned.0,
+      puts_leave inside.nodes nodes lists all inside.outs.rows inside.ins.rows c.in_ok-outs.field-0.rows c.in_ok-ins.field-0.rows
+          c.self.invariant.0 put.0 turned.0,
       λ yes. elim c.if-light.branch [
-        | then-light w ↦ puts_light MOST_LIGHT nodes lists (w.are_all_light.ensures (sym w.result-is ∙ yes)) inside.outs.rows c.in_ok-outs.field-0.rows (c.self.invariant.1 w.if-light.true) put.0
+        | then-light w ↦ puts_light MOST_LIGHT nodes lists (w.are_all_light.ensures (sym w.result-is ∙ yes)) inside.outs.rows
+            c.in_ok-outs.field-0.rows (c.self.invariant.1 w.if-light.true) put.0
         | else-light w ↦ let no = sym w.result-is ∙ yes in cc
       ],
     )
@@ -47,4 +49,5 @@ returns-clause-legs g c f all u w =
     let new = c.in_ok-outs.field-0 in
     let nodes = c.args.nodes.now in
     let put = rw c.in_ok-outs.was at c.both-outs.ensures.first in
-    subst (λ (m : RemainingLegs). legs_from new.rows u w ≡ legs_with_shortcuts nodes f (legs_of m) u w) c.self.view_is (puts_legs nodes c.args.lists.now f all c.self.inside.outs.rows new.rows put.0 u w)
+    subst (λ (m : RemainingLegs). legs_from new.rows u w ≡ legs_with_shortcuts nodes f (legs_of m) u w) c.self.view_is
+    (puts_legs nodes c.args.lists.now f all c.self.inside.outs.rows new.rows put.0 u w)

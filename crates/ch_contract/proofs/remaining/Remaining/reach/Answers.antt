@@ -23,7 +23,8 @@ reach-requires g c =
       clean = subst (λ n. IsClean n (known_of g.K.HeldCost.cost c.args.search.now.known)) (sym (count ∙ nodes)) c.requires.clean;
       rows = c.self.invariant.0.rows.0;
       limits = subst (λ n. AreLegsWithin n (legs_into outs)) (sym count) (into_within n outs ins c.self.invariant.0);
-      light = turned_light g.K.HeldCost.limit outs (subst (λ (m : RemainingLegs). AreLegsUpTo g.K.HeldCost.limit (legs_of m)) (sym c.self.view_is) c.requires.light);
+      light = turned_light g.K.HeldCost.limit outs (subst (λ (m : RemainingLegs). AreLegsUpTo g.K.HeldCost.limit (legs_of m))
+          (sym c.self.view_is) c.requires.light);
       nodes = subst (λ n. n ≤ MOST_NODES) (sym count) c.self.invariant.0.nodes;
       end = (subst (λ n. c.args.wanted.end < n) (sym (count ∙ nodes)) c.requires.end.0, c.requires.end.1);
       most = c.requires.most;
@@ -36,7 +37,10 @@ returns g c =
     let outs = c.self.inside.outs.rows in
     let ins = c.self.inside.ins.rows in
     record {
-      known = subst (λ (m : RemainingLegs). OnOk c.reach.result (IsKnown m c.args.wanted c.args.hops (known_of g.K.HeldCost.cost c.reach.new.self.known))) c.self.view_is
-          (known_after n outs ins c.self.invariant.0 c.self.inside.outs.aside c.self.inside.ins.aside c.args.wanted c.args.hops c.saturating_sub.result (known_of g.K.HeldCost.cost c.reach.new.self.known) c.reach.result c.saturating_sub.ensures c.reach.ensures.size c.reach.ensures.least);
+      known = subst (λ (m : RemainingLegs). OnOk c.reach.result
+          (IsKnown m c.args.wanted c.args.hops (known_of g.K.HeldCost.cost c.reach.new.self.known))) c.self.view_is
+          (known_after n outs ins c.self.invariant.0 c.self.inside.outs.aside c.self.inside.ins.aside c.args.wanted c.args.hops
+          c.saturating_sub.result (known_of g.K.HeldCost.cost c.reach.new.self.known) c.reach.result c.saturating_sub.ensures
+          c.reach.ensures.size c.reach.ensures.least);
       touched = c.reach.ensures.touched;
     }

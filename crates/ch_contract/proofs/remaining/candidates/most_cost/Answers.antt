@@ -17,13 +17,16 @@ loop-second-preserved c =
       | in-Some w ↦
           let is = rw w.in-Some.is at c.candidate_cost.ensures in
           subst (AreBounded c.args.nodes c.args.first (take i up ++ l ∷ [])) (sym w.most-is)
-          (bounded_more c.args.nodes c.args.first l (take i up) c.loop-second.most w.in-Some.cost w.greatest.result is.0 is.1 w.greatest.ensures.cost w.greatest.ensures.so_far c.loop-second.invariant)
+          (bounded_more c.args.nodes c.args.first l (take i up) c.loop-second.most w.in-Some.cost w.greatest.result is.0 is.1
+          w.greatest.ensures.cost w.greatest.ensures.so_far c.loop-second.invariant)
       | in_default w ↦
           let is = rw w.in_default.is at c.candidate_cost.ensures in
-          subst (AreBounded c.args.nodes c.args.first (take i up ++ l ∷ [])) (sym w.most-is) (bounded_skip c.args.nodes c.args.first l (take i up) c.loop-second.most is c.loop-second.invariant)
+          subst (AreBounded c.args.nodes c.args.first (take i up ++ l ∷ [])) (sym w.most-is)
+          (bounded_skip c.args.nodes c.args.first l (take i up) c.loop-second.most is c.loop-second.invariant)
     ])
 
 pub returns : goal.returns
 returns c =
     let past : length c.args.up.now ≤ c.loop-second.second-index = omega arith in
-    subst (λ z. AreBounded c.args.nodes c.args.first z c.loop-second.most) (take_all c.loop-second.second-index c.args.up.now past) c.loop-second.invariant
+    subst (λ z. AreBounded c.args.nodes c.args.first z c.loop-second.most) (take_all c.loop-second.second-index c.args.up.now past)
+    c.loop-second.invariant

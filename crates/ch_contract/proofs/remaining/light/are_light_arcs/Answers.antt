@@ -15,4 +15,5 @@ loop-arc-preserved c =
     (All-push (λ (a : InArc). a.weight ≤ MOST_LIGHT) (take i arcs) (get_or arcs i no_arc) c.loop-arc.invariant c.if-arc-gt-MOST_LIGHT.false)
 
 pub returns : goal.returns
-returns c light = subst (All (λ (a : InArc). a.weight ≤ MOST_LIGHT)) (take_all c.loop-arc.arc-index c.args.arcs.now c.loop-arc-test.false) c.loop-arc.invariant
+returns c light = subst (All (λ (a : InArc). a.weight ≤ MOST_LIGHT))
+    (take_all c.loop-arc.arc-index c.args.arcs.now c.loop-arc-test.false) c.loop-arc.invariant

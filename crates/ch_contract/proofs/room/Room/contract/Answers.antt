@@ -26,11 +26,15 @@ shortcuts-requires c =
     omega arith
 
 pub contract_with-requires-clause-shortcuts : goal.contract_with-requires-clause-shortcuts
-contract_with-requires-clause-shortcuts c =
-    (c.args.hops, subst (AreShortcuts c.args.remaining.nodes c.args.hops (legs_of c.args.remaining) c.args.node) (sym c.shortcuts.ensures) (kept _ _ _ _ _ _ c.in_ok-place.ensures.ready c.in_ok-place.ensures.place))
+contract_with-requires-clause-shortcuts c = (
+  c.args.hops,
+  subst (AreShortcuts c.args.remaining.nodes c.args.hops (legs_of c.args.remaining) c.args.node)
+      (sym c.shortcuts.ensures) (kept _ _ _ _ _ _ c.in_ok-place.ensures.ready c.in_ok-place.ensures.place),
+)
 
 pub returns-clause-legs : goal.returns-clause-legs
-returns-clause-legs c = contracts _ _ _ _ _ _ _ c.shortcuts.ensures (kept _ _ _ _ _ _ c.in_ok-place.ensures.ready c.in_ok-place.ensures.place) c.in_ok-contracted.ensures.legs
+returns-clause-legs c = contracts _ _ _ _ _ _ _ c.shortcuts.ensures
+    (kept _ _ _ _ _ _ c.in_ok-place.ensures.ready c.in_ok-place.ensures.place) c.in_ok-contracted.ensures.legs
 
 pub returns-clause-ready : goal.returns-clause-ready
 returns-clause-ready c = c.forget.ensures _ _ _ c.in_ok-place.ensures.ready.idle

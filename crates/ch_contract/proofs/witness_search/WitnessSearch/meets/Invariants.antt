@@ -8,4 +8,5 @@ use Rattle.ch_contract.proofs.witness_search.WitnessSearch.meets.Given as goal
 
 -- no leg so far leads to a chain within the bound
 abbrev pub invariant-loop-leg : goal.invariant-loop-leg
-invariant-loop-leg g l = (k : Leg) → Contains (take l.leg-index l.leg-items) k → k.node ≢ l.avoided → IsMetAt (known_of g.K.HeldCost.cost l.self.known) l.lists.rows k l.fn.most l.hops → ⊥
+invariant-loop-leg g l = (k : Leg) → Contains (take l.leg-index l.leg-items) k → k.node ≢ l.avoided →
+    IsMetAt (known_of g.K.HeldCost.cost l.self.known) l.lists.rows k l.fn.most l.hops → ⊥

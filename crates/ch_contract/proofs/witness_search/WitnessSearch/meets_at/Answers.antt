@@ -8,4 +8,6 @@ pub plus-requires-clause-known : goal.plus-requires-clause-known
 plus-requires-clause-known g c =
     let cost = g.K.HeldCost.cost in
     let node = c.args.leg.node in
-    subst (IsKnownCost g.K.HeldCost.limit) (known_cost_of cost c.args.self.now.known node c.index.result.now (subst (λ n. node < n) (sym c.requires.size) c.requires.leg.node) ∙ sym (ap cost c.index.ensures)) (c.requires.small node)
+    subst (IsKnownCost g.K.HeldCost.limit)
+    (known_cost_of cost c.args.self.now.known node c.index.result.now
+    (subst (λ n. node < n) (sym c.requires.size) c.requires.leg.node) ∙ sym (ap cost c.index.ensures)) (c.requires.small node)

@@ -16,7 +16,8 @@ plus-requires-clause-known g c =
     let i = c.loop-leg.leg-index in
     let light = c.requires.legs i no_leg c.loop-leg-test.true in
     let l = get_or c.args.legs.now i no_leg in
-    subst (IsKnownCost g.K.HeldCost.limit) (known_cost_of cost c.args.self.now.known l.node c.index.result.now light.node ∙ sym (ap cost c.index.ensures)) (c.requires.small l.node)
+    subst (IsKnownCost g.K.HeldCost.limit) (known_cost_of cost c.args.self.now.known l.node c.index.result.now light.node
+    ∙ sym (ap cost c.index.ensures)) (c.requires.small l.node)
 
 pub returns-then-is_at_most : goal.returns-then-is_at_most
 returns-then-is_at_most g c =
@@ -29,8 +30,14 @@ returns-then-is_at_most g c =
     let light = c.requires.legs i no_leg c.loop-leg-test.true in
     let two = c.plus-cost.ensures ∙ ap (λ z. cost_sum z first) c.of.ensures in
     let held_cost = ap cost c.index.ensures ∙ sym (known_cost_of cost c.args.self.now.known l.node c.index.result.now light.node) in
-    let sum = c.plus.ensures ∙ ap (λ z. cost_sum z (cost c.plus-cost.result)) held_cost ∙ ap (cost_sum (known_at known l.node)) two in
-    ((λ t. (l, Contains-get_or legs i no_leg c.loop-leg-test.true, subst (λ z. IsAtMost z (cost c.args.most)) sum (c.is_at_most.ensures.0 c.if-is_at_most.true))), λ m. refl)
+    let sum = c.plus.ensures ∙ ap (λ z. cost_sum z (cost c.plus-cost.result)) held_cost ∙ ap (cost_sum (known_at known l.node)) two in (
+      (λ t. (
+        l,
+        Contains-get_or legs i no_leg c.loop-leg-test.true,
+        subst (λ z. IsAtMost z (cost c.args.most)) sum (c.is_at_most.ensures.0 c.if-is_at_most.true),
+      )),
+      λ m. refl,
+    )
 
 pub loop-leg-preserved : goal.loop-leg-preserved
 loop-leg-preserved g c k among met =

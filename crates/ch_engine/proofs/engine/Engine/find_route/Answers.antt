@@ -23,6 +23,10 @@ returns-clause-ends c =
     let H = c.hierarchy-hierarchy.result.now in
     let v = c.deref.result.now in
     let same : H ≡ c.args.self.now.hierarchy = search rules in
-    let of : IsOfSome H v.1 = subst (λ (G : LevelsAndLegs). IsOfSome G v.1) (sym c.hierarchy-hierarchy.ensures.same) c.hierarchy-hierarchy.ensures.lines in
-    subst (λ (G : LevelsAndLegs). IfOk c.route.result (λ answer. MatchOption answer ⊤ (λ route. All (HasEnds (nodes_of G)) route.arcs))) same
-    (if_ok (IsRouteBy H c.args.source c.args.target) (λ answer. MatchOption answer ⊤ (λ route. All (HasEnds (nodes_of H)) route.arcs)) c.route.result (route_ends H v.1 of c.args.source c.args.target) c.route.ensures.walk)
+    let of : IsOfSome H v.1 = subst (λ (G : LevelsAndLegs). IsOfSome G v.1) (sym c.hierarchy-hierarchy.ensures.same)
+    c.hierarchy-hierarchy.ensures.lines in
+    subst (λ (G : LevelsAndLegs).
+    IfOk c.route.result (λ answer. MatchOption answer ⊤ (λ route. All (HasEnds (nodes_of G)) route.arcs))) same
+    (if_ok (IsRouteBy H c.args.source c.args.target)
+    (λ answer. MatchOption answer ⊤ (λ route. All (HasEnds (nodes_of H)) route.arcs)) c.route.result
+    (route_ends H v.1 of c.args.source c.args.target) c.route.ensures.walk)

@@ -15,7 +15,8 @@ returns-clause-value c =
     let other : H ≡ c.args.self.now.hierarchy = search rules in
     let is : IsOpenedLike graph c.args.self.now.hierarchy c.args.fresh network.0 network.1 =
     subst (λ (G : LevelsAndLegs). IsOpenedLike graph G c.args.fresh network.0 network.1) other c.in_ok-network.ensures.value in
-    subst (λ (held : Held). (held.near ≡ None) × IsOpenedLike graph c.args.self.now.hierarchy c.args.fresh held.hierarchy held.lines) (sym c.in_ok-of.ensures) (refl, is)
+    subst (λ (held : Held). (held.near ≡ None) × IsOpenedLike graph c.args.self.now.hierarchy c.args.fresh held.hierarchy
+    held.lines) (sym c.in_ok-of.ensures) (refl, is)
 
 pub returns-clause-afresh : goal.returns-clause-afresh
 returns-clause-afresh c = λ all. let held = c.in_ok-of.field-0 in

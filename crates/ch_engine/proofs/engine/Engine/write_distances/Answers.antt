@@ -14,7 +14,8 @@ loop-i-preserved c =
     let i = c.loop-i.i in
     let word = c.cell.result in
     let Cell : ℕ → ℕ → Type 0 = λ k cell. IsCell c.args.self.now.hierarchy None (slice_index sources k) (slice_index targets k) cell in
-    let here = subst (λ (held : Held). IsCell held.hierarchy None (slice_index sources i) (slice_index targets i) word) c.loop-i.invariant.0 c.cell.ensures.cell in (
+    let here = subst (λ (held : Held). IsCell held.hierarchy None (slice_index sources i) (slice_index targets i) word)
+    c.loop-i.invariant.0 c.cell.ensures.cell in (
       c.cell.ensures.same ∙ c.loop-i.invariant.0,
       length-set out i word ∙ c.loop-i.invariant.1,
       one_more Cell out i word (subst (λ n. i < n) (sym c.loop-i.invariant.1) c.loop-i-test.true) c.loop-i.invariant.2 here,

@@ -28,10 +28,13 @@ loop-i-preserved c =
     let end = l.begin + length way in
     let found : IsFound H s t answer = subst (λ (held : Held). IsFound held.hierarchy s t answer) v.same c.in-Ok.ensures.route in
     let whole = c.self.view_is ∙ c.find_route.ensures.same ∙ v.same in
-    let hierarchy : c.deref.result.now.0 ≡ H = ap (λ (n : LevelsAndLegs × Lines). n.0) c.deref.ensures ∙ ap (λ (h : Held). h.hierarchy) whole in
-    let own : c.deref.result.now.1 ≡ held.lines = ap (λ (n : LevelsAndLegs × Lines). n.1) c.deref.ensures ∙ ap (λ (h : Held). h.lines) whole in
+    let hierarchy : c.deref.result.now.0 ≡ H =
+    ap (λ (n : LevelsAndLegs × Lines). n.0) c.deref.ensures ∙ ap (λ (h : Held). h.hierarchy) whole in
+    let own : c.deref.result.now.1 ≡ held.lines =
+    ap (λ (n : LevelsAndLegs × Lines). n.1) c.deref.ensures ∙ ap (λ (h : Held). h.lines) whole in
     let noted : AreNoted H held.lines answer l.begin lines =
-    subst (λ (ls : Lines). AreNoted H ls answer l.begin lines) own (subst (λ (G : LevelsAndLegs). AreNoted G c.deref.result.now.1 answer l.begin lines) hierarchy c.note_route.ensures.lines) in
+    subst (λ (ls : Lines). AreNoted H ls answer l.begin lines) own
+    (subst (λ (G : LevelsAndLegs). AreNoted G c.deref.result.now.1 answer l.begin lines) hierarchy c.note_route.ensures.lines) in
     let weighs : i < length l.weights = omega (arith, v.weighed, c.requires.lengths.1, c.loop-i-test.true) in
     let inside : i < length l.ends = omega (arith, v.as_many, c.requires.lengths.2, c.loop-i-test.true) in
     let fits : l.begin + length way ≤ length l.nodes = omega (arith, c.if-size-nodes.false, size, v.fits) in
@@ -45,7 +48,12 @@ loop-i-preserved c =
       low = ends_low l.ends i l.begin end v.low (omega arith) inside;
       fits = omega (arith, fits, c.write_way.ensures.room);
       rest = (set_stays c.args.weights.now l.weights i weight v.rest.0, set_stays c.args.ends.now l.ends i end v.rest.1);
-      behind = (stays_more c.args.nodes.now l.nodes nodes l.begin end v.behind.0 (omega arith) c.write_way.ensures.behind, stays_more c.args.lines.now l.lines lines l.begin end v.behind.1 (omega arith) c.note_route.ensures.behind);
-      routes = routes_more held c.args.sources.now c.args.targets.now l.weights l.ends l.nodes nodes l.lines lines i l.begin v.routes v.here v.low weighs inside c.write_way.ensures.before c.write_way.ensures.room
-          c.note_route.ensures.before c.note_route.ensures.room answer found weight c.weight_of.ensures fits c.write_way.ensures.holds (route_lines H held.lines s t answer found.walk l.begin lines noted);
+      behind = (
+        stays_more c.args.nodes.now l.nodes nodes l.begin end v.behind.0 (omega arith) c.write_way.ensures.behind,
+        stays_more c.args.lines.now l.lines lines l.begin end v.behind.1 (omega arith) c.note_route.ensures.behind,
+      );
+      routes = routes_more held c.args.sources.now c.args.targets.now l.weights l.ends l.nodes nodes l.lines lines i l.begin
+          v.routes v.here v.low weighs inside c.write_way.ensures.before c.write_way.ensures.room
+          c.note_route.ensures.before c.note_route.ensures.room answer found weight c.weight_of.ensures fits
+          c.write_way.ensures.holds (route_lines H held.lines s t answer found.walk l.begin lines noted);
     })

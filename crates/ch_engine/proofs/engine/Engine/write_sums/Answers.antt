@@ -11,7 +11,8 @@ use Rattle.ch_engine.proofs.NearRows.{stays_more}
 use Rattle.ch_engine.proofs.engine.Engine.write_sums.Goals as goal
 
 pub near_row-requires : goal.near_row-requires
-near_row-requires c = subst (λ (held : Held). slice_index c.args.sources.now c.loop-i.i < nodes_of held.hierarchy) (sym c.loop-i.invariant.same) (c.requires.sources c.loop-i.i 0 c.loop-i-test.true)
+near_row-requires c = subst (λ (held : Held). slice_index c.args.sources.now c.loop-i.i < nodes_of held.hierarchy)
+    (sym c.loop-i.invariant.same) (c.requires.sources c.loop-i.i 0 c.loop-i-test.true)
 
 pub add_up-requires : goal.add_up-requires
 add_up-requires c =
@@ -22,7 +23,8 @@ add_up-requires c =
     let values = c.args.values.now in
     let kept : IsKeptRow held s row = subst (λ (h : Held). IsKeptRow h s row) l.invariant.same c.in-Ok-near_row.ensures.row in
     record {
-      places = subst (λ (r : List (ℕ × ℕ)). All (λ e. e.1 < length values) r) (sym c.deref.ensures.value) (places_low held s row values kept c.requires.values);
+      places = subst (λ (r : List (ℕ × ℕ)). All (λ e. e.1 < length values) r) (sym c.deref.ensures.value)
+          (places_low held s row values kept c.requires.values);
       room = l.invariant.wide;
     }
 
@@ -42,15 +44,20 @@ loop-i-preserved c =
     let sums = c.write_found-begin.new.sums in
     let kept : IsKeptRow held s row = subst (λ (h : Held). IsKeptRow h s row) v.same c.in-Ok-near_row.ensures.row in
     let wide : length found ≡ m = c.add_up.ensures.room ∙ v.wide in
-    let all = subst (λ (r : List (ℕ × ℕ)). (j : ℕ) → j < m → slice_index found j ≡ sum_within values (slice_index limits j) r) c.deref.ensures.value (c.add_up.ensures.all c.if-not-add_up.false) in
+    let all = subst (λ (r : List (ℕ × ℕ)). (j : ℕ) → j < m → slice_index found j ≡ sum_within values (slice_index limits j) r)
+    c.deref.ensures.value (c.add_up.ensures.all c.if-not-add_up.false) in
     let here : AreSumsAt values limits row (i * m) sums =
-    λ j low. subst (λ (b : ℕ). slice_index sums (b + j) ≡ sum_within values (slice_index limits j) row) v.here (c.write_found-begin.ensures.holds j (omega (arith, low, wide)) ∙ all j low) in
+    λ j low. subst (λ (b : ℕ). slice_index sums (b + j) ≡ sum_within values (slice_index limits j) row) v.here
+    (c.write_found-begin.ensures.holds j (omega (arith, low, wide)) ∙ all j low) in
     let next = add-mul i 1 m in
     record {
       same = c.near_row.ensures.same ∙ v.same;
       long = c.write_found-begin.ensures.room ∙ v.long;
       wide = wide;
       here = omega (arith, c.write_found-begin.ensures.end, wide, v.here, next);
-      behind = stays_more c.args.sums.now l.sums sums l.begin c.write_found-begin.result v.behind (omega (arith, c.write_found-begin.ensures.end)) (λ k from. c.write_found-begin.ensures.behind k (omega (arith, from, c.write_found-begin.ensures.end)));
-      summed = sums_more held sources values limits l.sums sums i v.summed (λ k low. c.write_found-begin.ensures.before k (omega (arith, low, v.here))) row kept here;
+      behind = stays_more c.args.sums.now l.sums sums l.begin c.write_found-begin.result v.behind
+          (omega (arith, c.write_found-begin.ensures.end))
+          (λ k from. c.write_found-begin.ensures.behind k (omega (arith, from, c.write_found-begin.ensures.end)));
+      summed = sums_more held sources values limits l.sums sums i v.summed
+          (λ k low. c.write_found-begin.ensures.before k (omega (arith, low, v.here))) row kept here;
     }

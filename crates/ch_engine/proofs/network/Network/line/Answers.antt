@@ -47,10 +47,13 @@ returns-then-level c =
     let word = c.word_at.result in
     let low : from < nodes_of H = subst (λ (v : LevelsAndLegs × Lines). from < nodes_of v.0) (sym c.self.view_is) c.requires.from in
     let inside : from < length H.up = let size = rows_size H c.level.ensures.levelled Up in omega (arith, size, low) in
-    let rises : get_or H.level from 0 < get_or H.level to 0 = omega (arith, c.if-level.true, c.level.ensures.level, c.level-2.ensures.level) in
+    let rises : get_or H.level from 0 < get_or H.level to 0 =
+    omega (arith, c.if-level.true, c.level.ensures.level, c.level-2.ensures.level) in
     let at : IsWordAt (row H.up from) (get_or lines.up from []) to word =
-    subst (λ (legs : List Leg). IsWordAt legs (get_or lines.up from []) to word) c.up.ensures.row (subst (λ (ws : List ℕ). IsWordAt c.up.result.now ws to word) c.row.ensures c.word_at.ensures) in
-    let is : from ≢ to → IsLineBy H lines from to word = λ differ g within kept are. line_up g H lines kept are from to differ inside rises word at in
+    subst (λ (legs : List Leg). IsWordAt legs (get_or lines.up from []) to word) c.up.ensures.row
+    (subst (λ (ws : List ℕ). IsWordAt c.up.result.now ws to word) c.row.ensures c.word_at.ensures) in
+    let is : from ≢ to → IsLineBy H lines from to word =
+    λ differ g within kept are. line_up g H lines kept are from to differ inside rises word at in
     subst (λ (v : LevelsAndLegs × Lines). from ≢ to → IsLineBy v.0 v.1 from to word) c.self.view_is is
 
 pub returns-else-level : goal.returns-else-level
@@ -62,8 +65,11 @@ returns-else-level c =
     let word = c.word_at-else-level.result in
     let low : to < nodes_of H = subst (λ (v : LevelsAndLegs × Lines). to < nodes_of v.0) (sym c.self.view_is) c.requires.to in
     let inside : to < length H.down = let size = rows_size H c.level.ensures.levelled Down in omega (arith, size, low) in
-    let falls : get_or H.level to 0 ≤ get_or H.level from 0 = omega (arith, c.if-level.false, c.level.ensures.level, c.level-2.ensures.level) in
+    let falls : get_or H.level to 0 ≤ get_or H.level from 0 =
+    omega (arith, c.if-level.false, c.level.ensures.level, c.level-2.ensures.level) in
     let at : IsWordAt (row H.down to) (get_or lines.down to []) from word =
-    subst (λ (legs : List Leg). IsWordAt legs (get_or lines.down to []) from word) c.down.ensures.row (subst (λ (ws : List ℕ). IsWordAt c.down.result.now ws from word) c.row-else-level.ensures c.word_at-else-level.ensures) in
-    let is : from ≢ to → IsLineBy H lines from to word = λ differ g within kept are. line_down g H lines kept are from to differ inside falls word at in
+    subst (λ (legs : List Leg). IsWordAt legs (get_or lines.down to []) from word) c.down.ensures.row
+    (subst (λ (ws : List ℕ). IsWordAt c.down.result.now ws from word) c.row-else-level.ensures c.word_at-else-level.ensures) in
+    let is : from ≢ to → IsLineBy H lines from to word =
+    λ differ g within kept are. line_down g H lines kept are from to differ inside falls word at in
     subst (λ (v : LevelsAndLegs × Lines). from ≢ to → IsLineBy v.0 v.1 from to word) c.self.view_is is

@@ -21,12 +21,15 @@ loop-j-preserved c =
     let here : Lined (get_or arcs l.j none) word = c.line.ensures in
     record {
       long = length-set l.lines (begin + l.j) word ∙ v.long;
-      lined = λ k d less. elim (cases_order k l.j) as (λ _. Lined (get_or arcs k d) (get_or (set l.lines (begin + l.j) word) (begin + k) 0)) [
-        | inl same ↦ subst (λ (n : ℕ). Lined (get_or arcs n d) (get_or (set l.lines (begin + l.j) word) (begin + n) 0)) (sym same)
-            (subst (Lined (get_or arcs l.j d)) (sym (get_or-set_same l.lines (begin + l.j) word 0 inside)) (subst (λ (a : InArc). Lined a word) (get_or_default arcs l.j none d low) here))
-        | inr (inl fewer) ↦ subst (Lined (get_or arcs k d)) (sym (get_or-set_other l.lines (begin + l.j) (begin + k) word 0 (λ same. omega arith))) (v.lined k d fewer)
-        | inr (inr past) ↦ absurd (omega arith)
-      ];
+      lined = λ k d less. elim (cases_order k l.j) as
+          (λ _. Lined (get_or arcs k d) (get_or (set l.lines (begin + l.j) word) (begin + k) 0)) [
+            | inl same ↦ subst (λ (n : ℕ). Lined (get_or arcs n d) (get_or (set l.lines (begin + l.j) word) (begin + n) 0)) (sym same)
+                (subst (Lined (get_or arcs l.j d)) (sym (get_or-set_same l.lines (begin + l.j) word 0 inside))
+                (subst (λ (a : InArc). Lined a word) (get_or_default arcs l.j none d low) here))
+            | inr (inl fewer) ↦ subst (Lined (get_or arcs k d))
+                (sym (get_or-set_other l.lines (begin + l.j) (begin + k) word 0 (λ same. omega arith))) (v.lined k d fewer)
+            | inr (inr past) ↦ absurd (omega arith)
+          ];
       before = λ k less. get_or-set_other l.lines (begin + l.j) k word 0 (λ same. omega arith) ∙ v.before k less;
       behind = λ k from. get_or-set_other l.lines (begin + l.j) k word 0 (λ same. omega arith) ∙ v.behind k from;
     }

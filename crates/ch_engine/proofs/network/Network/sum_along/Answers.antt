@@ -9,8 +9,11 @@ pub sum_of-requires-clause-route : goal.sum_of-requires-clause-route
 sum_of-requires-clause-route c =
     let H = c.args.self.now.0 in
     let weight = c.in-Some.route.weight in
-    let arcs : c.as_slice.result.now ≡ c.in-Some.route.arcs = c.as_slice.ensures.value ∙ ap (λ (r : Route). r.arcs) c.route.view_is in
-    (weight, subst (λ (xs : List InArc). IsOfSomePair H (Some (record { weight = weight; arcs = xs }))) (sym arcs) (subst (IsOfSomePair H) c.in-Some.is c.requires.route))
+    let arcs : c.as_slice.result.now ≡ c.in-Some.route.arcs = c.as_slice.ensures.value ∙ ap (λ (r : Route). r.arcs) c.route.view_is in (
+      weight,
+      subst (λ (xs : List InArc). IsOfSomePair H (Some (record { weight = weight; arcs = xs }))) (sym arcs)
+          (subst (IsOfSomePair H) c.in-Some.is c.requires.route),
+    )
 
 pub returns-in-Some : goal.returns-in-Some
 returns-in-Some c =
@@ -19,5 +22,6 @@ returns-in-Some c =
     let found = c.sum_of.ensures in
     let sum = sum_on values found.0 in
     let arcs : c.as_slice.result.now ≡ c.in-Some.route.arcs = c.as_slice.ensures.value ∙ ap (λ (r : Route). r.arcs) c.route.view_is in
-    let along : AreLinesAlong v.0 v.1 c.in-Some.route.arcs found.0 = subst (λ (xs : List InArc). AreLinesAlong v.0 v.1 xs found.0) arcs found.1 in
+    let along : AreLinesAlong v.0 v.1 c.in-Some.route.arcs found.0 =
+    subst (λ (xs : List InArc). AreLinesAlong v.0 v.1 xs found.0) arcs found.1 in
     (sum, subst (λ (answer : Option Route). IsSumAlong v.0 v.1 values answer sum) (sym c.in-Some.is) (found.0, along, refl), found.2)

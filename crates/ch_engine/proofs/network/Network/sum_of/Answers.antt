@@ -16,7 +16,8 @@ line_of-line-requires c =
     let v = c.args.self.now in
     let of : IsOfSome v.0 v.1 = c.hierarchy.ensures.lines in
     let some = c.requires.route in
-    route_ends v.0 v.1 of some.1.0 some.1.1 (Some (record { weight = some.0; arcs = c.args.arcs.now })) some.1.2 c.loop-j.j (record { from = 0; to = 0; weight = 0 }) c.loop-j-test.true
+    route_ends v.0 v.1 of some.1.0 some.1.1 (Some (record { weight = some.0; arcs = c.args.arcs.now })) some.1.2 c.loop-j.j
+    (record { from = 0; to = 0; weight = 0 }) c.loop-j-test.true
 
 pub value_on-requires : goal.value_on-requires
 value_on-requires c =
@@ -24,7 +25,9 @@ value_on-requires c =
     let some = c.requires.route in
     let route : Route = record { weight = some.0; arcs = c.args.arcs.now } in
     let none : InArc = record { from = 0; to = 0; weight = 0 } in
-    let low = line_low v.0 v.1 c.hierarchy.ensures.lines (get_or c.args.arcs.now c.loop-j.j none) c.line_of-line.result (arc_line v.0 v.1 some.1.0 some.1.1 route some.1.2 c.loop-j.j none c.loop-j-test.true c.line_of-line.result c.line_of-line.ensures) in
+    let low = line_low v.0 v.1 c.hierarchy.ensures.lines (get_or c.args.arcs.now c.loop-j.j none) c.line_of-line.result
+    (arc_line v.0 v.1 some.1.0 some.1.1 route some.1.2 c.loop-j.j none c.loop-j-test.true c.line_of-line.result
+    c.line_of-line.ensures) in
     omega (arith, low, c.requires.values)
 
 pub loop-j-preserved : goal.loop-j-preserved
@@ -38,11 +41,15 @@ loop-j-preserved c =
     let l = c.loop-j in
     let before = l.invariant in
     let line = c.line_of-line.result in
-    let here : IsArcLine v.0 v.1 (get_or arcs l.j none) line = arc_line v.0 v.1 some.1.0 some.1.1 route some.1.2 l.j none c.loop-j-test.true line c.line_of-line.ensures in
-    let each : (d : InArc) → IsArcLine v.0 v.1 (get_or arcs l.j d) line = λ d. subst (λ (a : InArc). IsArcLine v.0 v.1 a line) (get_or_default arcs l.j none d c.loop-j-test.true) here in
+    let here : IsArcLine v.0 v.1 (get_or arcs l.j none) line =
+    arc_line v.0 v.1 some.1.0 some.1.1 route some.1.2 l.j none c.loop-j-test.true line c.line_of-line.ensures in
+    let each : (d : InArc) → IsArcLine v.0 v.1 (get_or arcs l.j d) line =
+    λ d. subst (λ (a : InArc). IsArcLine v.0 v.1 a line) (get_or_default arcs l.j none d c.loop-j-test.true) here in
     let value : ℕ → ℕ = λ line. get_or values line 0 in (
       before.0 ++ line ∷ [],
       omega (arith, length-append before.0 (line ∷ []), before.1),
       along_more v.0 v.1 arcs l.j before.0 line before.1 before.2 each,
-      subst (λ (n : ℕ). IsTotal n c.plus-sum.result) (sym (sum_by_push value before.0 line)) (subst (λ (n : ℕ). IsTotal (sum_on values before.0 + n) c.plus-sum.result) c.value_on.ensures (c.plus-sum.ensures (sum_on values before.0) before.3)),
+      subst (λ (n : ℕ). IsTotal n c.plus-sum.result) (sym (sum_by_push value before.0 line))
+          (subst (λ (n : ℕ). IsTotal (sum_on values before.0 + n) c.plus-sum.result) c.value_on.ensures
+          (c.plus-sum.ensures (sum_on values before.0) before.3)),
     )

@@ -7,4 +7,6 @@ use Rattle.ch_engine.proofs.network.Network.sum_of.Given as goal
 
 abbrev pub invariant-loop-j : goal.invariant-loop-j
 invariant-loop-j l =
-    (along : List ℕ) × (length along ≡ l.j) × ((k : ℕ) (d : InArc) → k < l.j → IsArcLine l.self.0 l.self.1 (slice_index_or l.arcs k d) (slice_index along k)) × IsTotal (sum_on l.values along) l.sum
+    (along : List ℕ) × (length along ≡ l.j)
+    × ((k : ℕ) (d : InArc) → k < l.j → IsArcLine l.self.0 l.self.1 (slice_index_or l.arcs k d) (slice_index along k))
+    × IsTotal (sum_on l.values along) l.sum

@@ -7,5 +7,7 @@ use Rattle.ch_near.proofs.nearest.NearTargets.rows_within.Goals as goal
 
 pub returns-clause-rows : goal.returns-clause-rows
 returns-clause-rows g c = subst
-    (λ (w : Wanted). IfOk c.run_list_in.result (λ rows. AllZip (λ s (row : Vec (ℕ × ℕ) Global). IsNearRow w.hierarchy c.args.within w.count w.targets s row.items) c.args.sources.now rows.items))
+    (λ (w : Wanted). IfOk c.run_list_in.result
+    (λ rows. AllZip (λ s (row : Vec (ℕ × ℕ) Global). IsNearRow w.hierarchy c.args.within w.count w.targets s row.items)
+    c.args.sources.now rows.items))
     c.self.view_is c.run_list_in.ensures.values

@@ -21,13 +21,20 @@ offer_all-requires-clause-space c =
     let t = c.self.inside in
     let lesser = subst (λ (w : Wanted). (x : ℕ) → IsWithin c.args.bound x → IsWithin w.limit x) (sym c.self.view_is) c.requires.bound in
     subst (All (λ (entry : ℕ × ℕ). (entry.0 < length t.searched.now.buckets) × (entry.1 ≤ MOST_WEIGHT))) (sym c.deref.ensures.value)
-    (space_among (facing t.searched.now.direction t.hierarchy.now) t.searched.now.within t.searched.now.count t.searched.now.targets.items t.searched.now.buckets c.self.invariant c.args.bound lesser c.args.source c.in_ok-space.space.items (source_space t.searched.now.direction t.hierarchy.now c.args.bound c.args.source c.in_ok-space.space.items (subst (λ side. IsRankedSpace t.hierarchy.now side c.args.bound c.args.source c.in_ok-space.space.items) c.side.ensures c.in_ok-space.ensures.space)))
+    (space_among (facing t.searched.now.direction t.hierarchy.now) t.searched.now.within t.searched.now.count
+    t.searched.now.targets.items t.searched.now.buckets c.self.invariant c.args.bound lesser c.args.source
+    c.in_ok-space.space.items (source_space t.searched.now.direction t.hierarchy.now c.args.bound c.args.source
+    c.in_ok-space.space.items
+    (subst (λ side. IsRankedSpace t.hierarchy.now side c.args.bound c.args.source c.in_ok-space.space.items) c.side.ensures
+    c.in_ok-space.ensures.space)))
 
 pub offer_all-requires-clause-buckets : goal.offer_all-requires-clause-buckets
 offer_all-requires-clause-buckets c rank =
     let t = c.self.inside in
     let none = subst (λ (w : Wanted). AreUnoffered (length w.targets) c.args.room.now.offers) (sym c.self.view_is) c.requires.offers in
-    subst (λ n. IsBucketAmong n (slice_index_or t.searched.now.buckets rank [])) (sym none.size) (bucket_among (facing t.searched.now.direction t.hierarchy.now) t.searched.now.within t.searched.now.count t.searched.now.targets.items t.searched.now.buckets c.self.invariant rank)
+    subst (λ n. IsBucketAmong n (slice_index_or t.searched.now.buckets rank [])) (sym none.size)
+    (bucket_among (facing t.searched.now.direction t.hierarchy.now) t.searched.now.within t.searched.now.count
+    t.searched.now.targets.items t.searched.now.buckets c.self.invariant rank)
 
 pub returns-clause-row : goal.returns-clause-row
 returns-clause-row c =
@@ -39,7 +46,12 @@ returns-clause-row c =
     let result = c.sort_and_cut.new.row.items in
     let lesser = subst (λ (w : Wanted). (x : ℕ) → IsWithin bound x → IsWithin w.limit x) (sym c.self.view_is) c.requires.bound in
     let none = subst (λ (w : Wanted). AreUnoffered (length w.targets) fresh) (sym c.self.view_is) c.requires.offers in
-    let offered = subst (λ l. AreOffered (IsSumOf bound l t.searched.now.buckets) fresh least) c.deref.ensures.value c.in_ok-offer_all.ensures in
-    let is = near_row (facing t.searched.now.direction t.hierarchy.now) t.searched.now.within t.searched.now.count t.searched.now.targets.items t.searched.now.buckets c.self.invariant bound lesser s c.in_ok-space.space.items (source_space t.searched.now.direction t.hierarchy.now c.args.bound c.args.source c.in_ok-space.space.items (subst (λ side. IsRankedSpace t.hierarchy.now side c.args.bound c.args.source c.in_ok-space.space.items) c.side.ensures c.in_ok-space.ensures.space)) fresh least
+    let offered = subst (λ l. AreOffered (IsSumOf bound l t.searched.now.buckets) fresh least) c.deref.ensures.value
+    c.in_ok-offer_all.ensures in
+    let is = near_row (facing t.searched.now.direction t.hierarchy.now) t.searched.now.within t.searched.now.count
+    t.searched.now.targets.items t.searched.now.buckets c.self.invariant bound lesser s c.in_ok-space.space.items
+    (source_space t.searched.now.direction t.hierarchy.now c.args.bound c.args.source c.in_ok-space.space.items
+    (subst (λ side. IsRankedSpace t.hierarchy.now side c.args.bound c.args.source c.in_ok-space.space.items) c.side.ensures
+    c.in_ok-space.ensures.space)) fresh least
     c.take.new.row.items result none offered c.in_ok-take.ensures.taken c.sort_and_cut.ensures in
     subst (λ (w : Wanted). IsNearRow w.hierarchy bound w.count w.targets s result) c.self.view_is is

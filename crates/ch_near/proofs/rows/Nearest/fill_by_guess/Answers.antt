@@ -14,4 +14,5 @@ returns-then-is_full-clause-row c =
     let full : w.count ≡ Some (length row) = sym (ap (λ (q : Wanted). q.count) c.self.view_is) ∙ c.is_full.ensures c.if-is_full.true in
     let lesser = c.is_lesser.ensures c.if-is_lesser.true in
     let near = subst (λ count. IsNearRow w.hierarchy (Some guess) count w.targets s row) full c.in_ok-fill.ensures.row in
-    subst (λ count. IsNearRow w.hierarchy within count w.targets s row) (sym full) (full_row w.hierarchy within guess (length row) w.targets s row lesser refl near)
+    subst (λ count. IsNearRow w.hierarchy within count w.targets s row) (sym full)
+    (full_row w.hierarchy within guess (length row) w.targets s row lesser refl near)

@@ -19,7 +19,9 @@ offer_row-requires-clause-bucket c =
     let H = facing t.searched.now.direction t.hierarchy.now in
     let none = subst (λ (w : Wanted). AreUnoffered (length w.targets) c.args.offers.now) (sym c.self.view_is) c.requires.offers in
     subst (IsBucketAmong (length c.args.offers.now)) (sym c.row.ensures)
-    (subst (λ n. IsBucketAmong n (slice_index_or t.searched.now.buckets c.args.rank [])) (sym none.size) (bucket_among H t.searched.now.within t.searched.now.count t.searched.now.targets.items t.searched.now.buckets c.self.invariant c.args.rank))
+    (subst (λ n. IsBucketAmong n (slice_index_or t.searched.now.buckets c.args.rank [])) (sym none.size)
+    (bucket_among H t.searched.now.within t.searched.now.count t.searched.now.targets.items t.searched.now.buckets
+    c.self.invariant c.args.rank))
 
 pub offer_legs-requires-clause-legs : goal.offer_legs-requires-clause-legs
 offer_legs-requires-clause-legs c =
@@ -30,7 +32,8 @@ offer_legs-requires-clause-legs c =
     let done = subst (λ (w : Wanted). AreRowsTo w k c.args.rows.now) (sym c.self.view_is) c.requires.rows in
     let low = subst (λ (w : Wanted). k < length w.hierarchy.level) (sym c.self.view_is) c.requires.rank in
     let v = node_of_rank H kept.2.levelled k low in
-    legs_among H kept t.searched.now.within t.searched.now.count t.searched.now.targets.items t.searched.now.buckets c.self.invariant k c.args.rows.now done v.0 v.1 v.2 c.ranked_legs-legs.result.now (c.ranked_legs-legs.ensures.legs v.0 v.1 v.2)
+    legs_among H kept t.searched.now.within t.searched.now.count t.searched.now.targets.items t.searched.now.buckets
+    c.self.invariant k c.args.rows.now done v.0 v.1 v.2 c.ranked_legs-legs.result.now (c.ranked_legs-legs.ensures.legs v.0 v.1 v.2)
 
 pub offer_legs-requires-clause-rows : goal.offer_legs-requires-clause-rows
 offer_legs-requires-clause-rows c rank =
@@ -44,7 +47,9 @@ offer_legs-requires-clause-rows c rank =
     let none = subst (λ (w : Wanted). AreUnoffered (length w.targets) c.args.offers.now) (sym c.self.view_is) c.requires.offers in
     let size = c.in_ok-offer_row.ensures.size in
     subst (λ n. IsBucketAmong n (slice_index_or c.args.rows.now rank [])) (sym none.size ∙ sym size)
-    (row_among H kept t.searched.now.within t.searched.now.count t.searched.now.targets.items t.searched.now.buckets c.self.invariant k c.args.rows.now done v.0 v.1 v.2 c.ranked_legs-legs.result.now (c.ranked_legs-legs.ensures.legs v.0 v.1 v.2) rank)
+    (row_among H kept t.searched.now.within t.searched.now.count t.searched.now.targets.items t.searched.now.buckets
+    c.self.invariant k c.args.rows.now done v.0 v.1 v.2 c.ranked_legs-legs.result.now
+    (c.ranked_legs-legs.ensures.legs v.0 v.1 v.2) rank)
 
 pub returns-clause-row : goal.returns-clause-row
 returns-clause-row c =
@@ -57,13 +62,23 @@ returns-clause-row c =
     let result = c.sort_and_cut.new.row.items in
     let fresh = c.args.offers.now in
     let least = c.offer_legs.new.offers in
-    let wanted : Wanted = record { hierarchy = H; targets = t.searched.now.targets.items; limit = t.searched.now.within; count = t.searched.now.count } in
+    let wanted : Wanted = record {
+      hierarchy = H;
+      targets = t.searched.now.targets.items;
+      limit = t.searched.now.within;
+      count =
+          t.searched.now.count;
+    } in
     let done = subst (λ (w : Wanted). AreRowsTo w k rows) (sym c.self.view_is) c.requires.rows in
     let none = subst (λ (w : Wanted). AreUnoffered (length w.targets) fresh) (sym c.self.view_is) c.requires.offers in
     let bucket = slice_index_or t.searched.now.buckets k [] in
-    let own = subst (λ l. AreOffered (IsSum t.searched.now.within 0 l) fresh c.offer_row.new.offers) c.row.ensures c.in_ok-offer_row.ensures in
-    let offered = offered_then (IsSum t.searched.now.within 0 bucket) (IsSumOf t.searched.now.within (map entry_of_leg legs) rows) (IsOwed t.searched.now.within bucket legs rows) fresh c.offer_row.new.offers least
+    let own = subst (λ l. AreOffered (IsSum t.searched.now.within 0 l) fresh c.offer_row.new.offers) c.row.ensures
+    c.in_ok-offer_row.ensures in
+    let offered = offered_then (IsSum t.searched.now.within 0 bucket) (IsSumOf t.searched.now.within (map entry_of_leg legs) rows)
+    (IsOwed t.searched.now.within bucket legs rows) fresh c.offer_row.new.offers least
     (λ e o. o) (λ e s. inl s) (λ e s. inr s) own c.in_ok-offer_legs.ensures in
     subst (λ (w : Wanted). AreRowsTo w (k + 1) (rows ++ result ∷ [])) c.self.view_is
-    (rows_more wanted k rows result done (λ v lt here. row_made H kept t.searched.now.within t.searched.now.count t.searched.now.targets.items t.searched.now.buckets c.self.invariant k rows done v lt here legs (c.ranked_legs-legs.ensures.legs v lt here)
+    (rows_more wanted k rows result done
+    (λ v lt here. row_made H kept t.searched.now.within t.searched.now.count t.searched.now.targets.items t.searched.now.buckets
+    c.self.invariant k rows done v lt here legs (c.ranked_legs-legs.ensures.legs v lt here)
     fresh least c.take.new.row.items result none offered c.in_ok-take.ensures.taken c.sort_and_cut.ensures))

@@ -20,8 +20,10 @@ buckets_of-requires-clause-listed c =
 pub buckets_of-requires-clause-ranks : goal.buckets_of-requires-clause-ranks
 buckets_of-requires-clause-ranks c =
     let a = c.args in
-    subst (λ n. All (λ (space : Vec (ℕ × ℕ) Global). All (λ (entry : ℕ × ℕ). entry.0 < n) space.items) a.spaces.items) (sym c.nodes.ensures.nodes)
-    (found_within (facing a.direction a.hierarchy.now) a.within a.targets.now a.spaces.items c.requires.spaces (kept_facing a.direction a.hierarchy.now c.requires.kept).2.levelled)
+    subst (λ n. All (λ (space : Vec (ℕ × ℕ) Global). All (λ (entry : ℕ × ℕ). entry.0 < n) space.items) a.spaces.items)
+    (sym c.nodes.ensures.nodes)
+    (found_within (facing a.direction a.hierarchy.now) a.within a.targets.now a.spaces.items c.requires.spaces
+    (kept_facing a.direction a.hierarchy.now c.requires.kept).2.levelled)
 
 pub buckets_of-requires-clause-apart : goal.buckets_of-requires-clause-apart
 buckets_of-requires-clause-apart c =

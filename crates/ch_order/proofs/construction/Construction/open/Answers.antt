@@ -8,7 +8,8 @@ pub returns-clause-begun : goal.returns-clause-begun
 returns-clause-begun c =
     let first = c.in_ok-remaining.ensures in
     let nodes = c.nodes-nodes.ensures in
-    opened c.args.graph.now c.in_ok-remaining.remaining c.in_ok-waiting.waiting c.in_ok-depths.depths.items c.in_ok-levels.levels.items first.legs first.nodes nodes.limits
+    opened c.args.graph.now c.in_ok-remaining.remaining c.in_ok-waiting.waiting c.in_ok-depths.depths.items
+    c.in_ok-levels.levels.items first.legs first.nodes nodes.limits
     (c.in_ok-waiting.ensures ∙ ap (λ k. replicate k None) nodes.nodes)
     (c.in_ok-depths.ensures.items_if_clones_equal (λ y p. p) ∙ ap (λ k. replicate k 0) nodes.nodes)
     (ap length (c.in_ok-levels.ensures.items_if_clones_equal (λ y p. p)) ∙ length-replicate {A = ℕ} _ 0 ∙ nodes.nodes)

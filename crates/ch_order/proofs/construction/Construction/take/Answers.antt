@@ -17,13 +17,17 @@ listed ups downs up down items a b c = c ∙ ap (λ l. neighbours_in l downs) a 
 pub deepen-requires-clause-nodes : goal.deepen-requires-clause-nodes
 deepen-requires-clause-nodes c =
     let list = c.as_slice.ensures.value ∙ listed _ _ _ _ _ c.up_legs.ensures c.down_legs.ensures c.in_ok-neighbours.ensures in
-    let size : c.args.self.remaining.nodes ≡ length c.deref_mut.result.now = sym (ap length c.deref_mut.ensures.value ∙ c.requires.next.sizes.depths) in
-    subst (λ n. All (λ x. x < n) c.as_slice.result.now) size (neighbours_within _ _ _ _ _ _ c.in_ok-self.ensures.up.legs c.in_ok-self.ensures.down.legs c.requires.next.limits list)
+    let size : c.args.self.remaining.nodes ≡ length c.deref_mut.result.now =
+    sym (ap length c.deref_mut.ensures.value ∙ c.requires.next.sizes.depths) in
+    subst (λ n. All (λ x. x < n) c.as_slice.result.now) size
+    (neighbours_within _ _ _ _ _ _ c.in_ok-self.ensures.up.legs c.in_ok-self.ensures.down.legs c.requires.next.limits list)
 
 -- the neighbours lie deeper
 deepened : (v : ℕ) (nodes lent old before after written : List ℕ) → lent ≡ nodes → before ≡ old → written ≡ after →
     AreDeepened lent (slice_index before v + 1) before after → AreDeepened nodes (slice_index old v + 1) old written
-deepened v nodes lent old before after written a b e d = subst (AreDeepened nodes (slice_index old v + 1) old) (sym e) (subst (λ l. AreDeepened l (slice_index old v + 1) old after) a (subst (λ o. AreDeepened lent (slice_index o v + 1) o after) b d))
+deepened v nodes lent old before after written a b e d =
+    subst (AreDeepened nodes (slice_index old v + 1) old) (sym e) (subst (λ l. AreDeepened l (slice_index old v + 1) old after) a
+    (subst (λ o. AreDeepened lent (slice_index o v + 1) o after) b d))
 
 pub returns-clause-taken : goal.returns-clause-taken
 returns-clause-taken c =

@@ -14,4 +14,6 @@ returns-clause-hierarchy c =
     IfOk-weaker c.contract_in_turn.result _ _ (λ H is. in_turn_from Depth c.args.graph.now c.args.hops H is) c.contract_in_turn.ensures
 
 pub returns-clause-kept : goal.returns-clause-kept
-returns-clause-kept c = IfOk-weaker c.contract_in_turn.result _ _ (λ H is. hierarchies_kept Depth c.args.graph.now c.args.hops H c.ask_ahead.ensures c.requires.hops is) (returns-clause-hierarchy c)
+returns-clause-kept c =
+    IfOk-weaker c.contract_in_turn.result _ _ (λ H is.
+    hierarchies_kept Depth c.args.graph.now c.args.hops H c.ask_ahead.ensures c.requires.hops is) (returns-clause-hierarchy c)

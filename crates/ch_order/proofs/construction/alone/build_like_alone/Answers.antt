@@ -5,7 +5,8 @@ use Rattle.ch_contract.proofs.theory.GivenOrders.{from_kept, like_of}
 use Rattle.ch_order.proofs.construction.alone.build_like_alone.Goals as goal
 
 pub contract_in_turn-requires-clause-given : goal.contract_in_turn-requires-clause-given
-contract_in_turn-requires-clause-given c = let first = c.in_ok-first.ensures in let size = first.order.count in let count = first.count in omega arith
+contract_in_turn-requires-clause-given c = let first = c.in_ok-first.ensures in let size = first.order.count in
+    let count = first.count in omega arith
 
 pub returns-clause-hierarchy : goal.returns-clause-hierarchy
 returns-clause-hierarchy c = like_of _ _ _ _ _ _ c.in_ok-first.ensures.count c.in_ok-contract_in_turn.ensures

@@ -10,7 +10,8 @@ use Rattle.ch_order.specs.Priorities.{IsRanked}
 use Rattle.ch_order.specs.Construction.{progress_of}
 use Rattle.ch_contract.specs.Remaining.{legs_of}
 use Rattle.ch_contract.proofs.theory.GivenNodes.{other_nodes}
-use Rattle.ch_order.proofs.StepsMade.{IsAfterSomeSteps, steps_at_start, steps_next, steps_count, steps_node, steps_at_end, steps_within, steps_depth, steps_levelled}
+use Rattle.ch_order.proofs.StepsMade.{IsAfterSomeSteps, steps_at_start, steps_next, steps_count, steps_node, steps_at_end}
+use Rattle.ch_order.proofs.StepsMade.{steps_within, steps_depth, steps_levelled}
 use Rattle.ch_order.proofs.construction.alone.contract_in_turn.Goals as goal
 
 pub rank_alone-requires-clause-nodes : goal.rank_alone-requires-clause-nodes
@@ -24,9 +25,15 @@ loop-node-init c =
     let begun = c.in_ok-begun.ensures in
     let parts = c.split_at.result in
     let order = subst (IsOrderOf c.args.graph.now.nodes) c.split_at.ensures.by_index.0 c.requires.nodes in
-    let ranked = subst (λ n. IsRanked Depth n c.args.hops parts.1.now (progress_of c.in_ok-begun.begun) (progress_of c.in_ok-construction.construction)) begun.nodes first.ranked in
-    let start = steps_at_start Depth c.args.graph.now c.args.hops parts.0.now parts.1.now _ _ order begun.after ranked in
-    (first.sizes, first.nodes ∙ begun.nodes, subst (λ l. IsAfterSomeSteps Depth c.args.graph.now c.args.hops l (progress_of c.in_ok-construction.construction)) c.split_at.ensures.front start, first.ready)
+    let ranked = subst (λ n. IsRanked Depth n c.args.hops parts.1.now (progress_of c.in_ok-begun.begun)
+    (progress_of c.in_ok-construction.construction)) begun.nodes first.ranked in
+    let start = steps_at_start Depth c.args.graph.now c.args.hops parts.0.now parts.1.now _ _ order begun.after ranked in (
+      first.sizes,
+      first.nodes ∙ begun.nodes,
+      subst (λ l. IsAfterSomeSteps Depth c.args.graph.now c.args.hops l (progress_of c.in_ok-construction.construction))
+          c.split_at.ensures.front start,
+      first.ready,
+    )
 
 pub contract_alone-requires : goal.contract_alone-requires
 contract_alone-requires c =
@@ -53,16 +60,20 @@ pub loop-node-preserved : goal.loop-node-preserved
 loop-node-preserved c =
     let i = c.loop-node.invariant in
     let next = c.in_ok-construction-2.ensures in
-    let step = subst (λ n. IsStep Depth n c.args.hops (progress_of c.loop-node.construction) c.in-Some.node (progress_of c.in_ok-construction-2.construction)) i.1 next.step in
+    let step = subst (λ n. IsStep Depth n c.args.hops (progress_of c.loop-node.construction) c.in-Some.node
+    (progress_of c.in_ok-construction-2.construction)) i.1 next.step in
     (next.sizes, next.nodes ∙ i.1, steps_next _ _ _ _ _ i.2 _ c.in-Some.ensures _ step, next.ready)
 
 pub finish-requires-clause-levelled : goal.finish-requires-clause-levelled
 finish-requires-clause-levelled c H all =
     let i = c.loop-node.invariant in
     let count = i.0.nodes in
-    steps_levelled _ _ _ _ _ i.2 c.in_default.ensures (omega (arith, count, i.1)) H (subst (λ n. AreAll n (progress_of c.loop-node.construction) H) i.1 all)
+    steps_levelled _ _ _ _ _ i.2 c.in_default.ensures (omega (arith, count, i.1)) H
+    (subst (λ n. AreAll n (progress_of c.loop-node.construction) H) i.1 all)
 
 pub returns : goal.returns
 returns c =
     let i = c.loop-node.invariant in
-    IfOk-weaker c.finish.result _ _ (λ H all. steps_at_end _ _ _ _ _ i.2 c.in_default.ensures H (subst (λ n. AreAll n (progress_of c.loop-node.construction) H) i.1 all)) c.finish.ensures
+    IfOk-weaker c.finish.result _ _
+    (λ H all. steps_at_end _ _ _ _ _ i.2 c.in_default.ensures H
+    (subst (λ n. AreAll n (progress_of c.loop-node.construction) H) i.1 all)) c.finish.ensures

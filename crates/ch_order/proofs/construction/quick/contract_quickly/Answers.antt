@@ -11,7 +11,8 @@ use Rattle.ch_order.specs.Progress.{IsContraction, AreAll}
 use Rattle.ch_order.specs.Priorities.{IsRanked}
 use Rattle.ch_order.specs.Construction.{progress_of}
 use Rattle.ch_order.proofs.ConstructionCalls.{taken_step}
-use Rattle.ch_order.proofs.QuickSteps.{IsAfterAny, next_key, any_at_start, any_rekeyed, any_within, any_depth, any_node, any_count, any_next, any_at_end, any_levelled}
+use Rattle.ch_order.proofs.QuickSteps.{IsAfterAny, next_key, any_at_start, any_rekeyed, any_within, any_depth, any_node, any_count}
+use Rattle.ch_order.proofs.QuickSteps.{any_next, any_at_end, any_levelled}
 use Rattle.ch_order.proofs.construction.quick.contract_quickly.Goals as goal
 
 pub rank-requires-clause-nodes : goal.rank-requires-clause-nodes
@@ -25,9 +26,15 @@ loop-least-init g c =
     let begun = c.in_ok-begun.ensures in
     let parts = c.split_at.result in
     let order = subst (IsOrderOf c.args.graph.now.nodes) c.split_at.ensures.by_index.0 c.requires.nodes in
-    let ranked = subst (λ n. IsRanked Depth n c.args.hops parts.1.now (progress_of c.in_ok-begun.begun) (progress_of c.in_ok-construction.construction)) begun.nodes first.ranked in
-    let start = any_at_start Depth c.args.graph.now c.args.hops parts.0.now parts.1.now _ _ order begun.after ranked in
-    (first.sizes, first.nodes ∙ begun.nodes, subst (λ l. IsAfterAny c.args.graph.now c.args.hops l (progress_of c.in_ok-construction.construction)) c.split_at.ensures.front start, first.ready)
+    let ranked = subst (λ n. IsRanked Depth n c.args.hops parts.1.now (progress_of c.in_ok-begun.begun)
+    (progress_of c.in_ok-construction.construction)) begun.nodes first.ranked in
+    let start = any_at_start Depth c.args.graph.now c.args.hops parts.0.now parts.1.now _ _ order begun.after ranked in (
+      first.sizes,
+      first.nodes ∙ begun.nodes,
+      subst (λ l. IsAfterAny c.args.graph.now c.args.hops l (progress_of c.in_ok-construction.construction))
+          c.split_at.ensures.front start,
+      first.ready,
+    )
 
 pub take-requires : goal.take-requires
 take-requires g c =
@@ -80,16 +87,24 @@ loop-least-preserved g c =
     let after = c.in_ok-taken.taken in
     let nodes = judged.nodes ∙ i.1 in
     let u = any_rekeyed _ _ _ _ i.2 _ judged.rekeyed in
-    let step = subst (λ n. IsContraction n c.args.hops (progress_of c.in_ok-judged.judged) c.in_ok-judged.node (progress_of after)) nodes (taken_step c.args.hops c.in_ok-judged.judged c.in_ok-judged.node _ after after.waiting taken) in
-    (last.sizes, last.nodes ∙ taken.nodes ∙ nodes, any_rekeyed _ _ _ _ (any_next _ _ _ _ u _ judged.node _ step taken.waiting) _ last.rekeyed, last.ready)
+    let step = subst (λ n. IsContraction n c.args.hops (progress_of c.in_ok-judged.judged) c.in_ok-judged.node (progress_of after))
+    nodes (taken_step c.args.hops c.in_ok-judged.judged c.in_ok-judged.node _ after after.waiting taken) in (
+      last.sizes,
+      last.nodes ∙ taken.nodes ∙ nodes,
+      any_rekeyed _ _ _ _ (any_next _ _ _ _ u _ judged.node _ step taken.waiting) _ last.rekeyed,
+      last.ready,
+    )
 
 pub finish-requires-clause-levelled : goal.finish-requires-clause-levelled
 finish-requires-clause-levelled g c H all =
     let i = c.loop-least.invariant in
     let count = i.0.nodes in
-    any_levelled _ _ _ _ i.2 c.in_default.ensures (omega (arith, count, i.1)) H (subst (λ n. AreAll n (progress_of c.loop-least.construction) H) i.1 all)
+    any_levelled _ _ _ _ i.2 c.in_default.ensures (omega (arith, count, i.1)) H
+    (subst (λ n. AreAll n (progress_of c.loop-least.construction) H) i.1 all)
 
 pub returns : goal.returns
 returns g c =
     let i = c.loop-least.invariant in
-    IfOk-weaker c.finish.result _ _ (λ H all. any_at_end _ _ _ _ i.2 c.in_default.ensures H (subst (λ n. AreAll n (progress_of c.loop-least.construction) H) i.1 all)) c.finish.ensures
+    IfOk-weaker c.finish.result _ _
+    (λ H all. any_at_end _ _ _ _ i.2 c.in_default.ensures H
+    (subst (λ n. AreAll n (progress_of c.loop-least.construction) H) i.1 all)) c.finish.ensures

@@ -1,5 +1,6 @@
 -- One more node gets the priority at its place, so in the end all nodes have theirs.
-use Rattle.std.proofs.Common.{rules, ℕ, Bor, List, ◌≡◌, ◌+◌, ◌<◌, ◌++◌, ◌∷◌, [], to_z, of_z, w64, arith, length, length-append, get_or, subst}
+use Rattle.std.proofs.Common.{rules, ℕ, Bor, List, ◌≡◌, ◌+◌, ◌<◌, ◌++◌, ◌∷◌, [], to_z, of_z, w64, arith, length, length-append}
+use Rattle.std.proofs.Common.{get_or, subst}
 use Rattle.std.specs.Prelude.{ℤ, pos}
 use Rattle.std.proofs.lemmas.Int.{to_z-of_z}
 use Rattle.std.proofs.lemmas.Slice.Zip.{zip_turn, zip_end, AllZip-long}
@@ -36,7 +37,8 @@ returns c =
     let P = IsPriorityIn job.by job.remaining.now job.hops job.depths.now in
     let nodes = c.args.nodes.now in
     let anew = c.args.priorities.now in
-    let end = zip_end nodes anew c.loop-node.yielded c.into_iter-node-iterator.result c.loop-node.node-iterator c.next.new.self c.next.result
+    let end = zip_end nodes anew c.loop-node.yielded c.into_iter-node-iterator.result c.loop-node.node-iterator c.next.new.self
+    c.next.result
     (search rules) (search rules) c.loop-node.yielded_by c.in-None.is c.next.ensures.steps in
     let long = AllZip-long P nodes anew c.requires.priorities in
     let all = take_all (length c.loop-node.yielded) nodes (omega arith) in

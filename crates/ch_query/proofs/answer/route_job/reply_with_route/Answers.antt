@@ -16,7 +16,9 @@ returns-clause-reply c =
     let t = c.args.query.1 in
     let found = c.in_ok-route.ensures.route in
     elim c.match-branch-2.branch [
-      | in-Some w ↦ rw w.weight-is (subst (λ (route : Way). IsReply H true (s, t) (record { from = s; to = t; weight = Some route.weight; arcs = Some route.arcs })) (sym w.route.view_is)
+      | in-Some w ↦ rw w.weight-is
+          (subst (λ (route : Way). IsReply H true (s, t)
+          (record { from = s; to = t; weight = Some route.weight; arcs = Some route.arcs })) (sym w.route.view_is)
           (reply_some H s t w.in-Some.route (subst (λ o. MatchOption o (NeverMeets H s t) (IsRoute H s t)) w.in-Some.is found)))
       | in-None w ↦ rw w.weight-is (reply_none H s t (subst (λ o. MatchOption o (NeverMeets H s t) (IsRoute H s t)) w.in-None.is found))
     ]

@@ -16,27 +16,32 @@ pub get-requires : goal.get-requires
 get-requires c =
     let a = c.args in
     let r = c.requires.rank in
-    let own = own_rank a.hierarchy.now a.here.now r.0 _ c.loop-leg.leg-index _ c.requires.here (c.ranked_legs-leg-items.ensures.row r.0 r.1 (sym r.2)) c.loop-leg-test.true in
+    let own = own_rank a.hierarchy.now a.here.now r.0 _ c.loop-leg.leg-index _ c.requires.here
+    (c.ranked_legs-leg-items.ensures.row r.0 r.1 (sym r.2)) c.loop-leg-test.true in
     rank_in_labels a.hierarchy.now a.here.now _ c.requires.here own
 
 pub connects-requires-clause-rank : goal.connects-requires-clause-rank
 connects-requires-clause-rank c =
     let a = c.args in
     let r = c.requires.rank in
-    own_rank a.hierarchy.now a.here.now r.0 _ c.loop-leg.leg-index _ c.requires.here (c.ranked_legs-leg-items.ensures.row r.0 r.1 (sym r.2)) c.loop-leg-test.true
+    own_rank a.hierarchy.now a.here.now r.0 _ c.loop-leg.leg-index _ c.requires.here
+    (c.ranked_legs-leg-items.ensures.row r.0 r.1 (sym r.2)) c.loop-leg-test.true
 
 pub connects-requires-clause-cost : goal.connects-requires-clause-cost
 connects-requires-clause-cost c =
     let a = c.args in
     let r = c.requires.rank in
-    let own = own_rank a.hierarchy.now a.here.now r.0 _ c.loop-leg.leg-index _ c.requires.here (c.ranked_legs-leg-items.ensures.row r.0 r.1 (sym r.2)) c.loop-leg-test.true in
-    known_arcs a.hierarchy.now a.here.now _ c.in-Some.cost c.requires.here (known_at a.hierarchy.now a.here.now _ c.in-Some.cost own (sym c.in-Some.ensures))
+    let own = own_rank a.hierarchy.now a.here.now r.0 _ c.loop-leg.leg-index _ c.requires.here
+    (c.ranked_legs-leg-items.ensures.row r.0 r.1 (sym r.2)) c.loop-leg-test.true in
+    known_arcs a.hierarchy.now a.here.now _ c.in-Some.cost c.requires.here
+    (known_at a.hierarchy.now a.here.now _ c.in-Some.cost own (sym c.in-Some.ensures))
 
 pub returns-then-connects : goal.returns-then-connects
 returns-then-connects c =
     let a = c.args in
     let r = c.requires.rank in
-    let own = own_rank a.hierarchy.now a.here.now r.0 _ c.loop-leg.leg-index _ c.requires.here (c.ranked_legs-leg-items.ensures.row r.0 r.1 (sym r.2)) c.loop-leg-test.true in
+    let own = own_rank a.hierarchy.now a.here.now r.0 _ c.loop-leg.leg-index _ c.requires.here
+    (c.ranked_legs-leg-items.ensures.row r.0 r.1 (sym r.2)) c.loop-leg-test.true in
     let known = known_at a.hierarchy.now a.here.now _ c.in-Some.cost own (sym c.in-Some.ensures) in
     let there = c.if-connects.ensures.connected refl in
     let met = known_at a.hierarchy.now a.there.now _ there.0 own there.1 in

@@ -12,13 +12,15 @@ returns-then-leads-clause-settled c =
 pub returns-then-leads-clause-past : goal.returns-then-leads-clause-past
 returns-then-leads-clause-past c =
     let after = c.advance.ensures in
-    λ is. let past = both_past_cost c.args.up.now _ c.args.down.now _ (c.leads.ensures.here c.if-leads.true) (after.past is) in (after.apart (ap is_connected is), past.0, past.1)
+    λ is. let past = both_past_cost c.args.up.now _ c.args.down.now _ (c.leads.ensures.here c.if-leads.true) (after.past is) in
+    (after.apart (ap is_connected is), past.0, past.1)
 
 pub advance-requires-else-leads : goal.advance-requires-else-leads
 advance-requires-else-leads c = record { apart = apart_swapped _ _ _ _ c.requires.apart }
 
 pub returns-else-leads-clause-connected : goal.returns-else-leads-clause-connected
-returns-else-leads-clause-connected c = λ is. connected_swapped c.args.hierarchy.now c.advance-else-leads.new.here c.args.up.now c.args.most (c.advance-else-leads.ensures.connected is)
+returns-else-leads-clause-connected c = λ is. connected_swapped c.args.hierarchy.now c.advance-else-leads.new.here c.args.up.now
+    c.args.most (c.advance-else-leads.ensures.connected is)
 
 pub returns-else-leads-clause-settled : goal.returns-else-leads-clause-settled
 returns-else-leads-clause-settled c =

@@ -5,5 +5,6 @@ use Rattle.ch_query.proofs.checking.finding.first_wrong.Goals as goal
 pub returns : goal.returns
 returns g c =
     let right = g.C.ItemCheck.right c.args.check.now in
-    let first = first_of_all right c.args.items c.args.crew.now.plan.piece c.in_ok-known.known.items c.piece.ensures.limits.piece.0 c.in_ok-known.ensures in
+    let first = first_of_all right c.args.items c.args.crew.now.plan.piece c.in_ok-known.known.items c.in_ok-known.ensures.limits.piece.0
+    c.in_ok-known.ensures.values in
     rw (c.first_of.ensures, c.deref.ensures.value) first

@@ -5,13 +5,14 @@ use Rattle.ch_query.specs.Checking.{IsLegCost}
 use Rattle.ch_query.proofs.faults.LegCosts.{within_some, within_none}
 use Rattle.ch_query.proofs.checking.leg_costs.is_leg_within.Goals as goal
 
-pub returns-in-Some : goal.returns-in-Some
-returns-in-Some c =
+pub returns-in-Some-clause-within : goal.returns-in-Some-clause-within
+returns-in-Some-clause-within c =
     within_some c.args.hierarchy.now c.args.start c.args.end c.args.most c.in-Some.cost c.is_below.result
-    (subst (IsLegCost c.args.hierarchy.now c.args.start c.args.end) c.in-Some.is c.leg_cost.ensures) c.is_below.ensures
+    (subst (IsLegCost c.args.hierarchy.now c.args.start c.args.end) c.in-Some.is c.leg_cost.ensures.cost) c.is_below.ensures
 
-pub returns-in-None : goal.returns-in-None
-returns-in-None c = (
+pub returns-in-None-clause-within : goal.returns-in-None-clause-within
+returns-in-None-clause-within c = (
   λ no. absurd (false≢true no),
-  λ h. absurd (within_none c.args.hierarchy.now c.args.start c.args.end c.args.most (subst (IsLegCost c.args.hierarchy.now c.args.start c.args.end) c.in-None.is c.leg_cost.ensures) h),
+  λ h. absurd (within_none c.args.hierarchy.now c.args.start c.args.end c.args.most
+      (subst (IsLegCost c.args.hierarchy.now c.args.start c.args.end) c.in-None.is c.leg_cost.ensures.cost) h),
 )

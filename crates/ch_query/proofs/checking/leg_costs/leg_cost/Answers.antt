@@ -14,16 +14,17 @@ pub cost_in_row-requires-else-level : goal.cost_in_row-requires-else-level
 cost_in_row-requires-else-level c =
     subst IsRow (sym c.down.ensures.row) (rows_ordered c.args.hierarchy.now c.level.ensures.levelled Down c.args.end)
 
-pub returns-then-level : goal.returns-then-level
-returns-then-level c =
+pub returns-then-level-clause-cost : goal.returns-then-level-clause-cost
+returns-then-level-clause-cost c =
     let lt = c.if-level.true in
     let a = c.level.ensures.level in
     let b = c.level-2.ensures.level in
     cost_up c.args.hierarchy.now c.level.ensures.levelled c.args.start c.args.end (omega arith) _ c.up.ensures.row _ c.cost_in_row.ensures
 
-pub returns-else-level : goal.returns-else-level
-returns-else-level c =
+pub returns-else-level-clause-cost : goal.returns-else-level-clause-cost
+returns-else-level-clause-cost c =
     let le = c.if-level.false in
     let a = c.level.ensures.level in
     let b = c.level-2.ensures.level in
-    cost_down c.args.hierarchy.now c.level.ensures.levelled c.args.start c.args.end (omega arith) _ c.down.ensures.row _ c.cost_in_row-else-level.ensures
+    cost_down c.args.hierarchy.now c.level.ensures.levelled c.args.start c.args.end (omega arith) _ c.down.ensures.row _
+    c.cost_in_row-else-level.ensures

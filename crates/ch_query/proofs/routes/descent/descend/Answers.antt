@@ -1,6 +1,7 @@
 -- Each step back goes to a lower node that is reached, over a leg that is in its row, so it ends at the source.
 use Rattle.std.proofs.Common.{◌∙◌, refl, ap, ◌++◌, ◌∷◌, [], arith}
-use Rattle.ch_query.proofs.routing.DescentSteps.{node_at_within, read_parent, tracing_starts, tracing_ends, parent_within, parent_has, parent_lower, room_for_leg, tracing_step}
+use Rattle.ch_query.proofs.routing.DescentSteps.{node_at_within, read_parent, tracing_starts, tracing_ends, parent_within}
+use Rattle.ch_query.proofs.routing.DescentSteps.{parent_has, parent_lower, room_for_leg, tracing_step}
 use Rattle.ch_query.proofs.routes.descent.descend.Goals as goal
 
 pub loop-node-init : goal.loop-node-init
@@ -23,24 +24,28 @@ parent-parent-requires c =
 pub legs-requires : goal.legs-requires
 legs-requires c =
     let t = c.loop-node.invariant.traced in
-    parent_within c.args.hierarchy.now c.requires.kept _ _ _ t.0 t.1 _ _ t.2 c.loop-node-test.true c.parent-parent.result (read_parent c.args.hierarchy.now c.requires.kept _ _ _ t.0 t.1 _ _ t.2 _ _ c.rank.ensures.rank c.parent-parent.ensures)
+    parent_within c.args.hierarchy.now c.requires.kept _ _ _ t.0 t.1 _ _ t.2 c.loop-node-test.true c.parent-parent.result
+    (read_parent c.args.hierarchy.now c.requires.kept _ _ _ t.0 t.1 _ _ t.2 _ _ c.rank.ensures.rank c.parent-parent.ensures)
 
 pub leg_at-leg-requires : goal.leg_at-leg-requires
 leg_at-leg-requires c =
     let t = c.loop-node.invariant.traced in
-    parent_has c.args.hierarchy.now c.requires.kept _ _ _ t.0 t.1 _ _ t.2 c.loop-node-test.true c.parent-parent.result (read_parent c.args.hierarchy.now c.requires.kept _ _ _ t.0 t.1 _ _ t.2 _ _ c.rank.ensures.rank c.parent-parent.ensures)
+    parent_has c.args.hierarchy.now c.requires.kept _ _ _ t.0 t.1 _ _ t.2 c.loop-node-test.true c.parent-parent.result
+    (read_parent c.args.hierarchy.now c.requires.kept _ _ _ t.0 t.1 _ _ t.2 _ _ c.rank.ensures.rank c.parent-parent.ensures)
     c.legs.result.now c.legs.ensures.row
 
 pub push_reserved-requires : goal.push_reserved-requires
 push_reserved-requires c =
     let t = c.loop-node.invariant.traced in
-    room_for_leg c.args.hierarchy.now c.requires.kept _ _ _ t.0 t.1 _ _ t.2 c.loop-node-test.true c.parent-parent.result (read_parent c.args.hierarchy.now c.requires.kept _ _ _ t.0 t.1 _ _ t.2 _ _ c.rank.ensures.rank c.parent-parent.ensures)
+    room_for_leg c.args.hierarchy.now c.requires.kept _ _ _ t.0 t.1 _ _ t.2 c.loop-node-test.true c.parent-parent.result
+    (read_parent c.args.hierarchy.now c.requires.kept _ _ _ t.0 t.1 _ _ t.2 _ _ c.rank.ensures.rank c.parent-parent.ensures)
     c.leg_at-leg.result c.legs.result.now c.legs.ensures.row c.leg_at-leg.ensures
 
 pub loop-node-smaller : goal.loop-node-smaller
 loop-node-smaller c =
     let t = c.loop-node.invariant.traced in
-    parent_lower c.args.hierarchy.now c.requires.kept _ _ _ t.0 t.1 _ _ t.2 c.loop-node-test.true c.parent-parent.result (read_parent c.args.hierarchy.now c.requires.kept _ _ _ t.0 t.1 _ _ t.2 _ _ c.rank.ensures.rank c.parent-parent.ensures)
+    parent_lower c.args.hierarchy.now c.requires.kept _ _ _ t.0 t.1 _ _ t.2 c.loop-node-test.true c.parent-parent.result
+    (read_parent c.args.hierarchy.now c.requires.kept _ _ _ t.0 t.1 _ _ t.2 _ _ c.rank.ensures.rank c.parent-parent.ensures)
     c.leg_at-leg.result c.legs.result.now c.legs.ensures.row c.leg_at-leg.ensures
 
 pub loop-node-preserved : goal.loop-node-preserved
@@ -53,7 +58,8 @@ loop-node-preserved c =
       traced = (
         t.0,
         t.1,
-        tracing_step c.args.hierarchy.now c.requires.kept _ _ _ t.0 t.1 _ _ t.2 c.loop-node-test.true c.parent-parent.result (read_parent c.args.hierarchy.now c.requires.kept _ _ _ t.0 t.1 _ _ t.2 _ _ c.rank.ensures.rank c.parent-parent.ensures)
+        tracing_step c.args.hierarchy.now c.requires.kept _ _ _ t.0 t.1 _ _ t.2 c.loop-node-test.true c.parent-parent.result
+            (read_parent c.args.hierarchy.now c.requires.kept _ _ _ t.0 t.1 _ _ t.2 _ _ c.rank.ensures.rank c.parent-parent.ensures)
             c.leg_at-leg.result c.legs.result.now c.legs.ensures.row c.leg_at-leg.ensures c.push_reserved.new.self
             (pushed.items ∙ ap (λ p. c.loop-node.pending.items ++ p ∷ []) same) pushed.len pushed.capacity,
       );

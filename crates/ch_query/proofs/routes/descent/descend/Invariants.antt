@@ -7,7 +7,8 @@ use Rattle.ch_query.proofs.routes.descent.descend.Given as goal
 
 abbrev pub invariant-loop-node : goal.invariant-loop-node
 invariant-loop-node l = record {
-  traced : (c : Cost) × HasReached l.hierarchy l.search l.meet c × IsPartlyTraced l.hierarchy l.search l.meet l.node c l.fn.pending.items l.pending;
+  traced : (c : Cost) × HasReached l.hierarchy l.search l.meet c
+      × IsPartlyTraced l.hierarchy l.search l.meet l.node c l.fn.pending.items l.pending;
   capacity : vec_capacity l.pending ≡ vec_capacity l.fn.pending;
 }
 

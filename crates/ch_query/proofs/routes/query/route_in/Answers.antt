@@ -14,7 +14,8 @@ returns-clause-walk c =
     elim c.match-meet.branch [
       | in-Some w ↦ subst (λ r. IfOk r (IsRouteBy H c.args.start c.args.end)) (sym w.answer-is)
           (found_walks H c.args.start c.args.end _ _ met.up.1 met.down.1 w.route_over-answer.result w.route_over-answer.ensures.route)
-      | in-None w ↦ subst (λ r. IfOk r (IsRouteBy H c.args.start c.args.end)) (sym w.answer-is) (never_walks H c.args.start c.args.end w.in-None.ensures.least)
+      | in-None w ↦ subst (λ r. IfOk r (IsRouteBy H c.args.start c.args.end)) (sym w.answer-is)
+          (never_walks H c.args.start c.args.end w.in-None.ensures.least)
     ]
 
 pub returns-clause-few : goal.returns-clause-few
@@ -23,6 +24,7 @@ returns-clause-few c =
     let met = c.meet.ensures in
     elim c.match-meet.branch [
       | in-Some w ↦ subst (λ r. IfOk r (λ answer. MatchOption answer ⊤ (λ route. length route.arcs < nodes_of H))) (sym w.answer-is)
-          (found_few H c.args.start c.args.end _ _ met.up.1 met.down.1 w.route_over-answer.result w.route_over-answer.ensures.route c.requires.kept c.requires.end)
+          (found_few H c.args.start c.args.end _ _ met.up.1 met.down.1 w.route_over-answer.result w.route_over-answer.ensures.route
+          c.requires.kept c.requires.end)
       | in-None w ↦ subst (λ r. IfOk r (λ answer. MatchOption answer ⊤ (λ route. length route.arcs < nodes_of H))) (sym w.answer-is) tt
     ]

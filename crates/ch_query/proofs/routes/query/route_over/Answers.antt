@@ -9,7 +9,8 @@ pub descend-requires-clause-reached : goal.descend-requires-clause-reached
 descend-requires-clause-reached c =
     let q = c.requires in
     let e = c.in_ok-pending.ensures in
-    room_down c.args.hierarchy.now q.kept c.args.up.now c.args.down.now c.args.node c.args.cost q.meeting q.past q.sides q.meet c.in_ok-pending.pending e.items e.len e.exact
+    room_down c.args.hierarchy.now q.kept c.args.up.now c.args.down.now c.args.node c.args.cost q.meeting q.past q.sides q.meet
+    c.in_ok-pending.pending e.items e.len e.exact
 
 pub descend-requires-2-clause-reached : goal.descend-requires-2-clause-reached
 descend-requires-2-clause-reached c =
@@ -17,7 +18,8 @@ descend-requires-2-clause-reached c =
     let e = c.in_ok-pending.ensures in
     let fall = c.descend.ensures in
     let turn = c.reverse.ensures in
-    room_up c.args.hierarchy.now q.kept c.args.up.now c.args.down.now c.args.node c.args.cost q.meeting q.past q.sides q.meet c.in_ok-pending.pending e.items e.len e.exact
+    room_up c.args.hierarchy.now q.kept c.args.up.now c.args.down.now c.args.node c.args.cost q.meeting q.past q.sides q.meet
+    c.in_ok-pending.pending e.items e.len e.exact
     c.descend.new.pending c.reverse.new.self fall.traced fall.capacity turn.permutation turn.len turn.capacity
 
 pub unpack-requires-clause-legs : goal.unpack-requires-clause-legs
@@ -27,8 +29,10 @@ unpack-requires-clause-legs c =
     let fall = c.descend.ensures in
     let turn = c.reverse.ensures in
     let rise = c.descend-2.ensures in
-    all_pending c.args.hierarchy.now q.kept c.args.up.now c.args.down.now c.args.node c.args.cost q.meeting q.past q.sides q.meet c.in_ok-pending.pending e.items e.len e.exact
-    c.descend.new.pending c.reverse.new.self fall.traced fall.capacity turn.permutation turn.len turn.capacity c.descend-2.new.pending rise.traced rise.capacity
+    all_pending c.args.hierarchy.now q.kept c.args.up.now c.args.down.now c.args.node c.args.cost q.meeting q.past q.sides q.meet
+    c.in_ok-pending.pending e.items e.len e.exact
+    c.descend.new.pending c.reverse.new.self fall.traced fall.capacity turn.permutation turn.len turn.capacity
+    c.descend-2.new.pending rise.traced rise.capacity
 
 pub unpack-requires-clause-room : goal.unpack-requires-clause-room
 unpack-requires-clause-room c =
@@ -38,8 +42,10 @@ unpack-requires-clause-room c =
     let turn = c.reverse.ensures in
     let rise = c.descend-2.ensures in
     let room = c.in_ok-arcs.ensures in
-    room_for_all c.args.hierarchy.now q.kept c.args.up.now c.args.down.now c.args.node c.args.cost q.meeting q.past q.sides q.meet c.in_ok-pending.pending e.items e.len e.exact
-    c.descend.new.pending c.reverse.new.self fall.traced fall.capacity turn.permutation turn.len turn.capacity c.descend-2.new.pending rise.traced rise.capacity
+    room_for_all c.args.hierarchy.now q.kept c.args.up.now c.args.down.now c.args.node c.args.cost q.meeting q.past q.sides q.meet
+    c.in_ok-pending.pending e.items e.len e.exact
+    c.descend.new.pending c.reverse.new.self fall.traced fall.capacity turn.permutation turn.len turn.capacity
+    c.descend-2.new.pending rise.traced rise.capacity
     c.in_ok-arcs.arcs room.len room.exact
 
 pub returns : goal.returns
@@ -52,7 +58,8 @@ returns c =
       route = (
         _,
         refl,
-        route_found c.args.hierarchy.now c.args.up.now c.args.down.now q.sides.0 q.sides.1 c.args.node c.args.cost q.meet c.descend.new.pending.items c.reverse.new.self.items
+        route_found c.args.hierarchy.now c.args.up.now c.args.down.now q.sides.0 q.sides.1 c.args.node c.args.cost q.meet
+            c.descend.new.pending.items c.reverse.new.self.items
             c.descend-2.new.pending.items first c.reverse.ensures.items c.descend-2.ensures.traced c.unpack.new.arcs.items c.unpack.ensures,
       );
     }

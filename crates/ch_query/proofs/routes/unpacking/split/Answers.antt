@@ -6,7 +6,9 @@ pub down-requires : goal.down-requires
 down-requires c = middle_within c.args.hierarchy.now c.requires.kept c.args.leg c.args.middle c.requires.leg c.requires.middle
 
 pub leg_at-first-requires : goal.leg_at-first-requires
-leg_at-first-requires c = first_has c.args.hierarchy.now c.requires.kept c.args.leg c.args.middle c.requires.leg c.requires.middle c.down.result.now c.down.ensures.row
+leg_at-first-requires c = first_has c.args.hierarchy.now c.requires.kept c.args.leg c.args.middle c.requires.leg c.requires.middle
+    c.down.result.now c.down.ensures.row
 
 pub leg_at-second-requires : goal.leg_at-second-requires
-leg_at-second-requires c = second_has c.args.hierarchy.now c.requires.kept c.args.leg c.args.middle c.requires.leg c.requires.middle c.up.result.now c.up.ensures.row
+leg_at-second-requires c = second_has c.args.hierarchy.now c.requires.kept c.args.leg c.args.middle c.requires.leg c.requires.middle
+    c.up.result.now c.up.ensures.row

@@ -8,5 +8,6 @@ returns-clause-least c =
     let i = c.loop.invariant in
     let e = c.step.ensures in
     let past = e.stopped c.loop-test.false in
-    meeting_between c.args.hierarchy.now c.requires.kept c.step.new.up c.step.new.down c.step.new.least e.meeting (e.up.side ∙ i.up.0) (e.down.side ∙ i.down.0)
+    meeting_between c.args.hierarchy.now c.requires.kept c.step.new.up c.step.new.down c.step.new.least e.meeting
+    (e.up.side ∙ i.up.0) (e.down.side ∙ i.down.0)
     past.0 past.1 c.args.start c.args.end (e.up.source ∙ i.up.1) (e.down.source ∙ i.down.1)

@@ -5,7 +5,8 @@ use Rattle.ch_query.proofs.sides.meeting.met.Goals as goal
 
 pub plus-requires : goal.plus-requires
 plus-requires c =
-    let known = known_at c.args.hierarchy.now c.args.there.now c.args.rank c.in-Some.known (c.args.node, c.requires.node, c.requires.rank) (sym c.in-Some.ensures) in
+    let known = known_at c.args.hierarchy.now c.args.there.now c.args.rank c.in-Some.known
+    (c.args.node, c.requires.node, c.requires.rank) (sym c.in-Some.ensures) in
     let there = known_arcs c.args.hierarchy.now c.args.there.now c.args.node c.in-Some.known c.requires.there known in
     let light = there.0 in
     let few = there.1 in

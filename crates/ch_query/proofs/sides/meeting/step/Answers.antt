@@ -14,4 +14,5 @@ returns-else-leads-clause-meeting c = swapped _ _ _ _ c.advance-else-leads.ensur
 
 pub returns-else-leads-clause-stopped : goal.returns-else-leads-clause-stopped
 returns-else-leads-clause-stopped c =
-    λ stop. let past = both_stopped c.args.down.now _ c.args.up.now _ _ (c.leads.ensures.there c.if-leads.false) (c.advance-else-leads.ensures.stopped stop) in (past.1, past.0)
+    λ stop. let past = both_stopped c.args.down.now _ c.args.up.now _ _ (c.leads.ensures.there c.if-leads.false)
+    (c.advance-else-leads.ensures.stopped stop) in (past.1, past.0)

@@ -8,7 +8,8 @@ loop-rank-preserved c =
     let before = c.loop-rank.invariant in
     let pushed = c.push_reserved.ensures in
     record {
-      names = names_more c.args.hierarchy.now c.args.ranked.now c.loop-rank.rank-index _ _ _ _ c.loop-rank-test.true before.names c.node_at.ensures.node c.node_at.ensures.rank pushed.items;
+      names = names_more c.args.hierarchy.now c.args.ranked.now c.loop-rank.rank-index _ _ _ _ c.loop-rank-test.true before.names
+          c.node_at.ensures.node c.node_at.ensures.rank pushed.items;
       count = (let few = before.count in let len = pushed.len in omega arith);
       room = (let room = before.room in let capacity = pushed.capacity in omega arith);
     }

@@ -8,4 +8,5 @@ use Rattle.ch_rounds.proofs.first_around.FirstJob.choose.Goals as goal
 
 pub split-requires-clause-firsts : goal.split-requires-clause-firsts
 split-requires-clause-firsts g c =
-    subst (AllZip (λ (x : ℕ) (b : Bool). IsTrue b ↔ IsFirstBy c.args.self.now.keys.now (legs_of c.args.self.now.remaining.now) x) c.args.left.now) (sym c.as_slice.ensures.value) c.in_ok-firsts.ensures
+    subst (AllZip (λ (x : ℕ) (b : Bool). IsTrue b ↔ IsFirstBy c.args.self.now.keys.now (legs_of c.args.self.now.remaining.now) x)
+    c.args.left.now) (sym c.as_slice.ensures.value) c.in_ok-firsts.ensures

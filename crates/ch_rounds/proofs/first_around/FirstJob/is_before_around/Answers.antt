@@ -14,11 +14,13 @@ loop-leg-preserved c =
     let i = c.loop-leg.leg-index in
     let yes : c.is_before_neighbours.result ≡ true = cc in
     rw (take_more legs i no_leg c.loop-leg-test.true)
-    (All-push (λ (k : Leg). IsBeforeNeighbours c.args.self.now.keys.now (legs_of c.args.self.now.remaining.now) c.args.node k.node) (take i legs) (get_or legs i no_leg) c.loop-leg.invariant (c.is_before_neighbours.ensures.0 yes))
+    (All-push (λ (k : Leg). IsBeforeNeighbours c.args.self.now.keys.now (legs_of c.args.self.now.remaining.now) c.args.node k.node)
+    (take i legs) (get_or legs i no_leg) c.loop-leg.invariant (c.is_before_neighbours.ensures.0 yes))
 
 pub returns : goal.returns
 returns c =
     let past : length c.args.legs.now ≤ c.loop-leg.leg-index = omega arith in (
-      λ t. subst (All (λ (k : Leg). IsBeforeNeighbours c.args.self.now.keys.now (legs_of c.args.self.now.remaining.now) c.args.node k.node)) (take_all c.loop-leg.leg-index c.args.legs.now past) c.loop-leg.invariant,
+      λ t. subst (All (λ (k : Leg). IsBeforeNeighbours c.args.self.now.keys.now (legs_of c.args.self.now.remaining.now) c.args.node
+          k.node)) (take_all c.loop-leg.leg-index c.args.legs.now past) c.loop-leg.invariant,
       λ all. refl,
     )

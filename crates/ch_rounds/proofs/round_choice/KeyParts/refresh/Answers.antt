@@ -12,7 +12,9 @@ set_each-requires-clause-nodes g c k d lt = let node = (c.requires.nodes k d lt)
 
 pub set_each-requires-clause-values : goal.set_each-requires-clause-values
 set_each-requires-clause-values g c =
-    ap length c.as_slice.ensures.value ∙ zipped_length (IsKeyIn c.args.self.now.remaining.now c.args.self.now.counts.now c.args.self.now.depths.now) c.args.nodes.now _ c.in_ok-values.ensures
+    ap length c.as_slice.ensures.value
+    ∙ zipped_length (IsKeyIn c.args.self.now.remaining.now c.args.self.now.counts.now c.args.self.now.depths.now)
+    c.args.nodes.now _ c.in_ok-values.ensures
 
 pub returns : goal.returns
 returns g c =
@@ -20,6 +22,7 @@ returns g c =
     let all = subst (λ (l : List ℤ). AllZip R c.args.nodes.now l) (sym c.as_slice.ensures.value) c.in_ok-values.ensures in
     record {
       size = c.set_each.ensures.size;
-      anew = λ x here. given_by R c.args.nodes.now c.as_slice.result.now c.args.keys.now c.set_each.new.list all c.set_each.ensures x (pos 0) here;
+      anew = λ x here. given_by R c.args.nodes.now c.as_slice.result.now c.args.keys.now c.set_each.new.list all c.set_each.ensures
+          x (pos 0) here;
       kept = λ x away. c.set_each.ensures.kept x (pos 0) away;
     }

@@ -13,5 +13,6 @@ from_rows-requires g c =
 pub returns : goal.returns
 returns g c =
     IfOk-weaker c.from_rows.result _ _
-    (λ H e. subst (IsRoundsEnd c.args.self.remaining.nodes (round_progress_of c.args.self)) (sym e) (rounds_end c.args.self _ c.requires.sizes c.requires.none refl c.in_ok-ups.ensures.up c.in_ok-ups.ensures.down))
+    (λ H e. subst (IsRoundsEnd c.args.self.remaining.nodes (round_progress_of c.args.self)) (sym e)
+    (rounds_end c.args.self _ c.requires.sizes c.requires.none refl c.in_ok-ups.ensures.up c.in_ok-ups.ensures.down))
     c.from_rows.ensures

@@ -17,7 +17,8 @@ opening_keys-requires-clause-nodes g c lifetimes bounds k d lt =
     let all = subst (All (λ y. y < r.nodes)) (sym c.requires.nodes) (numbers_below r.nodes) in (
       All-contains (λ y. y < r.nodes) c.args.nodes.now x all has,
       subst (λ (l : List ℕ). slice_index l x ≤ 2 ^ 50) (sym c.as_slice.ensures.value)
-          (count_small r.nodes c.args.hops (legs_of r) x (slice_index c.in_ok-counts.counts.items x) c.nodes.ensures.limits c.nodes.ensures.count (c.in_ok-counts.ensures.counts.anew x has)),
+          (count_small r.nodes c.args.hops (legs_of r) x (slice_index c.in_ok-counts.counts.items x) c.nodes.ensures.limits
+          c.nodes.ensures.count (c.in_ok-counts.ensures.counts.anew x has)),
     )
 
 pub opening_keys-requires-clause-count : goal.opening_keys-requires-clause-count
@@ -28,6 +29,8 @@ returns-clause-depths g c = c.in_ok-depths.ensures.items_if_clones_equal (λ y p
 
 pub returns-clause-keys : goal.returns-clause-keys
 returns-clause-keys g c =
-    keyed_as c.args.remaining.now c.as_slice.result.now c.in_ok-counts.counts.items c.as_slice-2.result.now c.in_ok-depths.depths.items c.args.nodes.now c.args.nodes.now
-    (replicate c.args.remaining.now.nodes (pos 0)) (replicate c.args.remaining.now.nodes (pos 0)) c.in_ok-keys.keys.items c.in_ok-keys.keys.items
+    keyed_as c.args.remaining.now c.as_slice.result.now c.in_ok-counts.counts.items c.as_slice-2.result.now
+    c.in_ok-depths.depths.items c.args.nodes.now c.args.nodes.now
+    (replicate c.args.remaining.now.nodes (pos 0)) (replicate c.args.remaining.now.nodes (pos 0)) c.in_ok-keys.keys.items
+    c.in_ok-keys.keys.items
     c.as_slice.ensures.value c.as_slice-2.ensures.value refl refl refl c.in_ok-keys.ensures

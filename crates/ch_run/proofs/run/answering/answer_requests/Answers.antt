@@ -24,13 +24,20 @@ returns-in_err-write_answers-clause-answers g c =
     let e = c.in_err-write_answers.field-0.0 in
     let r = c.from_residual-in_err-write_answers.result in
     let text = c.in_ok-first.first.text.items in
-    let wrote = subst (λ (text : List ℕ). WritesMore {T = Unit} g.O.Output.write_gives c.loop-rest.output c.write_answers.new.output c.loop-rest.written c.write_answers.new.written text (Err e)) c.deref.ensures.value
+    let wrote = subst (λ (text : List ℕ). WritesMore {T = Unit} g.O.Output.write_gives c.loop-rest.output c.write_answers.new.output
+    c.loop-rest.written c.write_answers.new.written text (Err e)) c.deref.ensures.value
     c.in_err-write_answers.ensures.more in
-    let all : so_far.0 ++ (take count rest ++ drop count rest) ≡ c.args.requests.now = ap (λ (l : List Request). so_far.0 ++ l) (take-append-drop count rest) ∙ sym so_far.1 in
-    subst (λ (l : List Request). AnswersInTurn P g.O.Output.write_gives places c.args.output.now c.write_answers.new.output c.args.written.now c.write_answers.new.written l r) all
+    let all : so_far.0 ++ (take count rest ++ drop count rest) ≡ c.args.requests.now =
+    ap (λ (l : List Request). so_far.0 ++ l) (take-append-drop count rest) ∙ sym so_far.1 in
+    subst (λ (l : List Request). AnswersInTurn P g.O.Output.write_gives places c.args.output.now c.write_answers.new.output
+    c.args.written.now c.write_answers.new.written l r) all
     (answers_on P g.O.Output.write_gives places held _ _ _ _ _ _ so_far.0 (take count rest ++ drop count rest) r so_far.2 so_far.3
-    (answers_passed P g.O.Output.write_gives held _ _ _ _ (take count rest) (drop count rest) e r c.from_residual-in_err-write_answers.ensures.1 (more_own P g.O.Output.write_gives Unit c.loop-rest.output c.write_answers.new.output c.loop-rest.written c.write_answers.new.written text e wrote)
-    (written_answers P g.O.Output.write_gives {T = Unit} held c.loop-rest.output c.write_answers.new.output c.loop-rest.written c.write_answers.new.written (take count rest) text (Err e) first.answers wrote)))
+    (answers_passed P g.O.Output.write_gives held _ _ _ _ (take count rest) (drop count rest) e r
+    c.from_residual-in_err-write_answers.ensures.1
+    (more_own P g.O.Output.write_gives Unit c.loop-rest.output c.write_answers.new.output c.loop-rest.written
+    c.write_answers.new.written text e wrote)
+    (written_answers P g.O.Output.write_gives {T = Unit} held c.loop-rest.output c.write_answers.new.output c.loop-rest.written
+    c.write_answers.new.written (take count rest) text (Err e) first.answers wrote)))
 
 pub loop-rest-preserved : goal.loop-rest-preserved
 loop-rest-preserved g c =
@@ -51,10 +58,12 @@ loop-rest-preserved g c =
       few = omega (arith, ap length left, length-drop count rest);
       answered = (
         so_far.0 ++ take count rest,
-        so_far.1 ∙ ap (λ (l : List Request). so_far.0 ++ l) (sym (take-append-drop count rest)) ∙ sym (append_assoc so_far.0 (take count rest) (drop count rest))
+        so_far.1 ∙ ap (λ (l : List Request). so_far.0 ++ l) (sym (take-append-drop count rest))
+            ∙ sym (append_assoc so_far.0 (take count rest) (drop count rest))
             ∙ ap (λ (l : List Request). (so_far.0 ++ take count rest) ++ l) (sym left),
         answers_on P g.O.Output.write_gives {T = Unit} places held _ _ _ _ _ _ so_far.0 (take count rest) (Ok tt) so_far.2 so_far.3
             (written_answers P g.O.Output.write_gives {T = Unit} held _ _ _ _ (take count rest) _ (Ok tt) first.answers wrote),
-        first.places ∙ ap (λ (p : PlaceList). places_after p (take count rest)) so_far.3 ∙ sym (places_append places so_far.0 (take count rest)),
+        first.places ∙ ap (λ (p : PlaceList). places_after p (take count rest)) so_far.3
+            ∙ sym (places_append places so_far.0 (take count rest)),
       );
     }

@@ -14,7 +14,8 @@ invariant-loop-rest g l = record {
   each : All (IsRequest l.by.checked.now.graph.nodes) l.rest;
   few : length l.rest ≤ MOST_LISTED;
   answered : (done : List Request) × (l.requests ≡ done ++ l.rest)
-      × AnswersInTurn {T = Unit} (IsTextOfRequest l.by.options.now l.by.checked.now.graph l.by.checked.now.hierarchy) g.O.Output.write_gives (places_of l.initial.room.near) l.initial.output l.output
+      × AnswersInTurn {T = Unit} (IsTextOfRequest l.by.options.now l.by.checked.now.graph l.by.checked.now.hierarchy)
+      g.O.Output.write_gives (places_of l.initial.room.near) l.initial.output l.output
       l.initial.written l.written done (Ok tt)
       × (places_of l.room.near ≡ places_after (places_of l.initial.room.near) done);
 }

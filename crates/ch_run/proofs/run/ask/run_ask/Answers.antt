@@ -10,10 +10,11 @@ use Rattle.ch_run.proofs.run.ask.run_ask.Goals as goal
 
 -- the story, as far as it went
 pub returns-in_err-loaded-clause-went : goal.returns-in_err-loaded-clause-went
-returns-in_err-loaded-clause-went g c = loads_stops _ _ _ _ _ _ _ _ c.from_residual.ensures.1 (refl, refl) c.in_err-loaded.ensures.went
+returns-in_err-loaded-clause-went g c = loads_stops _ _ _ _ _ _ c.from_residual.ensures.1 (refl, refl) c.in_err-loaded.ensures.went
 
 pub returns-in_err-checked-clause-went : goal.returns-in_err-checked-clause-went
-returns-in_err-checked-clause-went g c = loads_on _ _ _ _ _ _ _ _ _ _ (inl (ends_as _ _ c.from_residual-in_err-checked.ensures.1, refl, refl)) c.in_ok-loaded.ensures.went
+returns-in_err-checked-clause-went g c = loads_on _ _ _ _ _ _ _
+    (inl (ends_as _ _ c.from_residual-in_err-checked.ensures.1, refl, refl)) c.in_ok-loaded.ensures.went
 
 pub returns-clause-went : goal.returns-clause-went
 returns-clause-went g c =
@@ -21,17 +22,19 @@ returns-clause-went g c =
     let network = c.in_ok-loaded.loaded.graph in
     let saved = c.in_ok-loaded.loaded.saved in
     let H = c.in_ok-checked.checked.hierarchy in
-    loads_on _ _ _ _ _ _ _ _ _ _
-    (inr (served_weaker (IsTextOfRequest options network H) (IsRequestText options network (IsServing (order_built options) options.hops network saved))
-    (asked_in options network saved H (rw c.building_order-order.ensures at c.in_ok-checked.ensures.serving)) g.O.Output.write_gives network.nodes _ _ _ c.serve.result (rw c.in_ok-checked.ensures.graph at c.serve.ensures)))
+    loads_on _ _ _ _ _ _ _
+    (inr (served_weaker (IsTextOfRequest options network H)
+    (IsRequestText options network (IsServing (order_built options) options.hops network saved))
+    (asked_in options network saved H (rw c.building_order-order.ensures at c.in_ok-checked.ensures.serving)) g.O.Output.write_gives
+    network.nodes _ _ _ c.serve.result (rw c.in_ok-checked.ensures.graph at c.serve.ensures)))
     c.in_ok-loaded.ensures.went
 
 -- so the requests were served
 pub returns-in_err-loaded-clause-served : goal.returns-in_err-loaded-clause-served
-returns-in_err-loaded-clause-served g c = ask_served c.args.options.now _ _ _ _ _ _ _ _ _ (returns-in_err-loaded-clause-went g c)
+returns-in_err-loaded-clause-served g c = ask_served c.args.options.now _ _ _ _ _ (returns-in_err-loaded-clause-went g c)
 
 pub returns-in_err-checked-clause-served : goal.returns-in_err-checked-clause-served
-returns-in_err-checked-clause-served g c = ask_served c.args.options.now _ _ _ _ _ _ _ _ _ (returns-in_err-checked-clause-went g c)
+returns-in_err-checked-clause-served g c = ask_served c.args.options.now _ _ _ _ _ (returns-in_err-checked-clause-went g c)
 
 pub returns-clause-served : goal.returns-clause-served
-returns-clause-served g c = ask_served c.args.options.now _ _ _ _ _ _ _ _ _ (returns-clause-went g c)
+returns-clause-served g c = ask_served c.args.options.now _ _ _ _ _ (returns-clause-went g c)

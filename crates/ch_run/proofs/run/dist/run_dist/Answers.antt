@@ -9,15 +9,22 @@ use Rattle.ch_run.proofs.run.dist.run_dist.Goals as goal
 
 -- the story, as far as it went
 pub returns-in_err-loaded-clause-went : goal.returns-in_err-loaded-clause-went
-returns-in_err-loaded-clause-went g c = loads_stops _ _ _ _ _ _ _ _ c.from_residual.ensures.1 (refl, refl) c.in_err-loaded.ensures.went
+returns-in_err-loaded-clause-went g c = loads_stops _ _ _ _ _ _ c.from_residual.ensures.1 (refl, refl) c.in_err-loaded.ensures.went
 
 pub returns-in_err-queries-clause-went : goal.returns-in_err-queries-clause-went
-returns-in_err-queries-clause-went g c = loads_serving _ _ _ _ _ _ _ _ _ _ (λ h place. inl (err_as _ _ _ c.from_residual-in_err-queries.ensures.1 (rw c.graph.ensures.graph at c.in_err-queries.ensures.ends), refl)) c.in_ok-loaded.ensures.went
+returns-in_err-queries-clause-went g c =
+    loads_serving _ _ _ _ _ _ _
+    (λ h place. inl (
+      err_as _ _ _ c.from_residual-in_err-queries.ensures.1
+          (rw c.graph.ensures.graph at c.in_err-queries.ensures.ends),
+      refl,
+    )) c.in_ok-loaded.ensures.went
 
 pub returns-in_err-text-clause-went : goal.returns-in_err-text-clause-went
 returns-in_err-text-clause-went g c =
     let read = rw c.graph.ensures.graph at c.in_ok-queries.ensures.value in
-    loads_serving _ _ _ _ _ _ _ _ _ _ (λ h place. inr (read.0, _, read.1, read.2, writes_none _ _ _ _ c.from_residual-in_err-text.ensures.1)) c.in_ok-loaded.ensures.went
+    loads_serving _ _ _ _ _ _ _
+    (λ h place. inr (read.0, _, read.1, read.2, writes_none _ _ _ _ c.from_residual-in_err-text.ensures.1)) c.in_ok-loaded.ensures.went
 
 pub returns-clause-went : goal.returns-clause-went
 returns-clause-went g c =
@@ -25,22 +32,23 @@ returns-clause-went g c =
     let options = c.args.options.now in
     let network = c.in_ok-loaded.loaded.graph in
     let saved = c.in_ok-loaded.loaded.saved in
-    loads_serving _ _ _ _ _ _ _ _ _ (λ k l. IsInPlaceOf options.routes k l saved)
+    loads_serving _ _ _ _ _ _ (λ k l. IsInPlaceOf options.routes k l saved)
     (λ h place.
     let mine = text_in_place options.plain options.routes options.order options.hops network h saved place _ _ c.in_ok-text.ensures in
-    let wrote = writes_weaker _ _ _ _ _ c.write_text.result (rw c.deref-2.ensures.value (rw c.deref.ensures.value at mine)) c.write_text.ensures.wrote in
+    let wrote = writes_weaker _ _ _ _ _ c.write_text.result (rw c.deref-2.ensures.value (rw c.deref.ensures.value at mine))
+    c.write_text.ensures.wrote in
     inr (read.0, _, read.1, read.2, wrote))
     c.in_ok-loaded.ensures.went
 
 -- so it delivered the text
 pub returns-in_err-loaded-clause-written : goal.returns-in_err-loaded-clause-written
-returns-in_err-loaded-clause-written g c = dist_delivers c.args.options.now _ _ _ _ _ _ _ _ _ (returns-in_err-loaded-clause-went g c)
+returns-in_err-loaded-clause-written g c = dist_delivers c.args.options.now _ _ _ _ _ (returns-in_err-loaded-clause-went g c)
 
 pub returns-in_err-queries-clause-written : goal.returns-in_err-queries-clause-written
-returns-in_err-queries-clause-written g c = dist_delivers c.args.options.now _ _ _ _ _ _ _ _ _ (returns-in_err-queries-clause-went g c)
+returns-in_err-queries-clause-written g c = dist_delivers c.args.options.now _ _ _ _ _ (returns-in_err-queries-clause-went g c)
 
 pub returns-in_err-text-clause-written : goal.returns-in_err-text-clause-written
-returns-in_err-text-clause-written g c = dist_delivers c.args.options.now _ _ _ _ _ _ _ _ _ (returns-in_err-text-clause-went g c)
+returns-in_err-text-clause-written g c = dist_delivers c.args.options.now _ _ _ _ _ (returns-in_err-text-clause-went g c)
 
 pub returns-clause-written : goal.returns-clause-written
-returns-clause-written g c = dist_delivers c.args.options.now _ _ _ _ _ _ _ _ _ (returns-clause-went g c)
+returns-clause-written g c = dist_delivers c.args.options.now _ _ _ _ _ (returns-clause-went g c)

@@ -13,6 +13,9 @@ returns g c =
     let network = c.args.loaded.graph in
     let saved = c.args.loaded.saved in
     IfOk-weaker c.answers_by.result _ _ (λ text by.
-    subst (λ (plain : Bool). IsTextBy (not plain && options.routes) network (IsOfRoutes options network saved) c.args.queries.now text.items) (sym c.if-options.false)
-    (text_in options.routes options.order c.order_for_queries-order.result options.hops network saved c.in_ok-hierarchy.hierarchy (λ e. c.order_for_queries-order.ensures ∙ wanted_for_queries options c.workers.result c.nodes.result e) c.in_ok-hierarchy.ensures.serving c.args.queries.now text.items
+    subst (λ (plain : Bool). IsTextBy (not plain && options.routes) network (IsOfRoutes options network saved) c.args.queries.now
+    text.items) (sym c.if-options.false)
+    (text_in options.routes options.order c.order_for_queries-order.result options.hops network saved c.in_ok-hierarchy.hierarchy
+    (λ e. c.order_for_queries-order.ensures ∙ wanted_for_queries options c.workers.result c.nodes.result e)
+    c.in_ok-hierarchy.ensures.serving c.args.queries.now text.items
     (by network c.graph-2.ensures.limits c.in_ok-hierarchy.ensures.kept))) c.answers_by.ensures

@@ -24,7 +24,8 @@ rows_text-requires-clause-sources g c = λ kept within.
     let n = c.args.by.now.checked.now.graph.nodes in
     let searched = rw c.in-Some.is at c.requires.room.near in
     let size : nodes_of c.in-Some.near.hierarchy ≡ n = ap nodes_of searched.0 ∙ searched.2.kept.nodes in
-    let all = values_within (near_row_of c.args.within) (near_row_of c.args.within c.args.source ∷ c.args.rest.now) c.in_ok-sources.sources.items c.in_ok-sources.ensures n (λ s. s < n) (λ s is. is) c.requires.each in
+    let all = values_within (near_row_of c.args.within) (near_row_of c.args.within c.args.source ∷ c.args.rest.now)
+    c.in_ok-sources.sources.items c.in_ok-sources.ensures n (λ s. s < n) (λ s is. is) c.requires.each in
     subst (λ m. All (λ s. s < m) c.deref.result.now) (sym size) (subst (All (λ s. s < n)) (sym c.deref.ensures.value) all)
 
 pub rows_text-requires-clause-limit : goal.rows_text-requires-clause-limit
@@ -39,8 +40,10 @@ returns-clause-first g c =
     let sources = c.in_ok-sources.sources.items in
     let searched = rw c.in-Some.is at c.requires.room.near in
     let text = rw (c.deref.ensures.value, c.limit_of.ensures) at c.in_ok-text.ensures.text in
-    rw (c.in-Some.is) (first_answered (near_row_of c.args.within) (near_row_of c.args.within c.args.source ∷ c.args.rest.now) sources c.in_ok-sources.ensures (IsTextOfRequest options network H)
-    (places_of (Some near)) (places_of (Some c.rows_text.new.near)) c.in_ok-text.text.items c.len-count.result (λ places s. refl) (c.len-count.ensures ∙ sym c.deref.ensures.len ∙ ap length c.deref.ensures.value)
+    rw (c.in-Some.is) (first_answered (near_row_of c.args.within) (near_row_of c.args.within c.args.source ∷ c.args.rest.now)
+    sources c.in_ok-sources.ensures (IsTextOfRequest options network H)
+    (places_of (Some near)) (places_of (Some c.rows_text.new.near)) c.in_ok-text.text.items c.len-count.result (λ places s. refl)
+    (c.len-count.ensures ∙ sym c.deref.ensures.len ∙ ap length c.deref.ensures.value)
     (ap (λ (w : Wanted). places_of (Some w)) c.in_ok-text.ensures.same)
     (near_answered options network H searched.2.limits searched.2.kept c.args.within near searched.0 sources c.in_ok-text.text.items text))
 
@@ -50,5 +53,6 @@ returns-clause-room g c =
     let searched = rw c.in-Some.is at c.requires.room.near in
     record {
       scratches = c.requires.room.scratches;
-      near = subst (λ (w : Wanted). IsSearched options.direction c.args.by.now.checked.now (Some w)) (sym c.in_ok-text.ensures.same) searched;
+      near = subst (λ (w : Wanted). IsSearched options.direction c.args.by.now.checked.now (Some w)) (sym c.in_ok-text.ensures.same)
+          searched;
     }

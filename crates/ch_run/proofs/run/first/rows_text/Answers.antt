@@ -11,14 +11,16 @@ pub push_near_rows-requires-clause-rows : goal.push_near_rows-requires-clause-ro
 push_near_rows-requires-clause-rows g c =
     let wanted = wanted_within c.args.near.now c.args.within in
     ap length c.deref.ensures.value
-    ∙ zipped_length (λ s (row : Vec (ℕ × ℕ) Global). IsWantedRow wanted s row.items) c.args.sources.now c.in_ok-rows.rows.items c.in_ok-rows.ensures.rows
+    ∙ zipped_length (λ s (row : Vec (ℕ × ℕ) Global). IsWantedRow wanted s row.items) c.args.sources.now c.in_ok-rows.rows.items
+    c.in_ok-rows.ensures.rows
 
 pub push_near_rows-requires-clause-places : goal.push_near_rows-requires-clause-places
 push_near_rows-requires-clause-places g c =
     let wanted = wanted_within c.args.near.now c.args.within in
     let targets = c.targets.ensures ∙ ap (λ (w : Wanted). w.targets) c.rows_within.ensures.same in
     let places = rows_places wanted c.args.sources.now c.in_ok-rows.rows.items c.in_ok-rows.ensures.rows in
-    rw targets (subst (All (λ (row : Vec (ℕ × ℕ) Global). All (λ (e : ℕ × ℕ). e.1 < length c.args.near.now.targets) row.items)) (sym c.deref.ensures.value) places)
+    rw targets (subst (All (λ (row : Vec (ℕ × ℕ) Global). All (λ (e : ℕ × ℕ). e.1 < length c.args.near.now.targets) row.items))
+    (sym c.deref.ensures.value) places)
 
 pub returns-clause-text : goal.returns-clause-text
 returns-clause-text g c =

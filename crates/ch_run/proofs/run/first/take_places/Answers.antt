@@ -17,4 +17,5 @@ returns-clause-first g c = λ rest.
     let first : made ≡ read = ap (λ (w : Wanted). record { nodes = w.targets; count = w.count }) c.in_ok-near.ensures in
     let second : read ≡ places = λ i. record { nodes = c.nodes.ensures i; count = c.count-count.ensures i } in
     rw (c.new.ensures.items)
-    (subst (λ (after : PlaceList). AnswersFirst P (places_of c.args.room.now.near) after (Places places ∷ rest) [] 1) (sym (first ∙ second)) (one_answered P (places_of c.args.room.now.near) (Places places) rest [] refl))
+    (subst (λ (after : PlaceList). AnswersFirst P (places_of c.args.room.now.near) after (Places places ∷ rest) [] 1)
+    (sym (first ∙ second)) (one_answered P (places_of c.args.room.now.near) (Places places) rest [] refl))

@@ -19,8 +19,14 @@ returns-in-Ok-clause-value g c =
 
 pub returns-clause-ends : goal.returns-clause-ends
 returns-clause-ends g c =
-    let refused = λ (fault : ReadFault) (is : c.in-Err.error ≡ Fault fault). subst (λ bytes. IsFault Graph bytes fault.line fault.kind) c.deref.ensures.value ((c.read_graph_by.ensures.fault fault).0 (rw (c.in-Err.is, is) refl)) in
-    rw c.refusal.ensures (refused_ends Which.Graph (reading g.I.Input.read_gives c.args.input.now c.bytes_from.new.input) (IsRefused Which.Graph Graph) c.in_ok-bytes.bytes.items c.in-Err.error c.in_ok-bytes.ensures.bytes (λ fault is. (refl, refused fault is)))
+    let refused = λ (fault : ReadFault) (is : c.in-Err.error ≡ Fault fault).
+    subst (λ bytes. IsFault Graph bytes fault.line fault.kind) c.deref.ensures.value
+    ((c.read_graph_by.ensures.fault fault).0 (rw (c.in-Err.is, is) refl)) in
+    rw c.refusal.ensures (refused_ends Which.Graph (reading g.I.Input.read_gives c.args.input.now c.bytes_from.new.input)
+    (IsRefused Which.Graph Graph) c.in_ok-bytes.bytes.items c.in-Err.error c.in_ok-bytes.ensures.bytes
+    (λ fault is. (refl, refused fault is)))
 
 pub returns-in_err-bytes-clause-ends : goal.returns-in_err-bytes-clause-ends
-returns-in_err-bytes-clause-ends g c = own_as c.from_residual.result _ (EndsAt Which.Graph (reading g.I.Input.read_gives c.args.input.now c.bytes_from.new.input) (IsRefused Which.Graph Graph)) c.from_residual.ensures.1 (unread_ends Which.Graph _ (IsRefused Which.Graph Graph) _ c.in_err-bytes.ensures.unread)
+returns-in_err-bytes-clause-ends g c = own_as c.from_residual.result _
+    (EndsAt Which.Graph (reading g.I.Input.read_gives c.args.input.now c.bytes_from.new.input) (IsRefused Which.Graph Graph))
+    c.from_residual.ensures.1 (unread_ends Which.Graph _ (IsRefused Which.Graph Graph) _ c.in_err-bytes.ensures.unread)

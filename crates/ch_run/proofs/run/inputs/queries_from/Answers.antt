@@ -14,13 +14,23 @@ use Rattle.ch_run.proofs.run.inputs.queries_from.Goals as goal
 
 pub returns-in-Ok-clause-value : goal.returns-in-Ok-clause-value
 returns-in-Ok-clause-value g c =
-    let named = rw c.nodes.ensures at (c.in-Ok.ensures.value c.in-Ok.queries.items).0 refl in
-    (c.in_ok-bytes.bytes.items, c.in_ok-bytes.ensures.bytes, subst (λ bytes. NamesQueries bytes c.args.graph.now.nodes c.in-Ok.queries.items) c.deref.ensures.value named)
+    let named = rw c.nodes.ensures at (c.in-Ok.ensures.value c.in-Ok.queries.items).0 refl in (
+      c.in_ok-bytes.bytes.items,
+      c.in_ok-bytes.ensures.bytes,
+      subst (λ bytes. NamesQueries bytes c.args.graph.now.nodes c.in-Ok.queries.items) c.deref.ensures.value named,
+    )
 
 pub returns-clause-ends : goal.returns-clause-ends
 returns-clause-ends g c =
-    let refused = λ (fault : ReadFault) (is : c.in-Err.error ≡ Fault fault). subst (λ bytes. IsFault (Queries c.args.graph.now.nodes) bytes fault.line fault.kind) c.deref.ensures.value (rw c.nodes.ensures at (c.read_queries.ensures.fault fault).0 (rw (c.in-Err.is, is) refl)) in
-    rw c.refusal.ensures (refused_ends Which.Queries (reading g.I.Input.read_gives c.args.input.now c.bytes_from.new.input) (IsRefused Which.Queries (Queries c.args.graph.now.nodes)) c.in_ok-bytes.bytes.items c.in-Err.error c.in_ok-bytes.ensures.bytes (λ fault is. (refl, refused fault is)))
+    let refused = λ (fault : ReadFault) (is : c.in-Err.error ≡ Fault fault).
+    subst (λ bytes. IsFault (Queries c.args.graph.now.nodes) bytes fault.line fault.kind) c.deref.ensures.value
+    (rw c.nodes.ensures at (c.read_queries.ensures.fault fault).0 (rw (c.in-Err.is, is) refl)) in
+    rw c.refusal.ensures (refused_ends Which.Queries (reading g.I.Input.read_gives c.args.input.now c.bytes_from.new.input)
+    (IsRefused Which.Queries (Queries c.args.graph.now.nodes)) c.in_ok-bytes.bytes.items c.in-Err.error
+    c.in_ok-bytes.ensures.bytes (λ fault is. (refl, refused fault is)))
 
 pub returns-in_err-bytes-clause-ends : goal.returns-in_err-bytes-clause-ends
-returns-in_err-bytes-clause-ends g c = own_as c.from_residual.result _ (EndsAt Which.Queries (reading g.I.Input.read_gives c.args.input.now c.bytes_from.new.input) (IsRefused Which.Queries (Queries c.args.graph.now.nodes))) c.from_residual.ensures.1 (unread_ends Which.Queries _ (IsRefused Which.Queries (Queries c.args.graph.now.nodes)) _ c.in_err-bytes.ensures.unread)
+returns-in_err-bytes-clause-ends g c =
+    own_as c.from_residual.result _ (EndsAt Which.Queries (reading g.I.Input.read_gives c.args.input.now c.bytes_from.new.input)
+    (IsRefused Which.Queries (Queries c.args.graph.now.nodes))) c.from_residual.ensures.1
+    (unread_ends Which.Queries _ (IsRefused Which.Queries (Queries c.args.graph.now.nodes)) _ c.in_err-bytes.ensures.unread)

@@ -4,8 +4,10 @@ use Rattle.ch_run.proofs.run.near_texts.near_by.Goals as goal
 
 pub returns-then-sources-nodes : goal.returns-then-sources-nodes
 returns-then-sources-nodes g c =
-    made_of_graph c.args.hierarchy.now c.args.options.now c.args.sources.now c.args.targets.now c.in_ok-near.near c.searched_text.result c.in_ok-near.ensures c.searched_text.ensures
+    made_of_graph c.args.hierarchy.now c.args.options.now c.args.sources.now c.args.targets.now c.in_ok-near.near
+    c.searched_text.result c.in_ok-near.ensures c.searched_text.ensures
 
 pub returns : goal.returns
 returns g c =
-    made_of_graph c.args.hierarchy.now c.args.options.now c.args.sources.now c.args.targets.now c.in_ok-near.near c.swept_text.result c.in_ok-near.ensures c.swept_text.ensures
+    made_of_graph c.args.hierarchy.now c.args.options.now c.args.sources.now c.args.targets.now c.in_ok-near.near
+    c.swept_text.result c.in_ok-near.ensures c.swept_text.ensures

@@ -13,13 +13,15 @@ pub push_near_rows-requires-clause-rows : goal.push_near_rows-requires-clause-ro
 push_near_rows-requires-clause-rows g c =
     let each = rw c.loop-portion.invariant.3 at c.in_ok-rows.ensures.rows in
     ap length c.deref.ensures.value
-    ∙ zipped_length (λ s (row : Vec (ℕ × ℕ) Global). IsWantedRow c.args.near.now s row.items) c.in-Some.portion.now c.in_ok-rows.rows.items each
+    ∙ zipped_length (λ s (row : Vec (ℕ × ℕ) Global). IsWantedRow c.args.near.now s row.items) c.in-Some.portion.now
+    c.in_ok-rows.rows.items each
 
 pub push_near_rows-requires-clause-places : goal.push_near_rows-requires-clause-places
 push_near_rows-requires-clause-places g c =
     let each = rw c.loop-portion.invariant.3 at c.in_ok-rows.ensures.rows in
     let places = rw c.requires.targets at (rows_places c.args.near.now c.in-Some.portion.now c.in_ok-rows.rows.items each) in
-    subst (All (λ (row : Vec (ℕ × ℕ) Global). All (λ (e : ℕ × ℕ). e.1 < length c.args.targets.now) row.items)) (sym c.deref.ensures.value) places
+    subst (All (λ (row : Vec (ℕ × ℕ) Global). All (λ (e : ℕ × ℕ). e.1 < length c.args.targets.now) row.items))
+    (sym c.deref.ensures.value) places
 
 pub loop-portion-preserved : goal.loop-portion-preserved
 loop-portion-preserved g c =
@@ -33,12 +35,18 @@ loop-portion-preserved g c =
     let before = c.loop-portion.text.items in
     let more : c.push_near_rows.new.text.items ≡ before ++ flat_map (near_row_text wanted.targets) (zip portion (map items rows))
     = c.in_ok-push_near_rows.ensures
-    ∙ ap (λ (l : List (Vec (ℕ × ℕ) Global)). before ++ flat_map (near_row_text c.args.targets.now) (zip portion (map items l))) c.deref.ensures.value
+    ∙ ap (λ (l : List (Vec (ℕ × ℕ) Global)). before ++ flat_map (near_row_text c.args.targets.now) (zip portion (map items l)))
+    c.deref.ensures.value
     ∙ ap (λ (ts : List ℕ). before ++ flat_map (near_row_text ts) (zip portion (map items rows))) (sym c.requires.targets) in
     let text = rows_joined wanted so_far.4.0 portion before _ so_far.4.1 (map items rows, lines, refl) in (
       search rules,
       tt,
       steps.0 ∙ so_far.2,
       c.rows.ensures.same ∙ so_far.3,
-      (so_far.4.0 ++ portion, subst (HasNearRows wanted (so_far.4.0 ++ portion)) (sym more) text, append_assoc so_far.4.0 portion _ ∙ ap (λ l. so_far.4.0 ++ l) (sym steps.1.0) ∙ so_far.4.2),
+      (
+        so_far.4.0 ++ portion,
+        subst (HasNearRows wanted (so_far.4.0 ++ portion)) (sym more) text,
+        append_assoc so_far.4.0 portion _
+            ∙ ap (λ l. so_far.4.0 ++ l) (sym steps.1.0) ∙ so_far.4.2,
+      ),
     )

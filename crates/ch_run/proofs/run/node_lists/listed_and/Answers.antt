@@ -12,4 +12,5 @@ returns-in_err-sources-clause-ends g c =
 pub returns-in_err-targets-clause-ends : goal.returns-in_err-targets-clause-ends
 returns-in_err-targets-clause-ends g c =
     let from = c.in_ok-sources.ensures.value in
-    at_err c.from_residual-in_err-targets.result _ (inr (from.0, _, from.1, from.2, inl (err_as _ _ _ c.from_residual-in_err-targets.ensures.1 c.in_err-targets.ensures.ends, tt)))
+    at_err c.from_residual-in_err-targets.result _
+    (inr (from.0, _, from.1, from.2, inl (err_as _ _ _ c.from_residual-in_err-targets.ensures.1 c.in_err-targets.ensures.ends, tt)))

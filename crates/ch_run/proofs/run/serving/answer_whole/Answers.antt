@@ -8,7 +8,8 @@ use Rattle.ch_run.specs.declared.fault.RunFault.{RunFault}
 use Rattle.ch_run.proofs.Answered.{answers_end, answers_err, answers_none}
 use Rattle.ch_run.specs.declared.fault.RunFault.TheVariants.{Memory}
 use Rattle.ch_run.specs.declared.run.batch.Then.TheVariants.{Stop}
-use Rattle.ch_run.proofs.Served.{answers_on, given_anyway, given_well, given_without, gives_more, gives_none, gives_on, of_value, passed_err, places_append}
+use Rattle.ch_run.proofs.Served.{answers_on, given_anyway, given_well, given_without, gives_more, gives_none, gives_on, of_value}
+use Rattle.ch_run.proofs.Served.{passed_err, places_append}
 use Rattle.ch_run.proofs.run.serving.answer_whole.Goals as goal
 
 pub loop-init : goal.loop-init
@@ -18,7 +19,8 @@ loop-init g c = record {
   answered = (
     [],
     gives_none c.args.ended c.args.reader.now,
-    answers_none (IsTextOfRequest c.args.by.now.options.now c.args.by.now.checked.now.graph c.args.by.now.checked.now.hierarchy) g.O.Output.write_gives (places_of c.args.room.now.near) c.args.output.now c.args.written.now c.requires.counted,
+    answers_none (IsTextOfRequest c.args.by.now.options.now c.args.by.now.checked.now.graph c.args.by.now.checked.now.hierarchy)
+        g.O.Output.write_gives (places_of c.args.room.now.near) c.args.output.now c.args.written.now c.requires.counted,
     refl,
   );
 }
@@ -31,11 +33,13 @@ returns-in_err-answer_requests-clause-answered g c =
     let these = c.gather-batch.result.requests.items in
     let e = c.in_err-answer_requests.field-0.0 in
     let r = c.from_residual.result in
-    let told = subst (λ (l : List Request). AnswersInTurn {T = Unit} P g.O.Output.write_gives (places_of c.loop.room.near) c.loop.output c.answer_requests.new.output c.loop.written c.answer_requests.new.written l (Err e))
+    let told = subst (λ (l : List Request). AnswersInTurn {T = Unit} P g.O.Output.write_gives (places_of c.loop.room.near)
+    c.loop.output c.answer_requests.new.output c.loop.written c.answer_requests.new.written l (Err e))
     c.deref.ensures.value c.in_err-answer_requests.ensures.answers in (
       so_far.0 ++ these,
       gives_on c.args.ended c.args.reader.now c.loop.reader c.gather-batch.new.reader so_far.0 these r so_far.1
-          (given_anyway c.args.ended c.loop.reader c.gather-batch.new.reader these (end_of c.gather-batch.result.then) e r c.gather-batch.ensures.given c.in_err-answer_requests.ensures.own c.from_residual.ensures.1),
+          (given_anyway c.args.ended c.loop.reader c.gather-batch.new.reader these (end_of c.gather-batch.result.then) e r
+          c.gather-batch.ensures.given c.in_err-answer_requests.ensures.own c.from_residual.ensures.1),
       answers_on P g.O.Output.write_gives places (places_of c.loop.room.near) _ _ _ _ _ _ so_far.0 these r so_far.2 so_far.3
           (answers_err P g.O.Output.write_gives (places_of c.loop.room.near) _ _ _ _ these e r c.from_residual.ensures.1 told),
       passed_err _ r e c.from_residual.ensures.1,
@@ -51,11 +55,16 @@ returns-in-Some-clause-answered g c =
     let told = rw c.deref.ensures.value at c.in_ok-answer_requests.ensures.answers in
     let held = rw c.deref.ensures.value at c.in_ok-answer_requests.ensures.places in (
       so_far.0 ++ these,
-      subst (λ (r : Result Unit RunFault). GivesUntil c.args.ended c.args.reader.now c.gather-batch.new.reader (so_far.0 ++ these) r) (sym same)
-          (gives_on c.args.ended c.args.reader.now c.loop.reader c.gather-batch.new.reader so_far.0 these (end_of c.gather-batch.result.then) so_far.1 c.gather-batch.ensures.given),
-      subst (λ (r : Result Unit RunFault). AnswersInTurn P g.O.Output.write_gives places c.args.output.now c.answer_requests.new.output c.args.written.now c.answer_requests.new.written (so_far.0 ++ these) r) (sym same)
-          (answers_end P g.O.Output.write_gives places _ _ _ _ (so_far.0 ++ these) c.gather-batch.result.then c.gather-batch.ensures.batch.after
-          (answers_on P g.O.Output.write_gives {T = Unit} places (places_of c.loop.room.near) _ _ _ _ _ _ so_far.0 these (Ok tt) so_far.2 so_far.3 told)),
+      subst (λ (r : Result Unit RunFault).
+          GivesUntil c.args.ended c.args.reader.now c.gather-batch.new.reader (so_far.0 ++ these) r) (sym same)
+          (gives_on c.args.ended c.args.reader.now c.loop.reader c.gather-batch.new.reader so_far.0 these
+          (end_of c.gather-batch.result.then) so_far.1 c.gather-batch.ensures.given),
+      subst (λ (r : Result Unit RunFault). AnswersInTurn P g.O.Output.write_gives places c.args.output.now
+          c.answer_requests.new.output c.args.written.now c.answer_requests.new.written (so_far.0 ++ these) r) (sym same)
+          (answers_end P g.O.Output.write_gives places _ _ _ _ (so_far.0 ++ these) c.gather-batch.result.then
+          c.gather-batch.ensures.batch.after
+          (answers_on P g.O.Output.write_gives {T = Unit} places (places_of c.loop.room.near) _ _ _ _ _ _ so_far.0 these (Ok tt)
+          so_far.2 so_far.3 told)),
       of_value _ c.in-Some.end (held ∙ ap (λ (p : PlaceList). places_after p these) so_far.3 ∙ sym (places_append places so_far.0 these)),
     )
 
@@ -75,8 +84,10 @@ loop-preserved g c =
         so_far.0 ++ these,
         gives_more c.args.ended c.args.reader.now c.loop.reader c.gather-batch.new.reader so_far.0 these so_far.1
             (given_well c.args.ended c.loop.reader c.gather-batch.new.reader these
-            (subst (λ (r : Result Unit RunFault). GivesUntil c.args.ended c.loop.reader c.gather-batch.new.reader these r) goes c.gather-batch.ensures.given)),
-        answers_on P g.O.Output.write_gives {T = Unit} places (places_of c.loop.room.near) _ _ _ _ _ _ so_far.0 these (Ok tt) so_far.2 so_far.3 told,
+            (subst (λ (r : Result Unit RunFault). GivesUntil c.args.ended c.loop.reader c.gather-batch.new.reader these r) goes
+            c.gather-batch.ensures.given)),
+        answers_on P g.O.Output.write_gives {T = Unit} places (places_of c.loop.room.near) _ _ _ _ _ _ so_far.0 these (Ok tt)
+            so_far.2 so_far.3 told,
         held ∙ ap (λ (p : PlaceList). places_after p these) so_far.3 ∙ sym (places_append places so_far.0 these),
       );
     }
@@ -86,6 +97,7 @@ returns-clause-answered g c =
     let so_far = c.loop.invariant.answered in (
       so_far.0,
       given_without c.args.ended c.args.reader.now c.loop.reader c.loop.reader so_far.0 Memory so_far.1 (λ next rest. tt),
-      answers_end (IsTextOfRequest c.args.by.now.options.now c.args.by.now.checked.now.graph c.args.by.now.checked.now.hierarchy) g.O.Output.write_gives (places_of c.args.room.now.near) _ _ _ _ so_far.0 (Stop Memory) tt so_far.2,
+      answers_end (IsTextOfRequest c.args.by.now.options.now c.args.by.now.checked.now.graph c.args.by.now.checked.now.hierarchy)
+          g.O.Output.write_gives (places_of c.args.room.now.near) _ _ _ _ so_far.0 (Stop Memory) tt so_far.2,
       tt,
     )

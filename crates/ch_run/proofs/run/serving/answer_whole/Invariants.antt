@@ -12,7 +12,8 @@ invariant-loop g l = record {
   nodes : l.reader.nodes ≡ l.initial.reader.nodes;
   room : IsRoomFor l.by.options.now.direction l.by.checked.now l.room;
   answered : (given : List Request) × Gives l.ended l.initial.reader l.reader given
-      × AnswersInTurn {T = Unit} (IsTextOfRequest l.by.options.now l.by.checked.now.graph l.by.checked.now.hierarchy) g.O.Output.write_gives (places_of l.initial.room.near) l.initial.output l.output
+      × AnswersInTurn {T = Unit} (IsTextOfRequest l.by.options.now l.by.checked.now.graph l.by.checked.now.hierarchy)
+      g.O.Output.write_gives (places_of l.initial.room.near) l.initial.output l.output
       l.initial.written l.written given (Ok tt)
       × (places_of l.room.near ≡ places_after (places_of l.initial.room.near) given);
 }

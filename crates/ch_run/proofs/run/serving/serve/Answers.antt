@@ -19,7 +19,8 @@ pub returns-in_err-buffer : goal.returns-in_err-buffer
 returns-in_err-buffer g c =
     let P = IsTextOfRequest c.args.by.now.options.now c.args.by.now.checked.now.graph c.args.by.now.checked.now.hierarchy in
     let n = c.args.by.now.checked.now.graph.nodes in
-    passes_end P n (reading g.J.Input.read_gives c.args.requests.now c.args.requests.now) g.O.Output.write_gives _ _ c.from_residual.result Memory c.from_residual.ensures.1
+    passes_end P n (reading g.J.Input.read_gives c.args.requests.now c.args.requests.now) g.O.Output.write_gives _ _
+    c.from_residual.result Memory c.from_residual.ensures.1
     (served_unread P n g.J.Input.read_gives g.O.Output.write_gives c.args.requests.now c.args.output.now)
 
 pub serve_in-requires-clause-room : goal.serve_in-requires-clause-room

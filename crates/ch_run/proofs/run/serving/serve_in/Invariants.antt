@@ -10,7 +10,8 @@ abbrev pub invariant-loop : goal.invariant-loop
 invariant-loop g l = record {
   room : 0 < length l.buffer;
   kept : IsRoomFor l.by.options.now.direction l.by.checked.now l.room;
-  served : HasServed (IsTextOfRequest l.by.options.now l.by.checked.now.graph l.by.checked.now.hierarchy) l.by.checked.now.graph.nodes g.J.Input.read_gives g.O.Output.write_gives
+  served : HasServed (IsTextOfRequest l.by.options.now l.by.checked.now.graph l.by.checked.now.hierarchy)
+      l.by.checked.now.graph.nodes g.J.Input.read_gives g.O.Output.write_gives
       l.initial.requests l.requests l.initial.output l.output l.written l.reader (places_of l.room.near);
   reads : g.J.Input.failed l.requests ≡ g.J.Input.failed l.initial.requests;
 }

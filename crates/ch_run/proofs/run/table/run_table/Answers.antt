@@ -8,7 +8,8 @@ use Rattle.ch_run.proofs.run.table.run_table.Goals as goal
 
 -- the story, as far as it went
 pub returns-in_err-loaded-clause-went : goal.returns-in_err-loaded-clause-went
-returns-in_err-loaded-clause-went g c = loads_stops _ _ _ _ _ _ _ _ c.from_residual.ensures.1 (refl, refl, refl) c.in_err-loaded.ensures.went
+returns-in_err-loaded-clause-went g c =
+    loads_stops _ _ _ _ _ _ c.from_residual.ensures.1 (refl, refl, refl) c.in_err-loaded.ensures.went
 
 pub returns-in_err-lists-clause-went : goal.returns-in_err-lists-clause-went
 returns-in_err-lists-clause-went g c =
@@ -16,21 +17,30 @@ returns-in_err-lists-clause-went g c =
     let targets = reading g.L.Input.read_gives c.args.targets.now c.lists_from.new.targets in
     let unread = c.lists_from.new.targets ≡ c.args.targets.now in
     let later = c.args.output.now ≡ c.args.output.now in
-    loads_serving _ _ _ _ _ _ _ _ _ _
-    (λ h place. lists_stop Lists sources targets c.in_ok-loaded.loaded.graph.nodes c.in_err-lists.field-0.0 c.from_residual-in_err-lists.result unread later _ c.from_residual-in_err-lists.ensures.1 refl (rw c.graph.ensures.graph at c.in_err-lists.ensures.ends))
+    loads_serving _ _ _ _ _ _ _
+    (λ h place. lists_stop Lists sources targets c.in_ok-loaded.loaded.graph.nodes c.in_err-lists.field-0.0
+    c.from_residual-in_err-lists.result unread later _ c.from_residual-in_err-lists.ensures.1 refl
+    (rw c.graph.ensures.graph at c.in_err-lists.ensures.ends))
     c.in_ok-loaded.ensures.went
 
 pub returns-in_err-parts-clause-went : goal.returns-in_err-parts-clause-went
 returns-in_err-parts-clause-went g c =
     let lists = rw c.graph.ensures.graph at c.in_ok-lists.ensures.value in
-    loads_serving _ _ _ _ _ _ _ _ _ _
-    (λ h place. inr (lists.0.0, _, lists.0.1, lists.0.2, inr (lists.1.0, _, lists.1.1, lists.1.2, inr (lists.2, writes_none _ _ _ _ c.from_residual-in_err-parts.ensures.1))))
+    loads_serving _ _ _ _ _ _ _
+    (λ h place. inr (
+      lists.0.0,
+      _,
+      lists.0.1,
+      lists.0.2,
+      inr
+          (lists.1.0, _, lists.1.1, lists.1.2, inr (lists.2, writes_none _ _ _ _ c.from_residual-in_err-parts.ensures.1)),
+    ))
     c.in_ok-loaded.ensures.went
 
 pub returns-clause-went : goal.returns-clause-went
 returns-clause-went g c =
     let lists = rw c.graph.ensures.graph at c.in_ok-lists.ensures.value in
-    loads_serving _ _ _ _ _ _ _ _ _ _
+    loads_serving _ _ _ _ _ _ _
     (λ h place. inr (
       lists.0.0,
       _,
@@ -51,13 +61,13 @@ returns-clause-went g c =
 
 -- so it delivered the text
 pub returns-in_err-loaded-clause-written : goal.returns-in_err-loaded-clause-written
-returns-in_err-loaded-clause-written g c = table_delivers c.args.options.now _ _ _ _ _ _ _ _ _ _ _ (returns-in_err-loaded-clause-went g c)
+returns-in_err-loaded-clause-written g c = table_delivers c.args.options.now _ _ _ _ _ _ (returns-in_err-loaded-clause-went g c)
 
 pub returns-in_err-lists-clause-written : goal.returns-in_err-lists-clause-written
-returns-in_err-lists-clause-written g c = table_delivers c.args.options.now _ _ _ _ _ _ _ _ _ _ _ (returns-in_err-lists-clause-went g c)
+returns-in_err-lists-clause-written g c = table_delivers c.args.options.now _ _ _ _ _ _ (returns-in_err-lists-clause-went g c)
 
 pub returns-in_err-parts-clause-written : goal.returns-in_err-parts-clause-written
-returns-in_err-parts-clause-written g c = table_delivers c.args.options.now _ _ _ _ _ _ _ _ _ _ _ (returns-in_err-parts-clause-went g c)
+returns-in_err-parts-clause-written g c = table_delivers c.args.options.now _ _ _ _ _ _ (returns-in_err-parts-clause-went g c)
 
 pub returns-clause-written : goal.returns-clause-written
-returns-clause-written g c = table_delivers c.args.options.now _ _ _ _ _ _ _ _ _ _ _ (returns-clause-went g c)
+returns-clause-written g c = table_delivers c.args.options.now _ _ _ _ _ _ (returns-clause-went g c)

@@ -14,4 +14,5 @@ answers_text_by-requires-after_bounds g c κs within =
 pub returns : goal.returns
 returns g c =
     IfOk-weaker c.answers_text_by.result _ _ (λ text is network limits kept.
-    replies_text network c.args.hierarchy.now limits kept c.args.routes c.args.queries.now c.in_ok-answers.answers.items text.items c.in_ok-answers.ensures (rw c.deref.ensures.value at is)) c.answers_text_by.ensures
+    replies_text network c.args.hierarchy.now limits kept c.args.routes c.args.queries.now c.in_ok-answers.answers.items text.items
+    c.in_ok-answers.ensures (rw c.deref.ensures.value at is)) c.answers_text_by.ensures

@@ -6,4 +6,5 @@ use Rattle.ch_run.proofs.run.texts.plain_text.Goals as goal
 pub returns : goal.returns
 returns g c =
     IfOk-weaker c.answers_text.result _ _ (λ text is.
-    short_text c.args.graph.now c.args.queries.now c.in_ok-answers.answers.items text.items c.in_ok-answers.ensures (rw c.deref.ensures.value at is)) c.answers_text.ensures
+    short_text c.args.graph.now c.args.queries.now c.in_ok-answers.answers.items text.items c.in_ok-answers.ensures
+    (rw c.deref.ensures.value at is)) c.answers_text.ensures

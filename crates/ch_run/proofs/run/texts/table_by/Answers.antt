@@ -8,5 +8,6 @@ use Rattle.ch_run.proofs.run.texts.table_by.Goals as goal
 pub returns : goal.returns
 returns g c =
     let a = c.args in
-    IfOk-weaker c.joined.result _ _ (λ text is network limits kept. cells_text network a.hierarchy.now limits kept a.within a.sources.now a.targets.now text.items
+    IfOk-weaker c.joined.result _ _ (λ text is network limits kept.
+    cells_text network a.hierarchy.now limits kept a.within a.sources.now a.targets.now text.items
     (subst (IsTableTextBy a.hierarchy.now a.within a.sources.now a.targets.now) (sym is) c.in_ok-parts.ensures)) c.joined.ensures

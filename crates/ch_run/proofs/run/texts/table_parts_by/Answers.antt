@@ -8,8 +8,10 @@ use Rattle.ch_run.proofs.run.texts.table_parts_by.Goals as goal
 pub returns-clause-text : goal.returns-clause-text
 returns-clause-text g c =
     let a = c.args in
-    λ network limits kept. cells_text network a.hierarchy.now limits kept a.within a.sources.now a.targets.now (bytes_of c.in_ok-parts.parts.items) c.in_ok-parts.ensures
+    λ network limits kept. cells_text network a.hierarchy.now limits kept a.within a.sources.now a.targets.now
+    (bytes_of c.in_ok-parts.parts.items) c.in_ok-parts.ensures
 
 pub returns-clause-length : goal.returns-clause-length
 returns-clause-length g c =
-    subst (λ (parts : List (Vec ℕ Global)). length (bytes_of parts) < 2 ^ 64) c.deref.ensures.value (fewer c.deref.result.now c.length_of.result c.length_of.ensures c.if-length_of.false)
+    subst (λ (parts : List (Vec ℕ Global)). length (bytes_of parts) < 2 ^ 64) c.deref.ensures.value
+    (fewer c.deref.result.now c.length_of.result c.length_of.ensures c.if-length_of.false)

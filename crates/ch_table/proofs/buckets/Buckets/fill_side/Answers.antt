@@ -11,8 +11,10 @@ build-requires c =
     let a = c.args in
     let H = a.hierarchy.now in
     let entries = c.in_ok-entries.entries.items in
-    let below = keys_below (rows_of H a.side) a.within a.nodes.now entries c.in_ok-entries.ensures H (rows_up H a.side c.nodes.ensures.levelled) c.requires.nodes in
-    subst (All (λ e. e.0 < c.nodes.result)) (sym c.deref.ensures.value) (subst (λ n. All (λ e. e.0 < n) entries) (sym c.nodes.ensures.nodes) below)
+    let below = keys_below (rows_of H a.side) a.within a.nodes.now entries c.in_ok-entries.ensures H
+    (rows_up H a.side c.nodes.ensures.levelled) c.requires.nodes in
+    subst (All (λ e. e.0 < c.nodes.result)) (sym c.deref.ensures.value)
+    (subst (λ n. All (λ e. e.0 < n) entries) (sym c.nodes.ensures.nodes) below)
 
 pub returns : goal.returns
 returns c =
@@ -21,4 +23,5 @@ returns c =
     let entries = c.in_ok-entries.entries.items in
     let made = subst (λ n. AreRowsOf n entries c.in_ok-rows.rows) c.nodes.ensures.nodes
     (subst (λ es. AreRowsOf c.nodes.result es c.in_ok-rows.rows) c.deref.ensures.value c.in_ok-rows.ensures) in
-    are_buckets (rows_of H a.side) a.within a.nodes.now entries c.in_ok-entries.ensures H (rows_up H a.side c.nodes.ensures.levelled) c.requires.nodes c.in_ok-rows.rows made
+    are_buckets (rows_of H a.side) a.within a.nodes.now entries c.in_ok-entries.ensures H
+    (rows_up H a.side c.nodes.ensures.levelled) c.requires.nodes c.in_ok-rows.rows made

@@ -17,7 +17,8 @@ items list = list.items
 
 -- the entries are those of the lists in the vectors, and their items are below the number of nodes
 listed : (d : Deal) → 0 < d.piece → (vecs : List (Vec (ℕ × ℕ) Global)) (entries : List (ℕ × (ℕ × ℕ))) →
-    AreEntriesOf (item_of d) (map items vecs) (length vecs) entries → All (λ (vec : Vec (ℕ × ℕ) Global). All (λ (entry : ℕ × ℕ). entry.0 < d.nodes) vec.items) vecs →
+    AreEntriesOf (item_of d) (map items vecs) (length vecs) entries →
+    All (λ (vec : Vec (ℕ × ℕ) Global). All (λ (entry : ℕ × ℕ). entry.0 < d.nodes) vec.items) vecs →
     AreEntriesOf (item_of d) (map items vecs) (length (map items vecs)) entries
     × All (λ (list : List (ℕ × ℕ)). All (λ (entry : ℕ × ℕ). item_of d entry.0 < d.nodes) list) (map items vecs)
 listed d positive vecs entries all below = (
@@ -32,24 +33,28 @@ entries_of-requires-clause-count c =
 
 pub entries_of-requires-clause-ranks : goal.entries_of-requires-clause-ranks
 entries_of-requires-clause-ranks c =
-    subst (All (λ (list : Vec (ℕ × ℕ) Global). All (λ (entry : ℕ × ℕ). entry.0 < c.args.dealing.now.nodes) list.items)) (sym c.deref.ensures.value) c.requires.ranks
+    subst (All (λ (list : Vec (ℕ × ℕ) Global). All (λ (entry : ℕ × ℕ). entry.0 < c.args.dealing.now.nodes) list.items))
+    (sym c.deref.ensures.value) c.requires.ranks
 
 pub build-requires : goal.build-requires
 build-requires c =
     let a = c.args in
     let d = a.dealing.now in
     let entries = c.in_ok-entries.entries.items in
-    let found = subst (λ (l : List (Vec (ℕ × ℕ) Global)). AreEntriesOf (item_of d) (map items l) (length l) entries) c.deref.ensures.value c.in_ok-entries.ensures in
+    let found = subst (λ (l : List (Vec (ℕ × ℕ) Global)). AreEntriesOf (item_of d) (map items l) (length l) entries)
+    c.deref.ensures.value c.in_ok-entries.ensures in
     let these = listed d c.nodes.ensures.piece a.lists.items entries found c.requires.ranks in
     subst (All (λ e. e.0 < c.nodes.result)) (sym c.deref-2.ensures.value)
-    (subst (λ n. All (λ e. e.0 < n) entries) (sym c.nodes.ensures.nodes) (keys_within (item_of d) (map items a.lists.items) d.nodes entries these.0 these.1))
+    (subst (λ n. All (λ e. e.0 < n) entries) (sym c.nodes.ensures.nodes)
+    (keys_within (item_of d) (map items a.lists.items) d.nodes entries these.0 these.1))
 
 pub returns : goal.returns
 returns c =
     let a = c.args in
     let d = a.dealing.now in
     let entries = c.in_ok-entries.entries.items in
-    let found = subst (λ (l : List (Vec (ℕ × ℕ) Global)). AreEntriesOf (item_of d) (map items l) (length l) entries) c.deref.ensures.value c.in_ok-entries.ensures in
+    let found = subst (λ (l : List (Vec (ℕ × ℕ) Global)). AreEntriesOf (item_of d) (map items l) (length l) entries)
+    c.deref.ensures.value c.in_ok-entries.ensures in
     let these = listed d c.nodes.ensures.piece a.lists.items entries found c.requires.ranks in
     let made = subst (λ n. AreRowsOf n entries c.in_ok-rows.rows) c.nodes.ensures.nodes
     (subst (λ es. AreRowsOf c.nodes.result es c.in_ok-rows.rows) c.deref-2.ensures.value c.in_ok-rows.ensures) in

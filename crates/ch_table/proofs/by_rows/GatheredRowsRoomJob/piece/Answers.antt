@@ -19,6 +19,11 @@ loop-source-preserved g c =
     let job = ap (λ v. v.2) c.self.view_is in
     let row = subst (λ (a : Asked). IsRowBy a.hierarchy a.limit a.targets s cells) same c.in_ok-write_row.ensures.row in
     let cells_are : c.deref.result.now ≡ cells = c.deref.ensures.value in
-    let Adds = λ (j : g.row.J.Denot) (l : List (Option ℕ)). (some : List ℕ) (rows : List (List (Option ℕ))) → length rows ≡ length some → g.J.RowJob.meaning j some rows c.loop-source.gathered → g.J.RowJob.meaning j (some ++ s ∷ []) (rows ++ l ∷ []) after in
-    let add = subst (λ l. Adds c.args.self.now.2 l) cells_are (subst (λ j. Adds j c.deref.result.now) job c.in_ok-add.ensures) in
-    (one_more M asked.hierarchy asked.limit asked.targets sources i c.loop-source.gathered after cells c.loop-source-test.true c.loop-source.invariant.0 row add, c.in_ok-write_row.ensures.scratch ∙ c.loop-source.invariant.1)
+    let Adds = λ (j : g.row.J.Denot) (l : List (Option ℕ)). (some : List ℕ) (rows : List (List (Option ℕ))) →
+    length rows ≡ length some → g.J.RowJob.meaning j some rows c.loop-source.gathered →
+    g.J.RowJob.meaning j (some ++ s ∷ []) (rows ++ l ∷ []) after in
+    let add = subst (λ l. Adds c.args.self.now.2 l) cells_are (subst (λ j. Adds j c.deref.result.now) job c.in_ok-add.ensures) in (
+      one_more M asked.hierarchy asked.limit asked.targets sources i c.loop-source.gathered after cells c.loop-source-test.true
+          c.loop-source.invariant.0 row add,
+      c.in_ok-write_row.ensures.scratch ∙ c.loop-source.invariant.1,
+    )

@@ -7,4 +7,4 @@ use Rattle.ch_table.proofs.by_rows.GatheredRowsRoomJob.piece.Given as goal
 abbrev pub invariant-loop-source : goal.invariant-loop-source
 invariant-loop-source g l =
     IsGathered (g.J.RowJob.meaning l.self.2) l.self.0.hierarchy l.self.0.limit l.self.0.targets (take l.source-index l.sources) l.gathered
-    × (l.scratch ≡ nodes_of l.self.0.hierarchy)
+    × (l.room ≡ nodes_of l.self.0.hierarchy)

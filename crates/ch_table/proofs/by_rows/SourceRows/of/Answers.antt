@@ -16,14 +16,16 @@ pub gather-requires-clause-places : goal.gather-requires-clause-places
 gather-requires-clause-places c =
     let a = c.args in
     let spaces = c.args.spaces.items in
-    let size = zipped_length (λ node (space : Vec (ℕ × ℕ) Global). IsRankedSpace a.hierarchy.now Down a.within node space.items) a.targets.now spaces c.requires.spaces in
+    let size = zipped_length (λ node (space : Vec (ℕ × ℕ) Global). IsRankedSpace a.hierarchy.now Down a.within node space.items)
+    a.targets.now spaces c.requires.spaces in
     subst (λ (l : List (Vec (ℕ × ℕ) Global)). length l ≤ 2 ^ 32) (sym c.deref.ensures.value) (omega (arith, size, c.requires.count))
 
 pub gather-requires-clause-keys : goal.gather-requires-clause-keys
 gather-requires-clause-keys c =
     let a = c.args in
     let spaces = c.args.spaces.items in
-    let Below : ℕ → List (Vec (ℕ × ℕ) Global) → Type 0 = λ n list. All (λ (space : Vec (ℕ × ℕ) Global). All (λ (entry : ℕ × ℕ). entry.0 < n) space.items) list in
+    let Below : ℕ → List (Vec (ℕ × ℕ) Global) →
+    Type 0 = λ n list. All (λ (space : Vec (ℕ × ℕ) Global). All (λ (entry : ℕ × ℕ). entry.0 < n) space.items) list in
     subst (Below c.nodes.result) (sym c.deref.ensures.value) (subst (λ n. Below n spaces) (sym c.nodes.ensures.nodes)
     (spaces_within a.hierarchy.now Down a.within c.requires.kept.2.levelled a.targets.now spaces c.requires.spaces))
 
@@ -38,7 +40,8 @@ invariant_of-result c =
     let below = All-map (λ (list : List (ℕ × ℕ)). All (λ (entry : ℕ × ℕ). entry.0 < c.nodes.result) list) items spaces
     (subst (λ n. All (λ (space : Vec (ℕ × ℕ) Global). All (λ (entry : ℕ × ℕ). entry.0 < n) space.items) spaces) (sym c.nodes.ensures.nodes)
     (spaces_within H Down a.within c.requires.kept.2.levelled a.targets.now spaces c.requires.spaces)) in
-    let made = subst (λ (l : List (Vec (ℕ × ℕ) Global)). AreRowsOf c.nodes.result (pairs_of (map items l)) buckets) c.deref.ensures.value c.in_ok-buckets.ensures in
+    let made = subst (λ (l : List (Vec (ℕ × ℕ) Global)). AreRowsOf c.nodes.result (pairs_of (map items l)) buckets)
+    c.deref.ensures.value c.in_ok-buckets.ensures in
     let held = hold_lists (λ rank. rank) lists c.nodes.result (pairs_of lists) (pairs_entries lists) below buckets made in
     record {
       kept = c.requires.kept;

@@ -15,9 +15,11 @@ loop-source-preserved c =
     let asked = c.args.self.now in
     let R : ℕ → Vec (Option ℕ) Global → Type 0 = λ s row. IsRowBy asked.hierarchy asked.limit asked.targets s row.items in
     let row = c.replace.result in
-    let made : IsRowBy asked.hierarchy asked.limit asked.targets (get_or sources i 0) row.items = rw c.replace.ensures.value c.in_ok-write_row.ensures.row in
+    let made : IsRowBy asked.hierarchy asked.limit asked.targets (get_or sources i 0) row.items =
+    rw c.replace.ensures.value c.in_ok-write_row.ensures.row in
     let more = all_zipped_more R (take i sources) rows (get_or sources i 0) row c.loop-source.invariant.0 made in (
-      rw c.push_reserved.ensures.items (subst (λ xs. AllZip R xs (rows ++ row ∷ [])) (sym (take_more sources i 0 c.loop-source-test.true)) more),
+      rw c.push_reserved.ensures.items
+          (subst (λ xs. AllZip R xs (rows ++ row ∷ [])) (sym (take_more sources i 0 c.loop-source-test.true)) more),
       omega (arith, c.push_reserved.ensures.len, c.push_reserved.ensures.capacity, c.loop-source.invariant.1, c.loop-source-test.true),
       c.write_row.ensures.scratch ∙ c.loop-source.invariant.2,
     )

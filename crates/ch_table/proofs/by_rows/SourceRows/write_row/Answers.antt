@@ -40,8 +40,10 @@ returns-clause-row c =
     let long = c.lower_by_space.auto.row ∙ c.deref_mut.ensures.len in
     let row : c.deref-2.result.now ≡ low = c.deref-2.ensures.value ∙ with_items_is c.resize.new.self low long in
     let filled : c.deref_mut.result.now ≡ replicate (length targets) UNREACHED
-    = c.deref_mut.ensures.value ∙ refilled (length targets) UNREACHED c.resize.new.self.items c.clear.new.self.items c.clear.new.self.len c.in_ok-resize.ensures.items c.clear.ensures.items c.clear.ensures.len in
-    let lowered = subst (λ (t : List (ℕ × ℕ) × List ℕ). AreLowered (IsSumOf t.0 inside.buckets) t.1 low) (λ i. (c.deref.ensures.value i, filled i)) c.lower_by_space.ensures in
+    = c.deref_mut.ensures.value ∙ refilled (length targets) UNREACHED c.resize.new.self.items c.clear.new.self.items
+    c.clear.new.self.len c.in_ok-resize.ensures.items c.clear.ensures.items c.clear.ensures.len in
+    let lowered = subst (λ (t : List (ℕ × ℕ) × List ℕ). AreLowered (IsSumOf t.0 inside.buckets) t.1 low)
+    (λ i. (c.deref.ensures.value i, filled i)) c.lower_by_space.ensures in
     on_ok_weaker c.write_cells.result
     (λ h.
     subst (λ (asked : Asked). IsRowBy asked.hierarchy asked.limit asked.targets s c.write_cells.new.cells.items) c.self.view_is

@@ -12,7 +12,14 @@ use Rattle.ch_table.proofs.sums.Sums.pay_item.Goals as goal
 pub pay_row-requires-clause-targets : goal.pay_row-requires-clause-targets
 pay_row-requires-clause-targets c =
     let inside = c.self.inside in
-    let S : BothSides = record { ups = inside.sources; downs = inside.targets; rows = inside.rows; columns = inside.columns; limit = inside.within } in
+    let S : BothSides = record {
+      ups = inside.sources;
+      downs = inside.targets;
+      rows = inside.rows;
+      columns = inside.columns;
+      limit =
+          inside.within;
+    } in
     let sources = c.at-source-items.result.now in
     let targets = c.at-targets.result.now in
     let i = c.loop-source.source-index in
@@ -40,7 +47,8 @@ loop-source-preserved c =
     let these = c.at-targets.ensures ∙ ap (λ (s : BothSides). slice_index_or s.downs a.item []) c.self.view_is in
     let Before : Option ℕ × ℕ × List (ℕ × ℕ) × List (ℕ × ℕ) → Type 0 = λ t. HasPaid (IsOwedBy t.0 t.1 (take i t.2) t.3) u v in
     let After : Option ℕ × ℕ × List (ℕ × ℕ) × List (ℕ × ℕ) → Type 0 = λ t. HasPaid (IsOwedBy t.0 t.1 (take (i + 1) t.2) t.3) u w in
-    let before : HasPaid (IsOwedBy limit columns (take i sources) targets) u v = subst Before (λ k. (sym same_limit k, sym same k, sym those k, sym these k)) c.loop-source.invariant.1 in
+    let before : HasPaid (IsOwedBy limit columns (take i sources) targets) u v =
+    subst Before (λ k. (sym same_limit k, sym same k, sym those k, sym these k)) c.loop-source.invariant.1 in
     let step = take_more sources i (0, 0) c.loop-source-test.true in
     let after = item_more limit columns i sources targets (get_or sources i (0, 0)) step u v w before c.pay_row.ensures.paid in
     (c.pay_row.ensures.board, subst After (λ k. (same_limit k, same k, those k, these k)) after)

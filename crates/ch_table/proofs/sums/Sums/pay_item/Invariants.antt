@@ -9,4 +9,5 @@ use Rattle.ch_table.proofs.sums.Sums.pay_item.Given as goal
 abbrev pub invariant-loop-source : goal.invariant-loop-source
 invariant-loop-source l =
     IsPassOf l.board l.pass
-    × HasPaid (IsOwedBy l.self.limit l.self.columns (take l.source-index (slice_index_or l.self.ups l.item [])) (slice_index_or l.self.downs l.item [])) (view_of l.fn.pass) (view_of l.pass)
+    × HasPaid (IsOwedBy l.self.limit l.self.columns (take l.source-index (slice_index_or l.self.ups l.item []))
+    (slice_index_or l.self.downs l.item [])) (view_of l.fn.pass) (view_of l.pass)

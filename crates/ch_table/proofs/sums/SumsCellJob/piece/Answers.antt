@@ -13,5 +13,6 @@ loop-item-preserved c =
     let item = c.loop-item.item in
     let low : a.from ≤ item = search rules in (
       c.pay_item.ensures.board,
-      items_more a.self.now a.from item low (view_of a.pass.now) (view_of c.loop-item.pass) (view_of c.pay_item.new.pass) c.loop-item.invariant.1 c.pay_item.ensures.paid,
+      items_more a.self.now a.from item low (view_of a.pass.now) (view_of c.loop-item.pass) (view_of c.pay_item.new.pass)
+          c.loop-item.invariant.1 c.pay_item.ensures.paid,
     )

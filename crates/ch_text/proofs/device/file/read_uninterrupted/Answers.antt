@@ -26,7 +26,8 @@ pub loop-preserved : goal.loop-preserved
 loop-preserved g c = record {
   room = omega arith;
   interrupted = AreInterrupted-more (IsOneRead g.D.ReadOnce.read_gives) c.loop.counter
-      (c.args.reader.now, c.args.buffer.now) (c.loop.reader, c.loop.buffer) (c.read_once.new.self, c.read_once.new.buffer) c.in-Err.error c.loop.invariant.interrupted c.in-Err.ensures.made (search rules);
+      (c.args.reader.now, c.args.buffer.now) (c.loop.reader, c.loop.buffer) (c.read_once.new.self, c.read_once.new.buffer)
+      c.in-Err.error c.loop.invariant.interrupted c.in-Err.ensures.made (search rules);
 }
 
 pub returns-clause-made : goal.returns-clause-made

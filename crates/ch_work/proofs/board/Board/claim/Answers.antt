@@ -11,5 +11,9 @@ fetch_add-found-requires c =
     let w : b.table.shared.table_id.words ≡ b.cells + 1 = b.words in
     let one : p.seat.me.0.parts ≡ 1 = p.one_part in
     let e : p.seat.me.0.ended ≡ bit p.ended = p.same_end in
-    let e' : p.seat.me.0.ended ≡ 0 = e ∙ ap bit c.if-pass.false in
-    (c.requires, omega (arith, w), claims b.table.shared.key b.table.shared.table_id.slots p.seat.id p.seat.me.0 p.seat.me.1 (omega arith) (omega arith))
+    let e' : p.seat.me.0.ended ≡ 0 = e ∙ ap bit c.if-pass.false in (
+      c.requires,
+      omega (arith, w),
+      claims b.table.shared.key b.table.shared.table_id.slots p.seat.id p.seat.me.0 p.seat.me.1
+          (omega arith) (omega arith),
+    )

@@ -19,5 +19,6 @@ returns c =
     (λ v. (i : ℕ) (d : _) → i < b.cells → IsRead (slice_index words (i + 1)) (slice_index_or v.items i d))
     (λ v. Settled k (map view_of ps) v.items)
     c.read_cells-values.ensures.count c.read_cells-values.ensures.each
-    (λ v n each. settled_words k c.gathered-all.result.id c.gathered-all.result.me.0 words (slots_items c.close_with-closed.result.slots) ps v.items
+    (λ v n each. settled_words k c.gathered-all.result.id c.gathered-all.result.me.0 words
+    (slots_items c.close_with-closed.result.slots) ps v.items
     c.close_with-closed.ensures.values.2 c.gathered-all.ensures.view len (n ∙ sym cells) (λ i d lt. each i d (omega (arith, lt, cells))))

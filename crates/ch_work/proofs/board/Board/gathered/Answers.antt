@@ -17,6 +17,10 @@ loop-pass-preserved c =
     let ys = c.loop-pass.yielded in
     let p = c.in-Some.pass in
     let rest = c.next.new.self.rest.items in
-    let now = next_split c.args.passes.items ys c.loop-pass.pass-iterator.rest.items p rest c.loop-pass.invariant.2 c.in-Some.ensures.steps.0 in
-    let s = sums_push c.loop-pass.all.me.0 (map view_of ys) (view_of p) c.loop-pass.invariant.1 in
-    (c.take_in.ensures.board ∙ c.loop-pass.invariant.0, rw (c.take_in.ensures.view, map_push view_of ys p) s, next_done c.args.passes.items ys rest p now)
+    let now = next_split c.args.passes.items ys c.loop-pass.pass-iterator.rest.items p rest c.loop-pass.invariant.2
+    c.in-Some.ensures.steps.0 in
+    let s = sums_push c.loop-pass.all.me.0 (map view_of ys) (view_of p) c.loop-pass.invariant.1 in (
+      c.take_in.ensures.board ∙ c.loop-pass.invariant.0,
+      rw (c.take_in.ensures.view, map_push view_of ys p) s,
+      next_done c.args.passes.items ys rest p now,
+    )

@@ -10,7 +10,8 @@ loop-cell-preserved c =
     let items = c.in_ok-push.ensures.items in
     let xs = c.loop-cell.values.items in
     let x = c.cell_value.result in
-    let each = each_push (λ j o. IsRead (slice_index (slots_items c.args.closed.now.words) (j + 1)) o) xs c.loop-cell.cell x c.loop-cell.invariant.0 c.loop-cell.invariant.1 c.cell_value.ensures in
+    let each = each_push (λ j o. IsRead (slice_index (slots_items c.args.closed.now.words) (j + 1)) o) xs c.loop-cell.cell x
+    c.loop-cell.invariant.0 c.loop-cell.invariant.1 c.cell_value.ensures in
     rw items (omega (arith, length-append xs (x ∷ []), c.loop-cell.invariant.0), each)
 
 pub returns-clause-each : goal.returns-clause-each

@@ -10,5 +10,9 @@ use Rattle.ch_work.proofs.board.make.split_off.Goals as goal
 pub split_seat-seat-requires : goal.split_seat-seat-requires
 split_seat-seat-requires c =
     let k = c.args.table.now.shared.key in
-    let id = c.args.root.now.id in
-    (c.requires.table.0, c.requires.table.1, subst (λ (m : Me (Unit {0}) Known). Splits (Kept k) id m.0 (less_one m.0) (one_part m.0)) (sym c.requires.root.1) (splits k id c.args.pieces c.args.left c.requires.root.0))
+    let id = c.args.root.now.id in (
+      c.requires.table.0,
+      c.requires.table.1,
+      subst (λ (m : Me (Unit {0}) Known). Splits (Kept k) id m.0 (less_one m.0) (one_part m.0)) (sym c.requires.root.1)
+          (splits k id c.args.pieces c.args.left c.requires.root.0),
+    )

@@ -16,6 +16,7 @@ loop-item-preserved g c =
     let job : c.self.inside.job.now ≡ c.args.self.now.0 = ap (λ w. w.0) c.self.view_is in
     let means = subst (λ j. g.J.ListJob.meaning j item value) job c.in_ok-value.ensures.value in
     let clean = subst (λ j. g.J.ListJob.clean j c.value.new.room) job c.in_ok-value.ensures.clean in
-    let taken : take i items ++ item ∷ [] ≡ take (i + 1) items = ap (λ x. take i items ++ x ∷ []) c.item-item.is ∙ sym (take_more items i item c.loop-item-test.true) in
+    let taken : take i items ++ item ∷ [] ≡ take (i + 1) items =
+    ap (λ x. take i items ++ x ∷ []) c.item-item.is ∙ sym (take_more items i item c.loop-item-test.true) in
     let more = all_zipped_more P (take i items) values item value c.loop-item.invariant.0 means in
     (rw c.in_ok-push.ensures.items (subst (λ xs. AllZip P xs (values ++ value ∷ [])) taken more), clean)

@@ -13,6 +13,7 @@ loop-number-preserved g c =
     let so_far = c.loop-number.invariant.1 in
     let within : number < pieces_of payments.items payments.piece = (let below = some.0 in let pieces = so_far.pieces in omega arith) in (
       c.in_ok-pay_piece.ensures.board,
-      pays_on (g.J.CellJob.owes payments.job.now) payments.items payments.piece (view_of c.loop-number.pass) (view_of c.claim.new.pass) (view_of c.pay_piece.new.pass) c.loop-number.next number
+      pays_on (g.J.CellJob.owes payments.job.now) payments.items payments.piece (view_of c.loop-number.pass)
+          (view_of c.claim.new.pass) (view_of c.pay_piece.new.pass) c.loop-number.next number
           so_far within some.1 c.in_ok-pay_piece.ensures.offers c.in_ok-pay_piece.ensures.covers,
     )

@@ -15,6 +15,7 @@ loop-number-preserved g c =
     let within : number < pieces_of work.items work.piece = (let below = some.0 in let pieces = so_far.pieces in omega arith) in (
       c.claim.ensures.board,
       rw c.in_ok-push.ensures.items
-          (goes_on meaning work.items work.piece (view_of c.loop-number.pass) (view_of c.claim.new.pass) c.loop-number.next number c.loop-number.done.items c.in_ok-value.value so_far within some.1 c.in_ok-value.ensures.value),
+          (goes_on meaning work.items work.piece (view_of c.loop-number.pass) (view_of c.claim.new.pass) c.loop-number.next number
+          c.loop-number.done.items c.in_ok-value.value so_far within some.1 c.in_ok-value.ensures.value),
       c.in_ok-value.ensures.clean,
     )

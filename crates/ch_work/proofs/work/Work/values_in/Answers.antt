@@ -9,6 +9,7 @@ loop-number-preserved g c =
     let values = c.loop-number.values.items in
     let value = c.in_ok-value.field-0 in
     let so_far = c.loop-number.invariant.0 in (
-      rw c.in_ok-push.ensures.items (values-push meaning work.items work.piece values value 0 c.loop-number.number so_far c.in_ok-value.ensures.value),
+      rw c.in_ok-push.ensures.items (values-push meaning work.items work.piece values value 0 c.loop-number.number so_far
+          c.in_ok-value.ensures.value),
       c.in_ok-value.ensures.clean,
     )

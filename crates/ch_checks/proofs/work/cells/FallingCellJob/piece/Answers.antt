@@ -22,8 +22,10 @@ loop-item-preserved c =
     let is : weight ≡ 9 - 2 * item = c.from.ensures in
     let few : item ≤ 4 = search rules in (
       c.pay.ensures.board,
-      paid_then (Owed from item) (One 0 weight) (Owed from (item + 1)) (view_of c.args.pass.now) (view_of c.loop-item.pass) (view_of c.pay.new.pass)
-          (λ cell x o. dite (dec_lt o.0 item) (λ lt. inl (o.0, o.1, lt, o.3, o.4)) (λ no. inr (o.3, let a = o.2 in let b = o.4 in omega arith)))
+      paid_then (Owed from item) (One 0 weight) (Owed from (item + 1)) (view_of c.args.pass.now) (view_of c.loop-item.pass)
+          (view_of c.pay.new.pass)
+          (λ cell x o. dite (dec_lt o.0 item) (λ lt. inl (o.0, o.1, lt, o.3, o.4))
+          (λ no. inr (o.3, let a = o.2 in let b = o.4 in omega arith)))
           (λ cell x o. (o.0, o.1, (let a = o.2 in omega arith), o.3, o.4))
           (λ cell x o. (item, low, omega arith, o.0, (let a = o.1 in omega arith)))
           c.loop-item.invariant.1 c.pay.ensures.paid,

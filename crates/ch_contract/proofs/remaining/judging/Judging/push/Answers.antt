@@ -24,7 +24,8 @@ shortcut-requires-clause-first g c =
 pub shortcut-requires-clause-second : goal.shortcut-requires-clause-second
 shortcut-requires-clause-second g c =
     let t = c.args.self.now.touching in
-    let leg = leg_from_at (legs_touching t.node t.up.now t.down.now) t.node t.up.now _ no_leg c.args.self.now.touches.from c.loop-second-test.true in
+    let leg = leg_from_at (legs_touching t.node t.up.now t.down.now) t.node t.up.now _ no_leg c.args.self.now.touches.from
+    c.loop-second-test.true in
     (c.args.self.now.touches.within _ _ _ leg, c.args.self.now.touches.light _ _ _ leg)
 
 pub loop-second-preserved : goal.loop-second-preserved
@@ -40,14 +41,17 @@ loop-second-preserved g c =
     let to = (get_or up i no_leg).node in
     let second = leg_from_at L v up i no_leg row c.loop-second-test.true in
     let next : AreShortcutsBefore n c.args.self.now.hops L W v c.args.first.node to c.loop-second.list.items =
-    before_next_up n c.args.self.now.hops L W v c.args.first.node so_far.0 i no_leg up c.loop-second.list.items row so_far.1 c.loop-second-test.true so_far.2 in (
+    before_next_up n c.args.self.now.hops L W v c.args.first.node so_far.0 i no_leg up c.loop-second.list.items row so_far.1
+    c.loop-second-test.true so_far.2 in (
       to + 1,
       boundary_next up i no_leg row.0 c.loop-second-test.true,
       elim c.match-shortcut.branch [
         | in-Some-shortcut+in_ok-push w ↦
             let is = (rw w.in-Some-shortcut.is at c.shortcut.ensures) L c.requires.first second in
-            subst (AreShortcutsBefore n c.args.self.now.hops L W v c.args.first.node (to + 1)) (sym (ap (λ v. v.items) w.list-is ∙ w.in_ok-push.ensures.items))
-            (before_push n c.args.self.now.hops L W v c.args.first.node to c.loop-second.list.items w.in-Some-shortcut.shortcut next is.0 is.1 is.2)
+            subst (AreShortcutsBefore n c.args.self.now.hops L W v c.args.first.node (to + 1))
+            (sym (ap (λ v. v.items) w.list-is ∙ w.in_ok-push.ensures.items))
+            (before_push n c.args.self.now.hops L W v c.args.first.node to c.loop-second.list.items w.in-Some-shortcut.shortcut next
+            is.0 is.1 is.2)
         | in_default-shortcut w ↦
             let is = (rw w.in_default-shortcut.is at c.shortcut.ensures) L c.requires.first second in
             rw w.list-is (before_skip n c.args.self.now.hops L W v c.args.first.node to c.loop-second.list.items next is)
@@ -57,7 +61,8 @@ loop-second-preserved g c =
 pub returns-clause-list : goal.returns-clause-list
 returns-clause-list g c =
     let so_far = c.loop-second.invariant in
-    before_end_up _ _ _ _ _ c.args.first.node so_far.0 c.loop-second.second-index c.args.self.now.touching.up.now c.loop-second.list.items c.args.self.now.touches.from so_far.1 c.loop-second-test.false so_far.2
+    before_end_up _ _ _ _ _ c.args.first.node so_far.0 c.loop-second.second-index c.args.self.now.touching.up.now
+    c.loop-second.list.items c.args.self.now.touches.from so_far.1 c.loop-second-test.false so_far.2
 
 pub most_cost-requires-clause-first : goal.most_cost-requires-clause-first
 most_cost-requires-clause-first g c =
@@ -68,22 +73,28 @@ most_cost-requires-clause-first g c =
 pub most_cost-requires-clause-up : goal.most_cost-requires-clause-up
 most_cost-requires-clause-up g c =
     let t = c.args.self.now.touching in
-    up_light c.args.self.now.remaining.now.nodes (legs_touching t.node t.up.now t.down.now) t.node t.up.now c.args.self.now.touches.within c.nodes-nodes.ensures.count c.args.self.now.touches.from
+    up_light c.args.self.now.remaining.now.nodes (legs_touching t.node t.up.now t.down.now) t.node t.up.now
+    c.args.self.now.touches.within c.nodes-nodes.ensures.count c.args.self.now.touches.from
 
 pub returns-in_default-clause-list : goal.returns-in_default-clause-list
 returns-in_default-clause-list g c =
     let t = c.args.self.now.touching in
     let none = rw c.in_default.is at c.most_cost.ensures in
-    before_no_candidate c.args.self.now.remaining.now.nodes c.args.self.now.hops (legs_touching t.node t.up.now t.down.now) (legs_of c.args.self.now.remaining.now) t.node c.args.first t.up.now c.args.list.now.items c.requires.first c.args.self.now.touches.from (subst (λ n. All (λ l. IsCandidate n c.args.first l → ⊥) t.up.now) c.nodes-nodes.ensures.nodes none) c.requires.list
+    before_no_candidate c.args.self.now.remaining.now.nodes c.args.self.now.hops (legs_touching t.node t.up.now t.down.now)
+    (legs_of c.args.self.now.remaining.now) t.node c.args.first t.up.now c.args.list.now.items c.requires.first
+    c.args.self.now.touches.from
+    (subst (λ n. All (λ l. IsCandidate n c.args.first l → ⊥) t.up.now) c.nodes-nodes.ensures.nodes none) c.requires.list
 
 pub reach-requires-clause-most : goal.reach-requires-clause-most
 reach-requires-clause-most g c =
     let t = c.args.self.now.touching in
     let small : c.nodes-nodes.result ≤ MOST_NODES = omega (arith, c.nodes-nodes.ensures.nodes, c.nodes-nodes.ensures.count) in
-    bound_held g.K.HeldCost.limit c.nodes-nodes.result t.node (legs_touching t.node t.up.now t.down.now) c.args.first t.up.now c.in-Some.most small c.args.self.now.touches.light c.requires.first c.args.self.now.touches.from c.in-Some.ensures
+    bound_held g.K.HeldCost.limit c.nodes-nodes.result t.node (legs_touching t.node t.up.now t.down.now) c.args.first t.up.now
+    c.in-Some.most small c.args.self.now.touches.light c.requires.first c.args.self.now.touches.from c.in-Some.ensures
 
 pub shortcut-requires-clause-held : goal.shortcut-requires-clause-held
 shortcut-requires-clause-held g c =
     let t = c.args.self.now.touching in
     let small : c.nodes-nodes.result ≤ MOST_NODES = omega (arith, c.nodes-nodes.ensures.nodes, c.nodes-nodes.ensures.count) in
-    bound_held g.K.HeldCost.limit c.nodes-nodes.result t.node (legs_touching t.node t.up.now t.down.now) c.args.first t.up.now c.in-Some.most small c.args.self.now.touches.light c.requires.first c.args.self.now.touches.from c.in-Some.ensures
+    bound_held g.K.HeldCost.limit c.nodes-nodes.result t.node (legs_touching t.node t.up.now t.down.now) c.args.first t.up.now
+    c.in-Some.most small c.args.self.now.touches.light c.requires.first c.args.self.now.touches.from c.in-Some.ensures

@@ -19,9 +19,11 @@ index_mut-requires c =
     omega arith
 
 pub returns-clause-costs : goal.returns-clause-costs
-returns-clause-costs c = label_set_alone _ _ _ c.self.invariant (ap (λ (q : CostsAndParents). q.costs) c.self.view_is) _ _ _ (no_label (unreached c.index_mut.result.now) (get_or c.self.inside.multiples.items c.args.node 0) refl)
+returns-clause-costs c = label_set_alone _ _ _ c.self.invariant (ap (λ (q : CostsAndParents). q.costs) c.self.view_is) _ _ _
+    (no_label (unreached c.index_mut.result.now) (get_or c.self.inside.multiples.items c.args.node 0) refl)
 
 pub returns-clause-parents : goal.returns-clause-parents
 returns-clause-parents c =
-    map-set_same (λ (k : Label). k.parent) c.self.inside.labels.items c.args.node _ c.index_mut.result.now (ap (λ (k : Label). k.parent) c.index_mut.ensures.value)
+    map-set_same (λ (k : Label). k.parent) c.self.inside.labels.items c.args.node _ c.index_mut.result.now
+    (ap (λ (k : Label). k.parent) c.index_mut.ensures.value)
     ∙ ap (λ (q : CostsAndParents). q.parents) c.self.view_is

@@ -23,11 +23,13 @@ index-requires c =
 
 pub returns-then-label : goal.returns-then-label
 returns-then-label c =
-    sym (no_label c.index-label.result.now (get_or c.self.inside.multiples.items c.args.node 0) c.if-label.true) ∙ label_read _ _ _ c.self.invariant (ap (λ (q : CostsAndParents). q.costs) c.self.view_is) _ _ c.requires c.index-label.ensures
+    sym (no_label c.index-label.result.now (get_or c.self.inside.multiples.items c.args.node 0) c.if-label.true) ∙ label_read _ _ _
+    c.self.invariant (ap (λ (q : CostsAndParents). q.costs) c.self.view_is) _ _ c.requires c.index-label.ensures
 
 pub returns-then-arcs-lt-MANY : goal.returns-then-arcs-lt-MANY
 returns-then-arcs-lt-MANY c =
-    sym (reached_label c.index-label.result.now (get_or c.self.inside.multiples.items c.args.node 0) _ c.if-label.false (few_arcs _ _ c.if-arcs-lt-MANY.true))
+    sym (reached_label c.index-label.result.now (get_or c.self.inside.multiples.items c.args.node 0) _ c.if-label.false
+    (few_arcs _ _ c.if-arcs-lt-MANY.true))
     ∙ label_read _ _ _ c.self.invariant (ap (λ (q : CostsAndParents). q.costs) c.self.view_is) _ _ c.requires c.index-label.ensures
 
 pub returns : goal.returns
@@ -39,5 +41,6 @@ returns c =
     let multiples = c.self.inside.multiples.items in
     let multiple = sym (get_or_default multiples c.args.node c.index.result.now 0 (omega arith)) ∙ sym c.index.ensures in
     let arcs = c.index-label.result.now.arcs in
-    sym (reached_label c.index-label.result.now (get_or multiples c.args.node 0) _ c.if-label.false (many_arcs _ _ (omega (arith, c.if-arcs-lt-MANY.false)) ∙ ap (λ (m : ℕ). arcs + m * MANY) multiple))
+    sym (reached_label c.index-label.result.now (get_or multiples c.args.node 0) _ c.if-label.false
+    (many_arcs _ _ (omega (arith, c.if-arcs-lt-MANY.false)) ∙ ap (λ (m : ℕ). arcs + m * MANY) multiple))
     ∙ label_read _ _ _ c.self.invariant costs _ _ c.requires c.index-label.ensures

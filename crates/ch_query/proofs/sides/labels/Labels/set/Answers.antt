@@ -31,9 +31,12 @@ returns-clause-costs c =
     let arcs = c.args.cost.arcs in
     elim c.if-arcs-ge-MANY.branch [
       | then-arcs-ge-MANY w ↦ written _ _ _ c.self.invariant costs c.args.node _ arcs _ c.requires.weight _ _ (arcs / MANY - 1) _ _
-          (ap (λ q. q.labels.items) w.self-inside-is) (ap (λ q. q.multiples.items) w.self-inside-is) w.arcs-is (many_split arcs w.if-arcs-ge-MANY.true)
-      | else-arcs-ge-MANY w ↦ written _ _ _ c.self.invariant costs c.args.node _ arcs _ c.requires.weight _ _ (get_or c.self.inside.multiples.items c.args.node 0) _ _
-          (ap (λ q. q.labels.items) w.self-inside-is) (ap (λ q. q.multiples.items) w.self-inside-is ∙ sym (set-get_or c.self.inside.multiples.items c.args.node 0)) w.arcs-is
+          (ap (λ q. q.labels.items) w.self-inside-is) (ap (λ q. q.multiples.items) w.self-inside-is) w.arcs-is
+          (many_split arcs w.if-arcs-ge-MANY.true)
+      | else-arcs-ge-MANY w ↦ written _ _ _ c.self.invariant costs c.args.node _ arcs _ c.requires.weight _ _
+          (get_or c.self.inside.multiples.items c.args.node 0) _ _
+          (ap (λ q. q.labels.items) w.self-inside-is) (ap (λ q. q.multiples.items) w.self-inside-is
+          ∙ sym (set-get_or c.self.inside.multiples.items c.args.node 0)) w.arcs-is
           (few_arcs arcs _ (omega (arith, w.if-arcs-ge-MANY.false)))
     ]
 

@@ -13,16 +13,20 @@ pub returns-clause-underway : goal.returns-clause-underway
 returns-clause-underway c =
     let e = c.reach.ensures in
     let at = c.rank.ensures.rank in
-    begun_underway c.args.hierarchy.now c.rank.ensures.levelled c.args.self.now c.reach.new.self c.args.source c.requires.clean c.requires.source e.same.source
+    begun_underway c.args.hierarchy.now c.rank.ensures.levelled c.args.self.now c.reach.new.self c.args.source c.requires.clean
+    c.requires.source e.same.source
     (subst (λ q. q ≤ MOST_WEIGHT) (sym e.same.most) c.requires.most)
-    (e.costs ∙ ap (λ r. set c.args.self.now.labels.costs r (Some no_cost)) at) (e.queue ∙ ap (λ r. set c.args.self.now.queue r (Some no_cost)) at)
+    (e.costs ∙ ap (λ r. set c.args.self.now.labels.costs r (Some no_cost)) at)
+    (e.queue ∙ ap (λ r. set c.args.self.now.queue r (Some no_cost)) at)
     (e.parents ∙ ap (λ r. set c.args.self.now.labels.parents r c.args.source) at) e.touched
 
 pub returns-clause-fresh : goal.returns-clause-fresh
 returns-clause-fresh c =
     let e = c.reach.ensures in
     let at = c.rank.ensures.rank in
-    begun_fresh c.args.hierarchy.now c.rank.ensures.levelled c.args.self.now c.reach.new.self c.args.source c.requires.clean c.requires.source e.same.source
+    begun_fresh c.args.hierarchy.now c.rank.ensures.levelled c.args.self.now c.reach.new.self c.args.source c.requires.clean
+    c.requires.source e.same.source
     (subst (λ q. q ≤ MOST_WEIGHT) (sym e.same.most) c.requires.most)
-    (e.costs ∙ ap (λ r. set c.args.self.now.labels.costs r (Some no_cost)) at) (e.queue ∙ ap (λ r. set c.args.self.now.queue r (Some no_cost)) at)
+    (e.costs ∙ ap (λ r. set c.args.self.now.labels.costs r (Some no_cost)) at)
+    (e.queue ∙ ap (λ r. set c.args.self.now.queue r (Some no_cost)) at)
     (e.parents ∙ ap (λ r. set c.args.self.now.labels.parents r c.args.source) at) e.touched

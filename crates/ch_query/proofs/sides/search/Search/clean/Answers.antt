@@ -17,7 +17,8 @@ loop-rank-preserved c =
       room = record {
         queue = i.room.queue ∙ sym size;
         parents = ap length c.clear-in-Some.ensures.parents ∙ i.room.parents ∙ sym size;
-        touched = subst (λ costs. IsTouched costs c.pop.new.self) (sym c.clear-in-Some.ensures.costs) (touched_less _ _ c.pop.new.self i.room.touched c.in-Some.rank e.items e.cases e.capacity);
+        touched = subst (λ costs. IsTouched costs c.pop.new.self) (sym c.clear-in-Some.ensures.costs)
+            (touched_less _ _ c.pop.new.self i.room.touched c.in-Some.rank e.items e.cases e.capacity);
         most = i.room.most;
       };
       empty = i.empty;

@@ -5,21 +5,26 @@ use Rattle.ch_query.proofs.one_side.RankedLegs.{read_rank, read_unkeyed, read_we
 use Rattle.ch_query.proofs.sides.search.Search.expand.Goals as goal
 
 pub relax-requires-clause-rank : goal.relax-requires-clause-rank
-relax-requires-clause-rank c = read_rank _ _ _ _ _ _ _ _ c.loop-leg.invariant (c.ranked_legs-leg-items.ensures.row _ c.requires.expanding.within (sym c.requires.rank)) c.loop-leg-test.true
+relax-requires-clause-rank c = read_rank _ c.loop-leg.invariant
+    (c.ranked_legs-leg-items.ensures.row _ c.requires.expanding.within (sym c.requires.rank)) c.loop-leg-test.true
 
 pub relax-requires-clause-unkeyed : goal.relax-requires-clause-unkeyed
-relax-requires-clause-unkeyed c = read_unkeyed _ _ _ _ _ _ _ _ c.loop-leg.invariant (c.ranked_legs-leg-items.ensures.row _ c.requires.expanding.within (sym c.requires.rank)) c.loop-leg-test.true
+relax-requires-clause-unkeyed c = read_unkeyed _ c.loop-leg.invariant
+    (c.ranked_legs-leg-items.ensures.row _ c.requires.expanding.within (sym c.requires.rank)) c.loop-leg-test.true
 
 pub relax-requires-clause-weights : goal.relax-requires-clause-weights
-relax-requires-clause-weights c = read_weights _ _ _ _ _ _ _ _ c.loop-leg.invariant (c.ranked_legs-leg-items.ensures.row _ c.requires.expanding.within (sym c.requires.rank)) c.loop-leg-test.true
+relax-requires-clause-weights c = read_weights _ c.loop-leg.invariant
+    (c.ranked_legs-leg-items.ensures.row _ c.requires.expanding.within (sym c.requires.rank)) c.loop-leg-test.true
 
 pub relax-requires-clause-arcs : goal.relax-requires-clause-arcs
-relax-requires-clause-arcs c = read_arcs _ _ _ _ _ _ _ _ c.loop-leg.invariant (c.ranked_legs-leg-items.ensures.row _ c.requires.expanding.within (sym c.requires.rank)) c.loop-leg-test.true
+relax-requires-clause-arcs c = read_arcs _ c.loop-leg.invariant
+    (c.ranked_legs-leg-items.ensures.row _ c.requires.expanding.within (sym c.requires.rank)) c.loop-leg-test.true
 
 pub loop-leg-preserved : goal.loop-leg-preserved
 loop-leg-preserved c =
     let row = c.ranked_legs-leg-items.ensures.row _ c.requires.expanding.within (sym c.requires.rank) in
-    ranked_step _ _ _ _ _ _ _ _ c.loop-leg.invariant row c.loop-leg-test.true _ c.relax.ensures.relaxes c.relax.ensures.touched c.relax.ensures.same
+    ranked_step _ c.loop-leg.invariant row c.loop-leg-test.true _ c.relax.ensures.relaxes c.relax.ensures.touched
+    c.relax.ensures.same
 
 pub returns-clause-underway : goal.returns-clause-underway
 returns-clause-underway c =

@@ -12,11 +12,13 @@ get-requires c =
 pub plus-requires : goal.plus-requires
 plus-requires c =
     let row = c.ranked_legs-leg-items.ensures.row _ c.requires.expanding.within (sym c.requires.rank) in
-    let sum = stall_sum _ _ _ _ c.requires.expanding _ _ _ _ c.other.ensures row c.loop-leg-test.true _ _ (sym c.in-Some.ensures) c.cost.ensures in
+    let sum = stall_sum _ _ _ _ c.requires.expanding _ _ _ _ c.other.ensures row c.loop-leg-test.true _ _ (sym c.in-Some.ensures)
+    c.cost.ensures in
     record { weights = sum.0; arcs = sum.1 }
 
 pub returns-then-is_below : goal.returns-then-is_below
 returns-then-is_below c =
     let row = c.ranked_legs-leg-items.ensures.row _ c.requires.expanding.within (sym c.requires.rank) in
-    λ _. stall_idle _ _ _ _ c.requires.expanding _ _ _ _ c.other.ensures row c.loop-leg-test.true c.in-Some.known _ c.requires.stalls (sym c.in-Some.ensures) c.cost.ensures
+    λ _. stall_idle _ _ _ _ c.requires.expanding _ _ _ _ c.other.ensures row c.loop-leg-test.true c.in-Some.known _
+    c.requires.stalls (sym c.in-Some.ensures) c.cost.ensures
     (subst (λ q. IsBelow q c.args.cost) c.plus.ensures (c.is_below.ensures.0 c.if-is_below.true))

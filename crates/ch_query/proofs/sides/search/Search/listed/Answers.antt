@@ -23,7 +23,8 @@ loop-node-preserved c =
     let H = c.args.hierarchy.now in
     let best = costs_of H c.args.self.now in
     let items = c.deref-node-items.result.now in
-    let known = node_known best _ items c.loop-node.node-index c.in_ok-nodes.ensures c.deref-node-items.ensures.value c.loop-node-test.true in
+    let known = node_known best _ items c.loop-node.node-index c.in_ok-nodes.ensures c.deref-node-items.ensures.value
+    c.loop-node-test.true in
     let cost = read_cost H c.args.self.now (get_or items c.loop-node.node-index 0) _ _ known c.rank.ensures.rank c.get.ensures in
     elim c.match-get.branch [
       | in-Some w ↦ (

@@ -14,11 +14,19 @@ returns-clause-clean c =
     let labels = c.in_ok-labels.labels in
     let costs : labels.costs ≡ replicate c.args.nodes None = ap (λ (q : CostsAndParents). q.costs) c.in_ok-labels.ensures in
     let size : length labels.costs ≡ c.args.nodes = ap length costs ∙ length-replicate {A = Option Cost} c.args.nodes None in
-    let keys : length c.in_ok-queue.queue ≡ c.args.nodes = ap length c.in_ok-queue.ensures ∙ length-replicate {A = Option Cost} c.args.nodes None in
-    let parents : length labels.parents ≡ c.args.nodes = ap (λ (q : CostsAndParents). length q.parents) c.in_ok-labels.ensures ∙ length-replicate {A = ℕ} c.args.nodes 0 in
+    let keys : length c.in_ok-queue.queue ≡ c.args.nodes =
+    ap length c.in_ok-queue.ensures ∙ length-replicate {A = Option Cost} c.args.nodes None in
+    let parents : length labels.parents ≡ c.args.nodes = ap (λ (q : CostsAndParents). length q.parents) c.in_ok-labels.ensures
+    ∙ length-replicate {A = ℕ} c.args.nodes 0 in
     record {
       nodes = size;
-      room = record { queue = keys ∙ sym size; parents = parents ∙ sym size; touched = untouched c.args.nodes _ _ costs t.items t.len t.capacity; most = omega arith };
+      room = record {
+        queue = keys ∙ sym size;
+        parents = parents ∙ sym size;
+        touched =
+            untouched c.args.nodes _ _ costs t.items t.len t.capacity;
+        most = omega arith;
+      };
       queue = λ v k e. none-some k (sym (ap (λ q. cost_at q v) c.in_ok-queue.ensures ∙ none_known c.args.nodes v) ∙ e);
       nothing = t.len;
     }

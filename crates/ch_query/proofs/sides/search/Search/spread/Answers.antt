@@ -23,4 +23,5 @@ returns-clause-spread c =
     let most = subst (IsMost within) (sym (same.most ∙ begun.most)) c.most_within.ensures in
     IfOk-weaker _ _ _ (λ list found. subst (IsSpread (rows_of H side) within c.args.source) (sym found.2)
     (spread_of H c.explore.new.self found.0 c.args.source side within most c.explore.ensures.underway
-    (same.stalls ∙ begun.stalls) (same.source ∙ begun.source) (same.side ∙ begun.side) c.explore.ensures.done found.1)) c.listed-list.ensures
+    (same.stalls ∙ begun.stalls) (same.source ∙ begun.source) (same.side ∙ begun.side) c.explore.ensures.done found.1))
+    c.listed-list.ensures

@@ -4,7 +4,8 @@ use Rattle.ch_query.proofs.one_side.Spreads.{item_rank, ranks_more, within_more,
 use Rattle.ch_query.proofs.sides.search.Search.touched_nodes.Goals as goal
 
 pub node_at-requires : goal.node_at-requires
-node_at-requires c = item_rank c.args.hierarchy.now c.args.self.now _ _ c.requires.underway.sizes c.requires.underway.touched c.deref-rank-items.ensures.value c.loop-rank-test.true
+node_at-requires c = item_rank c.args.hierarchy.now c.args.self.now _ _ c.requires.underway.sizes c.requires.underway.touched
+    c.deref-rank-items.ensures.value c.loop-rank-test.true
 
 pub loop-rank-preserved : goal.loop-rank-preserved
 loop-rank-preserved c =
@@ -12,7 +13,8 @@ loop-rank-preserved c =
     let pushed = c.push_reserved.ensures in
     let here = c.node_at.ensures in
     record {
-      ranks = ranks_more c.args.hierarchy.now _ _ _ _ _ _ c.deref-rank-items.ensures.value c.loop-rank-test.true before.ranks here.rank pushed.items;
+      ranks = ranks_more c.args.hierarchy.now _ _ _ _ _ _ c.deref-rank-items.ensures.value c.loop-rank-test.true before.ranks
+          here.rank pushed.items;
       within = within_more c.args.hierarchy.now _ _ _ before.within here.node pushed.items;
       count = (let a = pushed.len in let b = before.count in omega arith);
       room = (let a = pushed.capacity in let b = before.room in omega arith);
@@ -24,4 +26,5 @@ returns c =
     let past = c.loop-rank-test.false in
     let items = c.deref-rank-items.ensures.value in
     touched_reached c.args.hierarchy.now c.requires.underway.levelled c.args.self.now c.requires.underway.touched _ _
-    (after.ranks ∙ take_all _ _ (subst (λ q. length q ≤ c.loop-rank.rank-index) items past)) after.within c.sort_unstable.ensures.permutation c.sort_unstable.ensures.sorted
+    (after.ranks ∙ take_all _ _ (subst (λ q. length q ≤ c.loop-rank.rank-index) items past)) after.within
+    c.sort_unstable.ensures.permutation c.sort_unstable.ensures.sorted

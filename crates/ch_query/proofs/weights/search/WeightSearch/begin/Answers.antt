@@ -15,7 +15,8 @@ pub reach-requires-2-clause-unkeyed : goal.reach-requires-2-clause-unkeyed
 reach-requires-2-clause-unkeyed c _ =
     let apart = state_apart Up c.rank-2.result c.rank.result in
     ap (λ q. get_or q c.state-2.result None) c.reach.ensures.queue
-    ∙ get_or-set_other c.args.self.now.queue c.state.result c.state-2.result (Some 0) None (λ same. apart (sym c.state-2.ensures ∙ same ∙ c.state.ensures))
+    ∙ get_or-set_other c.args.self.now.queue c.state.result c.state-2.result (Some 0) None
+    (λ same. apart (sym c.state-2.ensures ∙ same ∙ c.state.ensures))
     ∙ clean_none (nodes_of c.args.hierarchy.now) c.args.self.now c.requires.clean c.state-2.result
 
 pub returns-clause-least : goal.returns-clause-least
@@ -24,7 +25,11 @@ returns-clause-least c =
     let second = c.reach-2.ensures in
     let from = c.state.ensures ∙ ap (state_of Up) c.rank.ensures.rank in
     let to = c.state-2.ensures ∙ ap (state_of Down) c.rank-2.ensures.rank in
-    let known = second.known ∙ ap (λ q. set q c.state-2.result 0) first.known ∙ (λ i. set (set c.args.self.now.known.items (from i) 0) (to i) 0) in
-    let queue = second.queue ∙ ap (λ q. set q c.state-2.result (Some 0)) first.queue ∙ (λ i. set (set c.args.self.now.queue (from i) (Some 0)) (to i) (Some 0)) in
-    weighing_begun c.args.hierarchy.now c.rank.ensures.levelled c.args.self.now _ c.args.start c.args.end c.requires.clean c.requires.start c.requires.end
-    (second.same.start ∙ first.same.start) (second.same.end ∙ first.same.end) (second.same.most ∙ first.same.most) known queue second.touched
+    let known = second.known ∙ ap (λ q. set q c.state-2.result 0) first.known
+    ∙ (λ i. set (set c.args.self.now.known.items (from i) 0) (to i) 0) in
+    let queue = second.queue ∙ ap (λ q. set q c.state-2.result (Some 0)) first.queue
+    ∙ (λ i. set (set c.args.self.now.queue (from i) (Some 0)) (to i) (Some 0)) in
+    weighing_begun c.args.hierarchy.now c.rank.ensures.levelled c.args.self.now _ c.args.start c.args.end c.requires.clean
+    c.requires.start c.requires.end
+    (second.same.start ∙ first.same.start) (second.same.end ∙ first.same.end) (second.same.most ∙ first.same.most) known queue
+    second.touched

@@ -9,8 +9,10 @@ use Rattle.ch_query.proofs.weights.search.WeightSearch.begin_on.Goals as goal
 pub returns-clause-begun : goal.returns-clause-begun
 returns-clause-begun c =
     let reached = c.reach.ensures in
-    begun_alone c.args.hierarchy.now c.rank.ensures.levelled c.args.self.now c.reach.new.self c.requires.clean c.args.side c.args.source c.state.result c.requires.source
-    (c.state.ensures ∙ ap (state_of c.args.side) c.rank.ensures.rank) (source_where c.reach.new.self c.args.side c.args.source reached.same.start reached.same.end)
+    begun_alone c.args.hierarchy.now c.rank.ensures.levelled c.args.self.now c.reach.new.self c.requires.clean c.args.side
+    c.args.source c.state.result c.requires.source
+    (c.state.ensures ∙ ap (state_of c.args.side) c.rank.ensures.rank)
+    (source_where c.reach.new.self c.args.side c.args.source reached.same.start reached.same.end)
     (let most = c.requires.most in let same = reached.same.most in omega arith) reached.known reached.queue reached.touched
 
 pub returns-clause-source : goal.returns-clause-source

@@ -32,4 +32,13 @@ returns c = λ n s.
     let same : vec_len c.pop.new.self ≡ vec_len c.loop-state.self.touched = search rules in
     let capacity : vec_capacity c.pop.new.self ≡ vec_capacity c.loop-state.self.touched = search rules in
     let none : vec_len c.pop.new.self ≡ 0 = search rules in
-    record { sizes = record { known = sizes.known; queue = sizes.queue; touched = listed_alike _ _ _ sizes.touched items same capacity }; queue = i.queue; nothing = none }
+    record {
+      sizes = record {
+        known = sizes.known;
+        queue = sizes.queue;
+        touched =
+            listed_alike _ _ _ sizes.touched items same capacity;
+      };
+      queue = i.queue;
+      nothing = none;
+    }

@@ -18,7 +18,8 @@ overflow_add-weight c =
     let H = c.args.hierarchy.now in
     let k = c.ranked_legs-leg-items.ensures.levelled in
     let n = node_of_rank H k c.args.rank c.requires.rank in
-    let leg_light = read_light H k c.args.side n.0 c.ranked_legs-leg-items.result.now c.loop-leg.leg-index record { rank = 0; arcs = 0; weight = 0 }
+    let leg_light = read_light H k c.args.side n.0 c.ranked_legs-leg-items.result.now c.loop-leg.leg-index
+    record { rank = 0; arcs = 0; weight = 0 }
     (c.ranked_legs-leg-items.ensures.row n.0 n.1 n.2) c.loop-leg-test.true in
     let here = (c.loop-leg.invariant n.0 n.1 n.2).weighing.here in
     let light = here.search.light n.0 _ here.here.0 in
@@ -60,7 +61,8 @@ relax-requires-clause-unkeyed c =
     let k = c.ranked_legs-leg-items.ensures.levelled in
     let n = node_of_rank H k c.args.rank c.requires.rank in
     let r = read_leg H k c.args.side n.0 _ _ _ (c.ranked_legs-leg-items.ensures.row n.0 n.1 n.2) c.loop-leg-test.true in
-    unreached_here H c.args.side c.loop-leg.self n.0 c.args.weight (c.loop-leg.invariant n.0 n.1 n.2).weighing r.0.node c.state.result r.1.node
+    unreached_here H c.args.side c.loop-leg.self n.0 c.args.weight (c.loop-leg.invariant n.0 n.1 n.2).weighing r.0.node
+    c.state.result r.1.node
     (read_state H k c.args.side c.args.side n.0 _ _ r.0 r.1 _ c.state.ensures).0
 
 pub loop-leg-preserved : goal.loop-leg-preserved
@@ -68,7 +70,8 @@ loop-leg-preserved c v within rank =
     let H = c.args.hierarchy.now in
     let k = c.ranked_legs-leg-items.ensures.levelled in
     let r = read_leg H k c.args.side v _ _ _ (c.ranked_legs-leg-items.ensures.row v within rank) c.loop-leg-test.true in
-    partly_more H c.args.side c.args.self.now c.loop-leg.self c.relax.new.self v c.args.weight _ _ r.0 c.state.result (c.loop-leg.invariant v within rank) r.1 c.state.ensures
+    partly_more H c.args.side c.args.self.now c.loop-leg.self c.relax.new.self v c.args.weight _ _ r.0 c.state.result
+    (c.loop-leg.invariant v within rank) r.1 c.state.ensures
     c.relax.ensures.shows c.relax.ensures.touched c.relax.ensures.same
 
 pub returns : goal.returns

@@ -6,7 +6,8 @@ use Rattle.ch_query.specs.Search.{IsEmpty}
 use Rattle.ch_query.specs.Weights.{weight_cost, by_state, IsWeighingAt}
 use Rattle.ch_query.proofs.by_weight.Queues.{least_state}
 use Rattle.ch_query.proofs.by_weight.WeighingPops.{pop_weighs}
-use Rattle.ch_query.proofs.by_weight.SearchSpaces.{state_here, none_left, settles_popped, still_alone, still_same, unsettled_falls, unstalled_skips, unstalled_grows}
+use Rattle.ch_query.proofs.by_weight.SearchSpaces.{state_here, none_left, settles_popped, still_alone, still_same, unsettled_falls}
+use Rattle.ch_query.proofs.by_weight.SearchSpaces.{unstalled_skips, unstalled_grows}
 use Rattle.ch_query.proofs.weights.search.WeightSearch.explore.Goals as goal
 
 pub settle-requires-clause-weighing : goal.settle-requires-clause-weighing
@@ -17,7 +18,8 @@ settle-requires-clause-weighing c v within at =
     let before = c.loop-weight.invariant in
     let popped = c.in-Some.ensures in
     let l = least_state _ _ popped.least in
-    subst (λ (y : WeightSearch). IsWeighingAt H side y v c.in-Some.weight) (sym (ap (λ (q : List (Option ℕ)). record x { queue = q }) popped.rest))
+    subst (λ (y : WeightSearch). IsWeighingAt H side y v c.in-Some.weight)
+    (sym (ap (λ (q : List (Option ℕ)). record x { queue = q }) popped.rest))
     (pop_weighs H side x before.weighing v c.in-Some.weight c.in-Some.state within (state_here H side x before.alone v _ _ within at l) l)
 
 pub loop-weight-preserved-in-Continue-1 : goal.loop-weight-preserved-in-Continue-1
@@ -51,18 +53,21 @@ pub loop-weight-smaller-in-Continue-1 : goal.loop-weight-smaller-in-Continue-1
 loop-weight-smaller-in-Continue-1 c =
     let before = c.loop-weight.invariant in
     let popped = c.in-Some.ensures in
-    let s = settles_popped _ _ c.loop-weight.self c.settle.new.self _ _ _ before.weighing before.alone popped.least popped.rest c.settle.ensures.gone in
+    let s = settles_popped _ _ c.loop-weight.self c.settle.new.self _ _ _ before.weighing before.alone popped.least popped.rest
+    c.settle.ensures.gone in
     unsettled_falls _ _ _ _ before.weighing _ _ _ s.1
 
 pub loop-weight-smaller : goal.loop-weight-smaller
 loop-weight-smaller c =
     let before = c.loop-weight.invariant in
     let popped = c.in-Some.ensures in
-    let s = settles_popped _ _ c.loop-weight.self c.settle.new.self _ _ _ before.weighing before.alone popped.least popped.rest c.settle.ensures.gone in
+    let s = settles_popped _ _ c.loop-weight.self c.settle.new.self _ _ _ before.weighing before.alone popped.least popped.rest
+    c.settle.ensures.gone in
     unsettled_falls _ _ _ _ before.weighing _ _ _ s.1
 
 pub returns-clause-done : goal.returns-clause-done
 returns-clause-done c =
     let end = c.in_default.ensures in
     let H = c.args.hierarchy.now in
-    subst (λ q. IsEmpty (by_state (option_map weight_cost) H c.args.side q None)) (sym end.rest) (none_left H c.args.side c.loop-weight.self.queue end.least)
+    subst (λ q. IsEmpty (by_state (option_map weight_cost) H c.args.side q None)) (sym end.rest)
+    (none_left H c.args.side c.loop-weight.self.queue end.least)

@@ -12,7 +12,8 @@ returns-clause-space c =
     let end = c.explore-explored.ensures in
     space_if_done c.args.hierarchy.now c.requires.kept c.args.side c.explore-explored.new.self end.weighing c.args.within
     (subst (IsMost c.args.within) (sym (end.same.most ∙ begun.most)) c.most_within.ensures) c.args.source
-    (same_source c.begin_on.new.self c.explore-explored.new.self end.same c.args.side ∙ begun.source) _ c.explore-explored.result end.done end.unstalled
+    (same_source c.begin_on.new.self c.explore-explored.new.self end.same c.args.side ∙ begun.source) _ c.explore-explored.result
+    end.done end.unstalled
 
 pub returns-clause-clean : goal.returns-clause-clean
 returns-clause-clean c = c.clean.ensures (nodes_of c.args.hierarchy.now) c.explore-explored.ensures.weighing.sizes

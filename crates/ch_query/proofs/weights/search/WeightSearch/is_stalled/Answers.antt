@@ -22,7 +22,8 @@ index-requires c =
     let k = c.ranked_legs-leg-items.ensures.levelled in
     let n = node_of_rank H k c.args.rank c.requires.rank in
     let w = c.requires.weighing n.0 n.1 n.2 in
-    let items = subst (λ (s : Side). c.ranked_legs-leg-items.result.now ≡ map (ranked_leg H) (row (rows_of H s) n.0)) c.other.ensures (c.ranked_legs-leg-items.ensures.row n.0 n.1 n.2) in
+    let items = subst (λ (s : Side). c.ranked_legs-leg-items.result.now ≡ map (ranked_leg H) (row (rows_of H s) n.0))
+    c.other.ensures (c.ranked_legs-leg-items.ensures.row n.0 n.1 n.2) in
     let r = read_leg H k _ n.0 _ _ _ items c.loop-leg-test.true in
     let within = stall_within H c.args.side c.args.self.now n.0 c.args.weight w _ _ r.0 r.1 c.state.result c.state.ensures in
     omega arith
@@ -33,17 +34,22 @@ overflow_add-index c =
     let k = c.ranked_legs-leg-items.ensures.levelled in
     let n = node_of_rank H k c.args.rank c.requires.rank in
     let w = c.requires.weighing n.0 n.1 n.2 in
-    let items = subst (λ (s : Side). c.ranked_legs-leg-items.result.now ≡ map (ranked_leg H) (row (rows_of H s) n.0)) c.other.ensures (c.ranked_legs-leg-items.ensures.row n.0 n.1 n.2) in
+    let items = subst (λ (s : Side). c.ranked_legs-leg-items.result.now ≡ map (ranked_leg H) (row (rows_of H s) n.0))
+    c.other.ensures (c.ranked_legs-leg-items.ensures.row n.0 n.1 n.2) in
     let r = read_leg H k _ n.0 _ _ _ items c.loop-leg-test.true in
-    let small = stall_small H c.args.side c.args.self.now n.0 c.args.weight w _ _ r.0 r.1 c.state.result c.state.ensures c.index.result.now c.index.ensures in
-    let light = read_light H k _ n.0 c.ranked_legs-leg-items.result.now c.loop-leg.leg-index record { rank = 0; arcs = 0; weight = 0 } items c.loop-leg-test.true in
+    let small = stall_small H c.args.side c.args.self.now n.0 c.args.weight w _ _ r.0 r.1 c.state.result c.state.ensures
+    c.index.result.now c.index.ensures in
+    let light = read_light H k _ n.0 c.ranked_legs-leg-items.result.now c.loop-leg.leg-index
+    record { rank = 0; arcs = 0; weight = 0 } items c.loop-leg-test.true in
     omega arith
 
 pub returns-then-index-leg-clause-idle : goal.returns-then-index-leg-clause-idle
 returns-then-index-leg-clause-idle c _ v within rank =
     let H = c.args.hierarchy.now in
     let k = c.ranked_legs-leg-items.ensures.levelled in
-    let items = subst (λ (s : Side). c.ranked_legs-leg-items.result.now ≡ map (ranked_leg H) (row (rows_of H s) v)) c.other.ensures (c.ranked_legs-leg-items.ensures.row v within rank) in
+    let items = subst (λ (s : Side). c.ranked_legs-leg-items.result.now ≡ map (ranked_leg H) (row (rows_of H s) v)) c.other.ensures
+    (c.ranked_legs-leg-items.ensures.row v within rank) in
     let r = read_leg H k _ v _ _ _ items c.loop-leg-test.true in
-    stall_idle H c.args.side c.args.self.now v c.args.weight (c.requires.weighing v within rank) _ _ r.0 r.1 c.state.result c.state.ensures c.index.result.now c.index.ensures
+    stall_idle H c.args.side c.args.self.now v c.args.weight (c.requires.weighing v within rank) _ _ r.0 r.1 c.state.result
+    c.state.ensures c.index.result.now c.index.ensures
     c.if-index-leg.true

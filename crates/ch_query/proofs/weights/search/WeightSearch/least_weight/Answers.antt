@@ -10,7 +10,8 @@ returns-then-least-eq-UNREACHED-clause-least c =
     let i = c.loop.invariant in
     let e = c.advance.ensures in
     least_between c.args.hierarchy.now c.args.start c.args.end _ _ None (e.same.start ∙ i.start) (e.same.end ∙ i.end)
-    (none_known c.args.hierarchy.now c.requires.kept c.advance.new.self c.advance.new.least e.least (e.past c.loop-test.false) c.if-least-eq-UNREACHED.true)
+    (none_known c.args.hierarchy.now c.requires.kept c.advance.new.self c.advance.new.least e.least (e.past c.loop-test.false)
+    c.if-least-eq-UNREACHED.true)
 
 pub returns-clause-least : goal.returns-clause-least
 returns-clause-least c =
@@ -19,7 +20,8 @@ returns-clause-least c =
     let small = e.least.small in
     let away = c.if-least-eq-UNREACHED.false in
     least_between c.args.hierarchy.now c.args.start c.args.end _ _ (Some c.advance.new.least) (e.same.start ∙ i.start) (e.same.end ∙ i.end)
-    (least_known c.args.hierarchy.now c.requires.kept c.advance.new.self c.advance.new.least e.least (e.past c.loop-test.false) (omega arith))
+    (least_known c.args.hierarchy.now c.requires.kept c.advance.new.self c.advance.new.least e.least (e.past c.loop-test.false)
+    (omega arith))
 
 pub returns-then-least-eq-UNREACHED-clause-clean : goal.returns-then-least-eq-UNREACHED-clause-clean
 returns-then-least-eq-UNREACHED-clause-clean c =

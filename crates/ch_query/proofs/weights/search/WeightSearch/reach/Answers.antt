@@ -16,7 +16,8 @@ push_reserved-requires c =
     let lt = c.requires.state in
     let size = length-map c.args.self.now.known.items known_cost in
     let read = known_at c.args.self.now.known.items c.args.state c.index.result.now lt ∙ ap known_cost (sym c.index.ensures) in
-    let none : is_some (cost_at (map known_cost c.args.self.now.known.items) c.args.state) ≡ false = ap is_some (read ∙ no_cost_known _ c.if-index-eq-UNREACHED.true) in
+    let none : is_some (cost_at (map known_cost c.args.self.now.known.items) c.args.state) ≡ false =
+    ap is_some (read ∙ no_cost_known _ c.if-index-eq-UNREACHED.true) in
     room_left _ _ c.requires.touched c.args.state (omega arith) (weight_cost c.args.weight) none
 
 pub returns-clause-touched : goal.returns-clause-touched
@@ -29,10 +30,16 @@ returns-clause-touched c =
     let now = c.if-index-eq-UNREACHED.self in
     let touched : IsTouched (set (map known_cost now.known.items) c.args.state (Some (weight_cost c.args.weight))) now.touched =
     elim c.if-index-eq-UNREACHED.branch [
-      | then-index-eq-UNREACHED w ↦ subst (λ (q : WeightSearch). IsTouched (set (map known_cost q.known.items) c.args.state (Some (weight_cost c.args.weight))) q.touched) (sym w.self-is)
+      | then-index-eq-UNREACHED w ↦
+          subst (λ (q : WeightSearch). IsTouched
+          (set (map known_cost q.known.items) c.args.state (Some (weight_cost c.args.weight))) q.touched) (sym w.self-is)
           (touched_more _ _ c.requires.touched c.args.state within (weight_cost c.args.weight) w.push_reserved.new.self
-          (ap is_some (read ∙ no_cost_known _ w.if-index-eq-UNREACHED.true)) w.push_reserved.ensures.items w.push_reserved.ensures.len w.push_reserved.ensures.capacity)
-      | else-index-eq-UNREACHED w ↦ subst (λ (q : WeightSearch). IsTouched (set (map known_cost q.known.items) c.args.state (Some (weight_cost c.args.weight))) q.touched) (sym w.self-is)
-          (touched_same _ _ c.requires.touched c.args.state within (weight_cost c.args.weight) (ap is_some (read ∙ reached_cost _ w.if-index-eq-UNREACHED.false)))
+          (ap is_some (read ∙ no_cost_known _ w.if-index-eq-UNREACHED.true)) w.push_reserved.ensures.items
+          w.push_reserved.ensures.len w.push_reserved.ensures.capacity)
+      | else-index-eq-UNREACHED w ↦
+          subst (λ (q : WeightSearch). IsTouched
+          (set (map known_cost q.known.items) c.args.state (Some (weight_cost c.args.weight))) q.touched) (sym w.self-is)
+          (touched_same _ _ c.requires.touched c.args.state within (weight_cost c.args.weight)
+          (ap is_some (read ∙ reached_cost _ w.if-index-eq-UNREACHED.false)))
     ] in
     subst (λ costs. IsTouched costs now.touched) (sym (known_set now.known.items c.args.state c.args.weight c.requires.weight)) touched

@@ -5,4 +5,5 @@ use Rattle.ch_run.proofs.run.workers.RowTextsRowJob.add.Goals as goal
 
 pub returns : goal.returns
 returns c =
-    on_ok_weaker c.push_row.result (λ more sources rows same so_far. row_written sources rows c.args.source c.args.cells.now c.args.gathered.now.items c.push_row.new.text.items same so_far more) c.push_row.ensures
+    on_ok_weaker c.push_row.result (λ more sources rows same so_far. row_written sources rows c.args.source c.args.cells.now
+    c.args.gathered.now.items c.push_row.new.text.items same so_far more) c.push_row.ensures

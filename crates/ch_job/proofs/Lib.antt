@@ -1,0 +1,2 @@
+-- The lemmas on jobs with other files.
+pub mod Jobs

@@ -1,0 +1,37 @@
+//! The options of a run, and their limits.
+
+pub use ch_contract::OrderBy;
+use ch_graph::limits;
+pub use ch_near::Direction;
+
+/// The most legs of a witness.
+pub const MOST_HOPS: u32 = limits::MOST_HOPS;
+
+/// The greatest useful limit on the distances of tables and near rows: no distance is greater.
+pub const MOST_WITHIN: u64 = limits::MOST_WEIGHT;
+
+/// The greatest useful number of targets of a near row: no list of targets is longer.
+pub const MOST_COUNT: u32 = limits::MOST_LISTED as u32;
+
+/// The options of a run: how it answers queries, and makes tables and near rows.
+#[derive(Clone, Copy, Debug, PartialEq, Eq)]
+pub struct Options {
+    /// Whether distances come from rounds of relaxation over all arcs, and not from a hierarchy.
+    pub plain: bool,
+    /// Whether the arcs of a shortest path follow each distance.
+    pub routes: bool,
+    /// The most legs of a witness, from 1 to [`MOST_HOPS`].
+    pub hops: u32,
+    /// The order of contraction of a hierarchy that is saved, or that gives routes. Distances and tables
+    /// are the same in each order. The hierarchy is the same for every plan, also by rounds.
+    pub order: OrderBy,
+    /// The greatest distance that a table or a near row reports, if there is a limit. A cell with a
+    /// greater distance is as if there were no walk. A near row leaves out targets that are farther.
+    /// Answers to queries have no limit.
+    pub within: Option<u64>,
+    /// The most targets of a near row, from 1 to [`MOST_COUNT`], if there is a limit. Without one, a row
+    /// has all targets.
+    pub count: Option<u32>,
+    /// The direction of the distances of near rows.
+    pub direction: Direction,
+}

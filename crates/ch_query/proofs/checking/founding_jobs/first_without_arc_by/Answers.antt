@@ -1,7 +1,0 @@
--- The first number whose leg is no arc is the place of the first such leg of the list.
-use Rattle.ch_query.specs.Checking.{IsArcIfBase}
-use Rattle.ch_query.proofs.faults.Firsts.{listed}
-use Rattle.ch_query.proofs.checking.founding_jobs.first_without_arc_by.Goals as goal
-
-pub returns : goal.returns
-returns g c = rw c.place_of.ensures (listed (IsArcIfBase c.args.graph.now) c.args.legs.now c.in_ok-first.first c.in_ok-first.ensures)
