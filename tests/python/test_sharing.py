@@ -253,7 +253,11 @@ def test_what_is_broken_off_leaves_no_answer():
         time.sleep(0.5)
         assert wrong_tables(network, 5) == 0
         gc.collect()
-        # Descriptors may be lost where a pipe was just made; runs are not.
+        # Descriptors may be lost where a pipe was just made; runs are not. One that was broken off while it was started finds its input ended, but
+        # only after it has read its graph.
+        latest = time.monotonic() + PATIENCE
+        while children() > 1 and time.monotonic() < latest:
+            time.sleep(0.1)
         assert descriptors() <= held + 60 and children() <= 1, (descriptors(), held, children())
 
 

@@ -11,7 +11,7 @@ from typing import TYPE_CHECKING, Any
 
 from chtab import files
 from chtab.engine import answers, deadlines, forks
-from chtab.engine.child import Child, see_to
+from chtab.engine.child import Child, end_unused, see_to
 from chtab.engine.stamps import Stamps
 from chtab.errors import ChtabError, ProgramFault
 
@@ -97,6 +97,8 @@ class Run:
 
     def ask(self, question: answers.Question | None) -> Any:
         """Returns the value of the answer to a question; for None, waits until the child has loaded."""
+        # Ctrl-C may have broken off the end of a run that is no longer used.
+        end_unused()
         if self.child is not None and (self.child.is_busy or not self.child.is_open):
             self.child.close()
             self.child = None
