@@ -21,10 +21,8 @@ use Rattle.ch_run.specs.Text.{IsTextBy, writes_routes}
 use Rattle.ch_run.specs.Ask.{AreAnswered, IsRequestText, TextOf, TookAnswers, limit_of, places_after, places_then}
 use Rattle.ch_run.specs.declared.run.batch.Then.{Then}
 use Rattle.ch_run.specs.declared.run.batch.Then.TheVariants.{More, Nothing, Stop}
-use Rattle.ch_run.specs.declared.fault.Which.{Which}
 use Rattle.ch_run.specs.Serving.{AnswersInTurn, IsAfter, IsOfAnswering, WritesMore, asked_for, end_of, near_row_of, routes_for}
 use Rattle.ch_run.specs.Lists.{AreLists}
-use Rattle.ch_read.specs.declared.fault.ReadFault.{ReadFault}
 use Rattle.ch_read.specs.RequestLists.{PlaceList, TwoLists}
 use Rattle.ch_read.specs.Requests.{AreTwoLists}
 use Rattle.ch_run.proofs.Texts.{each_weaker}
@@ -134,24 +132,14 @@ module _ (IsTextOf : TextOf) {S : Type 0} (gives : S → List ℕ → Result ℕ
       (requests, [], text, h.0, sym (append-nil requests), is, h.1, h.2)
   written_answers places old new before after requests text (Err RunFault.Memory) is h =
       rw h ([], requests, refl, ([], answered_none IsTextOf places, took-none gives old))
-  written_answers places old new before after requests text (Err RunFault.Cells) is h = absurd h
-  written_answers places old new before after requests text (Err RunFault.Order) is h = absurd h
-  written_answers places old new before after requests text (Err (RunFault.CellsAt line)) is h = absurd h
-  written_answers places old new before after requests text (Err (RunFault.Device which)) is h = absurd h
-  written_answers places old new before after requests text (Err (RunFault.Read which f)) is h = absurd h
-  written_answers places old new before after requests text (Err (RunFault.Check f)) is h = absurd h
+  written_answers places old new before after requests text (Err _) is h = absurd h
 
   -- a failed write or a lack of memory is a fault of answering
   pub more_own : (T : Type 0) (old new : S) (before after : ℕ) (text : List ℕ) (e : RunFault) →
       WritesMore {T = T} gives old new before after text (Err e) → IsOfAnswering e
   more_own T old new before after text (RunFault.Write count) h = inl tt
   more_own T old new before after text RunFault.Memory h = inr refl
-  more_own T old new before after text RunFault.Cells h = absurd h
-  more_own T old new before after text RunFault.Order h = absurd h
-  more_own T old new before after text (RunFault.CellsAt line) h = absurd h
-  more_own T old new before after text (RunFault.Device which) h = absurd h
-  more_own T old new before after text (RunFault.Read which f) h = absurd h
-  more_own T old new before after text (RunFault.Check f) h = absurd h
+  more_own T old new before after text _ h = absurd h
 
   -- if answering ends in a lack of memory or a failed write, there may have been more requests
   answers_front : (places : PlaceList) (old new : S) (before after : ℕ) (xs ys : List Request) (e : RunFault) → IsOfAnswering e →
@@ -161,20 +149,8 @@ module _ (IsTextOf : TextOf) {S : Type 0} (gives : S → List ℕ → Result ℕ
       (h.0, h.1 ++ ys, ap (λ zs. zs ++ ys) h.2 ∙ append_assoc h.0 h.1 ys, h.3)
   answers_front places old new before after xs ys (RunFault.Write count) own h =
       (h.0, h.1 ++ ys, h.2, h.3, ap (λ zs. zs ++ ys) h.4 ∙ append_assoc h.0 h.1 ys, h.5, h.6, h.7)
-  answers_front places old new before after xs ys RunFault.Cells own h = absurd h
-  answers_front places old new before after xs ys RunFault.Order own h = absurd h
-  answers_front places old new before after xs ys (RunFault.CellsAt line) own h = not_own line own
-    where
-      not_own : {X : Type 0} (line : ℕ) → IsOfAnswering (RunFault.CellsAt line) → X
-      not_own line (inl w) = absurd w
-      not_own line (inr m) = cc
-  answers_front places old new before after xs ys (RunFault.Read which f) own h = not_own which f own
-    where
-      not_own : {X : Type 0} (which : Which) (f : ReadFault) → IsOfAnswering (RunFault.Read which f) → X
-      not_own which f (inl w) = absurd w
-      not_own which f (inr m) = cc
-  answers_front places old new before after xs ys (RunFault.Device which) own h = absurd h
-  answers_front places old new before after xs ys (RunFault.Check f) own h = absurd h
+  answers_front places old new before after xs ys _ (inl write) h = absurd write
+  answers_front places old new before after xs ys _ (inr memory) h = absurd (let none : ⊥ = cc in none)
 
   -- a fault that is passed on keeps the promise on the answered requests
   pub answers_passed : (places : PlaceList) (old new : S) (before after : ℕ) (xs ys : List Request) (e : RunFault)
@@ -225,10 +201,7 @@ module _ (IsTextOf : TextOf) {S : Type 0} (gives : S → List ℕ → Result ℕ
       took_append places old mid new before between xs ys h k
   answers_more places old mid new before between after xs ys (Err (RunFault.Read which f)) h k =
       (k.0, took_append places old mid new before between xs ys h k.1)
-  answers_more places old mid new before between after xs ys (Err RunFault.Cells) h k = absurd k
-  answers_more places old mid new before between after xs ys (Err RunFault.Order) h k = absurd k
-  answers_more places old mid new before between after xs ys (Err (RunFault.Device which)) h k = absurd k
-  answers_more places old mid new before between after xs ys (Err (RunFault.Check f)) h k = absurd k
+  answers_more places old mid new before between after xs ys (Err _) h k = absurd k
 
   -- no requests were asked for
   pub answers_none : (places : PlaceList) (old : S) (written : ℕ) → written < 2 ^ 64 →
@@ -252,12 +225,8 @@ module _ (IsTextOf : TextOf) {S : Type 0} (gives : S → List ℕ → Result ℕ
   answers_end places old new before after requests Nothing is h = h
   answers_end places old new before after requests (Stop RunFault.Memory) is h = (requests, [], sym (append-nil requests), (h.0, h.1, h.2))
   answers_end places old new before after requests (Stop (RunFault.CellsAt line)) is h = (h.0, h.1, h.2)
-  answers_end places old new before after requests (Stop RunFault.Cells) is h = absurd is
-  answers_end places old new before after requests (Stop RunFault.Order) is h = absurd is
   answers_end places old new before after requests (Stop (RunFault.Read which f)) is h = (is, (h.0, h.1, h.2))
-  answers_end places old new before after requests (Stop (RunFault.Write count)) is h = absurd is
-  answers_end places old new before after requests (Stop (RunFault.Device which)) is h = absurd is
-  answers_end places old new before after requests (Stop (RunFault.Check f)) is h = absurd is
+  answers_end places old new before after requests (Stop _) is h = absurd is
 
 -- the lists of a request are lists of a table
 pub lists_of : (n nodes : ℕ) (lists : TwoLists) (sources targets : List ℕ) → AreTwoLists n lists → nodes ≡ n →

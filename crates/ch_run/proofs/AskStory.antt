@@ -1,26 +1,25 @@
 -- What the story of a run that answers requests tells.
-use Rattle.std.proofs.Common.{◌≡◌, ◌⊎◌, ℕ, List, [], Option, Result, Ok, Err, inl, inr, refl, sym, ap, arith}
+use Rattle.std.proofs.Common.{◌≡◌, ◌⊎◌, ℕ, ◌+◌, List, [], Result, Ok, Err, inl, inr, refl, sym, ap, subst}
 use Rattle.std.specs.Prelude.{IfErr, IsErrAnd}
 use Rattle.std.proofs.lemmas.Result.{IfErr-weaker}
-use Rattle.ch_graph.specs.Graph.{Network}
-use Rattle.ch_hierarchy.specs.Hierarchy.{LevelsAndLegs}
 use Rattle.ch_text.proofs.Moves.{all-counts, fault-counts, gave-counts, took-counts, until-counts}
 use Rattle.ch_job.specs.Job.{source_map}
 use Rattle.ch_run.specs.declared.fault.RunFault.{RunFault}
 use Rattle.ch_run.specs.declared.fault.Which.{Which}
 use Rattle.ch_job.specs.declared.options.Options.{Options}
 use Rattle.ch_job.specs.declared.source.Source.{Source}
-use Rattle.ch_run.specs.Ask.{IsOfAsk, IsOfServing, IsRequestText, ReadsSome, Serves, ServesBy, TextOf, TookAnswers, no_places}
+use Rattle.ch_run.specs.Ask.{IsOfServing, ReadsSome, Serves, ServesBy, TextOf, TookAnswers, no_places}
 use Rattle.ch_read.specs.declared.request.Request.{Request}
-use Rattle.ch_run.specs.Run.{GoesPast, IsWrite, Reading, ReadsOnce, SourceReading, WritesOnce, reading}
-use Rattle.ch_run.specs.Source.{AreLoaded, IsOfLoading, IsServing, order_built, source_reading}
+use Rattle.ch_run.specs.Run.{IsWrite, Reading, ReadsOnce, SourceReading, WritesOnce, reading}
+use Rattle.ch_run.specs.Source.{IsOfLoading, source_reading}
 use Rattle.ch_run.specs.Stories.{RunsAsk}
 use Rattle.ch_run.specs.Told.{AskTells, Calls}
-use Rattle.ch_run.proofs.Counted.{failed_once, failed_one, unfailed}
-use Rattle.ch_run.proofs.Loading.{loading_memory, loading_no_write, loading_past}
+use Rattle.ch_run.proofs.Counted.{counted_once, failed_once, unfailed_once}
+use Rattle.ch_run.proofs.Inputs.{of_one}
+use Rattle.ch_run.proofs.Loading.{loading_memory, loading_no_write, of_no_write}
 use Rattle.ch_run.proofs.Owed.{unwritten_once, untouched_once}
-use Rattle.ch_run.proofs.Served.{serving_past}
-use Rattle.ch_run.proofs.Tells.{CountsCalls, CountsReads, err_of, err_own, err_past, is_err, loads_elim, loads_graph, loads_source}
+use Rattle.ch_run.proofs.Tells.{CountsCalls, CountsReads, IsLater, StopsIn, err_of, err_own, is_err, loading_past, loads_elim, loads_graph}
+use Rattle.ch_run.proofs.Tells.{loads_source}
 
 -- a run that serves requests ends only in a fault of serving them
 pub serves_own : {T S : Type 0} (IsTextOf : TextOf) (takes : Calls S) (n : ℕ) (requests : Reading) (old new : S)
@@ -31,40 +30,30 @@ serves_own IsTextOf takes n requests old new (Err (RunFault.CellsAt line)) h = i
 serves_own IsTextOf takes n requests old new (Err RunFault.Memory) h = inl tt
 serves_own IsTextOf takes n requests old new (Err (RunFault.Device which)) h = inl (sym h.0)
 serves_own IsTextOf takes n requests old new (Err (RunFault.Write count)) h = inr tt
-serves_own IsTextOf takes n requests old new (Err RunFault.Cells) h = absurd h
-serves_own IsTextOf takes n requests old new (Err RunFault.Order) h = absurd h
-serves_own IsTextOf takes n requests old new (Err (RunFault.Check f)) h = absurd h
-
--- a failed read of the requests is reported exactly if there was one
-
-not_failed : {T J : Type 0} (r : Result T RunFault) (failed : J → ℕ) (old new : J) →
-    (r ≡ Err (RunFault.Device Which.Requests) → ⊥) → failed new ≡ failed old → ReadsOnce Which.Requests r failed old new
-not_failed r failed old new other same = record { device = (λ is. absurd (other is), λ less. absurd (omega arith)); once = inl same }
+serves_own IsTextOf takes n requests old new (Err _) h = absurd h
 
 some_counts : {J : Type 0} (gives : Calls J) (failed : J → ℕ) (counts : CountsReads gives failed) (old new : J)
     (P : List ℕ → List ℕ → Type 0) → ReadsSome (reading gives old new) P → failed new ≡ failed old
 some_counts gives failed counts old new P (read, inl (some, p)) = gave-counts gives failed counts old read new some
 some_counts gives failed counts old new P (read, inr (all, p)) = all-counts gives failed counts old read new all
 
-pub serves_requests : {T J S : Type 0} (IsTextOf : TextOf) (takes : Calls S) (n : ℕ) (gives : Calls J) (failed : J → ℕ)
-    (counts : CountsReads gives failed) (requests requests' : J) (old new : S) (r : Result T RunFault) →
-    Serves IsTextOf takes n (reading gives requests requests') old new r → ReadsOnce Which.Requests r failed requests requests'
-serves_requests IsTextOf takes n gives failed counts requests requests' old new (Ok x) h =
-    not_failed (Ok x) failed requests requests' (λ is. cc) (all-counts gives failed counts requests h.0 requests' h.1)
-serves_requests IsTextOf takes n gives failed counts requests requests' old new (Err (RunFault.Read which f)) h =
-    not_failed (Err (RunFault.Read which f)) failed requests requests' (λ is. cc) (some_counts gives failed counts requests requests' _ h.1)
-serves_requests IsTextOf takes n gives failed counts requests requests' old new (Err (RunFault.CellsAt line)) h = not_failed
-    (Err (RunFault.CellsAt line)) failed requests requests' (λ is. cc) (some_counts gives failed counts requests requests' _ h)
-serves_requests IsTextOf takes n gives failed counts requests requests' old new (Err RunFault.Memory) h = not_failed
-    (Err RunFault.Memory) failed requests requests' (λ is. cc) (some_counts gives failed counts requests requests' _ h)
-serves_requests IsTextOf takes n gives failed counts requests requests' old new (Err (RunFault.Write count)) h = not_failed
-    (Err (RunFault.Write count)) failed requests requests' (λ is. cc) (some_counts gives failed counts requests requests' _ h)
-serves_requests IsTextOf takes n gives failed counts requests requests' old new (Err (RunFault.Device which)) h =
-    let more = until-counts gives failed counts requests h.1 requests' h.2 in
-    record { device = (λ is. omega arith, λ less. ap (λ (w : Which). Err (RunFault.Device w)) h.0); once = inr more }
-serves_requests IsTextOf takes n gives failed counts requests requests' old new (Err RunFault.Cells) h = absurd h
-serves_requests IsTextOf takes n gives failed counts requests requests' old new (Err RunFault.Order) h = absurd h
-serves_requests IsTextOf takes n gives failed counts requests requests' old new (Err (RunFault.Check f)) h = absurd h
+-- a failed read of the requests is reported exactly if there was one
+module _ {J : Type 0} (gives : Calls J) (failed : J → ℕ) (counts : CountsReads gives failed) (requests requests' : J) where
+  pub serves_requests : {T S : Type 0} (IsTextOf : TextOf) (takes : Calls S) (n : ℕ) (old new : S) (r : Result T RunFault) →
+      Serves IsTextOf takes n (reading gives requests requests') old new r → ReadsOnce Which.Requests r failed requests requests'
+  serves_requests {T} IsTextOf takes n old new r h = counted_once r Which.Requests failed requests requests' (at r h)
+    where
+      at : (r : Result T RunFault) → Serves IsTextOf takes n (reading gives requests requests') old new r →
+          ((r ≡ Err (RunFault.Device Which.Requests)) × (failed requests' ≡ failed requests + 1))
+          ⊎ ((r ≡ Err (RunFault.Device Which.Requests) → ⊥) × (failed requests' ≡ failed requests))
+      at (Ok x) h = inr (λ is. cc, all-counts gives failed counts requests h.0 requests' h.1)
+      at (Err (RunFault.Read which f)) h = inr (λ is. cc, some_counts gives failed counts requests requests' _ h.1)
+      at (Err (RunFault.CellsAt line)) h = inr (λ is. cc, some_counts gives failed counts requests requests' _ h)
+      at (Err RunFault.Memory) h = inr (λ is. cc, some_counts gives failed counts requests requests' _ h)
+      at (Err (RunFault.Write count)) h = inr (λ is. cc, some_counts gives failed counts requests requests' _ h)
+      at (Err (RunFault.Device which)) h =
+          inl (ap (λ (w : Which). Err (RunFault.Device w)) h.0, until-counts gives failed counts requests h.1 requests' h.2)
+      at (Err _) h = absurd h
 
 -- a failed write is reported exactly if there was one
 
@@ -77,8 +66,7 @@ module _ {S : Type 0} (IsTextOf : TextOf) (takes : Calls S) (failed idle : S →
   answered_once : {T : Type 0} (r : Result T RunFault) (given : List Request) → (IsErrAnd r IsWrite → ⊥) →
       TookAnswers IsTextOf takes no_places old new given → WritesOnce r failed idle old new
   answered_once r given other took =
-      let same = took-counts takes failed idle counts old took.0 [] new took.2 in
-      record { device = (λ is. absurd (other is), λ any. absurd (unfailed _ _ _ _ same any)); once = inl (inl same.0, same.1) }
+      unfailed_once r failed idle old new other (took-counts takes failed idle counts old took.0 [] new took.2)
 
   pub serves_output : {T : Type 0} (n : ℕ) (requests : Reading) (r : Result T RunFault) →
       Serves IsTextOf takes n requests old new r → WritesOnce r failed idle old new
@@ -89,38 +77,30 @@ module _ {S : Type 0} (IsTextOf : TextOf) (takes : Calls S) (failed idle : S →
       answered_once (Err (RunFault.CellsAt line)) _ (λ is. is) (some_any requests _ h).2.1
   serves_output n requests (Err RunFault.Memory) h = answered_once (Err RunFault.Memory) _ (λ is. is) (some_any requests _ h).2.3
   serves_output n requests (Err (RunFault.Device which)) h = answered_once (Err (RunFault.Device which)) _ (λ is. is) h.3
-  serves_output n requests (Err (RunFault.Write count)) h =
-      let took = (some_any requests _ h).2 in
-      let one = fault-counts takes failed idle counts old took.2 took.3 new took.6 in
-      record { device = (λ is. failed_one _ _ _ _ one, λ any. tt); once = failed_once _ _ _ _ one }
-  serves_output n requests (Err RunFault.Cells) h = absurd h
-  serves_output n requests (Err RunFault.Order) h = absurd h
-  serves_output n requests (Err (RunFault.Check f)) h = absurd h
+  serves_output n requests (Err (RunFault.Write count)) h = let took = (some_any requests _ h).2 in
+      failed_once (Err (RunFault.Write count)) failed idle old new tt (fault-counts takes failed idle counts old took.2 took.3 new took.6)
+  serves_output n requests (Err _) h = absurd h
 
-module _ {T O : Type 0} (options : Options) (g : Network) (h : Option LevelsAndLegs) (requests : Reading) (same_requests : Type 0)
-    (takes : Calls O) (old new : O) (r : Result T RunFault) where
-  -- what it does after it has loaded
-  abbrev pub Serving : Type 0
-  Serving = ((r ≡ Err RunFault.Memory) × same_requests × (new ≡ old))
-      ⊎ Serves (IsRequestText options g (IsServing (order_built options) options.hops g h)) takes g.nodes requests old new r
-
-  serving_goes_past : (which : Which) → (which ≡ Which.Requests → ⊥) → Serving → GoesPast which r
-  serving_goes_past which not (inl (is, same, at)) = rw is (λ stops. stops.1 refl)
-  serving_goes_past which not (inr served) = serving_past r which not (serves_own _ takes g.nodes requests old new r served)
+-- a run that has loaded stops at the requests alone
+serving_in : {T O : Type 0} (IsTextOf : TextOf) (takes : Calls O) (n : ℕ) (requests : Reading) (old new : O) (r : Result T RunFault)
+    (same still : Type 0) → ((r ≡ Err RunFault.Memory) × same × still) ⊎ Serves IsTextOf takes n requests old new r → StopsIn IsLater r
+serving_in IsTextOf takes n requests old new r same still (inl (is, at, on)) = rw is (λ which stops. absurd (stops.1 refl))
+serving_in IsTextOf takes n requests old new r same still (inr served) =
+    IfErr-weaker r IsOfServing _ (λ e own which stops. elim own [
+      | inl of ↦ subst IsLater (sym (of_one Which.Requests which e of stops)) (λ k. k)
+      | inr write ↦ absurd (of_no_write which e stops.0 write)
+    ]) (serves_own IsTextOf takes n requests old new r served)
 
 -- no memory, or the requests were served
 pub ask_served : {T O : Type 0} (options : Options) (graph : Reading) (saved : SourceReading) (requests : Reading)
     {same_saved same_requests : Type 0} (takes : Calls O) {old new : O} (r : Result T RunFault) →
     RunsAsk options graph saved requests same_saved same_requests takes old new r →
     (IsErrAnd r (IsOfLoading saved) × same_requests × (new ≡ old)) ⊎ ServesBy options graph saved requests takes old new r
-ask_served {T} {O} options graph saved requests {same_saved} {same_requests} takes {old} {new} r went =
-    loads_elim r graph _ _ _ saved _ went (λ own at. inl (own, at.0, at.1)) (λ g h loaded serving. at g h loaded serving)
-  where
-    at : (g : Network) (h : Option LevelsAndLegs) → AreLoaded graph saved g h →
-        Serving options g h requests same_requests takes old new r → (IsErrAnd r (IsOfLoading saved) × same_requests × (new ≡ old))
-        ⊎ ServesBy options graph saved requests takes old new r
-    at g h loaded (inl (is, same, still)) = inl (rw is (loading_memory saved), same, still)
-    at g h loaded (inr served) = inr (g, h, loaded, served)
+ask_served options graph saved requests takes r went =
+    loads_elim r graph _ _ _ saved _ went (λ own at. inl (own, at.0, at.1)) (λ g h loaded serving. elim serving [
+      | inl none ↦ inl (rw none.0 (loading_memory saved), none.1, none.2)
+      | inr served ↦ inr (g, h, loaded, served)
+    ])
 
 pub ask_tells : {T I S J O : Type 0} (options : Options) (graph_gives : Calls I) (graph_failed : I → ℕ)
     (graph_counts : CountsReads graph_gives graph_failed) (graph graph' : I)
@@ -134,52 +114,32 @@ pub ask_tells : {T I S J O : Type 0} (options : Options) (graph_gives : Calls I)
     (reading requests_gives requests requests') (source' ≡ source) (requests' ≡ requests) takes old new r →
     AskTells graph_gives graph_failed graph graph' saved_gives saved_failed source source' requests_failed requests requests' failed
     idle old new r
-ask_tells {T} {I} {S} {J} {O} options graph_gives graph_failed graph_counts graph graph' saved_gives saved_failed saved_counts
-    origin source source' requests_gives requests_failed requests_counts requests requests' takes failed idle counts old new r same went =
+ask_tells options graph_gives graph_failed graph_counts graph graph' saved_gives saved_failed saved_counts origin source source'
+    requests_gives requests_failed requests_counts requests requests' takes failed idle counts old new r same went =
     let loading = reading graph_gives graph graph' in
     let saved = source_reading saved_gives source source' in
     let asked = reading requests_gives requests requests' in
     record {
-      own = loads_elim r loading _ _ _ saved _ went (λ own at. err_own r _ _ own (λ e is. inl is))
-          (λ g h loaded serving. own_at g h serving);
-      graph = loads_graph r graph_gives graph_failed graph_counts graph graph' saved _ _ _ went (λ g h serving.
-          serving_goes_past options g h asked (requests' ≡ requests) takes old new r Which.Graph (λ is. cc) serving);
-      source = loads_source r loading saved_gives saved_failed saved_counts _ _
-          (λ g h serving. (
-            serving_goes_past options g h asked (requests' ≡ requests) takes old new r Which.Graph (λ is. cc)
-                serving,
-            serving_goes_past options g h asked (requests' ≡ requests) takes old new r Which.Saved (λ is. cc) serving,
-            serving_goes_past options g h asked (requests' ≡ requests) takes old new r Which.Order (λ is. cc) serving,
-          ))
+      own = loads_elim r loading _ _ _ saved _ went (λ own at. err_own r _ _ own (λ e is. inl is)) (λ g h loaded serving. elim serving [
+        | inl none ↦ rw none.0 (inr (inl tt))
+        | inr served ↦ IfErr-weaker r IsOfServing _ (λ e own. inr own) (serves_own _ takes g.nodes asked old new r served)
+      ]);
+      graph = loads_graph r graph_gives graph_failed graph_counts graph graph' saved _ _ _ went
+          (λ g h. serving_in _ takes g.nodes asked old new r _ _);
+      source = loads_source r loading saved_gives saved_failed saved_counts _ _ (λ g h. serving_in _ takes g.nodes asked old new r _ _)
           origin source source' same went;
       requests = loads_elim r loading _ _ _ saved _ went
-          (λ own at. unread at.0 (err_past r _ Which.Requests own
-          (λ e is. loading_past saved e is Which.Requests (λ k. cc) (λ k. cc) (λ k. cc))))
-          (λ g h loaded serving. requests_at g h serving);
-      output = loads_elim r loading _ _ _ saved _ went (λ own at. let met = err_of r _ own in unwritten_here at.1 met.0 met.1
-          (loading_no_write saved met.0 met.2)) (λ g h loaded serving. output_at g h serving);
+          (λ own at. rw at.0 (untouched_once Which.Requests r requests_failed requests (loading_past r saved Which.Requests (λ k. k) own)))
+          (λ g h loaded serving. elim serving [
+            | inl none ↦ rw none.1 (untouched_once Which.Requests r requests_failed requests (rw none.0 (λ stops. stops.1 refl)))
+            | inr served ↦
+                serves_requests requests_gives requests_failed requests_counts requests requests' _ takes g.nodes old new r served
+          ]);
+      output = loads_elim r loading _ _ _ saved _ went
+          (λ own at. let met = err_of r _ own in
+          rw at.1 (unwritten_once r met.0 (is_err r met.0 met.1) (loading_no_write saved met.0 met.2) failed idle old))
+          (λ g h loaded serving. elim serving [
+            | inl none ↦ rw none.2 (unwritten_once r RunFault.Memory (is_err r RunFault.Memory none.0) (λ write. write) failed idle old)
+            | inr served ↦ serves_output _ takes failed idle counts old new g.nodes asked r served
+          ]);
     }
-  where
-    unread : requests' ≡ requests → GoesPast Which.Requests r → ReadsOnce Which.Requests r requests_failed requests requests'
-    unread still past = rw still (untouched_once Which.Requests r requests_failed requests past)
-
-    unwritten_here : new ≡ old → (e : RunFault) → r ≡ Err e → (IsWrite e → ⊥) → WritesOnce r failed idle old new
-    unwritten_here still e is other = rw still (unwritten_once r e (is_err r e is) other failed idle old)
-
-    own_at : (g : Network) (h : Option LevelsAndLegs) → Serving options g h (reading requests_gives requests requests')
-        (requests' ≡ requests) takes old new r → IfErr r (IsOfAsk (source_reading saved_gives source source'))
-    own_at g h (inl (is, still, at)) = rw is (inr (inl tt))
-    own_at g h (inr served) = IfErr-weaker r IsOfServing _ (λ e own. inr own)
-        (serves_own _ takes g.nodes (reading requests_gives requests requests') old new r served)
-
-    requests_at : (g : Network) (h : Option LevelsAndLegs) → Serving options g h (reading requests_gives requests requests')
-        (requests' ≡ requests) takes old new r → ReadsOnce Which.Requests r requests_failed requests requests'
-    requests_at g h (inl (is, still, at)) = unread still (rw is (λ stops. stops.1 refl))
-    requests_at g h (inr served) =
-        serves_requests _ takes g.nodes requests_gives requests_failed requests_counts requests requests' old new r served
-
-    output_at : (g : Network) (h : Option LevelsAndLegs) → Serving options g h (reading requests_gives requests requests')
-        (requests' ≡ requests) takes old new r → WritesOnce r failed idle old new
-    output_at g h (inl (is, still, at)) = unwritten_here at RunFault.Memory is (λ write. write)
-    output_at g h (inr served) =
-        serves_output _ takes failed idle counts old new g.nodes (reading requests_gives requests requests') r served

@@ -6,11 +6,7 @@ use Rattle.ch_run.specs.Run.{IsOf, StopsAt}
 
 -- a fault that stops a run belongs to one input
 pub of_one : (which other : Which) (fault : RunFault) → IsOf which fault → StopsAt other fault → other ≡ which
-of_one which other (RunFault.Read input f) h k = k.0 ∙ sym h
 of_one which other RunFault.Memory h k = absurd (k.1 refl)
-of_one which other (RunFault.Device input) h k = k.0 ∙ sym h
 of_one which other RunFault.Cells h k = absurd h
-of_one which other RunFault.Order h k = k.0 ∙ sym h
-of_one which other (RunFault.CellsAt line) h k = k.0 ∙ sym h
 of_one which other (RunFault.Write count) h k = absurd h
-of_one which other (RunFault.Check f) h k = k.0 ∙ sym h
+of_one which other _ h k = k.0 ∙ sym h

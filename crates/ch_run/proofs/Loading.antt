@@ -1,6 +1,6 @@
 -- The graph that was loaded, and the hierarchy that was saved or built like an order, if there is one.
 use Rattle.std.proofs.Common.{◌≡◌, ℕ, Bool, true, false, List, Option, Some, None, refl, sym, ap, subst, inl, inr}
-use Rattle.std.specs.Prelude.{Result, Ok, Err, IfOk}
+use Rattle.std.specs.Prelude.{Result, Ok, Err, IfOk, ⊤}
 use Rattle.ch_hierarchy.specs.Kept.{IsKept}
 use Rattle.ch_hierarchy.specs.Saved.{IsOrderOf}
 use Rattle.ch_contract.specs.declared.measure.OrderBy.TheVariants.{Depth}
@@ -14,9 +14,8 @@ use Rattle.ch_graph.specs.Saved.{OrderAndLegs}
 use Rattle.ch_hierarchy.specs.Hierarchy.{LevelsAndLegs}
 use Rattle.ch_run.specs.declared.fault.RunFault.{RunFault}
 use Rattle.ch_run.specs.declared.fault.Which.{Which}
-use Rattle.ch_run.specs.Run.{IsOf, IsWrite, Reading, ReadsGraph, StopsAt, SourceReading, NoFile, SavedFile, OrderFile}
+use Rattle.ch_run.specs.Run.{IsOf, IsWrite, Reading, ReadsGraph, SourceReading, NoFile, SavedFile, OrderFile}
 use Rattle.ch_run.specs.Source.{AreBuiltLike, AreChecked, AreLoaded, IsInPlaceOf, IsOfLoading, WithLoaded}
-use Rattle.ch_run.proofs.Inputs.{of_one}
 
 -- a hierarchy that is right for the graph serves in its own place
 pub own_place : (named : Bool) (g : Network) (H K : LevelsAndLegs) → K ≡ H → IsKept g H → IsInPlaceOf named g (Some H) (Some K)
@@ -40,16 +39,20 @@ module _ (g : Network) (hops : ℕ) (given : List ℕ) (fresh : ℕ) where
       (H.0, H.1, from_kept Depth g hops _ H.0 limits bound H.1, subst (λ b. IsInPlaceOf b g (Some H.0) (Some K)) (sym unnamed) (refl, kept))
   built_in_its_place named (Err e) unnamed bound limits each kept = tt
 
+-- the inputs that loading reads
+abbrev pub IsEarly : Which → Type 0
+IsEarly Which.Graph = ⊤
+IsEarly Which.Saved = ⊤
+IsEarly Which.Order = ⊤
+IsEarly _ = ⊥
+
 -- a fault of loading belongs to the graph, to the saved hierarchy or to the order
-pub loading_past : (source : SourceReading) (e : RunFault) → IsOfLoading source e → (which : Which) → (which ≡ Which.Graph → ⊥) →
-    (which ≡ Which.Saved → ⊥) → (which ≡ Which.Order → ⊥) → StopsAt which e → ⊥
-loading_past NoFile e own which not_graph not_saved not_order stops = not_graph (of_one Which.Graph which e own stops)
-loading_past (SavedFile saved) e (inl own) which not_graph not_saved not_order stops = not_graph (of_one Which.Graph which e own stops)
-loading_past (SavedFile saved) e (inr own) which not_graph not_saved not_order stops = not_saved (of_one Which.Saved which e own stops)
-loading_past (OrderFile order fresh hops) e (inl own) which not_graph not_saved not_order stops =
-    not_graph (of_one Which.Graph which e own stops)
-loading_past (OrderFile order fresh hops) e (inr own) which not_graph not_saved not_order stops =
-    not_order (of_one Which.Order which e own stops)
+pub loading_of : (source : SourceReading) (e : RunFault) → IsOfLoading source e → (which : Which) × IsEarly which × IsOf which e
+loading_of NoFile e own = (Which.Graph, tt, own)
+loading_of (SavedFile saved) e (inl own) = (Which.Graph, tt, own)
+loading_of (SavedFile saved) e (inr own) = (Which.Saved, tt, own)
+loading_of (OrderFile order fresh hops) e (inl own) = (Which.Graph, tt, own)
+loading_of (OrderFile order fresh hops) e (inr own) = (Which.Order, tt, own)
 
 -- the loaded graph, without a saved hierarchy
 pub built : (graph : Reading) (P : Network → Option LevelsAndLegs → Type 0) → WithLoaded graph NoFile P →
@@ -80,32 +83,14 @@ built_like graph order fresh hops P t = at t.1 t.2 t.3
 -- a fault of an input is no failed write
 pub of_no_write : (which : Which) (e : RunFault) → IsOf which e → IsWrite e → ⊥
 of_no_write which (RunFault.Write count) own write = own
-of_no_write which (RunFault.Read input f) own write = write
-of_no_write which RunFault.Cells own write = write
-of_no_write which RunFault.Order own write = write
-of_no_write which (RunFault.CellsAt line) own write = write
-of_no_write which RunFault.Memory own write = write
-of_no_write which (RunFault.Device input) own write = write
-of_no_write which (RunFault.Check f) own write = write
+of_no_write which _ own write = write
 
--- a fault of loading is no failed write
+-- nor is a fault of loading
 pub loading_no_write : (source : SourceReading) (e : RunFault) → IsOfLoading source e → IsWrite e → ⊥
-loading_no_write NoFile e own = of_no_write Which.Graph e own
-loading_no_write (SavedFile saved) e (inl own) = of_no_write Which.Graph e own
-loading_no_write (SavedFile saved) e (inr own) = of_no_write Which.Saved e own
-loading_no_write (OrderFile order fresh hops) e (inl own) = of_no_write Which.Graph e own
-loading_no_write (OrderFile order fresh hops) e (inr own) = of_no_write Which.Order e own
+loading_no_write source e own = let of = loading_of source e own in of_no_write of.0 e of.2
 
 -- loading can end in a lack of memory
 pub loading_memory : (source : SourceReading) → IsOfLoading source RunFault.Memory
 loading_memory NoFile = tt
 loading_memory (SavedFile saved) = inl tt
 loading_memory (OrderFile order fresh hops) = inl tt
-
--- loading ends in no fault of cells
-pub loading_no_cells : (source : SourceReading) → IsOfLoading source RunFault.Cells → ⊥
-loading_no_cells NoFile own = own
-loading_no_cells (SavedFile saved) (inl own) = own
-loading_no_cells (SavedFile saved) (inr own) = own
-loading_no_cells (OrderFile order fresh hops) (inl own) = own
-loading_no_cells (OrderFile order fresh hops) (inr own) = own

@@ -1,5 +1,5 @@
 -- The promises on devices, at each end of a run.
-use Rattle.std.proofs.Common.{◌≡◌, ◌⊎◌, ℕ, ◌<◌, List, inl, inr, refl, sym, ap, ◌∙◌, subst, arith}
+use Rattle.std.proofs.Common.{◌≡◌, ℕ, List, inl, inr, refl, sym, ap, ◌∙◌, subst}
 use Rattle.std.specs.Prelude.{Result, Ok, Err, IfErr, IsErrAnd}
 use Rattle.ch_read.specs.declared.fault.ReadFault.{ReadFault}
 use Rattle.ch_hierarchy.specs.declared.fault.CheckFault.{CheckFault}
@@ -8,7 +8,8 @@ use Rattle.ch_run.specs.declared.fault.RunFault.{RunFault}
 use Rattle.ch_run.specs.declared.fault.Which.{Which}
 use Rattle.ch_job.specs.declared.sources.Sources.{Sources}
 use Rattle.ch_run.specs.NearRun.{ReadsSources}
-use Rattle.ch_run.specs.Run.{Delivers, GoesPast, IsWrite, Reading, ReadsOrRefuses, ReadsAfter, ReadsOnce, StopsAt, WritesAfter, WritesOnce}
+use Rattle.ch_run.specs.Run.{Delivers, GoesPast, IsWrite, Reading, ReadsAfter, ReadsOnce, StopsAt, WritesAfter, WritesOnce}
+use Rattle.ch_run.proofs.Counted.{counted_once, unfailed_once}
 use Rattle.ch_run.proofs.Writes.{ends_in}
 
 -- if a fault is passed on, the run ends in it
@@ -34,30 +35,21 @@ pub no_end : {T : Type 0} (which : Which) (r : Result T RunFault) (fault : RunFa
     r ≡ Err fault → ⊥
 no_end which r fault past stops same = ends_in r (λ f. StopsAt which f → ⊥) fault past same stops
 
-not_below : {n : ℕ} → n < n → ⊥
-not_below less = omega arith
-
 -- a run that goes past an input and does not touch it keeps the promise on it
 module _ {T I : Type 0} (which : Which) (r : Result T RunFault) (failed : I → ℕ) (x : I) (past : GoesPast which r) where
   pub untouched_once : ReadsOnce which r failed x x
-  untouched_once = record {
-    device =
-        (λ same. absurd (no_end which r (RunFault.Device which) past (stops_device which) same), λ less. absurd (not_below less));
-    once = inl refl;
-  }
-
-  pub untouched : (gives : I → List ℕ → Result ℕ DeviceFault → I → Type 0) (IsRefused : Reading → ReadFault → Type 0) →
-      ReadsOrRefuses which r gives failed x x IsRefused
-  untouched gives IsRefused =
-      record {
-        refused = λ fault same. absurd (no_end which r (RunFault.Read which fault) past (stops_read which fault) same);
-        once = untouched_once;
-      }
+  untouched_once = counted_once r which failed x x (inr (no_end which r (RunFault.Device which) past (stops_device which), refl))
 
   pub untouched_after : (earlier : List Which) (accepted : Type 0) (gives : I → List ℕ → Result ℕ DeviceFault → I → Type 0)
       (IsRefused : Reading → ReadFault → Type 0) →
       ReadsAfter earlier accepted which r gives failed x x IsRefused
-  untouched_after earlier accepted gives IsRefused = record { reads = untouched gives IsRefused; unread = inl refl }
+  untouched_after earlier accepted gives IsRefused = record {
+    reads = record {
+      refused = λ fault same. absurd (no_end which r (RunFault.Read which fault) past (stops_read which fault) same);
+      once = untouched_once;
+    };
+    unread = inl refl;
+  }
 
 -- a run that does not touch a list of sources keeps the promise on it
 pub untouched_sources : {T J : Type 0} (earlier : List Which) (accepted : Type 0) (r : Result T RunFault)
@@ -75,12 +67,7 @@ no_write (Err y) e is other met = other (subst IsWrite is met)
 -- a run without a failed write keeps the promise on an output that it did not touch
 pub unwritten_once : {T O : Type 0} (r : Result T RunFault) (e : RunFault) → IsErrAnd r (λ y. y ≡ e) → (IsWrite e → ⊥) →
     (failed idle : O → ℕ) (x : O) → WritesOnce r failed idle x x
-unwritten_once r e is other failed idle x =
-    record { device = (λ met. absurd (no_write r e is other met), none); once = inl (inl refl, refl) }
-  where
-    none : (failed x < failed x) ⊎ (idle x < idle x) → IsErrAnd r IsWrite
-    none (inl less) = absurd (not_below less)
-    none (inr less) = absurd (not_below less)
+unwritten_once r e is other failed idle x = unfailed_once r failed idle x x (no_write r e is other) (refl, refl)
 
 pub unwritten : {T O : Type 0} (r : Result T RunFault) (e : RunFault) → IsErrAnd r (λ y. y ≡ e) → (IsWrite e → ⊥) →
     (accepted : Type 0) (failed idle : O → ℕ) (x : O) → WritesAfter accepted r failed idle x x

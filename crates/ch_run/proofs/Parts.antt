@@ -89,9 +89,4 @@ module _ (parts : List (Vec ℕ Global)) (i : ℕ) (d : Vec ℕ Global) (within 
       let exact : n ≡ length (bytes_of (take i parts)) + wrote.0 = omega arith in
       rw is (bytes_of parts, refl, subst (λ k. TookUntilFault gives old (bytes_of parts) k new) (sym exact) found)
   part_failed gives old mid new before after RunFault.Memory (Err y) fits so_far count wrote own is = absurd own
-  part_failed gives old mid new before after RunFault.Cells (Err y) fits so_far count wrote own is = absurd wrote
-  part_failed gives old mid new before after RunFault.Order (Err y) fits so_far count wrote own is = absurd wrote
-  part_failed gives old mid new before after (RunFault.CellsAt line) (Err y) fits so_far count wrote own is = absurd wrote
-  part_failed gives old mid new before after (RunFault.Read which f) (Err y) fits so_far count wrote own is = absurd wrote
-  part_failed gives old mid new before after (RunFault.Check f) (Err y) fits so_far count wrote own is = absurd wrote
-  part_failed gives old mid new before after (RunFault.Device which) (Err y) fits so_far count wrote own is = absurd wrote
+  part_failed gives old mid new before after _ (Err y) fits so_far count wrote own is = absurd wrote

@@ -1,7 +1,7 @@
 -- Requests that are read and answered as they come.
-use Rattle.std.proofs.Common.{◌≡◌, ℕ, zero, suc, ◌<◌, ◌≤◌, ◌==◌, Bool, true, false, not, List, [], ◌∷◌, ◌++◌, length, take, Option}
+use Rattle.std.proofs.Common.{◌≡◌, ℕ, zero, suc, ◌<◌, ◌≤◌, ◌==◌, Bool, true, false, List, [], ◌∷◌, ◌++◌, length, take, Option}
 use Rattle.std.proofs.Common.{Some, None, Result, Ok, Err, inl, inr, refl, sym, ap, ◌∙◌, subst, arith, append_assoc}
-use Rattle.std.specs.Prelude.{IfErr, IsErrAnd, OnOk, is_ok, is_err, if◌then◌else◌}
+use Rattle.std.specs.Prelude.{IsErrAnd, OnOk, is_ok, is_err, if◌then◌else◌}
 use Rattle.std.proofs.lemmas.Bool.{eqb-true}
 use Rattle.std.proofs.lemmas.List.{append-nil}
 use Rattle.ch_read.specs.declared.request.Request.{Request}
@@ -20,8 +20,8 @@ use Rattle.ch_run.specs.declared.fault.Which.{Which}
 use Rattle.ch_text.specs.Moves.{Gave, GaveAll}
 use Rattle.ch_text.specs.declared.device.DeviceFault.{DeviceFault}
 use Rattle.ch_text.proofs.Moves.{gave-more, took-none}
-use Rattle.ch_run.specs.Run.{GoesPast, Reading, IsWrite, StopsAt, reading}
-use Rattle.ch_run.specs.Ask.{AreAnswered, IsOfServing, IsRequestText, IsTextOfRequest, ReadsSome, Serves, TellsThen, TextOf}
+use Rattle.ch_run.specs.Run.{Reading, IsWrite, reading}
+use Rattle.ch_run.specs.Ask.{AreAnswered, IsRequestText, IsTextOfRequest, ReadsSome, Serves, TellsThen, TextOf}
 use Rattle.ch_run.specs.Ask.{TookAnswers, TookBeginning, TookFirstAnswers, no_places, places_after, places_then, whole_in}
 use Rattle.ch_run.specs.declared.run.batch.Then.TheVariants.{More, Nothing, Stop}
 use Rattle.ch_run.specs.Serving.{AnswersInTurn, GivesUntil, IsOfAnswering, IsToldAfter, end_of, request_refusal}
@@ -31,8 +31,6 @@ use Rattle.ch_job.specs.declared.options.Options.{Options}
 use Rattle.ch_run.specs.Source.{IsServing, order_built, order_for_queries}
 use Rattle.ch_run.specs.Text.{writes_routes}
 use Rattle.ch_run.proofs.Texts.{text_in}
-use Rattle.ch_run.proofs.Inputs.{of_one}
-use Rattle.ch_run.proofs.Loading.{of_no_write}
 use Rattle.ch_run.proofs.Answered.{answered_none, answers_more}
 
 -- the places after requests, and after more requests
@@ -129,13 +127,7 @@ not_pushed (Err y) xs more all e h = h
 -- if a call ends in a lack of memory or a failed write, anything may follow
 told_write : (e : RunFault) → IsWrite e → (next rest : Told) → IsToldAfter {T = Unit} (Err e) next rest
 told_write (RunFault.Write count) is next rest = tt
-told_write RunFault.Memory is next rest = absurd is
-told_write RunFault.Cells is next rest = absurd is
-told_write RunFault.Order is next rest = absurd is
-told_write (RunFault.CellsAt line) is next rest = absurd is
-told_write (RunFault.Read which f) is next rest = absurd is
-told_write (RunFault.Check f) is next rest = absurd is
-told_write (RunFault.Device which) is next rest = absurd is
+told_write _ is next rest = absurd is
 
 told_any : (e : RunFault) → IsOfAnswering e → (next rest : Told) → IsToldAfter {T = Unit} (Err e) next rest
 told_any e (inl is) next rest = told_write e is next rest
@@ -370,10 +362,7 @@ module _ (IsTextOf : TextOf) (n : ℕ) {J : Type 0} (reads : J → List ℕ → 
           took.6,
           took.7,
         ))
-    fed_refused ended RunFault.Cells h gives_them answers = absurd (gives_them [] (λ e. refl)).2
-    fed_refused ended RunFault.Order h gives_them answers = absurd (gives_them [] (λ e. refl)).2
-    fed_refused ended (RunFault.Device which) h gives_them answers = absurd (gives_them [] (λ e. refl)).2
-    fed_refused ended (RunFault.Check f) h gives_them answers = absurd (gives_them [] (λ e. refl)).2
+    fed_refused ended _ h gives_them answers = absurd (gives_them [] (λ e. refl)).2
 
   -- at a failed read, all requests that were whole before it are answered
   pub served_refused : (start mid now : J) (old new : S) (written : ℕ) (s : Standing) (held : PlaceList) (buffer : List ℕ)
@@ -461,9 +450,7 @@ module _ (P Q : TextOf) (so : (places : PlaceList) (request : Request) (text : L
   served_weaker n requests old new (Err (RunFault.Write count)) h =
       some_weaker requests _ _ (λ read left took.
       (took.0, took.1, took.2, took.3, took.4, answered_weaker no_places took.0 took.2 took.5, took.6, took.7)) h
-  served_weaker n requests old new (Err RunFault.Cells) h = absurd h
-  served_weaker n requests old new (Err RunFault.Order) h = absurd h
-  served_weaker n requests old new (Err (RunFault.Check f)) h = absurd h
+  served_weaker n requests old new (Err _) h = absurd h
 
 -- the hierarchy that answers a list of queries with their routes is built in the order of the options
 pub wanted_for_queries : (options : Options) (workers nodes : ℕ) → options.routes ≡ true →
@@ -482,13 +469,3 @@ asked_in options g h H is places (Route s t) text told =
 asked_in options g h H is places (TableOf lists) text told = told
 asked_in options g h H is places (PlacesOf given) text told = told
 asked_in options g h H is places (Near s within) text told = told
-
--- a fault of answering requests stops at no other input
-pub serving_past : {T : Type 0} (r : Result T RunFault) (which : Which) → (which ≡ Which.Requests → ⊥) → IfErr r IsOfServing →
-    GoesPast which r
-serving_past (Ok x) which not own = tt
-serving_past (Err e) which not own = at own
-  where
-    at : IsOfServing e → StopsAt which e → ⊥
-    at (inl of) stops = not (of_one Which.Requests which e of stops)
-    at (inr write) stops = of_no_write which e stops.0 write
