@@ -5,7 +5,7 @@ pub mod TableTexts
 pub mod Inputs
 pub mod OneText
 pub mod Tables
-pub mod OneSavedText
+pub mod OneRun
 pub mod Writes
 pub mod Owed
 pub mod Parts
@@ -19,5 +19,4 @@ pub mod Stories
 pub mod AskStory
 pub mod Counted
 pub mod Nears
-pub mod OneNearText
 pub mod Loading

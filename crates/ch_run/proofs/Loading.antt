@@ -1,5 +1,5 @@
 -- The graph that was loaded, and the hierarchy that was saved or built like an order, if there is one.
-use Rattle.std.proofs.Common.{◌≡◌, ℕ, Bool, true, false, List, Option, Some, None, refl, sym, ap, subst, inl, inr}
+use Rattle.std.proofs.Common.{◌≡◌, ℕ, Bool, true, false, List, Some, refl, sym, ap, subst, inl, inr}
 use Rattle.std.specs.Prelude.{Result, Ok, Err, IfOk, ⊤}
 use Rattle.ch_hierarchy.specs.Kept.{IsKept}
 use Rattle.ch_hierarchy.specs.Saved.{IsOrderOf}
@@ -10,12 +10,11 @@ use Rattle.ch_contract.proofs.theory.GivenOrders.{from_kept}
 use Rattle.ch_contract.proofs.theory.OrdersExist.{like_exists}
 use Rattle.ch_order.specs.declared.construction.like.OrderError.{OrderError}
 use Rattle.ch_graph.specs.Graph.{Network, IsWithinLimits}
-use Rattle.ch_graph.specs.Saved.{OrderAndLegs}
 use Rattle.ch_hierarchy.specs.Hierarchy.{LevelsAndLegs}
 use Rattle.ch_run.specs.declared.fault.RunFault.{RunFault}
 use Rattle.ch_run.specs.declared.fault.Which.{Which}
-use Rattle.ch_run.specs.Run.{IsOf, IsWrite, Reading, ReadsGraph, SourceReading, NoFile, SavedFile, OrderFile}
-use Rattle.ch_run.specs.Source.{AreBuiltLike, AreChecked, AreLoaded, IsInPlaceOf, IsOfLoading, WithLoaded}
+use Rattle.ch_run.specs.Run.{IsOf, IsWrite, SourceReading, NoFile, SavedFile, OrderFile}
+use Rattle.ch_run.specs.Source.{IsInPlaceOf, IsOfLoading}
 
 -- a hierarchy that is right for the graph serves in its own place
 pub own_place : (named : Bool) (g : Network) (H K : LevelsAndLegs) → K ≡ H → IsKept g H → IsInPlaceOf named g (Some H) (Some K)
@@ -53,32 +52,6 @@ loading_of (SavedFile saved) e (inl own) = (Which.Graph, tt, own)
 loading_of (SavedFile saved) e (inr own) = (Which.Saved, tt, own)
 loading_of (OrderFile order fresh hops) e (inl own) = (Which.Graph, tt, own)
 loading_of (OrderFile order fresh hops) e (inr own) = (Which.Order, tt, own)
-
--- the loaded graph, without a saved hierarchy
-pub built : (graph : Reading) (P : Network → Option LevelsAndLegs → Type 0) → WithLoaded graph NoFile P →
-    (g : Network) × IsWithinLimits g × ReadsGraph graph g × P g None
-built graph P t = (t.0, t.2.0, t.2.1, subst (P t.0) t.2.2 t.3)
-
--- the loaded graph, with the saved hierarchy
-pub checked : (graph saved : Reading) (P : Network → Option LevelsAndLegs → Type 0) → WithLoaded graph (SavedFile saved) P →
-    (g : Network) × (s : OrderAndLegs) × (H : LevelsAndLegs) × AreChecked graph saved g s H × P g (Some H)
-checked graph saved P t = at t.1 t.2 t.3
-  where
-    at : (h : Option LevelsAndLegs) → AreLoaded graph (SavedFile saved) t.0 h → P t.0 h →
-        (g : Network) × (s : OrderAndLegs) × (H : LevelsAndLegs) × AreChecked graph saved g s H × P g (Some H)
-    at None is p = absurd is
-    at (Some H) is p = (t.0, is.0, H, is.1, p)
-
--- the loaded graph, with the hierarchy that was built like an order
-pub built_like : (graph order : Reading) (fresh hops : ℕ) (P : Network → Option LevelsAndLegs → Type 0) →
-    WithLoaded graph (OrderFile order fresh hops) P →
-    (g : Network) × (s : OrderAndLegs) × (H : LevelsAndLegs) × AreBuiltLike graph order fresh hops g s H × P g (Some H)
-built_like graph order fresh hops P t = at t.1 t.2 t.3
-  where
-    at : (h : Option LevelsAndLegs) → AreLoaded graph (OrderFile order fresh hops) t.0 h → P t.0 h →
-        (g : Network) × (s : OrderAndLegs) × (H : LevelsAndLegs) × AreBuiltLike graph order fresh hops g s H × P g (Some H)
-    at None is p = absurd is
-    at (Some H) is p = (t.0, is.0, H, is.1, p)
 
 -- a fault of an input is no failed write
 pub of_no_write : (which : Which) (e : RunFault) → IsOf which e → IsWrite e → ⊥

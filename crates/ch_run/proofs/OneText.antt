@@ -1,30 +1,28 @@
 -- The definitions name one text.
 use Rattle.std.proofs.Common.{◌≡◌, ℕ, Bool, true, false, List, [], ◌∷◌, Option, Some, None, sym, ap, ap₂, ◌∙◌, refl, subst, arith, inl, inr}
 use Rattle.std.specs.List.{AllZip, zip, flat_map}
-use Rattle.std.specs.Prelude.{not, ◌&&◌}
 use Rattle.std.proofs.lemmas.Bool.{cases_lt}
 use Rattle.ch_graph.specs.declared.arc.InArc.{InArc}
 use Rattle.ch_graph.specs.Graph.{Network}
 use Rattle.ch_graph.specs.Walk.{IsAnswer, IsDistance}
 use Rattle.ch_hierarchy.specs.Hierarchy.{LevelsAndLegs}
-use Rattle.ch_contract.specs.Built.{IsHierarchyBy}
 use Rattle.ch_hierarchy.specs.Kept.{IsKept}
-use Rattle.ch_contract.proofs.theory.BuiltKept.{hierarchies_kept}
-use Rattle.ch_contract.proofs.theory.OneOrder.{one_hierarchy}
 use Rattle.ch_query.specs.declared.answer.Answer.{Answer}
 use Rattle.ch_query.specs.declared.routes.Route.{Route}
 use Rattle.ch_query.specs.Replies.{HasArcs}
 use Rattle.ch_query.proofs.routing.RouteWalks.{route_one}
 use Rattle.ch_text.specs.Distances.{AnswersShortly, HasText, distance_text}
 use Rattle.ch_text.specs.Routes.{AnswersWithRoute, answer_text}
-use Rattle.ch_run.specs.Text.{IsTextBy}
+use Rattle.ch_hierarchy.specs.Written.{written}
+use Rattle.ch_hierarchy.proofs.theory.LevelOrder.{one_level_order}
+use Rattle.ch_near.specs.Near.{IsNearestRow, IsWalkTo}
+use Rattle.ch_near.proofs.OneFirst.{one_first}
+use Rattle.ch_job.specs.declared.options.Options.{Options}
+use Rattle.ch_text.specs.NearText.{near_row_text}
+use Rattle.ch_text.specs.SaveText.{IsHierarchyText, saved_text}
+use Rattle.ch_run.specs.Text.{IsNearTextFor, IsTextBy}
 use Rattle.ch_query.specs.Limits.{IsCut}
 use Rattle.ch_text.specs.TableText.{IsCell, IsTableRow, IsTableText, row_text}
-use Rattle.ch_run.specs.Run.{GivesOnly, Reading, ReadsGraph, ReadsNodes, ReadsQueries}
-use Rattle.ch_run.specs.TextLaws.{AnswersHaveOneText, TablesHaveOneText}
-use Rattle.ch_run.proofs.Loading.{built}
-use Rattle.ch_read.specs.Names.{NamesGraph, NamesNodes, NamesQueries}
-use Rattle.ch_read.proofs.OneAnswer.{graph_answer, nodes_answer, queries_answer}
 
 -- two lists that answer the same items are equal, if each item has only one answer
 pub one_list : {A B : Type 0} (P : A → B → Type 0) → ((x : A) (y z : B) → P x y → P x z → y ≡ z) → (xs : List A) (ys zs : List B) →
@@ -113,26 +111,6 @@ one_text_by true g From one kept queries text other t u =
     one_answers_text answer_text (AnswersWithRoute g t.0) (one_routed g t.0 (kept t.0 t.1)) queries text other t.2
     (subst (λ (H : LevelsAndLegs). HasText answer_text (AnswersWithRoute g H) queries other) same u.2)
 
--- the bytes of a graph name only one graph
-pub same_graph : (graph : Reading) (bytes : List ℕ) (g h : Network) → GivesOnly graph bytes → ReadsGraph graph g → ReadsGraph graph h →
-    g ≡ h
-same_graph graph bytes g h told a b =
-    (graph_answer bytes).one_value g h (subst (λ xs. NamesGraph xs g) (told a.0 a.1) a.2) (subst (λ xs. NamesGraph xs h) (told b.0 b.1) b.2)
-
--- the bytes of queries name only one list of queries
-pub same_queries : (queries : Reading) (bytes : List ℕ) (n : ℕ) (p q : List (ℕ × ℕ)) → GivesOnly queries bytes → ReadsQueries queries n p →
-    ReadsQueries queries n q → p ≡ q
-same_queries queries bytes n p q told a b =
-    (queries_answer bytes n).one_value p q (subst (λ xs. NamesQueries xs n p) (told a.0 a.1) a.2)
-    (subst (λ xs. NamesQueries xs n q) (told b.0 b.1) b.2)
-
--- the bytes of a list of nodes name only one list
-pub same_nodes : (list : Reading) (bytes : List ℕ) (n : ℕ) (p q : List ℕ) → GivesOnly list bytes → ReadsNodes list n p →
-    ReadsNodes list n q → p ≡ q
-same_nodes list bytes n p q told a b =
-    (nodes_answer bytes n).one_value p q (subst (λ xs. NamesNodes xs n p) (told a.0 a.1) a.2)
-    (subst (λ xs. NamesNodes xs n q) (told b.0 b.1) b.2)
-
 -- a row has only one list of cells
 one_row : (g : Network) (limit : Option ℕ) (targets : List ℕ) (s : ℕ) (xs ys : List (Option ℕ)) → IsTableRow g limit targets s xs →
     IsTableRow g limit targets s ys → xs ≡ ys
@@ -145,37 +123,16 @@ one_table_text g limit sources targets text other h k =
     h.2 ∙ ap (λ rows. flat_map row_text (zip sources rows))
     (one_list (IsTableRow g limit targets) (one_row g limit targets) sources h.0 k.0 h.1 k.1) ∙ sym k.2
 
--- inputs whose bytes are known have one text of answers
-pub one_text : (graph queries : Reading) → AnswersHaveOneText graph queries
-one_text graph queries options graph_bytes query_bytes text other hops told_graph told_queries t u =
-    let h = built graph _ t in
-    let k = built graph _ u in
-    let same : h.0 ≡ k.0 = same_graph graph graph_bytes h.0 k.0 told_graph h.2 k.2 in
-    let pairs : h.3.0 ≡ k.3.0 = same_queries queries query_bytes h.0.nodes h.3.0 k.3.0 told_queries h.3.1
-    (subst (λ (g : Network). ReadsQueries queries g.nodes k.3.0) (sym same) k.3.1) in
-    let routes = not options.plain && options.routes in
-    let on_graph : IsTextBy routes h.0 (IsHierarchyBy options.order h.0 options.hops) k.3.0 other = subst
-    (λ (g : Network). IsTextBy routes g (IsHierarchyBy options.order g options.hops) k.3.0 other) (sym same) k.3.2 in
-    let here : IsTextBy routes h.0 (IsHierarchyBy options.order h.0 options.hops) h.3.0 other =
-    subst (λ p. IsTextBy routes h.0 (IsHierarchyBy options.order h.0 options.hops) p other) (sym pairs) on_graph in
-    let kept : (H : LevelsAndLegs) → IsHierarchyBy options.order h.0 options.hops H →
-    IsKept h.0 H = λ H is. hierarchies_kept options.order h.0 options.hops H h.1 hops is in
-    one_text_by routes h.0 (IsHierarchyBy options.order h.0 options.hops) (one_hierarchy options.order h.0 options.hops) kept h.3.0
-    text other h.3.2 here
+-- near rows have only one text
+pub one_rows_text : (options : Options) (g : Network) (sources targets text other : List ℕ) → IsNearTextFor options g sources targets text →
+    IsNearTextFor options g sources targets other → text ≡ other
+one_rows_text options g sources targets text other h k =
+    let IsRow = IsNearestRow g options.direction options.within options.count targets in
+    h.2 ∙ ap (λ rows. flat_map (near_row_text targets) (zip sources rows))
+    (one_list IsRow (λ s a b. one_first options.count (IsWalkTo g options.direction options.within targets s) a b) sources h.0 k.0 h.1 k.1)
+    ∙ sym k.2
 
--- inputs whose bytes are known have one table
-pub one_table : (graph sources targets : Reading) → TablesHaveOneText graph sources targets
-one_table graph sources targets options graph_bytes source_bytes target_bytes text other told_graph told_sources told_targets t u =
-    let h = built graph _ t in
-    let k = built graph _ u in
-    let same : h.0 ≡ k.0 = same_graph graph graph_bytes h.0 k.0 told_graph h.2 k.2 in
-    let from : h.3.0 ≡ k.3.0 = same_nodes sources source_bytes h.0.nodes h.3.0 k.3.0 told_sources h.3.2.0
-    (subst (λ (g : Network). ReadsNodes sources g.nodes k.3.0) (sym same) k.3.2.0) in
-    let to : h.3.1 ≡ k.3.1 = same_nodes targets target_bytes h.0.nodes h.3.1 k.3.1 told_targets h.3.2.1
-    (subst (λ (g : Network). ReadsNodes targets g.nodes k.3.1) (sym same) k.3.2.1) in
-    let first : IsTableText h.0 options.within k.3.0 k.3.1 other =
-    subst (λ (g : Network). IsTableText g options.within k.3.0 k.3.1 other) (sym same) k.3.3 in
-    let second : IsTableText h.0 options.within h.3.0 k.3.1 other =
-    subst (λ xs. IsTableText h.0 options.within xs k.3.1 other) (sym from) first in
-    one_table_text h.0 options.within h.3.0 h.3.1 text other h.3.3
-    (subst (λ xs. IsTableText h.0 options.within h.3.0 xs other) (sym to) second)
+-- a hierarchy has one text
+pub one_hierarchy_text : (H : LevelsAndLegs) (text other : List ℕ) → IsHierarchyText H text → IsHierarchyText H other → text ≡ other
+one_hierarchy_text H text other h k =
+    h.2 ∙ ap (λ order. saved_text (written H order)) (one_level_order H h.0 k.0 h.1 k.1) ∙ sym k.2

@@ -34,10 +34,6 @@ IsOrderRefusedOn g bytes (RunFault.Read input fault) = (Which.Order ≡ input) �
 IsOrderRefusedOn g bytes RunFault.Order = (s : OrderAndLegs) × NamesSaved bytes g.nodes s × (IsOrderOf g.nodes s.order → ⊥)
 IsOrderRefusedOn g bytes _ = ⊥
 
--- an order does not have each node of the graph once, or there is no memory
-abbrev pub IsOrderFault : Network → List ℕ → RunFault → Type 0
-IsOrderFault g order fault = ((fault ≡ RunFault.Order) × (IsOrderOf g.nodes order → ⊥)) ⊎ (fault ≡ RunFault.Memory)
-
 -- the bytes name an order of the graph's nodes. This hierarchy is that of the graph in an order like it, and right for the graph
 abbrev pub NamesLike : Network → (fresh hops : ℕ) → List ℕ → LevelsAndLegs → Type 0
 NamesLike g fresh hops bytes H = (s : OrderAndLegs) × NamesSaved bytes g.nodes s × IsOrderOf g.nodes s.order

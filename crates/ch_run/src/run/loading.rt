@@ -13,7 +13,7 @@ ghost use Rattle.ch_read.specs.declared.form.Form.TheVariants as FormOf;
 ghost use Rattle.ch_read.specs.Names.{NamesGraph, NamesOrder, NamesSaved};
 ghost use Rattle.ch_graph.specs.Graph.{IsWithinLimits};
 ghost use Rattle.ch_hierarchy.specs.Saved.{IsOrderOf, NamesKept};
-ghost use Rattle.ch_run.specs.Story.{EndsAt, IsOrderFault, IsOrderRefusedOn, IsRefused, IsSavedRefusedOn, Loads, NamesLike, Reads};
+ghost use Rattle.ch_run.specs.Story.{EndsAt, IsOrderRefusedOn, IsRefused, IsSavedRefusedOn, Loads, NamesLike};
 ghost use Rattle.ch_run.specs.Source.{IsInPlaceOf, IsServing, ReadsSaved, source_reading};
 
 use super::inputs::{bytes_from, graph_from};
@@ -99,23 +99,21 @@ pub(crate) fn loaded_from<R: Threads + Sync, I: Input, S: Input + Drop, G: Gate>
     ensures same_graph { I.origin graph.new ≡ I.origin graph.old }
     ensures same_source { source_map S.origin source.new ≡ source_map S.origin source.old }
 {
+    crew.gate.watch(Stage::Reading, 0, files_of(source));
+    let graph = graph_from(crew, graph)?;
     match source {
-        Source::Built => {
-            crew.gate.watch(Stage::Reading, 0, 1);
-            let graph = graph_from(crew, graph)?;
-            Ok(Loaded { graph, saved: None })
-        }
+        Source::Built => Ok(Loaded { graph, saved: None }),
         Source::Saved(saved) => {
-            let Checked { graph, hierarchy } = checked_from(crew, graph, saved)?;
+            crew.gate.watch(Stage::Reading, 1, 2);
+            let hierarchy = checked_from(crew, saved, &graph)?;
             Ok(Loaded {
                 graph,
                 saved: Some(hierarchy),
             })
         }
         Source::Like { order, fresh, hops } => {
-            let Checked { graph, hierarchy } = built_from(
-                crew, graph, order, *fresh, *hops, named,
-            )?;
+            crew.gate.watch(Stage::Reading, 1, 2);
+            let hierarchy = built_from(crew, order, &graph, *fresh, *hops, named)?;
             Ok(Loaded {
                 graph,
                 saved: Some(hierarchy),
@@ -124,74 +122,51 @@ pub(crate) fn loaded_from<R: Threads + Sync, I: Input, S: Input + Drop, G: Gate>
     }
 }
 
-/// Reads a graph to its end, and then a saved hierarchy, which it checks for the graph.
-fn checked_from<R: Threads + Sync, I: Input, S: Input, G: Gate>(
-    crew: &Crew<'_, R, G>,
-    graph: &mut I,
-    saved: &mut S,
-) -> Result<Checked, RunFault>
-    ensures went { Reads Which.Graph (reading I.read_gives graph.old graph.new) (λ bytes g. NamesGraph bytes g × IsWithinLimits g) (IsRefused Which.Graph FormOf.Graph) result (saved.new ≡ saved.old) (λ g.
-        Reads Which.Saved (reading S.read_gives saved.old saved.new) (λ bytes H. (s : OrderAndLegs) × NamesSaved bytes g.nodes s × NamesKept g s H) (IsSavedRefusedOn g) result ⊤ (λ H.
-        IsOkAnd result (λ checked. (checked.graph ≡ g) × (checked.hierarchy ≡ H)))) }
+/// Returns how many inputs loading reads.
+fn files_of<S: Drop>(source: &Source<S>) -> u32 {
+    match source {
+        Source::Built => 1,
+        Source::Saved(_) | Source::Like { .. } => 2,
+    }
+}
 
-    ensures same_graph { I.origin graph.new ≡ I.origin graph.old }
-    ensures same_saved { S.origin saved.new ≡ S.origin saved.old }
+/// Reads a saved hierarchy to its end, and checks it for the graph.
+fn checked_from<R: Threads + Sync, S: Input, G: Gate>(
+    crew: &Crew<'_, R, G>,
+    saved: &mut S,
+    graph: &Graph,
+) -> Result<Hierarchy, RunFault>
+    ensures value { IfOk result (λ H. ReadsAll (reading S.read_gives saved.old saved.new) (λ bytes. (s : OrderAndLegs) × NamesSaved bytes graph.now.nodes s × NamesKept graph.now s H)) }
+    ensures kept { IfOk result (IsKept graph.now) }
+    ensures same { S.origin saved.new ≡ S.origin saved.old }
+    ensures ends { IfErr result (EndsAt Which.Saved (reading S.read_gives saved.old saved.new) (IsSavedRefusedOn graph.now)) }
 {
-    crew.gate.watch(Stage::Reading, 0, 2);
-    let graph = graph_from(crew, graph)?;
-    crew.gate.watch(Stage::Reading, 1, 2);
-    let saved = saved_from(crew, saved, &graph)?;
-    match check_watched(crew, &graph, saved) {
-        Ok(hierarchy) => Ok(Checked { graph, hierarchy }),
+    let saved = saved_from(crew, saved, graph)?;
+    match check_watched(crew, graph, saved) {
+        Ok(hierarchy) => Ok(hierarchy),
         Err(CheckError::Fault(fault)) => Err(RunFault::Check(fault)),
         Err(CheckError::NoMemory) => Err(RunFault::Memory),
     }
 }
 
-/// Reads a graph to its end, and then an order, and builds the hierarchy in an order like it.
-fn built_from<R: Threads + Sync, I: Input, S: Input, G: Gate>(
+/// Reads an order to its end, and builds the hierarchy of the graph in an order like it.
+fn built_from<R: Threads + Sync, S: Input, G: Gate>(
     crew: &Crew<'_, R, G>,
-    graph: &mut I,
     order: &mut S,
-    fresh: u32,
-    hops: u32,
-    named: bool,
-) -> Result<Checked, RunFault>
-    requires fresh { fresh ≤ 100 }
-    requires hops { IsHopBound hops }
-
-    ensures went { Reads Which.Graph (reading I.read_gives graph.old graph.new) (λ bytes g. NamesGraph bytes g × IsWithinLimits g) (IsRefused Which.Graph FormOf.Graph) result (order.new ≡ order.old) (λ g.
-        Reads Which.Order (reading S.read_gives order.old order.new) (λ bytes H. NamesLike g fresh hops bytes H) (IsOrderRefusedOn g) result ⊤ (λ H.
-        IsOkAnd result (λ checked. (checked.graph ≡ g) × IsInPlaceOf named g (Some H) (Some checked.hierarchy)))) }
-
-    ensures same_graph { I.origin graph.new ≡ I.origin graph.old }
-    ensures same_order { S.origin order.new ≡ S.origin order.old }
-{
-    crew.gate.watch(Stage::Reading, 0, 2);
-    let graph = graph_from(crew, graph)?;
-    crew.gate.watch(Stage::Reading, 1, 2);
-    let given = order_from(crew, order, &graph)?;
-    let hierarchy = built_like(crew, &graph, &given, fresh, hops, named)?;
-    Ok(Checked { graph, hierarchy })
-}
-
-/// Builds the hierarchy of a graph in an order like a given one.
-fn built_like<R: Threads + Sync, G: Gate>(
-    crew: &Crew<'_, R, G>,
     graph: &Graph,
-    given: &[u32],
     fresh: u32,
     hops: u32,
     named: bool,
 ) -> Result<Hierarchy, RunFault>
     requires fresh { fresh ≤ 100 }
     requires hops { IsHopBound hops }
-    ensures order { IfOk result (λ _. IsOrderOf graph.now.nodes given.now) }
-    ensures like { IfOk result (λ K. (H : LevelsAndLegs) × IsHierarchyLike graph.now hops given.now fresh H × IsKept graph.now H × IsInPlaceOf named graph.now (Some H) (Some K)) }
+    ensures value { IfOk result (λ K. ReadsAll (reading S.read_gives order.old order.new) (λ bytes. (H : LevelsAndLegs) × NamesLike graph.now fresh hops bytes H × IsInPlaceOf named graph.now (Some H) (Some K))) }
     ensures kept { IfOk result (IsKept graph.now) }
-    ensures refused { IfErr result (IsOrderFault graph.now given.now) }
+    ensures same { S.origin order.new ≡ S.origin order.old }
+    ensures ends { IfErr result (EndsAt Which.Order (reading S.read_gives order.old order.new) (IsOrderRefusedOn graph.now)) }
 {
-    match build_in_order(crew, graph, given, fresh, hops, named) {
+    let given = order_from(crew, order, graph)?;
+    match build_in_order(crew, graph, &given, fresh, hops, named) {
         Ok(hierarchy) => Ok(hierarchy),
         Err(OrderError::Order) => Err(RunFault::Order),
         Err(OrderError::NoMemory) => Err(RunFault::Memory),

@@ -1,12 +1,14 @@
 -- The definitions name one text of answers and one of a table.
-use Rattle.ch_run.specs.Run.{reading}
-use Rattle.ch_run.proofs.OneText.{one_table, one_text as one_text_of}
+use Rattle.ch_run.specs.Run.{NoFile, reading}
+use Rattle.ch_run.proofs.OneRun.{answers_one, tables_one}
 use Rattle.ch_run.proofs.laws.one_text.Goals as goal
 
 pub returns-clause-answers : goal.returns-clause-answers
-returns-clause-answers g c =
-    λ graph graph' queries queries'. one_text_of (reading g.I.Input.read_gives graph graph') (reading g.J.Input.read_gives queries queries')
+returns-clause-answers g c = λ graph graph' queries queries' options bytes asked text other bound told told_queries.
+    answers_one (reading g.I.Input.read_gives graph graph') bytes told NoFile (reading g.J.Input.read_gives queries queries') options bound
+    tt asked told_queries text other
 
 pub returns-clause-tables : goal.returns-clause-tables
-returns-clause-tables g c = λ graph graph' sources sources' targets targets'. one_table (reading g.I.Input.read_gives graph graph')
-    (reading g.J.Input.read_gives sources sources') (reading g.L.Input.read_gives targets targets')
+returns-clause-tables g c = λ graph graph' sources sources' targets targets' options bytes from to text other told told_from told_to.
+    tables_one (reading g.I.Input.read_gives graph graph') bytes told NoFile (reading g.J.Input.read_gives sources sources')
+    (reading g.L.Input.read_gives targets targets') options tt (from, told_from) (to, told_to) text other

@@ -1,9 +1,12 @@
 -- The run goes as its story says at each end, so the output takes the table, or its first bytes.
-use Rattle.std.proofs.Common.{◌≡◌, inr, refl}
+use Rattle.std.proofs.Common.{inr, refl}
 use Rattle.ch_run.proofs.Stories.{table_delivers}
-use Rattle.ch_run.proofs.Story.{lists_stop, loads_serving, loads_stops, writes_none, writes_weaker}
+use Rattle.ch_run.proofs.Story.{cells_stop, loads_serving, loads_stops, reads_stops, writes_none, writes_weaker}
 use Rattle.ch_run.specs.declared.run.lists.Lists.{Lists}
+use Rattle.ch_run.specs.declared.fault.Which.{Which}
 use Rattle.ch_run.specs.Run.{reading}
+use Rattle.ch_run.specs.Story.{IsRefused}
+use Rattle.ch_read.specs.declared.form.Form.TheVariants as Form
 use Rattle.ch_run.proofs.run.table.run_table.Goals as goal
 
 -- the story, as far as it went
@@ -13,15 +16,16 @@ returns-in_err-loaded-clause-went g c =
 
 pub returns-in_err-lists-clause-went : goal.returns-in_err-lists-clause-went
 returns-in_err-lists-clause-went g c =
+    let is = c.from_residual-in_err-lists.ensures.1 in
+    let n = c.in_ok-loaded.loaded.graph.nodes in
     let sources = reading g.J.Input.read_gives c.args.sources.now c.lists_from.new.sources in
     let targets = reading g.L.Input.read_gives c.args.targets.now c.lists_from.new.targets in
-    let unread = c.lists_from.new.targets ≡ c.args.targets.now in
-    let later = c.args.output.now ≡ c.args.output.now in
-    loads_serving _ _ _ _ _ _ _
-    (λ h place. lists_stop Lists sources targets c.in_ok-loaded.loaded.graph.nodes c.in_err-lists.field-0.0
-    c.from_residual-in_err-lists.result unread later _ c.from_residual-in_err-lists.ensures.1 refl
-    (rw c.graph.ensures.graph at c.in_err-lists.ensures.ends))
-    c.in_ok-loaded.ensures.went
+    loads_serving _ _ _ _ _ _ _ (λ h place.
+    reads_stops Lists Which.Sources sources _ (IsRefused Which.Sources (Form.Nodes n)) _ _ _ _ _ _ is
+    (rw c.graph.ensures.graph at c.in_err-lists.ensures.ends)
+    (λ from rest. reads_stops Lists Which.Targets targets _ (IsRefused Which.Targets (Form.Nodes n)) _ _ _ _ _ _ is rest
+    (λ to rest. cells_stop Lists from to _ _ _ _ is rest refl)
+    (λ at. refl)) (λ at. (at, refl))) c.in_ok-loaded.ensures.went
 
 pub returns-in_err-parts-clause-went : goal.returns-in_err-parts-clause-went
 returns-in_err-parts-clause-went g c =
