@@ -1,25 +1,34 @@
 -- Near rows, and their texts.
 use Rattle.std.proofs.Common.{◌≡◌, ℕ, zero, suc, ◌+◌, ◌<◌, List, [], ◌∷◌, ◌++◌, length, map, get_or, Vec, refl, sym, ap, ◌∙◌, subst, arith}
 use Rattle.std.specs.declared.alloc.Global.{Global}
-use Rattle.std.specs.Prelude.{All, IfOk, Result}
+use Rattle.std.specs.Prelude.{All, Err, IfOk, IsErrAnd, Option, Result, Some, ⊤}
 use Rattle.std.specs.List.{AllZip, zip, flat_map, range_with_len}
 use Rattle.std.proofs.lemmas.Grind.{flat_map-append}
+use Rattle.std.proofs.lemmas.List.{flat_map_more}
 use Rattle.std.proofs.lemmas.List.Elements.{Contains-get_or}
 use Rattle.std.proofs.lemmas.List.Folds.{flat_map-map}
 use Rattle.std.proofs.lemmas.Result.{IfOk-weaker}
 use Rattle.std.proofs.lemmas.List.FromFn.{get_or-range_with_len, length-range_with_len}
 use Rattle.ch_graph.proofs.Lists.{zipped_length}
 use Rattle.ch_graph.specs.Graph.{Network, IsWithinLimits}
-use Rattle.ch_hierarchy.specs.Hierarchy.{LevelsAndLegs}
+use Rattle.ch_hierarchy.specs.Hierarchy.{LevelsAndLegs, nodes_of}
 use Rattle.ch_hierarchy.specs.Kept.{IsKept}
 use Rattle.ch_near.proofs.GraphRows.{row_of_graph}
 use Rattle.ch_near.proofs.NearRows.{zip_at}
 use Rattle.ch_near.specs.Direction.{facing}
 use Rattle.ch_near.specs.Near.{Wanted, IsNearRow, IsNearestRow}
+use Rattle.ch_near.specs.Sweep.{AreNodeRows, row_at}
 use Rattle.ch_job.specs.declared.options.Options.{Options}
+use Rattle.ch_job.specs.declared.sources.Sources.{Sources}
+use Rattle.ch_run.specs.NearRun.{nodes_of_sources}
 use Rattle.ch_run.specs.NearRows.{HasNearRows}
 use Rattle.ch_run.specs.Text.{IsNearTextFor}
 use Rattle.ch_text.specs.NearText.{near_row_text, nodes_in_order}
+use Rattle.ch_run.specs.declared.fault.RunFault.{RunFault}
+use Rattle.ch_run.specs.declared.fault.Which.{Which}
+use Rattle.ch_run.specs.Run.{NoInput, OneInput, ReadingIf}
+use Rattle.ch_run.specs.Story.{ReadsIf}
+use Rattle.ch_run.proofs.Story.{reads_stops}
 use Rattle.ch_run.proofs.Texts.{each_weaker}
 
 -- this is the wanted near row of the source
@@ -80,6 +89,23 @@ nodes_text wanted n row each sources text within is =
     let f = near_row_text wanted.targets in
     (map row sources, rows.0, is ∙ sym (flat_map-map f (λ (s : ℕ). (s, row s)) sources) ∙ ap (flat_map f) (sym rows.1))
 
+-- the rows that a sweep made
+module _ (wanted : Wanted) (all : LevelsAndLegs × List (List (ℕ × ℕ))) (targets : List ℕ) (made : AreNodeRows wanted all)
+    (same : wanted.targets ≡ targets) where
+  -- the places in the row of a node are places of targets
+  pub swept_places : (s : ℕ) (row : List (ℕ × ℕ)) → s < nodes_of wanted.hierarchy → row ≡ row_at all.0 all.1 s →
+      All (λ (e : ℕ × ℕ). e.1 < length targets) row
+  swept_places s row within is =
+      let places = row_places wanted s (row_at all.0 all.1 s) (made.1 s within) in
+      subst (All (λ (e : ℕ ×
+      ℕ). e.1 < length targets)) (sym is) (subst (λ ts. All (λ (e : ℕ × ℕ). e.1 < length ts) (row_at all.0 all.1 s)) same places)
+
+  -- the lines of these rows, one after the other, are the text of the sources
+  pub swept_lines : (sources text : List ℕ) → All (λ s. s < nodes_of wanted.hierarchy) sources →
+      text ≡ flat_map (λ s. near_row_text targets (s, row_at all.0 all.1 s)) sources → HasNearRows wanted sources text
+  swept_lines sources text within is = nodes_text wanted (nodes_of wanted.hierarchy) (row_at all.0 all.1) made.1 sources text within
+      (is ∙ ap (λ (ts : List ℕ). flat_map (λ s. near_row_text ts (s, row_at all.0 all.1 s)) sources) (sym same))
+
 -- the near rows of a hierarchy that is right for a graph are those of the graph
 pub text_of_graph : (g : Network) (H : LevelsAndLegs) → IsWithinLimits g → IsKept g H →
     (options : Options) (sources targets text : List ℕ) →
@@ -99,15 +125,16 @@ text_of_graph g H limits kept options sources targets text h = (
 )
 
 -- if a call makes the near rows of the hierarchy, it makes those of the graph
-pub made_of_graph : {E : Type 0} (H : LevelsAndLegs) (options : Options) (sources targets : List ℕ) (wanted : Wanted)
-    (made : Result (Vec ℕ Global) E) →
+pub made_of_graph : {E : Type 0} (H : LevelsAndLegs) (options : Options) (sources : Sources (Vec ℕ Global)) (targets : List ℕ)
+    (wanted : Wanted) (made : Result (Vec ℕ Global) E) →
     wanted ≡ record { hierarchy = facing options.direction H; targets = targets; limit = options.within; count = options.count } →
-    IfOk made (λ text. HasNearRows wanted sources text.items) → IfOk made
-    (λ text. (g : Network) → IsWithinLimits g → IsKept g H → IsNearTextFor options g sources targets text.items)
-made_of_graph H options sources targets wanted made is h = IfOk-weaker made (λ (text : Vec ℕ Global). HasNearRows wanted sources text.items)
-    (λ (text : Vec ℕ Global). (g : Network) → IsWithinLimits g → IsKept g H → IsNearTextFor options g sources targets text.items)
-    (λ text rows g limits kept. text_of_graph g H limits kept options sources targets text.items
-    (subst (λ (w : Wanted). HasNearRows w sources text.items) is rows)) h
+    IfOk made (λ text. HasNearRows wanted (nodes_of_sources (nodes_of H) sources) text.items) → IfOk made
+    (λ text. (g : Network) → IsWithinLimits g → IsKept g H →
+    IsNearTextFor options g (nodes_of_sources g.nodes sources) targets text.items)
+made_of_graph H options sources targets wanted made is h = IfOk-weaker made _ _
+    (λ text rows g limits kept. text_of_graph g H limits kept options (nodes_of_sources g.nodes sources) targets text.items
+    (subst (λ (w : Wanted). HasNearRows w (nodes_of_sources g.nodes sources) text.items) is
+    (subst (λ (n : ℕ). HasNearRows wanted (nodes_of_sources n sources) text.items) kept.nodes rows))) h
 
 -- a range with one more number has this number at its end
 one_more : (a n : ℕ) → range_with_len a (suc n) ≡ range_with_len a n ++ (a + n) ∷ []
@@ -129,3 +156,18 @@ next_node n =
     let next : n + 1 ≡ suc n = omega arith in
     let e : 0 + n ≡ n = omega arith in
     ap nodes_in_order next ∙ one_more 0 n ∙ ap (λ (x : ℕ). nodes_in_order n ++ x ∷ []) e
+
+-- the line of one more node follows those of the nodes before
+pub next_line : (f : ℕ → List ℕ) (n : ℕ) (before after : List ℕ) → before ≡ flat_map f (nodes_in_order n) → after ≡ before ++ f n →
+    after ≡ flat_map f (nodes_in_order (n + 1))
+next_line f n before after so_far more =
+    more ∙ ap (λ text. text ++ f n) so_far ∙ flat_map_more f [] (nodes_in_order n) n ∙ ap (flat_map f) (sym (next_node n))
+
+-- the run that read the sources in vain stops there
+pub sources_stop : (S : Type 0) {T V : Type 0} (input : ReadingIf) (names : List ℕ → V → Type 0) (refuses : List ℕ → RunFault → Type 0)
+    (e : RunFault) (r : Result T RunFault) (later : Type 0) (next : Option V → Type 0) → IsErrAnd r (λ other. other ≡ e) → later →
+    ReadsIf {T = S} Which.Sources input names refuses (Err e) ⊤ (λ _. ⊥) → ReadsIf Which.Sources input names refuses r later next
+sources_stop S NoInput names refuses e r later next is rest none = absurd none
+sources_stop S (OneInput input) names refuses e r later next is rest reads =
+    reads_stops S Which.Sources input names refuses e r ⊤ later (λ _. ⊥) (λ value. next (Some value)) is (λ value none. absurd none)
+    (λ at. rest) reads

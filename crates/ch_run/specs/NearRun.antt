@@ -1,5 +1,6 @@
 -- The promises of a run that writes near rows.
-use Rattle.std.specs.Prelude.{◌≡◌, ◌⊎◌, ℕ, ◌<◌, ◌≤◌, List, length, All, Option, Some, None, Result}
+use Rattle.std.specs.Prelude.{◌≡◌, ◌⊎◌, ℕ, ◌<◌, ◌≤◌, List, length, All, Option, Some, None, Result, Vec}
+use Rattle.std.specs.declared.alloc.Global.{Global}
 use Rattle.ch_graph.specs.declared.limits.TheConstants.{MOST_LISTED}
 use Rattle.ch_read.specs.declared.fault.ReadFault.{ReadFault}
 use Rattle.ch_text.specs.declared.device.DeviceFault.{DeviceFault}
@@ -38,6 +39,11 @@ AreSources (OneInput sources) nodes from = ReadsNodes sources nodes from
 abbrev pub sources_among : ℕ → Option (List ℕ) → List ℕ
 sources_among nodes None = nodes_in_order nodes
 sources_among nodes (Some from) = from
+
+-- the nodes that are the sources, on a graph with this many nodes: all of them, in order, or those of the list
+abbrev pub nodes_of_sources : ℕ → Sources (Vec ℕ Global) → List ℕ
+nodes_of_sources nodes Each = nodes_in_order nodes
+nodes_of_sources nodes (Listed list) = list.items
 
 -- the list of sources was accepted, if one is read
 abbrev pub AcceptsAnySources : ReadingIf → ℕ → Type 0

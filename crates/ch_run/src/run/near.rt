@@ -4,15 +4,14 @@ ghost use Rattle.ch_contract.specs.Legs.{IsHopBound};
 ghost use Rattle.ch_job.specs.declared.source.Source.TheVariants as SourceOf;
 ghost use Rattle.ch_job.specs.Job.{IsSourceAllowed, source_map, sources_map};
 ghost use Rattle.ch_run.specs.Stories.{RunsNear};
-ghost use Rattle.ch_run.specs.NearRun.{AreNodeLists, IsNearBy, sources_reading};
+ghost use Rattle.ch_run.specs.NearRun.{AreNodeLists, IsNearBy, nodes_of_sources, sources_reading};
 ghost use Rattle.ch_run.specs.Run.{Delivers, reading};
 ghost use Rattle.ch_run.specs.Source.{source_reading};
 ghost use Rattle.ch_run.specs.Text.{IsNearTextFor};
 
-use super::lists::Lists;
 use super::loading::{Loaded, loaded_from};
 use super::near_texts::near_by;
-use super::node_lists::node_lists_from;
+use super::node_lists::{NodeLists, node_lists_from};
 use super::output::write_text;
 use crate::fault::RunFault;
 use crate::orders::quick_order;
@@ -83,16 +82,16 @@ pub fn run_near<
     write_text(output, &text)
 }
 
-/// Returns the text of the near rows of these lists, by the hierarchy that serves.
+/// Returns the text of the near rows of these sources, by the hierarchy that serves.
 fn near_of<R: Threads + Sync, G: Gate>(
     crew: &Crew<'_, R, G>,
     loaded: Loaded,
-    lists: &Lists,
+    lists: &NodeLists,
     options: &Options,
 ) -> Result<Vec<u8>, AllocError>
     requires hops { IsNone loaded.saved → IsHopBound options.now.hops }
-    requires lists { AreNodeLists loaded.graph.nodes lists.now.sources.items lists.now.targets.items }
-    ensures { IfOk result (λ text. IsNearTextFor options.now loaded.graph lists.now.sources.items lists.now.targets.items text.items) }
+    requires lists { AreNodeLists loaded.graph.nodes (nodes_of_sources loaded.graph.nodes lists.now.sources) lists.now.targets.items }
+    ensures { IfOk result (λ text. IsNearTextFor options.now loaded.graph (nodes_of_sources loaded.graph.nodes lists.now.sources) lists.now.targets.items text.items) }
 {
     let order = quick_order(crew.plan.workers(), loaded.graph().nodes());
     let hierarchy = loaded.hierarchy(crew, options.hops, order)?;

@@ -3,15 +3,17 @@ ghost use Rattle.std.specs.Prelude.{◌≡◌, ◌<◌, All, IfOk};
 ghost use Rattle.ch_graph.specs.Graph.{Network, IsWithinLimits};
 ghost use Rattle.ch_hierarchy.specs.Hierarchy.{nodes_of};
 ghost use Rattle.ch_hierarchy.specs.Kept.{IsKept};
+ghost use Rattle.ch_near.specs.Sweep.{AreNodeRows};
 ghost use Rattle.ch_query.specs.Distance.{IsKeptForSome};
-ghost use Rattle.ch_run.specs.NearRun.{AreNodeLists};
+ghost use Rattle.ch_run.specs.NearRun.{AreNodeLists, nodes_of_sources};
 ghost use Rattle.ch_run.specs.NearRows.{HasNearRows};
 ghost use Rattle.ch_run.specs.Text.{IsNearTextFor};
+ghost use Rattle.ch_text.specs.NearText.{nodes_in_order};
 
 use crate::plan::{Crew, Gate, Stage};
 use ch_contract::Hierarchy;
-use ch_job::Options;
-use ch_near::NearTargets;
+use ch_job::{Options, Sources};
+use ch_near::{NearTargets, NodeRows};
 use ch_text::{push_near_row, push_near_rows};
 use std::alloc::AllocError;
 use std::thread::Threads;
@@ -20,28 +22,31 @@ use std::thread::Threads;
 /// are in memory beside the text.
 const PORTION: usize = 4096;
 
-/// Returns the text of the near rows of these sources, by a hierarchy. If there are at least half as
-/// many sources as nodes, rounded down, one sweep makes the rows of all nodes. The sweep needs no search
+/// Returns the text of the near rows of these sources, by a hierarchy. One sweep makes the rows of all
+/// nodes. It also serves a list of at least half as many sources as nodes, rounded down: it needs no search
 /// from a source, and makes hardly more than twice as many rows as are asked for.
 pub(crate) fn near_by<R: Threads + Sync, G: Gate>(
     crew: &Crew<'_, R, G>,
     hierarchy: &Hierarchy,
-    sources: &[u32],
+    sources: &Sources<Vec<u32>>,
     targets: &[u32],
     options: &Options,
 ) -> Result<Vec<u8>, AllocError>
     requires kept { IsKeptForSome hierarchy.now }
-    requires lists { AreNodeLists (nodes_of hierarchy.now) sources.now targets.now }
+    requires lists { AreNodeLists (nodes_of hierarchy.now) (nodes_of_sources (nodes_of hierarchy.now) sources.now) targets.now }
     ensures { IfOk result (λ text. (g : Network) → IsWithinLimits g → IsKept g hierarchy.now →
-        IsNearTextFor options.now g sources.now targets.now text.items) }
+        IsNearTextFor options.now g (nodes_of_sources g.nodes sources.now) targets.now text.items) }
 {
     let direction = options.direction;
     let within = options.within;
     let mut near = NearTargets::search(crew, hierarchy, direction, targets, within, options.count)?;
-    if sources.len() < hierarchy.nodes() as usize / 2 {
-        searched_text(crew, &mut near, sources, targets)
-    } else {
-        swept_text(crew, &near, sources, targets)
+    let nodes = hierarchy.nodes();
+    match sources {
+        Sources::All => all_nodes_text(crew, &near, nodes, targets),
+        Sources::Listed(list) if list.len() < nodes as usize / 2 => {
+            searched_text(crew, &mut near, list, targets)
+        }
+        Sources::Listed(list) => swept_text(crew, &near, list, targets),
     }
 }
 
@@ -65,8 +70,7 @@ fn searched_text<R: Threads + Sync, G: Gate>(
     Ok(text)
 }
 
-/// Returns the text of the near rows of these sources, from the rows of all nodes. One worker makes
-/// these rows.
+/// Returns the text of the near rows of these sources, from the rows of all nodes.
 fn swept_text<R: Threads + Sync, G: Gate>(
     crew: &Crew<'_, R, G>,
     near: &NearTargets<'_>,
@@ -77,11 +81,40 @@ fn swept_text<R: Threads + Sync, G: Gate>(
     requires targets { near.now.targets ≡ targets.now }
     ensures { IfOk result (λ text. HasNearRows near.now sources.now text.items) }
 {
-    crew.gate.watch(Stage::Answering, 0, 1);
-    let rows = near.node_rows(crew.alloc)?;
+    let rows = swept(crew, near)?;
     let mut text = Vec::new(crew.alloc);
     for source in sources {
         push_near_row(&mut text, *source, targets, rows.row(*source))?;
     }
     Ok(text)
+}
+
+/// Returns the text of the near rows of all nodes, in order.
+fn all_nodes_text<R: Threads + Sync, G: Gate>(
+    crew: &Crew<'_, R, G>,
+    near: &NearTargets<'_>,
+    nodes: u32,
+    targets: &[u32],
+) -> Result<Vec<u8>, AllocError>
+    requires nodes { nodes ≡ nodes_of near.now.hierarchy }
+    requires targets { near.now.targets ≡ targets.now }
+    ensures { IfOk result (λ text. HasNearRows near.now (nodes_in_order nodes) text.items) }
+{
+    let rows = swept(crew, near)?;
+    let mut text = Vec::new(crew.alloc);
+    for node in 0..nodes {
+        push_near_row(&mut text, node, targets, rows.row(node))?;
+    }
+    Ok(text)
+}
+
+/// Returns the near rows of all nodes, by a sweep. One worker makes them.
+fn swept<'a, R: Threads + Sync, G: Gate>(
+    crew: &Crew<'_, R, G>,
+    near: &NearTargets<'a>,
+) -> Result<NodeRows<'a>, AllocError>
+    ensures { IfOk result (AreNodeRows near.now) }
+{
+    crew.gate.watch(Stage::Answering, 0, 1);
+    near.node_rows(crew.alloc)
 }

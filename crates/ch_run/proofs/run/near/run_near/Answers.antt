@@ -2,7 +2,7 @@
 use Rattle.std.proofs.Common.{◌≡◌, inr, refl}
 use Rattle.ch_run.proofs.Stories.{near_delivers}
 use Rattle.ch_run.proofs.Story.{loads_serving, loads_stops, node_lists_stop, sources_on, writes_none, writes_weaker}
-use Rattle.ch_run.specs.declared.run.lists.Lists.{Lists}
+use Rattle.ch_run.specs.declared.run.node_lists.NodeLists.{NodeLists}
 use Rattle.ch_run.specs.NearRun.{sources_reading}
 use Rattle.ch_run.specs.Run.{reading}
 use Rattle.ch_run.proofs.run.near.run_near.Goals as goal
@@ -19,7 +19,7 @@ returns-in_err-lists-clause-went g c =
     let unread = c.node_lists_from.new.targets ≡ c.args.targets.now in
     let later = c.args.output.now ≡ c.args.output.now in
     loads_serving _ _ _ _ _ _ _
-    (λ h place. node_lists_stop Lists sources targets c.in_ok-loaded.loaded.graph.nodes c.in_err-lists.field-0.0
+    (λ h place. node_lists_stop NodeLists sources targets c.in_ok-loaded.loaded.graph.nodes c.in_err-lists.field-0.0
     c.from_residual-in_err-lists.result unread later _ c.from_residual-in_err-lists.ensures.1 refl
     (rw c.graph.ensures.graph at c.in_err-lists.ensures.ends))
     c.in_ok-loaded.ensures.went

@@ -1,9 +1,19 @@
--- The story of the lists ends as that of all nodes or of a list of sources does.
+-- The lists that are not accepted end the story at the sources or at the targets.
+use Rattle.std.proofs.Common.{inl, refl}
+use Rattle.ch_run.proofs.Nears.{sources_stop}
+use Rattle.ch_run.proofs.Owed.{err_as}
+use Rattle.ch_run.proofs.Story.{at_err, sources_on}
 use Rattle.ch_run.proofs.run.node_lists.node_lists_from.Goals as goal
 
 -- the story, as far as it went
-pub returns-in-All-clause-ends : goal.returns-in-All-clause-ends
-returns-in-All-clause-ends g c = rw c.in-All.is c.all_nodes_and.ensures.ends
+pub returns-in_err-sources-clause-ends : goal.returns-in_err-sources-clause-ends
+returns-in_err-sources-clause-ends g c =
+    at_err c.from_residual.result _
+    (sources_stop _ _ _ _ c.in_err-sources.field-0.0 c.from_residual.result _ _
+    c.from_residual.ensures.1 refl c.in_err-sources.ensures.ends)
 
-pub returns-in-Listed-clause-ends : goal.returns-in-Listed-clause-ends
-returns-in-Listed-clause-ends g c = rw c.in-Listed.is c.listed_and.ensures.ends
+pub returns-in_err-targets-clause-ends : goal.returns-in_err-targets-clause-ends
+returns-in_err-targets-clause-ends g c =
+    at_err c.from_residual-in_err-targets.result _
+    (sources_on _ _ _ _ _ _ _ c.in_ok-sources.ensures.value
+    (λ listed same. inl (err_as _ _ _ c.from_residual-in_err-targets.ensures.1 c.in_err-targets.ensures.ends, tt)))

@@ -1,7 +1,0 @@
--- The list has the nodes before the current one, in order.
-use Rattle.std.proofs.Common.{◌≡◌}
-use Rattle.ch_text.specs.NearText.{nodes_in_order}
-use Rattle.ch_run.proofs.run.node_lists.each_node.Given as goal
-
-abbrev pub invariant-loop-node : goal.invariant-loop-node
-invariant-loop-node l = l.list.items ≡ nodes_in_order l.node
