@@ -1,5 +1,5 @@
 -- Requests that are answered one after the other.
-use Rattle.std.proofs.Common.{◌≡◌, ℕ, ◌+◌, ◌^◌, ◌<◌, Bool, true, false, List, [], ◌∷◌, ◌++◌, length, map, Option, Result, Ok, Err}
+use Rattle.std.proofs.Common.{◌≡◌, ℕ, ◌+◌, ◌^◌, ◌<◌, ◌||◌, Bool, true, false, List, [], ◌∷◌, ◌++◌, length, map, Option, Result, Ok, Err}
 use Rattle.std.proofs.Common.{inl, inr, refl, sym, ap, ◌∙◌, subst, arith, append_assoc}
 use Rattle.std.proofs.lemmas.List.{append-nil, length-append}
 use Rattle.std.specs.List.{AllZip, flat_map, zip}
@@ -21,7 +21,7 @@ use Rattle.ch_run.specs.Text.{IsTextBy, writes_routes}
 use Rattle.ch_run.specs.Ask.{AreAnswered, IsRequestText, TextOf, TookAnswers, limit_of, places_after, places_then}
 use Rattle.ch_run.specs.declared.run.batch.Then.{Then}
 use Rattle.ch_run.specs.declared.run.batch.Then.TheVariants.{More, Nothing, Stop}
-use Rattle.ch_run.specs.Serving.{AnswersInTurn, IsAfter, IsOfAnswering, WritesMore, asked_for, end_of, near_row_of, routes_for}
+use Rattle.ch_run.specs.Serving.{AnswersInTurn, IsAfter, IsOfAnswering, WritesMore, asked_for, end_of, near_row_of}
 use Rattle.ch_run.specs.Lists.{AreLists}
 use Rattle.ch_read.specs.RequestLists.{PlaceList, TwoLists}
 use Rattle.ch_read.specs.Requests.{AreTwoLists}
@@ -77,7 +77,7 @@ stays true places query = refl
 stays false places query = refl
 
 pub split_answers : (options : Options) (routed : Bool) (g : Network) (From : LevelsAndLegs → Type 0) (places : PlaceList)
-    (queries : List (ℕ × ℕ)) (text : List ℕ) → IsTextBy (routes_for options routed) g From queries text →
+    (queries : List (ℕ × ℕ)) (text : List ℕ) → IsTextBy (routed || writes_routes options) g From queries text →
     AreAnswered (IsRequestText options g From) places (map (asked_for routed) queries) text
 split_answers options true g From places queries text h = split_by (IsRequestText options g From) (asked_for true) true g From
     (λ places query one is. is) (stays true) places queries text h

@@ -453,7 +453,7 @@ module _ (P Q : TextOf) (so : (places : PlaceList) (request : Request) (text : L
   served_weaker n requests old new (Err _) h = absurd h
 
 -- the hierarchy that answers a list of queries with their routes is built in the order of the options
-pub wanted_for_queries : (options : Options) (workers nodes : ℕ) → options.routes ≡ true →
+pub wanted_for_queries : (options : Options) (workers nodes : ℕ) → writes_routes options ≡ true →
     order_for_queries options workers nodes ≡ options.order
 wanted_for_queries options workers nodes e = rw e refl
 

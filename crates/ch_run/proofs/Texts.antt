@@ -18,7 +18,6 @@ use Rattle.ch_query.specs.Limits.{IsDistanceWithin}
 use Rattle.ch_table.specs.Table.{IsRowBy}
 use Rattle.ch_text.specs.Distances.{Answers, AnswersShortly, IsDistanceText, distance_text}
 use Rattle.ch_text.specs.Routes.{AnswersWithRoute, answer_text, route_text}
-use Rattle.std.specs.Prelude.{not, ◌&&◌}
 use Rattle.ch_run.specs.Source.{IsInPlaceOf, IsServing}
 use Rattle.ch_run.specs.Text.{IsTextBy}
 use Rattle.ch_text.specs.TableText.{IsCell, IsTableRow, IsTableText}
@@ -96,14 +95,12 @@ text_in true wanted by hops g h H same is queries text t =
     (t.0, subst (IsServing wanted hops g h) (sym t.1) (subst (λ o. IsServing o hops g h H) (same refl) is), t.2)
 
 -- a text that is that of the hierarchy that serves is that of the one in whose place it serves
-pub text_in_place : (plain routes : Bool) (wanted : OrderBy) (hops : ℕ) (g : Network) (h serving : Option LevelsAndLegs) →
+pub text_in_place : (routes : Bool) (wanted : OrderBy) (hops : ℕ) (g : Network) (h serving : Option LevelsAndLegs) →
     IsInPlaceOf routes g h serving → (queries : List (ℕ × ℕ)) (text : List ℕ) →
-    IsTextBy (not plain && routes) g (IsServing wanted hops g serving) queries text →
-    IsTextBy (not plain && routes) g (IsServing wanted hops g h) queries text
-text_in_place plain true wanted hops g h serving place queries text t =
-    subst (λ o. IsTextBy (not plain && true) g (IsServing wanted hops g o) queries text) place t
-text_in_place true false wanted hops g h serving place queries text t = t
-text_in_place false false wanted hops g h serving place queries text t = t
+    IsTextBy routes g (IsServing wanted hops g serving) queries text → IsTextBy routes g (IsServing wanted hops g h) queries text
+text_in_place true wanted hops g h serving place queries text t =
+    subst (λ o. IsTextBy true g (IsServing wanted hops g o) queries text) place t
+text_in_place false wanted hops g h serving place queries text t = t
 
 -- the table of a hierarchy that is right for a graph is the table of the graph
 pub cells_text : (g : Network) (H : LevelsAndLegs) → IsWithinLimits g → IsKept g H → (limit : Option ℕ)

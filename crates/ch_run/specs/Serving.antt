@@ -1,5 +1,5 @@
 -- The promises of the parts of a run over requests.
-use Rattle.std.specs.Prelude.{◌≡◌, ℕ, ◌+◌, ◌<◌, ◌≤◌, ◌⊎◌, Bool, true, false, if◌then◌else◌, List, [], length, take, map, All}
+use Rattle.std.specs.Prelude.{◌≡◌, ℕ, ◌+◌, ◌<◌, ◌≤◌, ◌⊎◌, Bool, if◌then◌else◌, List, [], length, take, map, All}
 use Rattle.std.specs.Prelude.{Option, Some, None, Result, Ok, Err, OnOk, ⊤}
 use Rattle.ch_graph.specs.declared.limits.TheConstants.{MOST_LISTED}
 use Rattle.ch_hierarchy.specs.Hierarchy.{nodes_of}
@@ -23,9 +23,7 @@ use Rattle.ch_run.specs.Loaded.{GraphAndHierarchy, IsRight}
 use Rattle.ch_run.specs.Ask.{AreAnswered, TextOf, TookAnswers, TookFirstAnswers, TookBeginning, no_places, places_after}
 use Rattle.ch_text.specs.Moves.{Took, TookUntilFault}
 use Rattle.ch_text.specs.declared.device.DeviceFault.{DeviceFault}
-use Rattle.ch_job.specs.declared.options.Options.{Options}
 use Rattle.ch_run.specs.Run.{IsWrite}
-use Rattle.ch_run.specs.Text.{writes_routes}
 
 -- how a call that answers these requests ended, by the places that were given last before them. It answered all of them, or the
 -- first of them, each whole, or a write failed.
@@ -116,11 +114,6 @@ pub record IsBatch (n : ℕ) (asked : List Request) (next : Then) : Type 0 where
 -- a query of these nodes: with its route, or as the run answers queries
 abbrev pub asked_for : Bool → ℕ × ℕ → Request
 asked_for routed pair = if routed then route_from pair else query_from pair
-
--- whether routes are written: if the queries ask for them, or if the run writes them
-abbrev pub routes_for : Options → Bool → Bool
-routes_for options true = true
-routes_for options false = writes_routes options
 
 -- a request for the near row of this node within this limit
 abbrev pub near_row_of : Option ℕ → ℕ → Request

@@ -24,6 +24,7 @@ use Rattle.ch_job.specs.declared.source.Source.{Source}
 use Rattle.ch_job.specs.declared.source.Source.TheVariants.{Built, Saved, Like}
 use Rattle.ch_run.specs.Run.{AcceptsGraph, Reading, ReadsAfter, ReadsAll, ReadsGraph, IsOf, reading, SourceReading, NoFile}
 use Rattle.ch_run.specs.Run.{SavedFile, OrderFile}
+use Rattle.ch_run.specs.Text.{writes_routes}
 
 -- the reading of that input. A run leaves it as what it is: a saved hierarchy or an order
 abbrev pub source_reading : {S : Type 0} → (gives : S → List ℕ → Result ℕ DeviceFault → S → Type 0) → Source S → Source S → SourceReading
@@ -95,7 +96,7 @@ order_of_requests Rounds = Rounds
 -- the order in which a run builds the hierarchy that answers requests. It is the order of the options, but without routes it is depth in
 -- place of the difference
 abbrev pub order_built : Options → OrderBy
-order_built options = if options.routes then options.order else order_of_requests options.order
+order_built options = if writes_routes options then options.order else order_of_requests options.order
 
 -- the order in which this many workers build a hierarchy of a graph with this many nodes, if no answer depends on the order. It is by
 -- rounds if there are at least two workers and the graph is large, and otherwise by depth
@@ -104,7 +105,7 @@ quick_order workers nodes = if nat_lt workers 2 || nat_lt nodes ROUND_NODES then
 
 -- the order in which this many workers build the hierarchy that answers a list of queries
 abbrev pub order_for_queries : Options → ℕ → ℕ → OrderBy
-order_for_queries options workers nodes = if options.routes then options.order else quick_order workers nodes
+order_for_queries options workers nodes = if writes_routes options then options.order else quick_order workers nodes
 
 -- the hierarchy that routes go by, with these options
 abbrev pub IsOfRoutes : Options → Network → Option LevelsAndLegs → LevelsAndLegs → Type 0

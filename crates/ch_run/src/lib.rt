@@ -25,6 +25,7 @@ mod fault;
 pub mod laws;
 mod orders;
 mod plan;
+mod routes;
 mod run;
 
 pub use ch_job::{

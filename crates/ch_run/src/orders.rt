@@ -3,6 +3,7 @@
 ghost use Rattle.std.specs.Prelude.{◌≡◌};
 ghost use Rattle.ch_run.specs.Source.{order_built, order_for_queries, quick_order};
 
+use crate::routes::writes_routes;
 use ch_job::{Options, OrderBy};
 
 /// Returns the order in which to build the hierarchy that answers requests. It is the order of the options.
@@ -11,7 +12,7 @@ use ch_job::{Options, OrderBy};
 pub(crate) fn building_order(options: &Options) -> OrderBy
     ensures { result ≡ order_built options.now }
 {
-    if options.routes {
+    if writes_routes(options) {
         return options.order;
     }
     match options.order {
@@ -25,7 +26,7 @@ pub(crate) fn building_order(options: &Options) -> OrderBy
 pub(crate) fn order_for_queries(options: &Options, workers: u32, nodes: u32) -> OrderBy
     ensures { result ≡ order_for_queries options.now workers nodes }
 {
-    if !options.routes {
+    if !writes_routes(options) {
         return quick_order(workers, nodes);
     }
     options.order

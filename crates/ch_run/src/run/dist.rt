@@ -18,6 +18,7 @@ use super::texts::{answers_by, plain_text};
 use crate::fault::RunFault;
 use crate::orders::order_for_queries;
 use crate::plan::{Crew, Gate};
+use crate::routes::writes_routes;
 use ch_job::{Options, Source};
 use ch_text::{Input, Output};
 use std::alloc::AllocError;
@@ -61,7 +62,7 @@ pub fn run_dist<R: Threads + Sync, I: Input, S: Input + Drop, J: Input, O: Outpu
     // Each input is still the same one.
     ensures same { (I.origin graph.new ≡ I.origin graph.old) × (source_map S.origin source.new ≡ source_map S.origin source.old) × (J.origin queries.new ≡ J.origin queries.old) }
 {
-    let loaded = loaded_from(crew, graph, source, options.routes)?;
+    let loaded = loaded_from(crew, graph, source, writes_routes(options))?;
     let queries = queries_from(crew.alloc, queries, loaded.graph())?;
     let text = text_of(crew, loaded, &queries, options)?;
     write_text(output, &text)
@@ -84,5 +85,5 @@ fn text_of<R: Threads + Sync, G: Gate>(
     }
     let order = order_for_queries(options, crew.plan.workers(), loaded.graph().nodes());
     let hierarchy = loaded.hierarchy(crew, options.hops, order)?;
-    answers_by(crew, &hierarchy, queries, options.routes)
+    answers_by(crew, &hierarchy, queries, writes_routes(options))
 }

@@ -10,11 +10,12 @@ ghost use Rattle.ch_read.specs.declared.request.Request.{Request as RequestKind}
 ghost use Rattle.ch_read.specs.declared.request.Request.TheVariants as RequestOf;
 ghost use Rattle.ch_run.specs.Ask.{AreAnswered, IsTextOfRequest, limit_of};
 ghost use Rattle.ch_run.specs.NearRows.{HasNearRows};
-ghost use Rattle.ch_run.specs.Serving.{AnswersFirst, AreFirstOf, IsRoomFor, asked_for, near_row_of, places_of, routes_for};
+ghost use Rattle.ch_run.specs.Serving.{AnswersFirst, AreFirstOf, IsRoomFor, asked_for, near_row_of, places_of};
 
 use super::answering::{Answering, Room};
 use super::texts::{answers_in, table_by};
 use crate::plan::{Crew, Gate};
+use crate::routes::writes_routes;
 use ch_job::Options;
 use ch_near::NearTargets;
 use ch_query::Scratch;
@@ -127,15 +128,8 @@ fn pairs_text<R: Threads + Sync, G: Gate>(
     ensures text { (places : PlaceList) → IfOk result (λ text. AreAnswered (IsTextOfRequest by.now.options.now by.now.checked.now.graph by.now.checked.now.hierarchy) places (map (asked_for routed) pairs.now) text.items) }
     ensures scratches { All (λ scratch. scratch ≡ nodes_of by.now.checked.now.hierarchy) scratches.new.items }
 {
-    let routes = tells_routes(by.options, routed);
+    let routes = routed || writes_routes(by.options);
     answers_in(crew, by.checked.hierarchy(), scratches, pairs, routes)
-}
-
-/// Returns whether routes are written: if the queries ask for them, or if the run writes them.
-fn tells_routes(options: &Options, routed: bool) -> bool
-    ensures { result ≡ routes_for options.now routed }
-{
-    routed || (!options.plain && options.routes)
 }
 
 /// Answers a near row, and with it those with the same limit that come right after it, at most

@@ -1,10 +1,11 @@
 -- The run goes as its story says at each end, so the output takes the text that answers the queries, or its first bytes.
-use Rattle.std.proofs.Common.{inl, inr, refl}
+use Rattle.std.proofs.Common.{Bool, inl, inr, refl, subst}
 use Rattle.ch_run.proofs.Owed.{err_as}
 use Rattle.ch_run.proofs.Stories.{dist_delivers}
 use Rattle.ch_run.proofs.Story.{loads_serving, loads_stops, writes_none, writes_weaker}
 use Rattle.ch_run.proofs.Texts.{text_in_place}
 use Rattle.ch_run.specs.Source.{IsInPlaceOf}
+use Rattle.ch_run.specs.Text.{writes_routes}
 use Rattle.ch_run.proofs.run.dist.run_dist.Goals as goal
 
 -- the story, as far as it went
@@ -32,9 +33,10 @@ returns-clause-went g c =
     let options = c.args.options.now in
     let network = c.in_ok-loaded.loaded.graph in
     let saved = c.in_ok-loaded.loaded.saved in
-    loads_serving _ _ _ _ _ _ (λ k l. IsInPlaceOf options.routes k l saved)
+    loads_serving _ _ _ _ _ _ (λ k l. IsInPlaceOf c.writes_routes.result k l saved)
     (λ h place.
-    let mine = text_in_place options.plain options.routes options.order options.hops network h saved place _ _ c.in_ok-text.ensures in
+    let mine = text_in_place (writes_routes options) options.order options.hops network h saved
+    (subst (λ (named : Bool). IsInPlaceOf named network h saved) c.writes_routes.ensures place) _ _ c.in_ok-text.ensures in
     let wrote = writes_weaker _ _ _ _ _ c.write_text.result (rw c.deref-2.ensures.value (rw c.deref.ensures.value at mine))
     c.write_text.ensures.wrote in
     inr (read.0, _, read.1, read.2, wrote))
