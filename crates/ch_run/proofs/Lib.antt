@@ -7,6 +7,7 @@ pub mod OneText
 pub mod Tables
 pub mod OneRun
 pub mod Writes
+pub mod Judged
 pub mod Owed
 pub mod Parts
 pub mod ReadBack

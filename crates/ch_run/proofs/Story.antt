@@ -5,13 +5,9 @@ use Rattle.ch_graph.specs.Graph.{Network}
 use Rattle.ch_read.specs.declared.form.Form.TheVariants as Form
 use Rattle.ch_read.specs.Names.{NamesNodes}
 use Rattle.ch_hierarchy.specs.Hierarchy.{LevelsAndLegs}
-use Rattle.ch_read.specs.declared.fault.ReadFault.{ReadFault}
-use Rattle.ch_read.specs.declared.fault.ReadError.{ReadError}
-use Rattle.ch_read.specs.declared.fault.ReadError.TheVariants.{Fault, NoMemory}
 use Rattle.ch_text.specs.declared.device.DeviceFault.{DeviceFault}
 use Rattle.ch_run.specs.declared.fault.RunFault.{RunFault}
 use Rattle.ch_run.specs.declared.fault.Which.{Which}
-use Rattle.ch_run.specs.Fault.{input_fault}
 use Rattle.ch_run.specs.Run.{IsUnread, NoFile, NoInput, OneInput, OrderFile, Reading, ReadingIf, SavedFile, SourceReading}
 use Rattle.ch_run.specs.Story.{Cells, EndsAt, IsOrderRefusedOn, IsRefused, IsSavedRefusedOn, Loads, LoadsSource}
 use Rattle.ch_run.specs.Story.{Reads, ReadsIf, Writes}
@@ -55,13 +51,6 @@ pub unread_ends : (which : Which) (input : Reading) (refuses : List ℕ → RunF
 unread_ends which input refuses (RunFault.Device other) unread = unread
 unread_ends which input refuses RunFault.Memory unread = (unread.0, inl unread.1)
 unread_ends which input refuses _ unread = absurd unread
-
--- an input whose reader refused its bytes, or had no memory for them, ends the run
-pub refused_ends : (which : Which) (input : Reading) (refuses : List ℕ → RunFault → Type 0) (bytes : List ℕ) (error : ReadError) →
-    input.all bytes → ((fault : ReadFault) → error ≡ Fault fault → refuses bytes (RunFault.Read which fault)) →
-    EndsAt which input refuses (input_fault which error)
-refused_ends which input refuses bytes (Fault fault) all so = (bytes, all, so fault refl)
-refused_ends which input refuses bytes NoMemory all so = (bytes, inr all)
 
 -- the run that read an input in vain stops at it, like the call that read it
 pub reads_stops : (S : Type 0) {T V : Type 0} (which : Which) (input : Reading) (names : List ℕ → V → Type 0) (refuses : List ℕ →

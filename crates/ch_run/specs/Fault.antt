@@ -1,5 +1,5 @@
 -- The line and the exit status of each fault.
-use Rattle.std.specs.Prelude.{ℕ, ◌++◌, List, codes, decimal}
+use Rattle.std.specs.Prelude.{ℕ, ◌++◌, List, Result, Ok, Err, codes, decimal}
 use Rattle.ch_hierarchy.specs.FaultText.{fault_text as check_fault_text}
 use Rattle.ch_read.specs.declared.fault.ReadError.{ReadError}
 use Rattle.ch_read.specs.declared.fault.ReadError.TheVariants.{Fault, NoMemory}
@@ -54,3 +54,8 @@ status_of RunFault.Order = 1
 abbrev pub input_fault : Which → ReadError → RunFault
 input_fault which (Fault fault) = RunFault.Read which fault
 input_fault which NoMemory = RunFault.Memory
+
+-- what a reader made of this input, with its error as the fault of the run
+abbrev pub judged : {A : Type 0} → Which → Result A ReadError → Result A RunFault
+judged which (Ok value) = Ok value
+judged which (Err error) = Err (input_fault which error)

@@ -3,7 +3,7 @@
 ghost use Rattle.std.specs.Prelude.{◌≡◌, ◌≤◌, ◌++◌, Some, codes, length};
 ghost use Rattle.ch_hierarchy.specs.FaultText.{fault_text as check_fault_text};
 ghost use Rattle.ch_read.specs.Text.{kind_text};
-ghost use Rattle.ch_run.specs.Fault.{fault_text, input_name, input_fault, read_heading, status_of};
+ghost use Rattle.ch_run.specs.Fault.{fault_text, input_name, judged, read_heading, status_of};
 
 use ch_contract::CheckFault;
 use ch_read::{FaultKind, ReadError, ReadFault};
@@ -25,13 +25,14 @@ pub enum Which {
 }
 
 impl Which {
-    /// Returns the fault of a run whose reader refused this input, or had no memory for it.
-    pub(crate) fn refusal(self, error: ReadError) -> RunFault
-        ensures { result ≡ input_fault self error }
+    /// Returns what a reader made of this input. An error of the reader is a fault of the run.
+    pub(crate) fn judged<V>(self, read: Result<V, ReadError>) -> Result<V, RunFault>
+        ensures { result ≡ judged self read }
     {
-        match error {
-            ReadError::Fault(fault) => RunFault::Read(self, fault),
-            ReadError::NoMemory => RunFault::Memory,
+        match read {
+            Ok(value) => Ok(value),
+            Err(ReadError::Fault(fault)) => Err(RunFault::Read(self, fault)),
+            Err(ReadError::NoMemory) => Err(RunFault::Memory),
         }
     }
 

@@ -28,13 +28,13 @@ pub(crate) fn graph_from<R: Threads + Sync, I: Input, G: Gate>(
     ensures ends { IfErr result (EndsAt Which.Graph (reading I.read_gives input.old input.new) (IsRefused Which.Graph FormOf.Graph)) }
 {
     let bytes = bytes_from(crew.alloc, input, Which::Graph)?;
-    match read_graph_by(crew, &bytes) {
+    match Which::Graph.judged(read_graph_by(crew, &bytes)) {
         Ok(graph) => {
             // The contract of this call says that the graph keeps the limits.
             let _ = graph.arcs();
             Ok(graph)
         }
-        Err(error) => Err(Which::Graph.refusal(error)),
+        Err(fault) => Err(fault),
     }
 }
 
@@ -51,10 +51,7 @@ pub(crate) fn queries_from<I: Input>(
     ensures ends { IfErr result (EndsAt Which.Queries (reading I.read_gives input.old input.new) (IsRefused Which.Queries (FormOf.Queries graph.now.nodes))) }
 {
     let bytes = bytes_from(alloc, input, Which::Queries)?;
-    match read_queries(alloc, &bytes, graph.nodes()) {
-        Ok(queries) => Ok(queries),
-        Err(error) => Err(Which::Queries.refusal(error)),
-    }
+    Which::Queries.judged(read_queries(alloc, &bytes, graph.nodes()))
 }
 
 /// Reads an input to its end, as a list of nodes of this graph.
@@ -71,10 +68,7 @@ pub(crate) fn nodes_from<I: Input>(
     ensures ends { IfErr result (EndsAt which (reading I.read_gives input.old input.new) (IsRefused which (FormOf.Nodes graph.now.nodes))) }
 {
     let bytes = bytes_from(alloc, input, which)?;
-    match read_nodes(alloc, &bytes, graph.nodes()) {
-        Ok(list) => Ok(list),
-        Err(error) => Err(which.refusal(error)),
-    }
+    which.judged(read_nodes(alloc, &bytes, graph.nodes()))
 }
 
 /// Returns whether the count of failures of an input has room for one more. An input that has no room is not read.

@@ -230,10 +230,7 @@ fn saved_from<R: Threads + Sync, S: Input, G: Gate>(
     ensures ends { IfErr result (EndsAt Which.Saved (reading S.read_gives input.old input.new) (IsRefused Which.Saved (FormOf.Saved graph.now.nodes))) }
 {
     let bytes = bytes_from(crew.alloc, input, Which::Saved)?;
-    match read_saved_by(crew, &bytes, graph.nodes()) {
-        Ok(saved) => Ok(saved),
-        Err(error) => Err(Which::Saved.refusal(error)),
-    }
+    Which::Saved.judged(read_saved_by(crew, &bytes, graph.nodes()))
 }
 
 /// Reads an input to its end, as an order of the nodes of this graph in the form of a saved hierarchy. All workers read
@@ -248,8 +245,5 @@ fn order_from<R: Threads + Sync, S: Input, G: Gate>(
     ensures ends { IfErr result (EndsAt Which.Order (reading S.read_gives input.old input.new) (IsRefused Which.Order (FormOf.Saved graph.now.nodes))) }
 {
     let bytes = bytes_from(crew.alloc, input, Which::Order)?;
-    match read_order_by(crew, &bytes, graph.nodes()) {
-        Ok(order) => Ok(order),
-        Err(error) => Err(Which::Order.refusal(error)),
-    }
+    Which::Order.judged(read_order_by(crew, &bytes, graph.nodes()))
 }

@@ -1,32 +1,29 @@
 -- The bytes that were read name the graph, or have its first fault, or could not be read.
-use Rattle.std.proofs.Common.{◌≡◌, refl, subst}
+use Rattle.std.specs.Prelude.{IfErr, IfOk}
 use Rattle.ch_read.specs.declared.form.Form.TheVariants.{Graph}
-use Rattle.ch_read.specs.declared.fault.ReadError.TheVariants.{Fault}
-use Rattle.ch_read.specs.Checks.{IsFault}
 use Rattle.ch_read.specs.Names.{NamesGraph}
-use Rattle.ch_run.specs.declared.fault.Which.TheVariants as Which
-use Rattle.ch_run.specs.Run.{reading}
-use Rattle.ch_read.specs.declared.fault.ReadFault.{ReadFault}
+use Rattle.ch_run.specs.Run.{ReadsGraph, reading}
 use Rattle.ch_run.specs.Story.{EndsAt, IsRefused}
-use Rattle.ch_run.proofs.Owed.{own_as}
-use Rattle.ch_run.proofs.Story.{refused_ends, unread_ends}
+use Rattle.ch_run.specs.declared.fault.Which.{Which}
+use Rattle.ch_run.proofs.Judged.{fault_judged, unread_judged, value_judged}
 use Rattle.ch_run.proofs.run.inputs.graph_from.Goals as goal
 
 pub returns-in-Ok-clause-value : goal.returns-in-Ok-clause-value
 returns-in-Ok-clause-value g c =
-    let named = (c.in-Ok.ensures.value c.in-Ok.graph).0 refl in
-    (c.in_ok-bytes.bytes.items, c.in_ok-bytes.ensures.bytes, subst (λ bytes. NamesGraph bytes c.in-Ok.graph) c.deref.ensures.value named)
+    let input = reading g.I.Input.read_gives c.args.input.now c.bytes_from.new.input in
+    let read : IfOk c.judged.result (ReadsGraph input) = rw c.judged.ensures (value_judged Which.Graph input Graph c.deref.result.now
+    (rw c.deref.ensures.value c.in_ok-bytes.ensures.bytes) NamesGraph _ c.read_graph_by.ensures.value) in
+    rw c.in-Ok.is at read
 
 pub returns-clause-ends : goal.returns-clause-ends
 returns-clause-ends g c =
-    let refused = λ (fault : ReadFault) (is : c.in-Err.error ≡ Fault fault).
-    subst (λ bytes. IsFault Graph bytes fault.line fault.kind) c.deref.ensures.value
-    ((c.read_graph_by.ensures.fault fault).0 (rw (c.in-Err.is, is) refl)) in
-    rw c.refusal.ensures (refused_ends Which.Graph (reading g.I.Input.read_gives c.args.input.now c.bytes_from.new.input)
-    (IsRefused Which.Graph Graph) c.in_ok-bytes.bytes.items c.in-Err.error c.in_ok-bytes.ensures.bytes
-    (λ fault is. (refl, refused fault is)))
+    let input = reading g.I.Input.read_gives c.args.input.now c.bytes_from.new.input in
+    let ends : IfErr c.judged.result (EndsAt Which.Graph input (IsRefused Which.Graph Graph)) = rw c.judged.ensures
+    (fault_judged Which.Graph input Graph c.deref.result.now (rw c.deref.ensures.value c.in_ok-bytes.ensures.bytes) _
+    c.read_graph_by.ensures.fault) in
+    rw c.in-Err.is at ends
 
 pub returns-in_err-bytes-clause-ends : goal.returns-in_err-bytes-clause-ends
-returns-in_err-bytes-clause-ends g c = own_as c.from_residual.result _
-    (EndsAt Which.Graph (reading g.I.Input.read_gives c.args.input.now c.bytes_from.new.input) (IsRefused Which.Graph Graph))
-    c.from_residual.ensures.1 (unread_ends Which.Graph _ (IsRefused Which.Graph Graph) _ c.in_err-bytes.ensures.unread)
+returns-in_err-bytes-clause-ends g c =
+    unread_judged Which.Graph (reading g.I.Input.read_gives c.args.input.now c.bytes_from.new.input) Graph
+    c.from_residual.result _ c.from_residual.ensures.1 c.in_err-bytes.ensures.unread
