@@ -169,5 +169,5 @@ pub sources_stop : (S : Type 0) {T V : Type 0} (input : ReadingIf) (names : List
     ReadsIf {T = S} Which.Sources input names refuses (Err e) ⊤ (λ _. ⊥) → ReadsIf Which.Sources input names refuses r later next
 sources_stop S NoInput names refuses e r later next is rest none = absurd none
 sources_stop S (OneInput input) names refuses e r later next is rest reads =
-    reads_stops S Which.Sources input names refuses e r ⊤ later (λ _. ⊥) (λ value. next (Some value)) is (λ value none. absurd none)
-    (λ at. rest) reads
+    reads_stops S Which.Sources input names refuses e r ⊤ later (λ _. ⊥) (λ value. next (Some value)) is reads
+    (λ value none. absurd none) (λ at. rest)
