@@ -1,17 +1,16 @@
 -- Which files a run refuses.
-use Rattle.std.proofs.Common.{◌≡◌, ℕ, List, inl, inr}
-use Rattle.std.specs.Prelude.{Result, IsErrAnd, [], ◌∷◌}
+use Rattle.std.proofs.Common.{ℕ, List, inl, inr}
+use Rattle.std.specs.Prelude.{Result, [], ◌∷◌}
 use Rattle.ch_text.specs.declared.device.DeviceFault.{DeviceFault}
 use Rattle.ch_run.specs.declared.fault.RunFault.{RunFault}
 use Rattle.ch_run.specs.declared.fault.Which.{Which}
 use Rattle.ch_job.specs.declared.source.Source.{Source}
 use Rattle.ch_job.specs.declared.sources.Sources.{Sources}
 use Rattle.ch_run.specs.NearRun.{ReadsSources, sources_reading}
-use Rattle.ch_run.specs.Run.{IsWrite, Reading, SourceReading, WritesOnce}
+use Rattle.ch_run.specs.Run.{IsWrite, Reading, SourceReading}
 use Rattle.ch_run.specs.Source.{ReadsSource, source_reading}
 use Rattle.ch_run.specs.TableRun.{HasSourcesRefused}
 use Rattle.ch_line.specs.Inputs.{RefusesSource, RefusesSources}
-use Rattle.ch_run.proofs.Owed.{unwritten_once}
 use Rattle.ch_line.specs.declared.files.OpenFault.{OpenFault}
 use Rattle.ch_line.specs.Line.{File, StopsOpening, open_fault}
 
@@ -20,14 +19,11 @@ pub source-refused : {I : Type 0} (graph : Reading) (r : Result Unit RunFault) (
     Type 0) (failed : I → ℕ) (old new : Source I) → ReadsSource graph r gives failed old new →
     RefusesSource graph (source_reading gives old new) r
 source-refused graph r gives failed Source.Built new reads = tt
-source-refused graph r gives failed (Source.Saved old) Source.Built reads = absurd reads
-source-refused graph r gives failed (Source.Saved old) (Source.Like new fresh hops) reads = absurd reads
 source-refused graph r gives failed (Source.Saved old) (Source.Saved new) reads =
     record { lines = reads.lines.reads.refused; check = reads.check }
-source-refused graph r gives failed (Source.Like old fresh hops) Source.Built reads = absurd reads
-source-refused graph r gives failed (Source.Like old fresh hops) (Source.Saved new) reads = absurd reads
 source-refused graph r gives failed (Source.Like old fresh hops) (Source.Like new fresh' hops') reads =
     record { lines = reads.lines.reads.refused; nodes = reads.order }
+source-refused graph r gives failed _ _ reads = absurd reads
 
 -- a refused list of sources, if there is one
 pub list-refused : {I : Type 0} (graph : Reading) (source : SourceReading) (earlier : List Which) (accepted : Type 0)
@@ -44,12 +40,7 @@ open_no_write which OpenFault.Refused write = write
 open_no_write which OpenFault.Memory write = write
 
 pub stops_no_write : {F I : Type 0} (opens : F → List ℕ → Result I OpenFault → F → Type 0) (files : List File) (old new : F)
-    (fault : RunFault) →
-    StopsOpening opens files old new fault → IsWrite fault → ⊥
+    (fault : RunFault) → StopsOpening opens files old new fault → IsWrite fault → ⊥
 stops_no_write opens [] old new fault stops write = stops
 stops_no_write opens (file ∷ files) old new fault (inl refused) write = open_no_write file.0 refused.0 (rw refused.2 at write)
 stops_no_write opens (file ∷ files) old new fault (inr later) write = stops_no_write opens files later.1 new fault later.3 write
-
-pub unwritten_so : {T O : Type 0} (r : Result T RunFault) (e : RunFault) → IsErrAnd r (λ y. y ≡ e) → (IsWrite e → ⊥) →
-    (failed idle : O → ℕ) (x : O) → WritesOnce r failed idle x x
-unwritten_so r e is other failed idle x = unwritten_once r e is other failed idle x

@@ -3,7 +3,7 @@ use Rattle.std.proofs.Common.{◌≡◌, ℕ, List, inl, refl, ap, subst}
 use Rattle.std.specs.Prelude.{IfErr, Result}
 use Rattle.std.proofs.Math.Logic.{⊎_map}
 use Rattle.ch_text.specs.Device.{CountsAtMostOne}
-use Rattle.ch_job.specs.Job.{job_map, question_map, sources_map}
+use Rattle.ch_job.specs.Job.{job_map, question_map, source_map, sources_map}
 use Rattle.ch_job.specs.declared.job.Job.{Job}
 use Rattle.ch_job.specs.declared.job.Question.{Question}
 use Rattle.ch_run.specs.declared.fault.RunFault.{RunFault}
@@ -45,6 +45,9 @@ module _ {I J O : Type 0} (gives : Calls I) (origin failed : I → ℕ) (counts 
   abbrev source : SourceReading
   source = source_reading gives old.source new.source
 
+  same_source : source_map origin new.source ≡ source_map origin old.source
+  same_source = ap (λ (job : Job ℕ). job.source) same
+
   -- what a run tells of the graph and of the source of its hierarchy, whatever its question is
   told : (asked : Question (I × I)) →
       WritesFor old.options graph source gives asked gives_requests failed_requests takes requests requests' output output' r →
@@ -53,24 +56,19 @@ module _ {I J O : Type 0} (gives : Calls I) (origin failed : I → ℕ) (counts 
       AreRead origin failed r (question_inputs (before asked)) (question_inputs (after asked)) →
       CountsAtMostOne (failed_requests requests) (failed_requests requests') → WritesOnce r failures idle output output' →
       TellsOf (before asked) (after asked)
-  told asked written own on_graph on_source refused read once wrote = record {
-    asked = asked;
-    paired = (refl, refl);
-    written = written;
-    ends = record {
-      own = own;
-      graph_refused = on_graph.refused;
-      source_refused = source-refused graph r gives failed old.source new.source on_source;
-      asked_refused = refused;
-    };
-    read = (
-      refl,
-      record { same = ap (λ (job : Job ℕ). job.graph) same; once = on_graph.once },
-      source-read gives origin failed r _ _ read graph old.source new.source on_source (ap (λ (job : Job ℕ). job.source) same),
-    );
-    requests_once = once;
-    output_told = wrote;
-  }
+  told asked written own on_graph on_source refused read once wrote =
+      let source_told = source-refused graph r gives failed old.source new.source on_source in
+      let same_graph = ap (λ (job : Job ℕ). job.graph) same in
+      let rest_read = source-read gives origin failed r _ _ read graph old.source new.source on_source same_source in
+      record {
+        asked = asked;
+        paired = (refl, refl);
+        written = written;
+        ends = record { own = own; graph_refused = on_graph.refused; source_refused = source_told; asked_refused = refused };
+        read = (refl, record { same = same_graph; once = on_graph.once }, rest_read);
+        requests_once = once;
+        output_told = wrote;
+      }
 
   -- the run wrote its text, and left the requests alone
   texts : (P : List ℕ → Type 0) (accepted : Type 0) → requests' ≡ requests → Delivers r takes output output' P →
@@ -88,13 +86,13 @@ module _ {I J O : Type 0} (gives : Calls I) (origin failed : I → ℕ) (counts 
       TellsOf (before asked) (after asked)
   asked_told (Question.Queries queries) each (went, unasked) =
       let e = dist_tells old.options gives failed counts old.graph new.graph gives failed counts origin old.source new.source gives failed
-      counts queries.0 queries.1 takes failures idle counts_output output output' r (ap (λ (job : Job ℕ). job.source) same) went in
+      counts queries.0 queries.1 takes failures idle counts_output output output' r same_source went in
       told (Question.Queries queries) (texts _ _ unasked (dist_delivers old.options _ _ _ takes r went) e.output) e.own e.graph e.source
       e.queries.reads.refused (refl, record { same = cc; once = e.queries.reads.once }, tt) (none_counted unasked) e.output.writes
   asked_told (Question.Table from to) each (went, unasked) =
       let e = table_tells old.options gives failed counts old.graph new.graph gives failed counts origin old.source new.source gives failed
       counts from.0 from.1 gives failed counts to.0 to.1 takes failures idle counts_output output output' r
-      (ap (λ (job : Job ℕ). job.source) same) went in
+      same_source went in
       told (Question.Table from to) (texts _ _ unasked (table_delivers old.options _ _ _ _ takes r went) e.output) e.own e.graph e.source
       (record { sources_refused = e.sources.reads.refused; targets_refused = e.targets.reads.refused; cells_refused = e.cells })
       (refl, record { same = cc; once = e.sources.reads.once }, (refl, record { same = cc; once = e.targets.reads.once }, tt))
@@ -103,20 +101,20 @@ module _ {I J O : Type 0} (gives : Calls I) (origin failed : I → ℕ) (counts 
       let from_same : sources_map origin (sources_after from) ≡ sources_map origin (sources_before from) = cc in
       let e = near_tells old.options gives failed counts old.graph new.graph gives failed counts origin old.source new.source gives failed
       counts origin (sources_before from) (sources_after from) gives failed counts to.0 to.1 takes failures idle counts_output output
-      output' r (ap (λ (job : Job ℕ). job.source) same) from_same went in
+      output' r same_source from_same went in
       told (Question.Near from to) (texts _ _ unasked (near_delivers old.options _ _ _ _ takes r went) e.output) e.own e.graph e.source
       (record { sources_refused = list-refused _ _ _ _ r _ _ _ _ e.sources; targets_refused = e.targets.reads.refused })
       (sources-read gives origin failed r _ _ (refl, record { same = cc; once = e.targets.reads.once }, tt) _ _ _ _ _ e.sources from_same)
       (none_counted unasked) e.output.writes
   asked_told Question.Hierarchy each (went, unasked) =
       let e = save_tells old.options gives failed counts old.graph new.graph gives failed counts origin old.source new.source takes
-      failures idle counts_output output output' r (ap (λ (job : Job ℕ). job.source) same) went in
+      failures idle counts_output output output' r same_source went in
       told Question.Hierarchy (texts _ _ unasked (save_delivers old.options _ _ takes r went) e.output) e.own e.graph e.source tt tt
       (none_counted unasked) e.output.writes
   asked_told Question.Requests each went =
       let e = ask_tells old.options gives failed counts old.graph new.graph gives failed counts origin old.source new.source gives_requests
       failed_requests counts_requests requests requests' takes failures idle counts_output output output' r
-      (ap (λ (job : Job ℕ). job.source) same) went in
+      same_source went in
       told Question.Requests (record { served = ask_served old.options _ _ _ takes r went; device = e.requests.device }) e.own e.graph
       e.source tt tt e.requests.once e.output
 

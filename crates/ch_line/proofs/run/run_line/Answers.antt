@@ -1,9 +1,9 @@
 -- The run either stops at a file that can't be opened, or opens, uses and closes all files, and reports each failed call once.
 use Rattle.std.proofs.Common.{inl, inr, refl}
-use Rattle.ch_run.proofs.Owed.{err_as}
+use Rattle.ch_run.proofs.Owed.{err_as, unwritten_once}
 use Rattle.ch_line.specs.Line.{named_in}
 use Rattle.ch_job.proofs.Jobs.{allowed_as}
-use Rattle.ch_line.proofs.Refused.{stops_no_write, unwritten_so}
+use Rattle.ch_line.proofs.Refused.{stops_no_write}
 use Rattle.ch_line.proofs.Told.{run_tells}
 use Rattle.ch_line.proofs.run.run_line.Goals as goal
 
@@ -13,7 +13,7 @@ returns-in_err-job-clause-went g c = inl (err_as _ _ _ c.from_residual.ensures.1
 
 pub returns-in_err-job-clause-output : goal.returns-in_err-job-clause-output
 returns-in_err-job-clause-output g c =
-    unwritten_so _ _ c.from_residual.ensures.1 (stops_no_write g.F.Files.opens (named_in c.args.line.now.job) c.args.files.now
+    unwritten_once _ _ c.from_residual.ensures.1 (stops_no_write g.F.Files.opens (named_in c.args.line.now.job) c.args.files.now
     c.open_job.new.files c.in_err-job.field-0.0 c.in_err-job.ensures.stopped) _ _ _
 
 -- the numbers of the opened job are those of the line
@@ -21,34 +21,17 @@ pub run_job-result-requires-clause-allowed : goal.run_job-result-requires-clause
 run_job-result-requires-clause-allowed g c = λ κs outlives. allowed_as _ _ _ _ c.in_ok-job.ensures.same c.requires.allowed
 
 -- all files are opened, used and closed
-pub returns-clause-went : goal.returns-clause-went
-returns-clause-went g c =
-    let run = c.run_job-result.ensures in
-    inr (
-      c.in_ok-job.job,
-      c.run_job-result.new.job,
-      c.open_job.new.files,
-      c.in_ok-job.ensures.opened,
-      c.in_ok-job.ensures.same,
-      run.went,
-      run.same,
-      c.close_job.ensures,
-    )
-
-pub returns-clause-requests_once : goal.returns-clause-requests_once
-returns-clause-requests_once g c =
-    (run_tells g.F.Input.Input.read_gives g.F.Input.Input.origin g.F.Input.Input.failed g.met.F.Input.Input.counts
+pub returns : goal.returns
+returns g c =
+    let run = c.run_job-result in
+    let told = run_tells g.F.Input.Input.read_gives g.F.Input.Input.origin g.F.Input.Input.failed g.met.F.Input.Input.counts
     g.J.Input.read_gives g.J.Input.failed g.met.J.Input.counts g.O.Output.write_gives g.O.Output.failed g.O.Output.idle
-    g.met.O.Output.counts
-    c.in_ok-job.job c.run_job-result.new.job c.args.requests.now
-    c.run_job-result.new.requests c.args.output.now c.run_job-result.new.output c.run_job-result.result
-    c.run_job-result.ensures.same c.run_job-result.ensures.went).requests_once
-
-pub returns-clause-output : goal.returns-clause-output
-returns-clause-output g c =
-    (run_tells g.F.Input.Input.read_gives g.F.Input.Input.origin g.F.Input.Input.failed g.met.F.Input.Input.counts
-    g.J.Input.read_gives g.J.Input.failed g.met.J.Input.counts g.O.Output.write_gives g.O.Output.failed g.O.Output.idle
-    g.met.O.Output.counts
-    c.in_ok-job.job c.run_job-result.new.job c.args.requests.now
-    c.run_job-result.new.requests c.args.output.now c.run_job-result.new.output c.run_job-result.result
-    c.run_job-result.ensures.same c.run_job-result.ensures.went).output_told
+    g.met.O.Output.counts c.in_ok-job.job run.new.job c.args.requests.now run.new.requests c.args.output.now run.new.output run.result
+    run.ensures.same run.ensures.went in
+    let job = c.in_ok-job in
+    let e = run.ensures in
+    record {
+      went = inr (job.job, run.new.job, _, job.ensures.opened, job.ensures.same, e.went, e.same, c.close_job.ensures);
+      requests_once = told.requests_once;
+      output = told.output_told;
+    }
