@@ -3,7 +3,6 @@ use Rattle.std.proofs.Common.{◌≡◌, ℕ, ◌+◌, ◌^◌, ◌<◌, ◌||�
 use Rattle.std.proofs.Common.{inl, inr, refl, sym, ap, ◌∙◌, subst, arith, append_assoc}
 use Rattle.std.proofs.lemmas.List.{append-nil, length-append}
 use Rattle.std.specs.List.{AllZip, flat_map, zip}
-use Rattle.std.specs.Prelude.{IsErrAnd}
 use Rattle.ch_graph.specs.Graph.{Network}
 use Rattle.ch_hierarchy.specs.Hierarchy.{LevelsAndLegs}
 use Rattle.ch_query.specs.declared.answer.Answer.{Answer}
@@ -12,6 +11,7 @@ use Rattle.ch_read.specs.Reading.{capped_number}
 use Rattle.ch_run.specs.declared.fault.RunFault.{RunFault}
 use Rattle.ch_job.specs.declared.options.Options.{Options}
 use Rattle.ch_text.specs.declared.device.DeviceFault.{DeviceFault}
+use Rattle.ch_text.specs.Moves.{Took}
 use Rattle.ch_text.proofs.Moves.{took-fault-then, took-none, took-then}
 use Rattle.ch_near.specs.Near.{IsNearestRow}
 use Rattle.ch_text.specs.NearText.{near_row_text}
@@ -21,7 +21,7 @@ use Rattle.ch_run.specs.Text.{IsTextBy, writes_routes}
 use Rattle.ch_run.specs.Ask.{AreAnswered, IsRequestText, TextOf, TookAnswers, limit_of, places_after, places_then}
 use Rattle.ch_run.specs.declared.run.batch.Then.{Then}
 use Rattle.ch_run.specs.declared.run.batch.Then.TheVariants.{More, Nothing, Stop}
-use Rattle.ch_run.specs.Serving.{AnswersInTurn, IsAfter, IsOfAnswering, WritesMore, asked_for, end_of, near_row_of}
+use Rattle.ch_run.specs.Serving.{AnswersInTurn, InTurn, IsAfter, IsOfAnswering, WritesMore, asked_for, end_of, near_row_of}
 use Rattle.ch_run.specs.Lists.{AreLists}
 use Rattle.ch_read.specs.RequestLists.{PlaceList, TwoLists}
 use Rattle.ch_read.specs.Requests.{AreTwoLists}
@@ -121,112 +121,104 @@ module _ (IsTextOf : TextOf) where
     answered_append (places_then places x) xs ys h.1 more h.4 k,
   )
 
-module _ (IsTextOf : TextOf) {S : Type 0} (gives : S → List ℕ → Result ℕ DeviceFault → S → Type 0) where
-  -- a text that was written answers its requests
-  pub written_answers : {T : Type 0} (places : PlaceList) (old new : S) (before after : ℕ) (requests : List Request) (text : List ℕ)
-      (r : Result T RunFault) →
-      AreAnswered IsTextOf places requests text → WritesMore gives old new before after text r →
-      AnswersInTurn IsTextOf gives places old new before after requests r
-  written_answers places old new before after requests text (Ok x) is h = (text, is, h.0, h.1)
-  written_answers places old new before after requests text (Err (RunFault.Write count)) is h =
-      (requests, [], text, h.0, sym (append-nil requests), is, h.1, h.2)
-  written_answers places old new before after requests text (Err RunFault.Memory) is h =
-      rw h ([], requests, refl, ([], answered_none IsTextOf places, took-none gives old))
-  written_answers places old new before after requests text (Err _) is h = absurd h
+-- the places after requests, and after more requests
+pub places_append : (places : PlaceList) (xs ys : List Request) → places_after places (xs ++ ys) ≡ places_after (places_after places xs) ys
+places_append places [] ys = refl
+places_append places (x ∷ xs) ys = places_append (places_then places x) xs ys
 
-  -- a failed write or a lack of memory is a fault of answering
-  pub more_own : (T : Type 0) (old new : S) (before after : ℕ) (text : List ℕ) (e : RunFault) →
-      WritesMore {T = T} gives old new before after text (Err e) → IsOfAnswering e
-  more_own T old new before after text (RunFault.Write count) h = inl tt
-  more_own T old new before after text RunFault.Memory h = inr refl
-  more_own T old new before after text _ h = absurd h
+module _ {IsTextOf : TextOf} {S : Type 0} {gives : S → List ℕ → Result ℕ DeviceFault → S → Type 0} {places held : PlaceList} {old new : S}
+    {before after : ℕ} where
+  -- a text that was written answers its requests
+  pub written_answers : {T : Type 0} {requests : List Request} (r : Result T RunFault) (text : List ℕ) →
+      AreAnswered IsTextOf places requests text → held ≡ places_after places requests → WritesMore gives old new before after text r →
+      InTurn IsTextOf gives places held old new before after requests r
+  written_answers (Ok x) text is so h = record { turn = (text, is, h.0, h.1, so) }
+  written_answers {requests = requests} (Err (RunFault.Write count)) text is so h =
+      record { turn = (requests, [], text, h.0, sym (append-nil requests), is, h.1, h.2) }
+  written_answers {requests = requests} (Err RunFault.Memory) text is so h =
+      record { turn = rw h ([], requests, refl, ([], answered_none IsTextOf places, took-none gives old)) }
+  written_answers (Err _) text is so h = absurd h
 
   -- if answering ends in a lack of memory or a failed write, there may have been more requests
-  answers_front : (places : PlaceList) (old new : S) (before after : ℕ) (xs ys : List Request) (e : RunFault) → IsOfAnswering e →
-      AnswersInTurn {T = Unit} IsTextOf gives places old new before after xs (Err e) →
-      AnswersInTurn {T = Unit} IsTextOf gives places old new before after (xs ++ ys) (Err e)
-  answers_front places old new before after xs ys RunFault.Memory own h =
-      (h.0, h.1 ++ ys, ap (λ zs. zs ++ ys) h.2 ∙ append_assoc h.0 h.1 ys, h.3)
-  answers_front places old new before after xs ys (RunFault.Write count) own h =
-      (h.0, h.1 ++ ys, h.2, h.3, ap (λ zs. zs ++ ys) h.4 ∙ append_assoc h.0 h.1 ys, h.5, h.6, h.7)
-  answers_front places old new before after xs ys _ (inl write) h = absurd write
-  answers_front places old new before after xs ys _ (inr memory) h = absurd (let none : ⊥ = cc in none)
-
-  -- a fault that is passed on keeps the promise on the answered requests
-  pub answers_passed : (places : PlaceList) (old new : S) (before after : ℕ) (xs ys : List Request) (e : RunFault)
-      (r : Result Unit RunFault) → IsErrAnd r (λ y. y ≡ e) → IsOfAnswering e →
-      AnswersInTurn {T = Unit} IsTextOf gives places old new before after xs (Err e) →
-      AnswersInTurn IsTextOf gives places old new before after (xs ++ ys) r
-  answers_passed places old new before after xs ys e (Ok x) is own h = absurd is
-  answers_passed places old new before after xs ys e (Err y) is own h =
-      subst (λ (f : RunFault). AnswersInTurn {T = Unit} IsTextOf gives places old new before after (xs ++ ys) (Err f)) (sym is)
-      (answers_front places old new before after xs ys e own h)
-
-  took_append : (places : PlaceList) (old mid new : S) (before after : ℕ) (xs ys : List Request) →
-      AnswersInTurn {T = Unit} IsTextOf gives places old mid before after xs (Ok tt) →
-      TookAnswers IsTextOf gives (places_after places xs) mid new ys → TookAnswers IsTextOf gives places old new (xs ++ ys)
-  took_append places old mid new before after xs ys h k =
-      (h.0 ++ k.0, answered_append IsTextOf places xs ys h.0 k.0 h.1 k.1, took-then gives old mid new h.0 k.0 [] h.2 k.2)
-
-  -- requests were answered, and then more
-  pub answers_more : {T : Type 0} (places : PlaceList) (old mid new : S) (before between after : ℕ) (xs ys : List Request)
-      (r : Result T RunFault) →
-      AnswersInTurn {T = Unit} IsTextOf gives places old mid before between xs (Ok tt) →
-      AnswersInTurn IsTextOf gives (places_after places xs) mid new between after ys r →
-      AnswersInTurn IsTextOf gives places old new before after (xs ++ ys) r
-  answers_more places old mid new before between after xs ys (Ok x) h k =
-      let count : capped_number (capped_number (before + length h.0) + length k.0)
-      ≡ capped_number (before + (length h.0 + length k.0)) = capped_on before (length h.0) (length k.0) in
-      let long : length (h.0 ++ k.0) ≡ length h.0 + length k.0 = length-append h.0 k.0 in
-      let first = h.3 in
-      let second = k.3 in
-      (h.0 ++ k.0, answered_append IsTextOf places xs ys h.0 k.0 h.1 k.1, took-then gives old mid new h.0 k.0 [] h.2 k.2, cc)
-  answers_more places old mid new before between after xs ys (Err RunFault.Memory) h k =
-      (xs ++ k.0, k.1, ap (λ zs. xs ++ zs) k.2 ∙ sym (append_assoc xs k.0 k.1), took_append places old mid new before between xs k.0 h k.3)
-  answers_more places old mid new before between after xs ys (Err (RunFault.Write count)) h k =
-      let total : capped_number (capped_number (before + length h.0) + k.3) ≡ capped_number (before + (length h.0 + k.3)) =
-      capped_on before (length h.0) k.3 in
-      let first = h.3 in
-      let second = k.7 in (
-        xs ++ k.0,
-        k.1,
-        h.0 ++ k.2,
-        length h.0 + k.3,
-        ap (λ zs. xs ++ zs) k.4 ∙ sym (append_assoc xs k.0 k.1),
-        answered_append IsTextOf places xs k.0 h.0 k.2 h.1 k.5,
-        took-fault-then gives old mid new h.0 k.2 k.3 h.2 k.6,
-        (cc),
-      )
-  answers_more places old mid new before between after xs ys (Err (RunFault.CellsAt line)) h k =
-      took_append places old mid new before between xs ys h k
-  answers_more places old mid new before between after xs ys (Err (RunFault.Read which f)) h k =
-      (k.0, took_append places old mid new before between xs ys h k.1)
-  answers_more places old mid new before between after xs ys (Err _) h k = absurd k
-
-  -- no requests were asked for
-  pub answers_none : (places : PlaceList) (old : S) (written : ℕ) → written < 2 ^ 64 →
-      AnswersInTurn {T = Unit} IsTextOf gives places old old written written [] (Ok tt)
-  answers_none places old written fits = ([], answered_none IsTextOf places, took-none gives old, omega arith)
-
-  -- a fault is passed on
-  pub answers_err : (places : PlaceList) (old new : S) (before after : ℕ) (requests : List Request) (e : RunFault)
-      (r : Result Unit RunFault) → IsErrAnd r (λ y. y ≡ e) →
-      AnswersInTurn {T = Unit} IsTextOf gives places old new before after requests (Err e) →
-      AnswersInTurn IsTextOf gives places old new before after requests r
-  answers_err places old new before after requests e (Ok x) is h = absurd is
-  answers_err places old new before after requests e (Err y) is h = subst
-      (λ (f : RunFault). AnswersInTurn {T = Unit} IsTextOf gives places old new before after requests (Err f)) (sym is) h
+  pub answers_front : {T : Type 0} {xs : List Request} (ys : List Request) (e : RunFault) → IsOfAnswering e →
+      InTurn {T = T} IsTextOf gives places held old new before after xs (Err e) →
+      InTurn {T = T} IsTextOf gives places held old new before after (xs ++ ys) (Err e)
+  answers_front ys RunFault.Memory own h = let k = h.turn in
+      record { turn = (k.0, k.1 ++ ys, ap (λ zs. zs ++ ys) k.2 ∙ append_assoc k.0 k.1 ys, k.3) }
+  answers_front ys (RunFault.Write count) own h = let k = h.turn in
+      record { turn = (k.0, k.1 ++ ys, k.2, k.3, ap (λ zs. zs ++ ys) k.4 ∙ append_assoc k.0 k.1 ys, k.5, k.6, k.7) }
+  answers_front ys _ (inl write) h = absurd write
+  answers_front ys _ (inr memory) h = absurd (let none : ⊥ = cc in none)
 
   -- a batch was answered, with any end
-  pub answers_end : (places : PlaceList) (old new : S) (before after : ℕ) (requests : List Request) (ends : Then) → IsAfter ends →
-      AnswersInTurn {T = Unit} IsTextOf gives places old new before after requests (Ok tt) →
-      AnswersInTurn IsTextOf gives places old new before after requests (end_of ends)
-  answers_end places old new before after requests More is h = h
-  answers_end places old new before after requests Nothing is h = h
-  answers_end places old new before after requests (Stop RunFault.Memory) is h = (requests, [], sym (append-nil requests), (h.0, h.1, h.2))
-  answers_end places old new before after requests (Stop (RunFault.CellsAt line)) is h = (h.0, h.1, h.2)
-  answers_end places old new before after requests (Stop (RunFault.Read which f)) is h = (is, (h.0, h.1, h.2))
-  answers_end places old new before after requests (Stop _) is h = absurd is
+  pub answers_end : {requests : List Request} (ends : Then) → IsAfter ends →
+      InTurn {T = Unit} IsTextOf gives places held old new before after requests (Ok tt) →
+      InTurn IsTextOf gives places held old new before after requests (end_of ends)
+  answers_end More is h = h
+  answers_end Nothing is h = h
+  answers_end {requests = requests} (Stop RunFault.Memory) is h = let k = h.turn in
+      record { turn = (requests, [], sym (append-nil requests), (k.0, k.1, k.2)) }
+  answers_end (Stop (RunFault.CellsAt line)) is h = let k = h.turn in record { turn = (k.0, k.1, k.2) }
+  answers_end (Stop (RunFault.Read which f)) is h = let k = h.turn in record { turn = (is, (k.0, k.1, k.2)) }
+  answers_end (Stop _) is h = absurd is
+
+-- a failed write or a lack of memory is a fault of answering
+pub more_own : (T : Type 0) {S : Type 0} (gives : S → List ℕ → Result ℕ DeviceFault → S → Type 0) (old new : S) (before after : ℕ)
+    (text : List ℕ) (e : RunFault) → WritesMore {T = T} gives old new before after text (Err e) → IsOfAnswering e
+more_own T gives old new before after text (RunFault.Write count) h = inl tt
+more_own T gives old new before after text RunFault.Memory h = inr refl
+more_own T gives old new before after text _ h = absurd h
+
+-- requests were answered, and then more, by the places that were given last
+pub answers_more : {T : Type 0} {IsTextOf : TextOf} {S : Type 0} {gives : S → List ℕ → Result ℕ DeviceFault → S → Type 0}
+    {places held last : PlaceList} {old mid new : S} {before between after : ℕ} {xs ys : List Request} {r : Result T RunFault} →
+    InTurn {T = Unit} IsTextOf gives places held old mid before between xs (Ok tt) →
+    InTurn IsTextOf gives held last mid new between after ys r → InTurn IsTextOf gives places last old new before after (xs ++ ys) r
+answers_more {T} {IsTextOf} {S} {gives} {places} {held} {last} {old} {mid} {new} {before} {between} {after} {xs} {ys} {r} first next =
+    record { turn = at r (subst (λ (p : PlaceList). AnswersInTurn IsTextOf gives p last mid new between after ys r) h.4 next.turn) }
+  where
+    h : (text : List ℕ) × AreAnswered IsTextOf places xs text × Took gives old text mid × (between ≡ capped_number (before + length text))
+        × (held ≡ places_after places xs)
+    h = first.turn
+
+    both : (zs : List Request) → TookAnswers IsTextOf gives (places_after places xs) mid new zs →
+        TookAnswers IsTextOf gives places old new (xs ++ zs)
+    both zs k = (h.0 ++ k.0, answered_append IsTextOf places xs zs h.0 k.0 h.1 k.1, took-then gives old mid new h.0 k.0 [] h.2 k.2)
+
+    at : (r : Result T RunFault) → AnswersInTurn IsTextOf gives (places_after places xs) last mid new between after ys r →
+        AnswersInTurn IsTextOf gives places last old new before after (xs ++ ys) r
+    at (Ok x) k =
+        let all = both ys (k.0, k.1, k.2) in
+        let count : capped_number (capped_number (before + length h.0) + length k.0)
+        ≡ capped_number (before + (length h.0 + length k.0)) = capped_on before (length h.0) (length k.0) in
+        let long : length (h.0 ++ k.0) ≡ length h.0 + length k.0 = length-append h.0 k.0 in
+        let one = h.3 in
+        let two = k.3 in
+        (h.0 ++ k.0, all.1, all.2, cc, k.4 ∙ sym (places_append places xs ys))
+    at (Err RunFault.Memory) k = (xs ++ k.0, k.1, ap (λ zs. xs ++ zs) k.2 ∙ sym (append_assoc xs k.0 k.1), both k.0 k.3)
+    at (Err (RunFault.Write count)) k =
+        let total : capped_number (capped_number (before + length h.0) + k.3) ≡ capped_number (before + (length h.0 + k.3)) =
+        capped_on before (length h.0) k.3 in
+        let one = h.3 in
+        let two = k.7 in (
+          xs ++ k.0,
+          k.1,
+          h.0 ++ k.2,
+          length h.0 + k.3,
+          ap (λ zs. xs ++ zs) k.4 ∙ sym (append_assoc xs k.0 k.1),
+          answered_append IsTextOf places xs k.0 h.0 k.2 h.1 k.5,
+          took-fault-then gives old mid new h.0 k.2 k.3 h.2 k.6,
+          (cc),
+        )
+    at (Err (RunFault.CellsAt line)) k = both ys k
+    at (Err (RunFault.Read which f)) k = (k.0, both ys k.1)
+    at (Err _) k = absurd k
+
+-- no requests were asked for
+pub answers_none : {IsTextOf : TextOf} {S : Type 0} {gives : S → List ℕ → Result ℕ DeviceFault → S → Type 0} {places : PlaceList} {old : S}
+    {written : ℕ} → written < 2 ^ 64 → InTurn {T = Unit} IsTextOf gives places places old old written written [] (Ok tt)
+answers_none {IsTextOf} {S} {gives} {places} {old} fits =
+    record { turn = ([], answered_none IsTextOf places, took-none gives old, omega arith, refl) }
 
 -- the lists of a request are lists of a table
 pub lists_of : (n nodes : ℕ) (lists : TwoLists) (sources targets : List ℕ) → AreTwoLists n lists → nodes ≡ n →

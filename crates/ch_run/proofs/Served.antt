@@ -1,7 +1,7 @@
 -- Requests that are read and answered as they come.
-use Rattle.std.proofs.Common.{◌≡◌, ℕ, zero, suc, ◌<◌, ◌≤◌, ◌==◌, Bool, true, false, List, [], ◌∷◌, ◌++◌, length, take, Option}
+use Rattle.std.proofs.Common.{◌≡◌, ℕ, zero, suc, ◌^◌, ◌<◌, ◌≤◌, ◌==◌, Bool, true, false, List, [], ◌∷◌, ◌++◌, length, take, Option}
 use Rattle.std.proofs.Common.{Some, None, Result, Ok, Err, inl, inr, refl, sym, ap, ◌∙◌, subst, arith, append_assoc}
-use Rattle.std.specs.Prelude.{IsErrAnd, OnOk, is_ok, is_err, if◌then◌else◌}
+use Rattle.std.specs.Prelude.{is_ok, is_err, if◌then◌else◌}
 use Rattle.std.proofs.lemmas.Bool.{eqb-true}
 use Rattle.std.proofs.lemmas.List.{append-nil}
 use Rattle.ch_read.specs.declared.request.Request.{Request}
@@ -14,109 +14,57 @@ use Rattle.ch_read.specs.declared.request_fault.RequestError.TheVariants.{Fault,
 use Rattle.ch_read.specs.Words.{lines}
 use Rattle.ch_read.specs.Requests.{Gives, IsErrorAhead, IsUsedUp, MayCome, Standing, Told, after_these, ahead, fed, starting}
 use Rattle.ch_read.specs.Requests.{stopping, told, told_by}
+use Rattle.ch_read.proofs.Requests.{gives_more}
 use Rattle.ch_read.proofs.RequestsHeldBack.{not_held_back}
 use Rattle.ch_run.specs.declared.fault.RunFault.{RunFault}
 use Rattle.ch_run.specs.declared.fault.Which.{Which}
 use Rattle.ch_text.specs.Moves.{Gave, GaveAll}
 use Rattle.ch_text.specs.declared.device.DeviceFault.{DeviceFault}
-use Rattle.ch_text.proofs.Moves.{gave-more, took-none}
-use Rattle.ch_run.specs.Run.{Reading, IsWrite, reading}
+use Rattle.ch_text.proofs.Moves.{gave-more}
+use Rattle.ch_run.specs.Run.{Reading, reading}
 use Rattle.ch_run.specs.Ask.{AreAnswered, IsRequestText, IsTextOfRequest, ReadsSome, Serves, TellsThen, TextOf}
-use Rattle.ch_run.specs.Ask.{TookAnswers, TookBeginning, TookFirstAnswers, no_places, places_after, places_then, whole_in}
+use Rattle.ch_run.specs.Ask.{TookAnswers, TookBeginning, TookFirstAnswers, no_places, places_then, whole_in}
 use Rattle.ch_run.specs.declared.run.batch.Then.TheVariants.{More, Nothing, Stop}
-use Rattle.ch_run.specs.Serving.{AnswersInTurn, GivesUntil, IsOfAnswering, IsToldAfter, end_of, request_refusal}
+use Rattle.ch_run.specs.Serving.{GivesUntil, InTurn, IsAfter, IsOfAnswering, IsToldAfter, Turns, end_of, request_refusal}
 use Rattle.ch_graph.specs.Graph.{Network}
 use Rattle.ch_hierarchy.specs.Hierarchy.{LevelsAndLegs}
 use Rattle.ch_job.specs.declared.options.Options.{Options}
 use Rattle.ch_run.specs.Source.{IsServing, order_built, order_for_queries}
 use Rattle.ch_run.specs.Text.{writes_routes}
 use Rattle.ch_run.proofs.Texts.{text_in}
-use Rattle.ch_run.proofs.Answered.{answered_none, answers_more}
-
--- the places after requests, and after more requests
-pub places_append : (places : PlaceList) (xs ys : List Request) → places_after places (xs ++ ys) ≡ places_after (places_after places xs) ys
-places_append places [] ys = refl
-places_append places (x ∷ xs) ys = places_append (places_then places x) xs ys
-
--- requests were answered, and then more, by the places that were given last
-pub answers_on : (IsTextOf : TextOf) {S : Type 0} (gives : S → List ℕ → Result ℕ DeviceFault → S → Type 0) {T : Type 0}
-    (places held : PlaceList) (old mid new : S) (before between after : ℕ) (xs ys : List Request) (r : Result T RunFault) →
-    AnswersInTurn {T = Unit} IsTextOf gives places old mid before between xs (Ok tt) → held ≡ places_after places xs →
-    AnswersInTurn IsTextOf gives held mid new between after ys r → AnswersInTurn IsTextOf gives places old new before after (xs ++ ys) r
-answers_on IsTextOf gives places held old mid new before between after xs ys r h is k =
-    answers_more IsTextOf gives places old mid new before between after xs ys r h
-    (subst (λ (p : PlaceList). AnswersInTurn IsTextOf gives p mid new between after ys r) is k)
-
--- if a fault was passed on, a promise on calls that end well says nothing
-pub passed_err : (X : Type 0) (r : Result Unit RunFault) (e : RunFault) → IsErrAnd r (λ y. y ≡ e) → OnOk r X
-passed_err X (Ok x) e is = absurd is
-passed_err X (Err y) e is = tt
-
--- a statement that holds also holds if the call ended well
-pub of_value : (X : Type 0) (r : Result Unit RunFault) → X → OnOk r X
-of_value X (Ok x) is = is
-of_value X (Err e) is = tt
+use Rattle.ch_run.specs.declared.run.batch.Then.{Then}
+use Rattle.ch_run.proofs.Answered.{answers_end, answers_more, answers_none}
 
 -- the requests that readers give
 
 after_both : (xs ys : List Request) (t : Told) → after_these xs (after_these ys t) ≡ after_these (xs ++ ys) t
 after_both xs ys t = λ i. record { given = sym (append_assoc xs ys t.given) i; fault = t.fault }
 
-pub gives_none : (ended : Bool) (s : Standing) → Gives ended s s []
-gives_none ended s = λ more may. refl
-
--- requests were given, and then more, until a call ended
-pub gives_on : {T : Type 0} (ended : Bool) (old mid new : Standing) (xs ys : List Request) (r : Result T RunFault) →
-    Gives ended old mid xs → GivesUntil ended mid new ys r → GivesUntil ended old new (xs ++ ys) r
-gives_on ended old mid new xs ys r h k = λ more may.
-    let step = k more may in
-    (step.0, h more may ∙ ap (after_these xs) step.1 ∙ after_both xs ys step.0, step.2)
-
-pub gives_more : (ended : Bool) (old mid new : Standing) (xs ys : List Request) → Gives ended old mid xs → Gives ended mid new ys →
-    Gives ended old new (xs ++ ys)
-gives_more ended old mid new xs ys h k = λ more may. h more may ∙ ap (after_these xs) (k more may) ∙ after_both xs ys (ahead new more)
-
 -- a call that ended well gave these requests
-pub given_well : (ended : Bool) (old new : Standing) (xs : List Request) → GivesUntil {T = Unit} ended old new xs (Ok tt) →
+given_well : (ended : Bool) (old new : Standing) (xs : List Request) → GivesUntil {T = Unit} ended old new xs (Ok tt) →
     Gives ended old new xs
 given_well ended old new xs h = λ more may. let step = h more may in step.1 ∙ ap (after_these xs) step.2
-
-pub well_given : (ended : Bool) (old new : Standing) (xs : List Request) → Gives ended old new xs →
-    GivesUntil {T = Unit} ended old new xs (Ok tt)
-well_given ended old new xs h = λ more may. (ahead new more, h more may, refl)
-
--- after a lack of memory or a failed write, anything may follow
-pub given_without : (ended : Bool) (old mid new : Standing) (xs : List Request) (fault : RunFault) → Gives ended old mid xs →
-    ((next rest : Told) → IsToldAfter {T = Unit} (Err fault) next rest) →
-    GivesUntil {T = Unit} ended old new xs (Err fault)
-given_without ended old mid new xs fault h any = λ more may. (ahead mid more, h more may, any (ahead new more) (ahead mid more))
-
--- the error that a reader returns follows next
-refused_next : (ended : Bool) (old mid new : Standing) (xs : List Request) (error : RequestError) → Gives ended old mid xs →
-    IsErrorAhead ended mid error →
-    GivesUntil {T = Unit} ended old new xs (Err (request_refusal error))
-refused_next ended old mid new xs (Fault (Line fault)) h stops = λ more may.
-    (record { given = []; fault = Some (Line fault) }, h more may ∙ ap (after_these xs) (stops more may), (refl, refl))
-refused_next ended old mid new xs (Fault (Cells line)) h stops = λ more may.
-    (record { given = []; fault = Some (Cells line) }, h more may ∙ ap (after_these xs) (stops more may), refl)
-refused_next ended old mid new xs NoMemory h stops = λ more may. (ahead mid more, h more may, tt)
 
 -- the end of a batch
 
 module _ (ended : Bool) (old mid new : Standing) (requests : List Request) where
   pub batch_more : Gives ended old new requests → GivesUntil ended old new requests (end_of More)
-  batch_more h = well_given ended old new requests h
+  batch_more h = λ more may. (ahead new more, h more may, refl)
 
   pub batch_nothing : Gives ended old mid requests → Gives ended mid new [] → GivesUntil ended old new requests (end_of Nothing)
-  batch_nothing h k = well_given ended old new requests
-      (subst (Gives ended old new) (append-nil requests) (gives_more ended old mid new requests [] h k))
+  batch_nothing h k = batch_more (subst (Gives ended old new) (append-nil requests) (gives_more ended old mid new requests [] h k))
 
   pub batch_refused : Gives ended old mid requests → GivesUntil ended old new requests (end_of (Stop RunFault.Memory))
-  batch_refused h = given_without ended old mid new requests RunFault.Memory h (λ next rest. tt)
+  batch_refused h = λ more may. (ahead mid more, h more may, tt)
 
+  -- the error that a reader returns follows next
   pub batch_stopped : (error : RequestError) → Gives ended old mid requests → IsErrorAhead ended mid error →
       GivesUntil ended old new requests (end_of (Stop (request_refusal error)))
-  batch_stopped error h stops = refused_next ended old mid new requests error h stops
+  batch_stopped (Fault (Line fault)) h stops = λ more may.
+      (record { given = []; fault = Some (Line fault) }, h more may ∙ ap (after_these requests) (stops more may), (refl, refl))
+  batch_stopped (Fault (Cells line)) h stops = λ more may.
+      (record { given = []; fault = Some (Cells line) }, h more may ∙ ap (after_these requests) (stops more may), refl)
+  batch_stopped NoMemory h stops = λ more may. (ahead mid more, h more may, tt)
 
 -- if memory was refused, nothing was pushed
 pub not_pushed : {T E A : Type 0} (r : Result T E) (xs more all : List A) → is_err r ≡ true → all ≡ (if is_ok r then more else xs) →
@@ -125,26 +73,54 @@ not_pushed (Ok x) xs more all e h = cc
 not_pushed (Err y) xs more all e h = h
 
 -- if a call ends in a lack of memory or a failed write, anything may follow
-told_write : (e : RunFault) → IsWrite e → (next rest : Told) → IsToldAfter {T = Unit} (Err e) next rest
-told_write (RunFault.Write count) is next rest = tt
-told_write _ is next rest = absurd is
-
 told_any : (e : RunFault) → IsOfAnswering e → (next rest : Told) → IsToldAfter {T = Unit} (Err e) next rest
-told_any e (inl is) next rest = told_write e is next rest
-told_any e (inr is) next rest = subst (λ (f : RunFault). IsToldAfter {T = Unit} (Err f) next rest) (sym is) tt
+told_any (RunFault.Write count) own next rest = tt
+told_any RunFault.Memory own next rest = tt
+told_any _ (inl write) next rest = absurd write
+told_any _ (inr memory) next rest = absurd (let none : ⊥ = cc in none)
 
--- the requests of a batch were given, even if answering them ended the run
-pub given_anyway : (ended : Bool) (old new : Standing) (xs : List Request) (end : Result Unit RunFault) (e : RunFault)
-    (r : Result Unit RunFault) → GivesUntil ended old new xs end → IsOfAnswering e →
-    IsErrAnd r (λ y. y ≡ e) → GivesUntil ended old new xs r
-given_anyway ended old new xs end e (Ok x) h own is = absurd is
-given_anyway ended old new xs end e (Err y) h own is = λ more may.
-    let step = h more may in (
-      step.0,
-      step.1,
-      subst (λ (f : RunFault). IsToldAfter {T = Unit} (Err f) (ahead new more) step.0) (sym is)
-          (told_any e own (ahead new more) step.0),
-    )
+-- requests were given and answered, one batch after the other
+
+pub turns_none : {IsTextOf : TextOf} {S : Type 0} {gives : S → List ℕ → Result ℕ DeviceFault → S → Type 0} {ended : Bool} {s : Standing}
+    {places : PlaceList} {old : S} {written : ℕ} → written < 2 ^ 64 →
+    Turns {T = Unit} IsTextOf gives ended s s places places old old written written [] (Ok tt)
+turns_none fits = record { reader = λ more may. (_, refl, refl); answers = answers_none fits }
+
+pub turns_memory : {IsTextOf : TextOf} {S : Type 0} {gives : S → List ℕ → Result ℕ DeviceFault → S → Type 0} {ended : Bool}
+    {old new : Standing} {places held : PlaceList} {out end : S} {before after : ℕ} {given : List Request} →
+    Turns {T = Unit} IsTextOf gives ended old new places held out end before after given (Ok tt) →
+    Turns {T = Unit} IsTextOf gives ended old new places held out end before after given (Err RunFault.Memory)
+turns_memory turns = record {
+  reader = λ more may. let step = turns.reader more may in (step.0, step.1, tt);
+  answers = answers_end (Stop RunFault.Memory) tt turns.answers;
+}
+
+given_on : {T : Type 0} (ended : Bool) (old mid new : Standing) (xs ys : List Request) (r : Result T RunFault) →
+    GivesUntil {T = Unit} ended old mid xs (Ok tt) → GivesUntil ended mid new ys r → GivesUntil ended old new (xs ++ ys) r
+given_on ended old mid new xs ys r h k = λ more may. let step = k more may in
+    (step.0, given_well ended old mid xs h more may ∙ ap (after_these xs) step.1 ∙ after_both xs ys step.0, step.2)
+
+module _ {IsTextOf : TextOf} {S : Type 0} {gives : S → List ℕ → Result ℕ DeviceFault → S → Type 0} {ended : Bool} {old mid new : Standing}
+    {places held last : PlaceList} {out put end : S} {before between after : ℕ} {xs ys : List Request}
+    (so_far : Turns {T = Unit} IsTextOf gives ended old mid places held out put before between xs (Ok tt)) where
+  -- they were answered, and the batch ended
+  pub turns_end : (ends : Then) → IsAfter ends → GivesUntil ended mid new ys (end_of ends) →
+      InTurn {T = Unit} IsTextOf gives held last put end between after ys (Ok tt) →
+      Turns IsTextOf gives ended old new places last out end before after (xs ++ ys) (end_of ends)
+  turns_end ends is given these = record {
+    reader = given_on ended old mid new xs ys _ so_far.reader given;
+    answers = answers_end ends is (answers_more so_far.answers these);
+  }
+
+  -- answering them ended the run
+  pub turns_stop : (ends : Result Unit RunFault) (e : RunFault) → IsOfAnswering e → GivesUntil ended mid new ys ends →
+      InTurn {T = Unit} IsTextOf gives held last put end between after ys (Err e) →
+      Turns {T = Unit} IsTextOf gives ended old new places last out end before after (xs ++ ys) (Err e)
+  turns_stop ends e own given these = record {
+    reader = given_on {T = Unit} ended old mid new xs ys (Err e) so_far.reader
+        (λ more may. let step = given more may in (step.0, step.1, told_any e own (ahead new more) step.0));
+    answers = answers_more so_far.answers these;
+  }
 
 -- the fed bytes come before all others
 fed_ahead : (s : Standing) (bytes more : List ℕ) → ahead s (bytes ++ more) ≡ ahead (fed s bytes) more
@@ -180,239 +156,162 @@ read_on false reads start mid now bytes buffer count is before call fits room =
 
 module _ (IsTextOf : TextOf) (n : ℕ) {J : Type 0} (reads : J → List ℕ → Result ℕ DeviceFault → J → Type 0) {S : Type 0}
     (gives : S → List ℕ → Result ℕ DeviceFault → S → Type 0) where
-  -- these bytes were read, and all requests that are whole in them are answered. The reader is in the standing `s`, and the
-  -- output took `written` bytes
-  pub record HasServed (start now : J) (old new : S) (written : ℕ) (s : Standing) (held : PlaceList) : Type 0 where
-    pub read : List ℕ
-    pub given : List Request
-    pub input : Gave reads start read now
-    pub nodes : s.nodes ≡ n
-    pub ahead_is : (more : List ℕ) → told_by n (read ++ more) ≡ after_these given (ahead s more)
-    pub used_up : IsUsedUp false s
-    pub answered : AnswersInTurn {T = Unit} IsTextOf gives no_places old new 0 written given (Ok tt)
-    pub held_is : held ≡ places_after no_places given
-
-  -- bytes were read and fed to the reader. At the end none is left
+  -- bytes were read and fed to the reader, which is in the standing `s`. At the end none is left. The requests that the reader gave are
+  -- answered, and the output took `written` bytes
   pub record HasFed (ended : Bool) (start now : J) (old new : S) (written : ℕ) (s : Standing) (held : PlaceList) : Type 0 where
     pub read : List ℕ
     pub given : List Request
     pub input : IsFedBy ended reads start read now
     pub nodes : s.nodes ≡ n
     pub ahead_is : (more : List ℕ) → told_by n (read ++ more) ≡ after_these given (ahead s more)
-    pub answered : AnswersInTurn {T = Unit} IsTextOf gives no_places old new 0 written given (Ok tt)
-    pub held_is : held ≡ places_after no_places given
+    pub answered : InTurn {T = Unit} IsTextOf gives no_places held old new 0 written given (Ok tt)
 
-  -- what holds of the bytes that were read, whatever may still come
-  fed_some : (ended : Bool) (start now : J) (old new : S) (written : ℕ) (s : Standing) (held : PlaceList)
-      (h : HasFed ended start now old new written s held) (P : List ℕ → List ℕ → Type 0) →
-      ((left : List ℕ) → MayCome ended left → P h.read left) → ReadsSome (reading reads start now) P
-  fed_some true start now old new written s held h P so = (h.read, inr (h.input, so [] (λ e. refl)))
-  fed_some false start now old new written s held h P so = (h.read, inl (h.input, λ left. so left (λ e. cc)))
+  -- these bytes were read, and all requests that are whole in them are answered
+  pub record HasServed (start now : J) (old new : S) (written : ℕ) (s : Standing) (held : PlaceList) : Type 0 where
+    pub fed_by : HasFed false start now old new written s held
+    pub used_up : IsUsedUp false s
 
-  pub served_none : (input : J) (output : S) → HasServed input input output output 0 (starting n) no_places
-  served_none input output = record {
-    read = [];
-    given = [];
-    input = (0, refl);
-    nodes = refl;
-    ahead_is = λ more. refl;
+module _ {IsTextOf : TextOf} {n : ℕ} {J : Type 0} {reads : J → List ℕ → Result ℕ DeviceFault → J → Type 0} {S : Type 0}
+    {gives : S → List ℕ → Result ℕ DeviceFault → S → Type 0} where
+  pub served_none : {input : J} {output : S} → HasServed IsTextOf n reads gives input input output output 0 (starting n) no_places
+  served_none = record {
+    fed_by = record {
+      read = [];
+      given = [];
+      input = (0, refl);
+      nodes = refl;
+      ahead_is = λ more. refl;
+      answered = answers_none (omega arith);
+    };
     used_up = (refl, omega arith);
-    answered = ([], answered_none IsTextOf no_places, took-none gives output, refl);
-    held_is = refl;
   }
 
   -- the bytes of one more read are fed
-  pub served_fed : (ended : Bool) (start mid now : J) (old new : S) (written : ℕ) (s : Standing) (held : PlaceList)
-      (buffer : List ℕ) (count : ℕ) → (count == 0) ≡ ended →
-      HasServed start mid old new written s held → reads mid buffer (Ok count) now → count ≤ length buffer → 0 < length buffer →
-      HasFed ended start now old new written (fed s (take count buffer)) held
-  served_fed ended start mid now old new written s held buffer count is h call fits room = record {
-    read = h.read ++ take count buffer;
-    given = h.given;
-    input = read_on ended reads start mid now h.read buffer count is h.input call fits room;
-    nodes = h.nodes;
+  pub served_fed : {start mid now : J} {old new : S} {written : ℕ} {s : Standing} {held : PlaceList} {buffer : List ℕ} {count : ℕ} →
+      HasServed IsTextOf n reads gives start mid old new written s held → reads mid buffer (Ok count) now → count ≤ length buffer →
+      0 < length buffer → HasFed IsTextOf n reads gives (count == 0) start now old new written (fed s (take count buffer)) held
+  served_fed {start} {mid} {now} {s = s} {buffer = buffer} {count = count} h call fits room = let k = h.fed_by in record {
+    read = k.read ++ take count buffer;
+    given = k.given;
+    input = read_on (count == 0) reads start mid now k.read buffer count refl k.input call fits room;
+    nodes = k.nodes;
     ahead_is = λ more.
-        ap (told_by n) (append_assoc h.read (take count buffer) more) ∙ h.ahead_is (take count buffer ++ more)
-        ∙ ap (after_these h.given) (fed_ahead s (take count buffer) more);
-    answered = h.answered;
-    held_is = h.held_is;
+        ap (told_by n) (append_assoc k.read (take count buffer) more) ∙ k.ahead_is (take count buffer ++ more)
+        ∙ ap (after_these k.given) (fed_ahead s (take count buffer) more);
+    answered = k.answered;
   }
 
-  -- the reader is fed the bytes of one more read
-  pub fed_more : (start mid now : J) (old new : S) (written : ℕ) (s next : Standing) (held : PlaceList) (buffer slice : List ℕ)
-      (count : ℕ) → next ≡ fed s slice → slice ≡ take count buffer →
-      HasServed start mid old new written s held → reads mid buffer (Ok count) now → count ≤ length buffer → 0 < length buffer →
-      HasFed (count == 0) start now old new written next held
-  fed_more start mid now old new written s next held buffer slice count is same h call fits room =
-      subst (λ (t : Standing). HasFed (count == 0) start now old new written t held) (sym (is ∙ ap (fed s) same))
-      (served_fed (count == 0) start mid now old new written s held buffer count refl h call fits room)
+  module _ {ended : Bool} {start now : J} {old mid : S} {before : ℕ} {s : Standing} {held : PlaceList}
+      (h : HasFed IsTextOf n reads gives ended start now old mid before s held) where
+    -- what holds of the bytes that were read, whatever may still come
+    fed_some : (P : List ℕ → List ℕ → Type 0) → ((left : List ℕ) → MayCome ended left → P h.read left) →
+        ReadsSome (reading reads start now) P
+    fed_some P so = at ended h.input so
+      where
+        at : (ended : Bool) → IsFedBy ended reads start h.read now → ((left : List ℕ) → MayCome ended left → P h.read left) →
+            ReadsSome (reading reads start now) P
+        at true input so = (h.read, inr (input, so [] (λ e. refl)))
+        at false input so = (h.read, inl (input, λ left. so left (λ e. cc)))
 
-  module _ (start now : J) (old mid new : S) (before after : ℕ) (s next : Standing) (held : PlaceList) (given : List Request) where
-    -- the next requests are answered by the places that were given last
-    held_next : {T : Type 0} (ended : Bool) (h : HasFed ended start now old mid before s held) (r : Result T RunFault) →
-        AnswersInTurn IsTextOf gives held mid new before after given r →
-        AnswersInTurn IsTextOf gives (places_after no_places h.given) mid new before after given r
-    held_next ended h r answers = subst (λ (p : PlaceList). AnswersInTurn IsTextOf gives p mid new before after given r) h.held_is answers
-
-    -- the requests that are whole are answered, and more bytes may come
-    pub fed_served : (ended : Bool) → ended ≡ false → HasFed ended start now old mid before s held → GivesUntil {T = Unit} ended s
-        next given (Ok tt) → AnswersInTurn {T = Unit} IsTextOf gives held mid new before after given (Ok tt) →
-        IsUsedUp ended next → next.nodes ≡ s.nodes → (new_held : PlaceList) → new_held ≡ places_after held given →
-        HasServed start now old new after next new_held
-    fed_served true is h gives_them answers used_up same new_held held_is = cc
-    fed_served false is h gives_them answers used_up same new_held held_is = record {
-      read = h.read;
-      given = h.given ++ given;
-      input = h.input;
-      nodes = same ∙ h.nodes;
-      ahead_is = λ more. h.ahead_is more ∙ ap (after_these h.given) (given_well false s next given gives_them more (λ e. cc))
-          ∙ after_both h.given given (ahead next more);
-      used_up = used_up;
-      answered = answers_more IsTextOf gives {T = Unit} no_places old mid new 0 before after h.given given (Ok tt) h.answered
-          (held_next {T = Unit} false h (Ok tt) answers);
-      held_is = held_is ∙ ap (λ (p : PlaceList). places_after p given) h.held_is ∙ sym (places_append no_places h.given given);
-    }
-
-    -- all requests are answered at the end
-    pub fed_done : (ended : Bool) → ended ≡ true → HasFed ended start now old mid before s held → GivesUntil {T = Unit} ended s next
-        given (Ok tt) → AnswersInTurn {T = Unit} IsTextOf gives held mid new before after given (Ok tt) →
-        IsUsedUp ended next → Serves {T = Unit} IsTextOf gives n (reading reads start now) old new (Ok tt)
-    fed_done false is h gives_them answers used_up = cc
-    fed_done true is h gives_them answers used_up =
-        let none : lines (next.pending ++ []) ≡ [] = ap (λ xs. lines (xs ++ [])) used_up.0 in
-        let nothing_ahead : ahead next [] ≡ stopping None = ap (told next.nodes next.line next.begun) none ∙ ap stopping used_up.1 in
-        let all : told_by n (h.read ++ []) ≡ after_these (h.given ++ given) (stopping None) =
-        h.ahead_is [] ∙ ap (after_these h.given) (given_well true s next given gives_them [] (λ e. refl))
-        ∙ after_both h.given given (ahead next []) ∙ ap (after_these (h.given ++ given)) nothing_ahead in
-        let whole : told_by n h.read ≡ after_these (h.given ++ given) (stopping None) = ap (told_by n) (sym (append-nil h.read)) ∙ all in
-        let took = answers_more IsTextOf gives {T = Unit} no_places old mid new 0 before after h.given given (Ok tt) h.answered
-        (held_next {T = Unit} true h (Ok tt) answers) in
-        let given_is : (told_by n h.read).given ≡ h.given ++ given = ap (λ t. t.given) whole ∙ append-nil (h.given ++ given) in (
-          h.read,
-          h.input,
-          (
-            ap (λ t. t.fault) whole,
-            subst (TookAnswers IsTextOf gives no_places old new) (sym given_is) (took.0, took.1, took.2),
-          ),
-        )
+    -- the run may end for want of memory
+    pub fed_memory : Serves {T = Unit} IsTextOf gives n (reading reads start now) old mid (Err RunFault.Memory)
+    fed_memory = let took = h.answered.turn in fed_some
+        (λ read left. TookFirstAnswers IsTextOf gives no_places old mid (told_by n (read ++ left)).given)
+        (λ left may. (h.given, (ahead s left).given, ap (λ t. t.given) (h.ahead_is left), (took.0, took.1, took.2)))
 
     -- the requests that the whole input gives, with these bytes left
-    fed_told : (ended : Bool) (h : HasFed ended start now old mid before s held) (left : List ℕ) (rest : Told) →
-        ahead s left ≡ after_these given rest → told_by n (h.read ++ left) ≡ after_these (h.given ++ given) rest
-    fed_told ended h left rest is = h.ahead_is left ∙ ap (after_these h.given) is ∙ after_both h.given given rest
+    fed_told : (given : List Request) (left : List ℕ) (rest : Told) → ahead s left ≡ after_these given rest →
+        told_by n (h.read ++ left) ≡ after_these (h.given ++ given) rest
+    fed_told given left rest is = h.ahead_is left ∙ ap (after_these h.given) is ∙ after_both h.given given rest
 
-    -- the first of the requests that were given are the first of those that the whole input gives
-    first_told : (ended : Bool) (h : HasFed ended start now old mid before s held) (left : List ℕ) (rest : Told)
-        (first later : List Request) → ahead s left ≡ after_these given rest → h.given ++ given ≡ first ++ later →
-        (told_by n (h.read ++ left)).given ≡ first ++ (later ++ rest.given)
-    first_told ended h left rest first later is same =
-        ap (λ t. t.given) (fed_told ended h left rest is) ∙ ap (λ xs. xs ++ rest.given) same ∙ append_assoc first later rest.given
-
-    -- a fault follows all requests that were given, and all of these are answered
-    told_fault : (ended : Bool) (h : HasFed ended start now old mid before s held) (left : List ℕ) (rest : Told)
-        (fault : RequestFault) → ahead s left ≡ after_these given rest → rest ≡ record { given = []; fault = Some fault } →
-        TookAnswers IsTextOf gives no_places old new (h.given ++ given) →
-        TellsThen n (Some fault) (TookAnswers IsTextOf gives no_places old new) (h.read ++ left)
-    told_fault ended h left rest fault is rest_is took =
-        let whole = fed_told ended h left rest is in
+    -- a fault or the end follows all requests that were given, and all of these are answered
+    told_then : (new : S) (given : List Request) (left : List ℕ) (rest : Told) (fault : Option RequestFault) →
+        ahead s left ≡ after_these given rest →
+        rest ≡ record { given = []; fault = fault } → TookAnswers IsTextOf gives no_places old new (h.given ++ given) →
+        TellsThen n fault (TookAnswers IsTextOf gives no_places old new) (h.read ++ left)
+    told_then new given left rest fault is rest_is took =
+        let whole = fed_told given left rest is in
         let given_is : (told_by n (h.read ++ left)).given ≡ h.given ++ given =
         ap (λ t. t.given) whole ∙ ap (λ (t : Told). (h.given ++ given) ++ t.given) rest_is ∙ append-nil (h.given ++ given) in (
           ap (λ t. t.fault) whole ∙ ap (λ (t : Told). t.fault) rest_is,
           subst (TookAnswers IsTextOf gives no_places old new) (sym given_is) took,
         )
 
-    -- the run ends in the fault that answering ended in
-    pub fed_refused : (ended : Bool) (fault : RunFault) → HasFed ended start now old mid before s held →
-        GivesUntil {T = Unit} ended s next given (Err fault) →
-        AnswersInTurn {T = Unit} IsTextOf gives held mid new before after given (Err fault) →
-        Serves {T = Unit} IsTextOf gives n (reading reads start now) old new (Err fault)
-    fed_refused ended (RunFault.Read which fault) h gives_them answers =
-        let took = answers_more IsTextOf gives {T = Unit} no_places old mid new 0 before after h.given given
-        (Err (RunFault.Read which fault)) h.answered (held_next {T = Unit} ended h (Err (RunFault.Read which fault)) answers) in (
-          took.0,
-          fed_some ended start now old mid before s held h (λ read left.
-              TellsThen n (Some (Line fault)) (TookAnswers IsTextOf gives no_places old new) (read ++ left))
-              (λ left may. let step = gives_them left may in told_fault ended h left step.0 (Line fault) step.1 step.2.1 took.1),
-        )
-    fed_refused ended (RunFault.CellsAt line) h gives_them answers =
-        let took = answers_more IsTextOf gives {T = Unit} no_places old mid new 0 before after h.given given
-        (Err (RunFault.CellsAt line)) h.answered (held_next {T = Unit} ended h (Err (RunFault.CellsAt line)) answers) in
-        fed_some ended start now old mid before s held h
-        (λ read left. TellsThen n (Some (Cells line)) (TookAnswers IsTextOf gives no_places old new) (read ++ left))
-        (λ left may. let step = gives_them left may in told_fault ended h left step.0 (Cells line) step.1 step.2 took)
-    fed_refused ended RunFault.Memory h gives_them answers =
-        let took = answers_more IsTextOf gives {T = Unit} no_places old mid new 0 before after h.given given (Err RunFault.Memory)
-        h.answered (held_next {T = Unit} ended h (Err RunFault.Memory) answers) in
-        fed_some ended start now old mid before s held h
-        (λ read left. TookFirstAnswers IsTextOf gives no_places old new (told_by n (read ++ left)).given)
-        (λ left may. let step = gives_them left may in
-        (took.0, took.1 ++ step.0.given, first_told ended h left step.0 took.0 took.1 step.1 took.2, took.3))
-    fed_refused ended (RunFault.Write count) h gives_them answers =
-        let took = answers_more IsTextOf gives {T = Unit} no_places old mid new 0 before after h.given given
-        (Err (RunFault.Write count)) h.answered (held_next {T = Unit} ended h (Err (RunFault.Write count)) answers) in
-        fed_some ended start now old mid before s held h
-        (λ read left. TookBeginning IsTextOf gives no_places old new 0 count (told_by n (read ++ left)).given)
-        (λ left may. let step = gives_them left may in (
-          took.0,
-          took.1 ++ step.0.given,
-          took.2,
-          took.3,
-          first_told ended h left step.0 took.0 took.1 step.1 took.4,
-          took.5,
-          took.6,
-          took.7,
-        ))
-    fed_refused ended _ h gives_them answers = absurd (gives_them [] (λ e. refl)).2
+    -- the first of the requests that were given are the first of those that the whole input gives
+    first_told : (given : List Request) (left : List ℕ) (rest : Told) (first later : List Request) → ahead s left ≡ after_these given rest →
+        h.given ++ given ≡ first ++ later → (told_by n (h.read ++ left)).given ≡ first ++ (later ++ rest.given)
+    first_told given left rest first later is same =
+        ap (λ t. t.given) (fed_told given left rest is) ∙ ap (λ xs. xs ++ rest.given) same ∙ append_assoc first later rest.given
+
+    module _ {new : S} {after : ℕ} {next : Standing} {last : PlaceList} {given : List Request} where
+      -- the requests that are whole are answered, and more bytes may come
+      pub fed_served : ended ≡ false → Turns {T = Unit} IsTextOf gives ended s next held last mid new before after given (Ok tt) →
+          IsUsedUp ended next → next.nodes ≡ s.nodes → HasServed IsTextOf n reads gives start now old new after next last
+      fed_served is turns used_up same = record {
+        fed_by = record {
+          read = h.read;
+          given = h.given ++ given;
+          input = rw is at h.input;
+          nodes = same ∙ h.nodes;
+          ahead_is = λ more. h.ahead_is more ∙ ap (after_these h.given) (given_well ended s next given turns.reader more (λ e. cc))
+              ∙ after_both h.given given (ahead next more);
+          answered = answers_more h.answered turns.answers;
+        };
+        used_up = rw is at used_up;
+      }
+
+      -- all requests are answered at the end
+      pub fed_done : ended ≡ true → Turns {T = Unit} IsTextOf gives ended s next held last mid new before after given (Ok tt) →
+          IsUsedUp ended next → Serves {T = Unit} IsTextOf gives n (reading reads start now) old new (Ok tt)
+      fed_done is turns used_up =
+          let up = rw is at used_up in
+          let none : lines (next.pending ++ []) ≡ [] = ap (λ xs. lines (xs ++ [])) up.0 in
+          let nothing : ahead next [] ≡ stopping None = ap (told next.nodes next.line next.begun) none ∙ ap stopping up.1 in
+          let took = (answers_more h.answered turns.answers).turn in
+          let told = told_then new given [] (stopping None) None
+          (given_well ended s next given turns.reader [] (λ e. refl) ∙ ap (after_these given) nothing) refl (took.0, took.1, took.2) in
+          (h.read, rw is at h.input, subst (TellsThen n None (TookAnswers IsTextOf gives no_places old new)) (append-nil h.read) told)
+
+      -- the run ends in the fault that answering ended in
+      pub fed_refused : (fault : RunFault) → Turns {T = Unit} IsTextOf gives ended s next held last mid new before after given (Err fault) →
+          Serves {T = Unit} IsTextOf gives n (reading reads start now) old new (Err fault)
+      fed_refused (RunFault.Read which fault) turns = let took = (answers_more h.answered turns.answers).turn in (
+        took.0,
+        fed_some
+            (λ read left. TellsThen n (Some (Line fault)) (TookAnswers IsTextOf gives no_places old new) (read ++ left))
+            (λ left may. let step = turns.reader left may in told_then new given left step.0 (Some (Line fault)) step.1 step.2.1 took.1),
+      )
+      fed_refused (RunFault.CellsAt line) turns = let took = (answers_more h.answered turns.answers).turn in fed_some
+          (λ read left. TellsThen n (Some (Cells line)) (TookAnswers IsTextOf gives no_places old new) (read ++ left))
+          (λ left may. let step = turns.reader left may in told_then new given left step.0 (Some (Cells line)) step.1 step.2 took)
+      fed_refused RunFault.Memory turns = let took = (answers_more h.answered turns.answers).turn in fed_some
+          (λ read left. TookFirstAnswers IsTextOf gives no_places old new (told_by n (read ++ left)).given)
+          (λ left may. let step = turns.reader left may in
+          (took.0, took.1 ++ step.0.given, first_told given left step.0 took.0 took.1 step.1 took.2, took.3))
+      fed_refused (RunFault.Write count) turns = let took = (answers_more h.answered turns.answers).turn in fed_some
+          (λ read left. TookBeginning IsTextOf gives no_places old new 0 count (told_by n (read ++ left)).given)
+          (λ left may. let step = turns.reader left may in let given_is = first_told given left step.0 took.0 took.1 step.1 took.4 in
+          (took.0, took.1 ++ step.0.given, took.2, took.3, given_is, took.5, took.6, took.7))
+      fed_refused _ turns = absurd (turns.reader [] (λ e. refl)).2
 
   -- at a failed read, all requests that were whole before it are answered
-  pub served_refused : (start mid now : J) (old new : S) (written : ℕ) (s : Standing) (held : PlaceList) (buffer : List ℕ)
-      (e : DeviceFault) →
-      HasServed start mid old new written s held → reads mid buffer (Err e) now →
+  pub served_refused : {start mid now : J} {old new : S} {written : ℕ} {s : Standing} {held : PlaceList}
+      (buffer : List ℕ) (e : DeviceFault) →
+      HasServed IsTextOf n reads gives start mid old new written s held → reads mid buffer (Err e) now →
       Serves {T = Unit} IsTextOf gives n (reading reads start now) old new (Err (RunFault.Device Which.Requests))
-  served_refused start mid now old new written s held buffer e h call =
-      let took = h.answered in
-      let whole : h.given ≡ whole_in n h.read = whole_given n h.read s h.given h.ahead_is h.used_up in (
-        refl,
-        h.read,
-        record { last = mid; reads = h.input; buffer = buffer; fault = e; call = call },
-        subst (TookAnswers IsTextOf gives no_places old new) whole (took.0, took.1, took.2),
-      )
+  served_refused {mid = mid} {old = old} {new = new} {s = s} buffer e h call = let k = h.fed_by in let took = k.answered.turn in (
+    refl,
+    k.read,
+    record { last = mid; reads = k.input; buffer = buffer; fault = e; call = call },
+    subst (TookAnswers IsTextOf gives no_places old new) (whole_given n k.read s k.given k.ahead_is h.used_up) (took.0, took.1, took.2),
+  )
 
-  -- there is no memory to feed the bytes of a read
-  pub served_unfed : (start mid now : J) (old new : S) (written : ℕ) (s : Standing) (held : PlaceList) (buffer : List ℕ) (count : ℕ) →
-      HasServed start mid old new written s held → reads mid buffer (Ok count) now → count ≤ length buffer → 0 < length buffer →
-      Serves {T = Unit} IsTextOf gives n (reading reads start now) old new (Err RunFault.Memory)
-  served_unfed start mid now old new written s held buffer count h call fits room =
-      let bytes_fed = served_fed (count == 0) start mid now old new written s held buffer count refl h call fits room in
-      let took = bytes_fed.answered in
-      fed_some (count == 0) start now old new written (fed s (take count buffer)) held bytes_fed
-      (λ read left. TookFirstAnswers IsTextOf gives no_places old new (told_by n (read ++ left)).given)
-      (λ left may. (
-        bytes_fed.given,
-        (ahead (fed s (take count buffer)) left).given,
-        ap (λ t. t.given) (bytes_fed.ahead_is left),
-        (took.0, took.1, took.2),
-      ))
-
-  -- there were more reads than a count can hold
-  pub served_long : (start now : J) (old new : S) (written : ℕ) (s : Standing) (held : PlaceList) → HasServed start now old new
-      written s held → Serves {T = Unit} IsTextOf gives n (reading reads start now) old new (Err RunFault.Memory)
-  served_long start now old new written s held h =
-      let took = h.answered in
-      (h.read, inl (h.input, λ left. (h.given, (ahead s left).given, ap (λ t. t.given) (h.ahead_is left), (took.0, took.1, took.2))))
-
-  -- nothing was read, and nothing was written
-  pub served_unread : (input : J) (output : S) →
-      Serves {T = Unit} IsTextOf gives n (reading reads input input) output output (Err RunFault.Memory)
-  served_unread input output = served_long input input output output 0 (starting n) no_places (served_none input output)
-
--- a fault that is passed on ends the run like the fault that was met
-pub passes_end : (IsTextOf : TextOf) (n : ℕ) (requests : Reading) {S : Type 0} (gives : S → List ℕ → Result ℕ DeviceFault → S →
-    Type 0) (old new : S) (r : Result Unit RunFault) (e : RunFault) → IsErrAnd r (λ y. y ≡ e) →
-    Serves {T = Unit} IsTextOf gives n requests old new (Err e) → Serves IsTextOf gives n requests old new r
-passes_end IsTextOf n requests gives old new (Ok x) e is h = absurd is
-passes_end IsTextOf n requests gives old new (Err y) e is h =
-    subst (λ (f : RunFault). Serves {T = Unit} IsTextOf gives n requests old new (Err f)) (sym is) h
+-- nothing was read, and nothing was written
+pub served_unread : (IsTextOf : TextOf) (n : ℕ) {J : Type 0} (reads : J → List ℕ → Result ℕ DeviceFault → J → Type 0) {S : Type 0}
+    (gives : S → List ℕ → Result ℕ DeviceFault → S → Type 0) (input : J) (output : S) →
+    Serves {T = Unit} IsTextOf gives n (reading reads input input) output output (Err RunFault.Memory)
+served_unread IsTextOf n reads gives input output =
+    let none : HasServed IsTextOf n reads gives input input output output 0 (starting n) no_places = served_none in fed_memory none.fed_by
 
 -- what was read has P, and so it has Q, if P implies Q
 some_weaker : (requests : Reading) (P Q : List ℕ → List ℕ → Type 0) → ((read left : List ℕ) → P read left → Q read left) →

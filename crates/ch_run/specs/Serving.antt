@@ -25,22 +25,27 @@ use Rattle.ch_text.specs.Moves.{Took, TookUntilFault}
 use Rattle.ch_text.specs.declared.device.DeviceFault.{DeviceFault}
 use Rattle.ch_run.specs.Run.{IsWrite}
 
--- how a call that answers these requests ended, by the places that were given last before them. It answered all of them, or the
--- first of them, each whole, or a write failed.
+-- how a call that answers these requests ended, by the places that were given last before them. It answered all of them, and `held`
+-- are the places that were given last. Or it answered the first of them, each whole, or a write failed.
 -- The output had taken `before` bytes before the call, and `after` bytes after it
-abbrev pub AnswersInTurn : {T S : Type 0} → TextOf → (gives : S → List ℕ → Result ℕ DeviceFault → S → Type 0) → PlaceList →
-    (old new : S) → (before after : ℕ) → List Request → Result T RunFault → Type 0
-AnswersInTurn IsTextOf gives places old new before after requests (Ok _) =
-    (text : List ℕ) × AreAnswered IsTextOf places requests text × Took gives old text new × (after ≡ capped_number (before + length text))
-AnswersInTurn IsTextOf gives places old new before after requests (Err RunFault.Memory) =
+abbrev pub AnswersInTurn : {T S : Type 0} → TextOf → (gives : S → List ℕ → Result ℕ DeviceFault → S → Type 0) →
+    (places held : PlaceList) → (old new : S) → (before after : ℕ) → List Request → Result T RunFault → Type 0
+AnswersInTurn IsTextOf gives places held old new before after requests (Ok _) = (text : List ℕ) × AreAnswered IsTextOf places requests text
+    × Took gives old text new × (after ≡ capped_number (before + length text)) × (held ≡ places_after places requests)
+AnswersInTurn IsTextOf gives places held old new before after requests (Err RunFault.Memory) =
     TookFirstAnswers IsTextOf gives places old new requests
-AnswersInTurn IsTextOf gives places old new before after requests (Err (RunFault.Write count)) =
+AnswersInTurn IsTextOf gives places held old new before after requests (Err (RunFault.Write count)) =
     TookBeginning IsTextOf gives places old new before count requests
-AnswersInTurn IsTextOf gives places old new before after requests (Err (RunFault.Read which fault)) = (which ≡ Which.Requests)
+AnswersInTurn IsTextOf gives places held old new before after requests (Err (RunFault.Read which fault)) = (which ≡ Which.Requests)
     × TookAnswers IsTextOf gives places old new requests
-AnswersInTurn IsTextOf gives places old new before after requests (Err (RunFault.CellsAt line)) =
+AnswersInTurn IsTextOf gives places held old new before after requests (Err (RunFault.CellsAt line)) =
     TookAnswers IsTextOf gives places old new requests
-AnswersInTurn IsTextOf gives places old new before after requests (Err _) = ⊥
+AnswersInTurn IsTextOf gives places held old new before after requests (Err _) = ⊥
+
+-- the same, under a name
+pub record InTurn {T S : Type 0} (IsTextOf : TextOf) (gives : S → List ℕ → Result ℕ DeviceFault → S → Type 0)
+    (places held : PlaceList) (old new : S) (before after : ℕ) (requests : List Request) (result : Result T RunFault) : Type 0 where
+  pub turn : AnswersInTurn IsTextOf gives places held old new before after requests result
 
 -- the output took this text after `before` bytes, or the beginning of the text, up to a write that failed. Or it took nothing, for want
 -- of memory
@@ -78,6 +83,13 @@ abbrev pub GivesUntil : {T : Type 0} → Bool → (old new : Standing) → List 
 GivesUntil ended old new given result =
     (more : List ℕ) → MayCome ended more →
     (rest : Told) × (ahead old more ≡ after_these given rest) × IsToldAfter result (ahead new more) rest
+
+-- a call gave these requests, and answered them
+pub record Turns {T S : Type 0} (IsTextOf : TextOf) (gives : S → List ℕ → Result ℕ DeviceFault → S → Type 0) (ended : Bool)
+    (from to : Standing) (places held : PlaceList) (old new : S) (before after : ℕ) (given : List Request)
+    (result : Result T RunFault) : Type 0 where
+  pub reader : GivesUntil ended from to given result
+  pub answers : InTurn IsTextOf gives places held old new before after given result
 
 -- the result that a batch ends in
 abbrev pub end_of : Then → Result Unit RunFault

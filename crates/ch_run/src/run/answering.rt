@@ -2,8 +2,8 @@
 ghost use Rattle.std.specs.Prelude.{◌≡◌, ◌<◌, ◌≤◌, ◌^◌, [], None, length, All, IfErr, OnOk};
 ghost use Rattle.ch_graph.specs.declared.limits.TheConstants.{MOST_LISTED};
 ghost use Rattle.ch_read.specs.Requests.{IsRequest};
-ghost use Rattle.ch_run.specs.Ask.{IsTextOfRequest, places_after};
-ghost use Rattle.ch_run.specs.Serving.{AnswersInTurn, IsOfAnswering, IsRoomFor, places_of};
+ghost use Rattle.ch_run.specs.Ask.{IsTextOfRequest};
+ghost use Rattle.ch_run.specs.Serving.{InTurn, IsOfAnswering, IsRoomFor, places_of};
 
 use super::first::answer_first;
 use super::loading::Checked;
@@ -61,9 +61,8 @@ pub(crate) fn answer_requests<'a, R: Threads + Sync, O: Output, G: Gate>(
     requires each { All (IsRequest by.now.checked.now.graph.nodes) requests.now }
     requires few { length requests.now ≤ MOST_LISTED }
     requires counted { written.old < 2 ^ 64 }
-    ensures answers { AnswersInTurn (IsTextOfRequest by.now.options.now by.now.checked.now.graph by.now.checked.now.hierarchy) O.write_gives (places_of room.old.near) output.old output.new
-        written.old written.new requests.now result }
-    ensures places { OnOk result (places_of room.new.near ≡ places_after (places_of room.old.near) requests.now) }
+    ensures answers { InTurn (IsTextOfRequest by.now.options.now by.now.checked.now.graph by.now.checked.now.hierarchy) O.write_gives (places_of room.old.near) (places_of room.new.near)
+        output.old output.new written.old written.new requests.now result }
     ensures room { OnOk result (IsRoomFor by.now.options.now.direction by.now.checked.now room.new) }
     ensures own { IfErr result IsOfAnswering }
 {

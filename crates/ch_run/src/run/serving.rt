@@ -2,11 +2,11 @@
 ghost use Rattle.std.specs.Prelude.{◌≡◌, ◌+◌, ◌^◌, ◌<◌, ◌≤◌, length, List, None, Ok, Err, IfErr, IfOk, OnErr, OnOk};
 ghost use Rattle.ch_read.specs.Requests.{IsUsedUp};
 ghost use Rattle.ch_read.specs.declared.request.Request.{Request as RequestOf};
-ghost use Rattle.ch_run.specs.Ask.{IsTextOfRequest, Serves, places_after};
+ghost use Rattle.ch_run.specs.Ask.{IsTextOfRequest, Serves};
 ghost use Rattle.ch_text.specs.Device.{CanCountOneMore, failures_in};
 ghost use Rattle.ch_text.specs.declared.device.DeviceFault.{DeviceFault as Failure};
 ghost use Rattle.ch_run.specs.Run.{reading};
-ghost use Rattle.ch_run.specs.Serving.{AnswersInTurn, GivesUntil, IsRoomFor, places_of};
+ghost use Rattle.ch_run.specs.Serving.{IsRoomFor, Turns, places_of};
 
 use super::answering::{Answering, Room, answer_requests};
 use super::batch::gather;
@@ -96,10 +96,8 @@ fn answer_whole<'a, R: Threads + Sync, O: Output, G: Gate>(
     requires room { IsRoomFor by.now.options.now.direction by.now.checked.now room.old }
     requires nodes { reader.old.nodes ≡ by.now.checked.now.graph.nodes }
     requires counted { written.old < 2 ^ 64 }
-    ensures answered { (given : List RequestOf) × GivesUntil ended reader.old reader.new given result
-        × AnswersInTurn (IsTextOfRequest by.now.options.now by.now.checked.now.graph by.now.checked.now.hierarchy) O.write_gives (places_of room.old.near) output.old output.new
-        written.old written.new given result
-        × OnOk result (places_of room.new.near ≡ places_after (places_of room.old.near) given) }
+    ensures answered { (given : List RequestOf) × Turns (IsTextOfRequest by.now.options.now by.now.checked.now.graph by.now.checked.now.hierarchy) O.write_gives ended reader.old reader.new
+        (places_of room.old.near) (places_of room.new.near) output.old output.new written.old written.new given result }
     ensures used_up { OnOk result (IsUsedUp ended reader.new) }
     ensures nodes { reader.new.nodes ≡ reader.old.nodes }
     ensures room { OnOk result (IsRoomFor by.now.options.now.direction by.now.checked.now room.new) }

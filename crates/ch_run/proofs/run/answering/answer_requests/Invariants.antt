@@ -3,8 +3,8 @@ use Rattle.std.proofs.Common.{◌≡◌, ◌≤◌, ◌++◌, All, List, Ok, len
 use Rattle.ch_graph.specs.declared.limits.TheConstants.{MOST_LISTED}
 use Rattle.ch_read.specs.declared.request.Request.{Request}
 use Rattle.ch_read.specs.Requests.{IsRequest}
-use Rattle.ch_run.specs.Ask.{IsTextOfRequest, places_after}
-use Rattle.ch_run.specs.Serving.{AnswersInTurn, IsRoomFor, places_of}
+use Rattle.ch_run.specs.Ask.{IsTextOfRequest}
+use Rattle.ch_run.specs.Serving.{InTurn, IsRoomFor, places_of}
 use Rattle.ch_run.proofs.run.answering.answer_requests.Given as goal
 
 -- the first of the requests are answered, and the rest are left
@@ -14,10 +14,8 @@ invariant-loop-rest g l = record {
   each : All (IsRequest l.by.checked.now.graph.nodes) l.rest;
   few : length l.rest ≤ MOST_LISTED;
   answered : (done : List Request) × (l.requests ≡ done ++ l.rest)
-      × AnswersInTurn {T = Unit} (IsTextOfRequest l.by.options.now l.by.checked.now.graph l.by.checked.now.hierarchy)
-      g.O.Output.write_gives (places_of l.initial.room.near) l.initial.output l.output
-      l.initial.written l.written done (Ok tt)
-      × (places_of l.room.near ≡ places_after (places_of l.initial.room.near) done);
+      × InTurn {T = Unit} (IsTextOfRequest l.by.options.now l.by.checked.now.graph l.by.checked.now.hierarchy) g.O.Output.write_gives
+      (places_of l.initial.room.near) (places_of l.room.near) l.initial.output l.output l.initial.written l.written done (Ok tt);
 }
 
 abbrev pub decreases-loop-rest : goal.decreases-loop-rest

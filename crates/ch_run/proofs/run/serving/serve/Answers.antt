@@ -3,10 +3,9 @@ use Rattle.std.proofs.Common.{◌≡◌, ℕ, sym, subst, arith}
 use Rattle.std.specs.Prelude.{All}
 use Rattle.ch_hierarchy.specs.Hierarchy.{nodes_of}
 use Rattle.ch_run.specs.Ask.{IsTextOfRequest}
-use Rattle.ch_run.specs.Run.{reading}
 use Rattle.ch_run.specs.Serving.{IsSearched}
-use Rattle.ch_run.specs.declared.fault.RunFault.TheVariants.{Memory}
-use Rattle.ch_run.proofs.Served.{passes_end, served_unread}
+use Rattle.ch_run.proofs.Owed.{ends_as}
+use Rattle.ch_run.proofs.Served.{served_unread}
 use Rattle.ch_run.proofs.run.serving.serve.Goals as goal
 
 -- a device has no room for one more failure
@@ -18,10 +17,9 @@ returns-then-not-counts_one_more g c =
 pub returns-in_err-buffer : goal.returns-in_err-buffer
 returns-in_err-buffer g c =
     let P = IsTextOfRequest c.args.by.now.options.now c.args.by.now.checked.now.graph c.args.by.now.checked.now.hierarchy in
-    let n = c.args.by.now.checked.now.graph.nodes in
-    passes_end P n (reading g.J.Input.read_gives c.args.requests.now c.args.requests.now) g.O.Output.write_gives _ _
-    c.from_residual.result Memory c.from_residual.ensures.1
-    (served_unread P n g.J.Input.read_gives g.O.Output.write_gives c.args.requests.now c.args.output.now)
+    rw (ends_as _ _ c.from_residual.ensures.1)
+    (served_unread P c.args.by.now.checked.now.graph.nodes g.J.Input.read_gives g.O.Output.write_gives c.args.requests.now
+    c.args.output.now)
 
 pub serve_in-requires-clause-room : goal.serve_in-requires-clause-room
 serve_in-requires-clause-room g c = λ kept within.
