@@ -22,7 +22,7 @@ use Rattle.ch_contract.proofs.theory.GivenNodes.{all_others, no_other}
 use Rattle.ch_contract.proofs.theory.OrderSteps.{then_legs}
 use Rattle.ch_order.specs.Progress.{Progress, IsContraction, IsNext, AreAll}
 use Rattle.ch_order.specs.Priorities.{IsRanked}
-use Rattle.ch_order.specs.Quick.{HasKey, IsRekeyed, IsHierarchyAfter}
+use Rattle.ch_order.specs.Quick.{AreQueued, HasKey, IsRekeyed, IsHierarchyAfter}
 use Rattle.ch_order.specs.Steps.{IsAfterGiven, IsAfterSteps}
 use Rattle.ch_order.proofs.PrioritySteps.{key_within}
 use Rattle.ch_order.proofs.StepsMade.{steps_rekeyed, steps_more, legs_within, depth_within, count_fewer, all_steps, all_levelled}
@@ -105,10 +105,10 @@ keys_among keys nodes list x e has =
 pub next_key : (keys : List (Option ℤ)) (v : ℕ) → IsNext keys v → HasKey keys v
 next_key keys v n = (n.priority, n.has)
 
--- the nodes that remain are judged after the given ones
-pub any_at_start : (by : OrderBy) (g : Network) (h : ℕ) (given others : List ℕ) (p q : Progress) →
-    IsOrderOf g.nodes (given ++ others) → IsAfterGiven g h given p → IsRanked by g.nodes h others p q → IsAfterAny g h given q
-any_at_start by g h given others p q is u r = record {
+-- the nodes that remain are put into the queue after the given ones
+pub any_at_start : (g : Network) (h : ℕ) (given others : List ℕ) (p q : Progress) →
+    IsOrderOf g.nodes (given ++ others) → IsAfterGiven g h given p → AreQueued others p q → IsAfterAny g h given q
+any_at_start g h given others p q is u r = record {
   order = given;
   L = u.L;
   steps = subst (IsAfterSteps g h given u.L) (sym r.rest) (steps_rekeyed g h given u.L p q.keys u.after);

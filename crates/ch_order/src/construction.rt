@@ -120,6 +120,7 @@ impl Construction {
     ghost use Rattle.ch_queue.specs.Queue.{HasNone};
     ghost use Rattle.ch_contract.specs.Legs.{AreLegsWithin};
     ghost use Rattle.ch_contract.specs.Remaining.{legs_of};
+    ghost use Rattle.ch_contract.specs.Rooms.{IsIdleRoom};
     ghost use Rattle.ch_hierarchy.specs.Hierarchy.{LevelsAndLegs, IsLevelled};
     ghost use Rattle.ch_order.specs.Progress.{AreAll, IsNext, IsOpen, IsStep};
     ghost use Rattle.ch_order.specs.Steps.{IsAfterGiven};
@@ -188,11 +189,11 @@ impl Construction {
         requires sizes { IsSized self }
         requires nodes { All (λ x. x < self.remaining.nodes) nodes.now }
         requires count { length nodes.now < 2 ^ 32 }
-        requires ready { IsJudging hops self }
+        requires rooms { All IsIdleRoom self.rooms.items }
         ensures sizes { IfOk result IsSized }
         ensures nodes { IfOk result (λ c. c.remaining.nodes ≡ self.remaining.nodes) }
         ensures ranked { IfOk result (λ c. IsRanked by self.remaining.nodes hops nodes.now (progress_of self) (progress_of c)) }
-        ensures ready { IfOk result (IsJudging hops) }
+        ensures ready { IfOk result (λ c. (h : ℕ) → IsJudging h self → IsJudging h c) }
     {
         let job = PriorityJob {
             remaining: &self.remaining,

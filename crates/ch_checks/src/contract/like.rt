@@ -67,10 +67,10 @@ const BEGUN_AS_GIVEN: &[u8] =
     b"p ch 5 8\no 5\no 2\no 1\no 3\no 4\nl 5 1 1 1 0\nl 4 5 1 1 0\nl 2 3 1 1 0\nl 1 2 1 1 0\n\
       l 1 3 2 2 2\nl 4 1 2 2 5\nl 3 4 1 1 0\nl 4 3 4 4 1\n";
 
-/// The ring with no given node. Lazy updates find the order by depth here.
+/// The ring with no given node. A node that is judged alone is preferred to one with a slightly lesser key.
 const AFRESH: &[u8] =
-    b"p ch 5 8\no 1\no 3\no 2\no 4\no 5\nl 1 2 1 1 0\nl 5 1 1 1 0\nl 3 4 1 1 0\nl 2 3 1 1 0\n\
-      l 2 4 2 2 3\nl 5 2 2 2 1\nl 4 5 1 1 0\nl 5 4 4 4 2\n";
+    b"p ch 5 8\no 1\no 2\no 3\no 4\no 5\nl 1 2 1 1 0\nl 5 1 1 1 0\nl 2 3 1 1 0\nl 5 2 2 2 1\n\
+      l 3 4 1 1 0\nl 5 3 3 3 2\nl 4 5 1 1 0\nl 5 4 4 4 3\n";
 
 /// It holds if any one request for memory is refused. With no node afresh both hierarchies have the given order.
 #[test]

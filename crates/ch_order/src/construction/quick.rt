@@ -1,10 +1,10 @@
 //! The construction of a hierarchy whose first nodes come in a given order, and the others in an order that takes little
 //! time to find.
-ghost use Rattle.std.specs.Prelude.{◌≡◌, ◌^◌, ◌<◌, ◌≤◌, All, Err, IfOk, OnOk, length, take};
+ghost use Rattle.std.specs.Prelude.{◌≡◌, ℕ, ◌^◌, ◌<◌, ◌≤◌, All, Err, IfOk, OnOk, length, take};
 ghost use Rattle.ch_graph.specs.Graph.{IsWithinLimits};
 ghost use Rattle.ch_contract.specs.Legs.{IsHopBound};
 ghost use Rattle.ch_contract.specs.Like.{given_count as count_of};
-ghost use Rattle.ch_order.specs.Quick.{IsHierarchyAfter};
+ghost use Rattle.ch_order.specs.Quick.{IsHierarchyAfter, HaveKeys};
 ghost use Rattle.ch_order.specs.declared.construction.like.OrderError.TheVariants as OrderError;
 ghost use Rattle.ch_hierarchy.specs.Kept.{IsKept};
 ghost use Rattle.ch_hierarchy.specs.Saved.{IsOrderOf};
@@ -16,12 +16,29 @@ use ch_contract::OrderBy;
 use ch_contract::memory::ask_ahead;
 use ch_graph::Graph;
 use ch_hierarchy::Hierarchy;
+use ch_queue::KeyQueue;
 use ch_work::{Crew, Gate, Stage};
 use std::alloc::{AllocError, Global};
 use std::thread::Threads;
 
-/// All remaining nodes are judged anew each time no more than one in so many of them is left.
-const SHRINKING: usize = 3;
+/// The numbers of nodes below are so many fifths of those that remain.
+const PARTS: usize = 5;
+
+/// So many fifths are judged together, from the first one on.
+const JUDGED_PARTS: usize = 4;
+
+/// When so many fifths are left, the next ones are judged.
+const DUE_PARTS: usize = 2;
+
+/// So many nodes more are judged, so that the last nodes are judged all together.
+const MORE_JUDGED: usize = 100;
+
+/// The key of the first node that is not judged yet. No priority of a road network comes near it.
+const UNJUDGED: i64 = 1 << 60;
+
+/// How much less than its priority the key of a node is that was judged alone. Such a node often comes first
+/// although another has a slightly lesser key, and its searches are then not made in vain.
+const PREFERENCE: i64 = 2;
 
 /// The most nodes that are judged before one of them is contracted.
 const MOST_JUDGED: u32 = 16;
@@ -30,10 +47,11 @@ const MOST_JUDGED: u32 = 16;
 /// `fresh` per cent come in the given order. It is for answers that do not depend on the order, because it takes less time
 /// to find the order of the fresh nodes.
 ///
-/// The fresh nodes get their priorities by depth when the last given node is contracted. A priority is then computed again
-/// only when its node is the first in the queue, and the node is contracted if it is still the first (Geisberger and
-/// others, "Contraction Hierarchies", 2008: lazy updates). The priority of a node that becomes less is not noticed so, and
-/// therefore all are computed again whenever two thirds of the nodes have gone. Workers share these priorities.
+/// When the last given node is contracted, the fresh nodes wait as given, and the first four fifths of them get
+/// priorities by depth. A priority is then computed again only when its node is the first in the queue, and the node is
+/// contracted if it is still the first (*lazy updates*). The priority of a node that becomes less is not noticed so.
+/// Whenever three fifths of the nodes have gone, the first four fifths of the others therefore get priorities, whether
+/// they had some or not. Workers share these. To take less time, their witnesses have one leg less.
 ///
 /// # Errors
 /// `Order` if the given order does not have each node of the graph exactly once, and `NoMemory` if the call or a piece
@@ -75,8 +93,9 @@ fn contract_quickly<R: Threads + Sync, G: Gate>(
 {
     let (first, others) = nodes.split_at(given);
     let begun = Construction::after(crew.alloc, crew.gate, graph, first, hops)?;
-    let mut construction = begun.rank(crew, others, hops, OrderBy::Depth)?;
-    let mut due = others.len() / SHRINKING;
+    let queued = begun.queue(others);
+    let mut construction = queued.rank_if_due(crew, others, others.len(), hops)?;
+    let mut due = others.len() / PARTS * DUE_PARTS;
     while let Some(least) = construction.next() {
         crew.gate
             .watch(Stage::Building, construction.contracted, graph.nodes());
@@ -95,14 +114,55 @@ fn due_after(due: usize, remaining: usize) -> usize
     if remaining > due {
         return due;
     }
-    due / SHRINKING
+    due / PARTS * DUE_PARTS
+}
+
+/// Gives these nodes keys in their order. No node that is judged has a greater key.
+fn put_in_order(waiting: &mut KeyQueue<i64>, nodes: &[u32])
+    requires nodes { All (λ x. x < length waiting.old) nodes.now }
+    requires count { length nodes.now < 2 ^ 32 }
+    ensures { HaveKeys nodes.now waiting.old waiting.new }
+{
+    for (place, node) in nodes.iter().enumerate() {
+        waiting.set(*node, UNJUDGED + place as i64);
+    }
+}
+
+/// Returns how many of the nodes that remain are judged together: four fifths and some more, or all.
+fn next_count(remaining: usize) -> usize
+    ensures { result ≤ remaining }
+{
+    let next = remaining / PARTS * JUDGED_PARTS;
+    remaining.min(next.saturating_add(MORE_JUDGED))
+}
+
+/// Returns the most legs of a witness while nodes are judged together: one less than otherwise, if that is not none.
+fn hops_together(hops: u32) -> u32
+    requires { IsHopBound hops }
+    ensures { IsHopBound result }
+{
+    (hops - 1).max(1)
 }
 
 impl Construction {
     ghost use Rattle.std.specs.Prelude.{filter, is_some};
     ghost use Rattle.ch_queue.specs.Queue.{key_of};
-    ghost use Rattle.ch_order.specs.Quick.{HasKey, IsRekeyed};
+    ghost use Rattle.ch_order.specs.Quick.{AreQueued, HasKey, IsRekeyed};
     ghost use Rattle.ch_order.specs.Construction.{IsSized, IsJudging, progress_of};
+
+    /// Puts these nodes into the queue, in their order, behind all nodes that are judged.
+    fn queue(mut self, nodes: &[u32]) -> Construction
+        requires sizes { IsSized self }
+        requires nodes { All (λ x. x < self.remaining.nodes) nodes.now }
+        requires count { length nodes.now < 2 ^ 32 }
+        ensures sizes { IsSized result }
+        ensures nodes { result.remaining.nodes ≡ self.remaining.nodes }
+        ensures queued { AreQueued nodes.now (progress_of self) (progress_of result) }
+        ensures ready { (h : ℕ) → IsJudging h self → IsJudging h result }
+    {
+        put_in_order(&mut self.waiting, nodes);
+        self
+    }
 
     /// Judges the first node of the queue, and then the node that is the first with the new priority, until it is one that
     /// was judged since the last contraction. Returns this node. After [`MOST_JUDGED`] nodes it returns the first one. The
@@ -133,7 +193,8 @@ impl Construction {
         Ok((self, node))
     }
 
-    /// Gives a node of the queue the priority by depth that it has now. Returns the node that is then the first.
+    /// Gives a node of the queue a key that is [`PREFERENCE`] less than the priority by depth that it has now. Returns the
+    /// node that is then the first.
     fn judge(&mut self, alloc: Global, node: u32, hops: u32) -> Result<u32, AllocError>
         requires hops { IsHopBound hops }
         requires sizes { IsSized self.old }
@@ -152,15 +213,15 @@ impl Construction {
             by: OrderBy::Depth,
         };
         let priority = job.priority(alloc, &mut self.room, node)?;
-        self.waiting.set(node, priority);
+        self.waiting.set(node, priority.saturating_sub(PREFERENCE));
         match self.next() {
             Some(first) => Ok(first),
             None => Ok(node),
         }
     }
 
-    /// Gives all nodes of the queue the priorities by depth that they have now, if they are at most `due`. These are among
-    /// the nodes of the list. Workers share them.
+    /// If the queue has at most `due` nodes, gives those that come first in the list the priorities by depth that they have
+    /// now. Workers share them.
     fn rank_if_due<R: Threads + Sync, G: Gate>(
         self,
         crew: &Crew<'_, R, G>,
@@ -182,7 +243,8 @@ impl Construction {
             return Ok(self);
         }
         let waiting = self.waiting_among(crew.alloc, nodes)?;
-        self.rank(crew, waiting.as_slice(), hops, OrderBy::Depth)
+        let next = &waiting.as_slice()[..next_count(waiting.len())];
+        self.rank(crew, next, hops_together(hops), OrderBy::Depth)
     }
 
     /// Returns those of these nodes that are in the queue.

@@ -31,7 +31,7 @@ loop-node-init g c =
       first.nodes ∙ begun.nodes,
       subst (λ l. IsAfterSomeSteps c.args.by c.args.graph.now c.args.hops l (progress_of c.in_ok-construction.construction))
           c.split_at.ensures.front start,
-      first.ready,
+      first.ready c.args.hops begun.ready,
     )
 
 pub contract-requires-clause-next : goal.contract-requires-clause-next

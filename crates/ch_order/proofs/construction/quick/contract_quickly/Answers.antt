@@ -2,23 +2,30 @@
 use Rattle.std.proofs.Common.{◌<◌, sym, ◌∙◌, ap, subst, arith}
 use Rattle.std.specs.Prelude.{All}
 use Rattle.std.proofs.lemmas.Result.{IfOk-weaker}
-use Rattle.ch_contract.specs.declared.measure.OrderBy.TheVariants.{Depth}
 use Rattle.ch_hierarchy.specs.Saved.{IsOrderOf}
 use Rattle.ch_contract.specs.Legs.{AreLegsWithin}
 use Rattle.ch_contract.specs.Remaining.{legs_of}
 use Rattle.ch_contract.proofs.theory.GivenNodes.{other_nodes}
 use Rattle.ch_order.specs.Progress.{IsContraction, AreAll}
-use Rattle.ch_order.specs.Priorities.{IsRanked}
 use Rattle.ch_order.specs.Construction.{progress_of}
 use Rattle.ch_order.proofs.ConstructionCalls.{taken_step}
 use Rattle.ch_order.proofs.QuickSteps.{IsAfterAny, next_key, any_at_start, any_rekeyed, any_within, any_depth, any_node, any_count}
 use Rattle.ch_order.proofs.QuickSteps.{any_next, any_at_end, any_levelled}
 use Rattle.ch_order.proofs.construction.quick.contract_quickly.Goals as goal
 
-pub rank-requires-clause-nodes : goal.rank-requires-clause-nodes
-rank-requires-clause-nodes g c κs within =
+pub queue-queued-requires-clause-nodes : goal.queue-queued-requires-clause-nodes
+queue-queued-requires-clause-nodes g c =
     let order = subst (IsOrderOf c.args.graph.now.nodes) c.split_at.ensures.by_index.0 c.requires.nodes in
     subst (λ n. All (λ x. x < n) c.split_at.result.1.now) (sym c.in_ok-begun.ensures.nodes) (other_nodes _ _ _ order)
+
+pub rank_if_due-requires-clause-nodes : goal.rank_if_due-requires-clause-nodes
+rank_if_due-requires-clause-nodes g c κs within =
+    let order = subst (IsOrderOf c.args.graph.now.nodes) c.split_at.ensures.by_index.0 c.requires.nodes in
+    subst (λ n. All (λ x. x < n) c.split_at.result.1.now) (sym (c.queue-queued.ensures.nodes ∙ c.in_ok-begun.ensures.nodes))
+    (other_nodes _ _ _ order)
+
+pub rank_if_due-requires-clause-ready : goal.rank_if_due-requires-clause-ready
+rank_if_due-requires-clause-ready g c κs within = c.queue-queued.ensures.ready c.args.hops c.in_ok-begun.ensures.ready
 
 pub loop-least-init : goal.loop-least-init
 loop-least-init g c =
@@ -26,13 +33,12 @@ loop-least-init g c =
     let begun = c.in_ok-begun.ensures in
     let parts = c.split_at.result in
     let order = subst (IsOrderOf c.args.graph.now.nodes) c.split_at.ensures.by_index.0 c.requires.nodes in
-    let ranked = subst (λ n. IsRanked Depth n c.args.hops parts.1.now (progress_of c.in_ok-begun.begun)
-    (progress_of c.in_ok-construction.construction)) begun.nodes first.ranked in
-    let start = any_at_start Depth c.args.graph.now c.args.hops parts.0.now parts.1.now _ _ order begun.after ranked in (
+    let queued = c.queue-queued.ensures in
+    let start = any_at_start c.args.graph.now c.args.hops parts.0.now parts.1.now _ _ order begun.after queued.queued in (
       first.sizes,
-      first.nodes ∙ begun.nodes,
+      first.nodes ∙ queued.nodes ∙ begun.nodes,
       subst (λ l. IsAfterAny c.args.graph.now c.args.hops l (progress_of c.in_ok-construction.construction))
-          c.split_at.ensures.front start,
+          c.split_at.ensures.front (any_rekeyed _ _ _ _ start _ first.rekeyed),
       first.ready,
     )
 
@@ -54,8 +60,8 @@ take-requires g c =
       };
     }
 
-pub rank_if_due-requires-clause-nodes : goal.rank_if_due-requires-clause-nodes
-rank_if_due-requires-clause-nodes g c κs within =
+pub rank_if_due-requires-in-Some-clause-nodes : goal.rank_if_due-requires-in-Some-clause-nodes
+rank_if_due-requires-in-Some-clause-nodes g c κs within =
     let order = subst (IsOrderOf c.args.graph.now.nodes) c.split_at.ensures.by_index.0 c.requires.nodes in
     let nodes = c.in_ok-taken.ensures.taken.nodes ∙ c.in_ok-judged.ensures.nodes ∙ c.loop-least.invariant.1 in
     subst (λ n. All (λ x. x < n) c.split_at.result.1.now) (sym nodes) (other_nodes _ _ _ order)
