@@ -4,21 +4,31 @@ import os
 import time
 from pathlib import Path
 
+from helpers.waiting import PATIENCE
+
 STANDIN = Path(__file__).resolve().parent / "standin.py"
-NOTES = Path("noted")
-# The most seconds in which a process that was ended is gone.
-PATIENCE = 5
+NOTES, HELD = Path("noted"), Path("held")
 
 
 @contextlib.contextmanager
 def mood(words=""):
     """Runs of the stand-in within go so wrong, and are noted in the folder where that began; none of them is left behind."""
-    os.environ["STANDIN"] = f"{words} notes={NOTES.absolute()}"
+    os.environ["STANDIN"] = f"{words} notes={NOTES.absolute()} held={HELD.absolute()}"
     try:
         yield
     finally:
         del os.environ["STANDIN"]
     assert lives_on(0), living()
+
+
+@contextlib.contextmanager
+def holding():
+    """Runs of the stand-in pass on no request within, in the folder where their mood began."""
+    HELD.touch()
+    try:
+        yield
+    finally:
+        HELD.unlink()
 
 
 def noted():

@@ -7,7 +7,8 @@ run of `chtab near` answers.
 STANDIN says what goes wrong: after K requests `dies=K` ends it by a signal, `stops=K` ends it with status 3 and a line, `hangs=K` makes it
 answer no more, `garbles=K` makes it answer each by two lines that are none, and `doubles=K` makes it answer another table before each.
 `loads=S` makes it wait S seconds before the first request, `slow=S` before each. `notes=FILE` adds its process number and its words to a
-file, and the number of the run below it. A query from a node to itself, which guards a request, is passed on and not counted.
+file, and the number of the run below it. No request is passed on while there is a file `held=FILE`. A query from a node to itself, which
+guards a request, is passed on at once and not counted.
 
 A run of `chtab near` has one request. What goes wrong there does so after half of the lines; `doubles=0` writes them again, and `cuts=0` leaves
 out the others without a fault.
@@ -34,8 +35,14 @@ def is_past(mood, count):
     return count > int(MOODS.get(mood, sys.maxsize))
 
 
+def wait_while_held():
+    while os.path.exists(MOODS.get("held", "")):
+        time.sleep(0.01)
+
+
 def misbehave(count, run):
     """What goes wrong at a request; whether it is kept from the run below."""
+    wait_while_held()
     time.sleep(float(MOODS.get("slow", 0)) + (count == 1) * float(MOODS.get("loads", 0)))
     if is_past("hangs", count):
         time.sleep(3600)

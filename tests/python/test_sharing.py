@@ -7,6 +7,7 @@ import concurrent.futures
 import contextlib
 import ctypes
 import gc
+import itertools
 import multiprocessing
 import os
 import pathlib
@@ -21,21 +22,22 @@ import traceback
 
 import pytest
 
+from helpers.breaking import Breaking
 from helpers.commands import raises
 from helpers.maps import COUNTRY
 from helpers.marks import each_way, needs
 from helpers.moods import STANDIN, asked, lives_on, living, mood
 from helpers.packages import PYTHON
 from helpers.running import PROGRAM, ROOT
+from helpers.waiting import PATIENCE, until
 import chtab
 from chtab import files
 
 pytestmark = [needs("python3-numpy", "python3-scipy"), pytest.mark.usefixtures("program")]
 FIRST = ROOT / "examples" / "first.gr"
 GRAPH = f"{COUNTRY}.gr"
-# Tables of each way to share, in parts of so many; the seconds after which a way has hung.
+# Tables of each way to share, in parts of so many.
 TABLES, PART = 1_000, 50
-PATIENCE = 120
 # How many questions are broken off, and how many are answered, at least.
 ENOUGH = 60
 WAYS = "fork", "spawn", "forkserver"
@@ -133,9 +135,9 @@ def forked(work):
         except BaseException:
             traceback.print_exc()
             os._exit(2)
-    until = time.monotonic() + PATIENCE
+    latest = time.monotonic() + PATIENCE
     while (ended := os.waitpid(child, os.WNOHANG)) == (0, 0):
-        if time.monotonic() > until:
+        if time.monotonic() > latest:
             os.kill(child, signal.SIGKILL)
             os.waitpid(child, 0)
             return False
@@ -155,7 +157,7 @@ def test_processes_are_forked_while_threads_ask():
 
 def test_a_fork_holds_no_lock_and_no_pipe():
     """A process is forked while a thread waits for an answer: it asks at once, has none of its parent's pipes, and ends none of its runs."""
-    with mood("slow=1"), chtab.Network.open(FIRST, program=STANDIN) as network:
+    with mood(), chtab.Network.open(FIRST, program=STANDIN) as network:
         held = {os.readlink(f"/proc/self/fd/{stream.fileno()}") for run in network._engine.runs for stream in pipes_of(run)}
 
         def is_free():
@@ -163,10 +165,14 @@ def test_a_fork_holds_no_lock_and_no_pipe():
             return not links & held and network.table([1], [3]).tolist() == [[9]]
 
         with concurrent.futures.ThreadPoolExecutor(1) as threads:
+            own = living()
+            for number in own:
+                os.kill(number, signal.SIGSTOP)
             found = threads.submit(network.table, [1], [2])
-            time.sleep(0.3)
-            begun = time.monotonic()
-            assert len(held) == 2 and forked(is_free) and time.monotonic() - begun < 10
+            until(lambda: network._engine.runs[0].is_held)
+            assert len(own) == len(held) == 2 and forked(is_free) and not found.done()
+            for number in own:
+                os.kill(number, signal.SIGCONT)
             assert found.result().tolist() == [[4]]
         assert network.table([1], [2, 3]).tolist() == [[4, 9]] and asked() == ["", ""], asked()
 
@@ -255,10 +261,38 @@ def test_what_is_broken_off_leaves_no_answer():
         gc.collect()
         # Descriptors may be lost where a pipe was just made; runs are not. One that was broken off while it was started finds its input ended, but
         # only after it has read its graph.
-        latest = time.monotonic() + PATIENCE
-        while children() > 1 and time.monotonic() < latest:
-            time.sleep(0.1)
-        assert descriptors() <= held + 60 and children() <= 1, (descriptors(), held, children())
+        until(lambda: children() <= 1, children)
+        assert descriptors() <= held + 60, (descriptors(), held)
+
+
+def test_what_is_broken_off_anywhere_is_over():
+    """Ctrl-C at each place of a question where Python may hear it, while its traceback is kept, as notebooks do: the next questions are answered, by
+    this thread and by others, and no run is left but the one that answers."""
+    def asks(network):
+        return network.distances([(1, 3)] * 20).tolist() == [9] * 20
+
+    def is_near(network):
+        return network.near([1], [3]).weights.tolist() == [9]
+
+    def busy(network):
+        assert asks(network)
+        network._engine.runs[0].child.is_busy = True
+
+    for prepare, question, step in (asks, asks, 1), (lambda _: None, asks, 2), (busy, asks, 2), (asks, is_near, 3):
+        for place in itertools.count(1, step):
+            with chtab.Network.open(FIRST, program=PROGRAM, load=False) as network:
+                prepare(network)
+                breaking = Breaking(place)
+                fault = breaking.fault_of(lambda: question(network))
+                assert isinstance(fault, KeyboardInterrupt if breaking.where else type(None)), (breaking.where, fault)
+                with concurrent.futures.ThreadPoolExecutor(1) as threads:
+                    assert threads.submit(question, network).result(PATIENCE) and question(network), breaking.where
+                until(lambda: children() <= 1, lambda: (children(), breaking.where))
+            until(lambda: children() == 0, lambda: (children(), breaking.where))
+            fault = None
+            if not breaking.where:
+                break
+        assert place > 30
 
 
 def children():

@@ -2,16 +2,15 @@
 from __future__ import annotations
 
 import collections
-import contextlib
 import os
 import threading
-from collections.abc import Iterator, Sequence
+from collections.abc import Sequence
 from dataclasses import dataclass
 from typing import TYPE_CHECKING, Any
 
 from chtab import files
 from chtab.engine import answers, deadlines, forks
-from chtab.engine.child import Child, end_unused, see_to
+from chtab.engine.child import Child, end_unused, see_to, status_of
 from chtab.engine.stamps import Stamps
 from chtab.errors import ChtabError, ProgramFault
 
@@ -83,20 +82,28 @@ class Run:
         self.lock, self.is_held, self.is_killed = threading.RLock(), False, False
         self.child: Child | None = None
 
-    @contextlib.contextmanager
-    def held(self) -> Iterator[None]:
-        """Holds the lock for a question. A question in the middle of another one of the same thread is refused."""
+    def answer(self, question: answers.Question | None) -> Any:
+        """Holds the lock, and returns the value of the answer to a question. A question in the middle of another one of the same thread is
+        refused."""
+        # Ctrl-C may break this off after any call. No call comes between what is taken here and the `with` or `try` that gives it back, so this is
+        # no context manager of a generator.
         with self.lock:
             if self.is_held:
                 raise ChtabError(WITHIN)
-            self.is_held = True
             try:
-                yield
+                self.is_held = True
+                if self.is_killed:
+                    raise ChtabError(CLOSED)
+                return self.ask(question)
+            except ProgramFault:
+                if self.is_killed:
+                    raise ChtabError(CLOSED) from None
+                raise
             finally:
                 self.is_held = False
 
     def ask(self, question: answers.Question | None) -> Any:
-        """Returns the value of the answer to a question; for None, waits until the child has loaded."""
+        """Asks the child; for None, waits until it has loaded. The thread holds the lock."""
         # Ctrl-C may have broken off the end of a run that is no longer used.
         end_unused()
         if self.child is not None and (self.child.is_busy or not self.child.is_open):
@@ -194,16 +201,7 @@ class Engine:
         """The value of the answer to a question."""
         if self.owner != os.getpid():
             self.leave_parent()
-        run = self.run_for_question()
-        with run.held():
-            if run.is_killed:
-                raise ChtabError(CLOSED)
-            try:
-                return run.ask(question)
-            except ProgramFault:
-                if run.is_killed:
-                    raise ChtabError(CLOSED) from None
-                raise
+        return self.run_for_question().answer(question)
 
     def run_for_question(self) -> Run:
         """Chooses an idle run; otherwise a new one if there may be more, or the run that was chosen longest ago."""
@@ -212,8 +210,9 @@ class Engine:
                 raise ChtabError(CLOSED)
             place = next((place for place, run in enumerate(self.runs) if not run.is_held), 0)
             is_new = not self.runs or self.runs[place].is_held and len(self.runs) < self.setting.runs
-            run = Run(self) if is_new else self.runs.pop(place)
-            self.runs.append(run)
+            run = Run(self) if is_new else self.runs[place]
+            # One assignment, so that Ctrl-C never comes when a run is in no list.
+            self.runs = [*(each for each in self.runs if each is not run), run]
             return run
 
     @property
@@ -224,7 +223,7 @@ class Engine:
     def living(self) -> int:
         """How many runs have a living program."""
         children = [run.child for run in list(self.runs)]
-        return sum(child is not None and child.is_open and child.process.poll() is None for child in children)
+        return sum(child is not None and child.is_open and status_of(child.process) is None for child in children)
 
     def close(self) -> None:
         """Ends all runs. A call that is under way in another thread fails."""

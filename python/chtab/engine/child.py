@@ -14,6 +14,7 @@ import select
 import signal
 import subprocess
 import tempfile
+import time
 import weakref
 from collections.abc import Sequence
 from typing import IO, Any, Protocol
@@ -24,8 +25,8 @@ from chtab.errors import ChtabError, ProgramFault, unasked
 
 # Bytes that are read or written at a time.
 CHUNK = 1 << 18
-# Seconds in which a run that closed its output has to end.
-PATIENCE = 1
+# Seconds in which a run that closed its output has to end, and those between two looks whether it has.
+PATIENCE, LOOK = 30, 0.01
 
 
 @functools.cache
@@ -88,14 +89,43 @@ def end_all() -> None:
 
 def kill(process: subprocess.Popen[bytes]) -> None:
     """Ends a run and all processes that it started, unless it has ended. Any thread may call this."""
-    if process.poll() is None:
+    if status_of(process) is None:
         with contextlib.suppress(ProcessLookupError):
             os.killpg(process.pid, signal.SIGKILL)
-    process.wait()
+        status_of(process, is_awaited=True)
 
 
-def begin(command: Sequence[str], told: IO[bytes]) -> tuple[subprocess.Popen[bytes], IO[bytes], IO[bytes]]:
-    """Starts a run that writes its errors to a file. Returns its process and our ends of both pipes.
+def status_of(process: subprocess.Popen[bytes], is_awaited: bool = False) -> int | None:
+    """The exit status of a run, as `Popen` gives it, once it has ended or if its end is awaited; None if it goes on. Any thread may call this.
+
+    `poll` and `wait` of `Popen` take a lock without a `with`, and Ctrl-C right after that would leave it taken for ever. This takes none.
+    """
+    if process.returncode is None:
+        try:
+            found = os.waitid(os.P_PID, process.pid, os.WEXITED | os.WNOWAIT | (0 if is_awaited else os.WNOHANG))
+            if found is None:
+                return None
+            status = found.si_status if found.si_code == os.CLD_EXITED else -found.si_status
+            with contextlib.suppress(ChildProcessError):
+                os.waitpid(process.pid, os.WNOHANG)
+        except ChildProcessError:
+            # The system was asked for its end before. Another thread may be about to note the status.
+            status = 0
+        process.returncode = status if process.returncode is None else process.returncode
+    return process.returncode
+
+
+def status_within(process: subprocess.Popen[bytes], seconds: float) -> int | None:
+    """The exit status of a run that ends within so many seconds; None if it goes on."""
+    latest = time.monotonic() + seconds
+    while (status := status_of(process)) is None and time.monotonic() < latest:
+        time.sleep(LOOK)
+    return status
+
+
+def begin(command: Sequence[str], told: IO[bytes], user: Begun) -> tuple[subprocess.Popen[bytes], IO[bytes], IO[bytes]]:
+    """Starts a run that writes its errors to a file, until its user is closed or no longer referenced. Returns its process and our ends of both
+    pipes. If anything breaks this off, such as Ctrl-C, the pipes are closed, and the run ends when it reads its input.
 
     The pipes are not those of `Popen`, which would keep them open if it is dropped early.
     """
@@ -103,15 +133,27 @@ def begin(command: Sequence[str], told: IO[bytes]) -> tuple[subprocess.Popen[byt
     (theirs_in, ours_in), (ours_out, theirs_out) = os.pipe(), os.pipe()
     requests, answered = open(ours_in, "wb", 0), open(ours_out, "rb", 0)
     try:
-        process = subprocess.Popen(command, stdin=theirs_in, stdout=theirs_out, stderr=told, start_new_session=True)
+        process = started(command, theirs_in, theirs_out, told)
+        for stream in (requests, answered):
+            os.set_blocking(stream.fileno(), False)
+        BEGUN[process] = os.getpid(), (requests, answered, told), weakref.ref(user)
+        weakref.finalize(user, end_unused).atexit = False
+    except BaseException:
+        requests.close()
+        answered.close()
+        raise
+    return process, requests, answered
+
+
+def started(command: Sequence[str], source: int, sink: int, told: IO[bytes]) -> subprocess.Popen[bytes]:
+    """A process that reads from one descriptor and writes to another. Both are closed here."""
+    try:
+        return subprocess.Popen(command, stdin=source, stdout=sink, stderr=told, start_new_session=True)
     except OSError as fault:
         raise ChtabError(f"{command[0]} can't be run: {fault.strerror}") from None
     finally:
-        os.close(theirs_in)
-        os.close(theirs_out)
-    for stream in (requests, answered):
-        os.set_blocking(stream.fileno(), False)
-    return process, requests, answered
+        os.close(source)
+        os.close(sink)
 
 
 class Child:
@@ -130,13 +172,15 @@ class Child:
         self.nodes = nodes
         # A run stays busy if its exchange was broken off, and then can't be asked again.
         self.is_open, self.is_loaded, self.is_busy = True, False, False
-        with forks.STEADY:
-            self.told = tempfile.TemporaryFile()
-            self.process, self.requests, self.answered = begin(command, self.told)
-            self.owner = os.getpid()
-            BEGUN[self.process] = self.owner, (self.requests, self.answered, self.told), weakref.ref(self)
-            weakref.finalize(self, end_unused).atexit = False
-            forks.follow(self)
+        try:
+            with forks.STEADY:
+                self.told, self.owner = tempfile.TemporaryFile(), os.getpid()
+                self.process, self.requests, self.answered = begin(command, self.told, self)
+                forks.follow(self)
+        except BaseException:
+            # A traceback may keep this object.
+            self.close()
+            raise
 
     def leave_parent(self) -> None:
         """Closes this process's copies of the streams to the run of its parent, in a forked process. The run continues."""
@@ -200,9 +244,8 @@ class Child:
 
     def fault(self) -> ProgramFault:
         """The reason why the run closed its output."""
-        try:
-            status = self.process.wait(PATIENCE)
-        except subprocess.TimeoutExpired:
+        status = status_within(self.process, PATIENCE)
+        if status is None:
             return ProgramFault("chtab closed its output and goes on", 0)
         self.told.seek(0)
         return fault_of(self.told.read(), status)

@@ -58,12 +58,12 @@ def taken(deadline: Deadline | None) -> Iterator[None]:
 @contextlib.contextmanager
 def uncounted() -> Iterator[None]:
     """Stops the clock of the deadline for what is done within, such as loading a network."""
-    begun = time.monotonic()
+    begun, deadline = time.monotonic(), CALL.deadline
     try:
         yield
     finally:
-        if CALL.deadline is not None:
-            CALL.deadline.until += time.monotonic() - begun
+        if deadline is not None:
+            deadline.until += time.monotonic() - begun
 
 
 def whole(call: Callable[Concatenate[Asker, Given], Found]) -> Callable[Concatenate[Asker, Given], Found]:

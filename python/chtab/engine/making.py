@@ -18,7 +18,7 @@ import numpy
 
 from chtab import files
 from chtab.engine import asking, choosing, folders
-from chtab.engine.child import fault_of
+from chtab.engine.child import fault_of, status_of, status_within
 from chtab.errors import FileFault, ProgramFault
 from chtab.files.node_labels import Labels
 
@@ -89,12 +89,11 @@ def write(arcs: Arcs, folder: str, program: str, running: Running) -> Handle | N
 def watch(process: subprocess.Popen[bytes], lines: IO[bytes], progress: Progress) -> None:
     """Waits for the end of a process that builds. Meanwhile its lines of progress are reported on standard error, or as numbers to a callable."""
     if not progress:
-        process.wait()
+        status_of(process, is_awaited=True)
         return
     read, is_over = 0, False
     while not is_over:
-        with contextlib.suppress(subprocess.TimeoutExpired):
-            is_over = process.wait(LOOK) is not None
+        is_over = status_within(process, LOOK) is not None
         # Read by `pread`, because the process writes to the same open file, and shares its position.
         some = os.pread(lines.fileno(), 1 << 20, read)
         whole = some[:some.rfind(b"\n") + 1]

@@ -79,8 +79,11 @@ def side_by_side(runs: Any, found: Iterable[Block], make: Make, workers: int) ->
             with deadlines.taken(deadline):
                 return make(block, near_rows.portions(own, block.question))
 
-        begun = {threads.submit(made, block): block for block in found}
+        begun = {}
+        # What breaks this off ends the runs before the threads are waited for.
         try:
+            for block in found:
+                begun[threads.submit(made, block)] = block
             for future in concurrent.futures.as_completed(list(begun)):
                 yield begun.pop(future), future.result()
         finally:

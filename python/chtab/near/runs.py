@@ -9,7 +9,6 @@ import select
 import subprocess
 import tempfile
 import threading
-import weakref
 from collections.abc import Iterator, Sequence
 from dataclasses import dataclass
 from typing import TYPE_CHECKING
@@ -74,17 +73,19 @@ class NearRun:
 
     def __init__(self, command: Sequence[str]) -> None:
         self.is_open = True
-        with forks.STEADY:
-            self.told = tempfile.TemporaryFile()
-            self.process, requests, self.answered = child.begin(command, self.told)
-            self.owner = os.getpid()
-            child.BEGUN[self.process] = self.owner, (requests, self.answered, self.told), weakref.ref(self)
-            weakref.finalize(self, child.end_unused).atexit = False
-            forks.follow(self)
-        requests.close()
-        # A larger pipe is read in fewer and longer portions.
-        with contextlib.suppress(OSError):
-            fcntl.fcntl(self.answered, fcntl.F_SETPIPE_SZ, child.CHUNK)
+        try:
+            with forks.STEADY:
+                self.told, self.owner = tempfile.TemporaryFile(), os.getpid()
+                self.process, requests, self.answered = child.begin(command, self.told, self)
+                forks.follow(self)
+            requests.close()
+            # A larger pipe is read in fewer and longer portions.
+            with contextlib.suppress(OSError):
+                fcntl.fcntl(self.answered, fcntl.F_SETPIPE_SZ, child.CHUNK)
+        except BaseException:
+            # A traceback may keep this object.
+            self.close()
+            raise
 
     def leave_parent(self) -> None:
         """Closes this process's copies of the streams to the run of its parent, in a forked process. The run continues."""
@@ -114,9 +115,8 @@ class NearRun:
 
     def fault(self) -> ProgramFault | None:
         """The reason why a run closed its output; None if it ended well."""
-        try:
-            status = self.process.wait(child.PATIENCE)
-        except subprocess.TimeoutExpired:
+        status = child.status_within(self.process, child.PATIENCE)
+        if status is None:
             return ProgramFault("chtab closed its output and goes on", 0)
         self.told.seek(0)
         return child.fault_of(self.told.read(), status) if status else None
@@ -192,34 +192,39 @@ class NearRuns:
         """Lends a run for a question, which has ended after the `with`."""
         with contextlib.ExitStack() as lists:
             paths = [lists.enter_context(listed(nodes)) for nodes in (question.sources, question.targets) if nodes is not None]
-            with self.lock:
-                if self.is_closed:
-                    raise ChtabError(CLOSED)
-                self.stamps.see_that_same()
-                run = NearRun(self.setting.near_command(question.options(), paths))
-                self.under_way.add(run)
+            run = None
+            # Ctrl-C may come as soon as the run is noted.
             try:
+                with self.lock:
+                    if self.is_closed:
+                        raise ChtabError(CLOSED)
+                    self.stamps.see_that_same()
+                    run = NearRun(self.setting.near_command(question.options(), paths))
+                    self.under_way.add(run)
                 yield run
             finally:
-                run.close()
-                with self.lock:
-                    self.under_way.discard(run)
+                if run is not None:
+                    self.end(run)
 
     @contextlib.contextmanager
     def apart(self) -> Iterator[NearRuns]:
         """Lends runs to a single call, which can be ended separately. They have ended after the `with`."""
         runs = NearRuns(self.setting, self.nodes)
         runs.stamps = self.stamps
-        with self.lock:
-            if self.is_closed:
-                raise ChtabError(CLOSED)
-            self.under_way.add(runs)
         try:
+            with self.lock:
+                if self.is_closed:
+                    raise ChtabError(CLOSED)
+                self.under_way.add(runs)
             yield runs
         finally:
-            runs.kill()
-            with self.lock:
-                self.under_way.discard(runs)
+            self.end(runs)
+
+    def end(self, runs: NearRun | NearRuns) -> None:
+        """Ends what was under way."""
+        runs.close()
+        with self.lock:
+            self.under_way.discard(runs)
 
     def kill(self) -> None:
         """Ends the runs that are under way, so that their calls fail, and starts no more."""
@@ -228,3 +233,7 @@ class NearRuns:
             under_way = list(self.under_way)
         for runs in under_way:
             runs.kill()
+
+    def close(self) -> None:
+        """The same."""
+        self.kill()
