@@ -232,9 +232,9 @@ LONG = [
     ("empty lines", b"", b"\n", 10_000_000, b"", Answer(1, b"", b"chtab: graph line %d: no problem line\n")),
 ]
 
-# A long file is read in so many seconds at most, and a run holds at most twice its bytes and so many more.
-MOST_SECONDS = 10
-MORE_BYTES = 64 * 2**20
+# A run holds at most twice the bytes of a long file and so many more. How often the CPU time of a run is measured, because other work of the machine
+# may lengthen it.
+MORE_BYTES, TRIALS = 64 * 2**20, 5
 
 
 def write_long(path, front, part, times, back):
@@ -258,17 +258,23 @@ def measured(folder, words):
 
 def read_long(tally, folder, what, front, part, times, back, wanted):
     """Runs the program on a long file of half the size and of the whole."""
+    def run_on(count):
+        write_long(folder / "long.gr", front, part, count, back)
+        return measured(folder, ["dist", "long.gr", "one.p2p"])
+
     taken = []
     for count in times // 2, times:
-        write_long(folder / "long.gr", front, part, count, back)
-        answer, seconds, held = measured(folder, ["dist", "long.gr", "one.p2p"])
+        answer, seconds, held = run_on(count)
         size = (folder / "long.gr").stat().st_size
         told = wanted.err.replace(b"%d", b"%d" % (count + 1))
         tally.expect(answer == wanted._replace(err=told), f"{what}, {count} times: {answer}")
         tally.expect(held <= 2 * size + MORE_BYTES, f"{what}: {held} bytes held for {size}")
         taken.append(seconds)
         print(f"{what}, {size / 1e6:.0f} MB: {seconds:.2f} seconds, {held / 1e6:.0f} MB held")
-    tally.expect(taken[1] <= min(MOST_SECONDS, 3 * taken[0] + 1), f"{what}: {taken[0]} and then {taken[1]} seconds")
+    for _ in range(TRIALS):
+        if taken[1] > 3 * taken[0] + 1:
+            taken = [min(seconds, run_on(count)[1]) for seconds, count in zip(taken, (times // 2, times))]
+    tally.expect(taken[1] <= 3 * taken[0] + 1, f"{what}: {taken[0]} and then {taken[1]} seconds")
 
 
 def read_long_orders(tally, folder):

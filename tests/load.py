@@ -21,15 +21,17 @@ import signal
 import socket
 import subprocess
 import sys
+import threading
 import time
 import urllib.parse
 
 from helpers import running, serving
 from helpers.in_process import make
-from helpers.moods import STANDIN, mood
+from helpers.moods import STANDIN, holding, mood
 from helpers.packages import PYTHON, run_checks
 from helpers.running import PROGRAM, ROOT
-from helpers.serving import COUNTRY, SERVICE, ask, by_both, faulty_service, send, service
+from helpers.serving import COUNTRY, SERVICE, ask, by_both, faulty_service, send, service, waiting_at
+from helpers.waiting import PATIENCE, until
 from helpers.ways import saved_for
 
 sys.path.insert(0, str(ROOT / "python"))
@@ -40,7 +42,8 @@ from chtab import files  # noqa: E402
 VADUZ, ESCHEN = [9.5209, 47.1410], [9.5450, 47.2200]
 ROUTE = "/route/v1/car/9.5209,47.1410;9.5450,47.2200"
 SECONDS = 10.0
-CLIENTS = 50
+# How many clients ask, and how many answers they have to have at least: with these the memory of the service is as large as it gets.
+CLIENTS, MANY = 50, 2_000
 
 
 class Country:
@@ -64,14 +67,20 @@ def processes_below(number):
     return [each for child in map(int, children) for each in (child, *processes_below(child))]
 
 
+def living_below(number):
+    return [each for each in processes_below(number) if name_of(each)]
+
+
 def runs_below(number):
     """The runs of the program below a process."""
     return [each for each in processes_below(number) if name_of(each) == "chtab"]
 
 
 def name_of(number):
+    """The name of a process that lives; None where it has ended, also if nobody has asked how."""
     with contextlib.suppress(OSError):
-        return pathlib.Path(f"/proc/{number}/comm").read_text().strip()
+        name, _, rest = pathlib.Path(f"/proc/{number}/stat").read_text().partition("(")[2].rpartition(")")
+        return None if rest.split()[0] in "ZX" else name
 
 
 def memory_of(numbers):
@@ -93,7 +102,7 @@ class Client:
 
     def ask(self, path, body=None, headers=None):
         if self.connection is None:
-            self.connection = http.client.HTTPConnection(self.address.hostname, self.address.port, timeout=60, source_address=self.source)
+            self.connection = http.client.HTTPConnection(self.address.hostname, self.address.port, timeout=PATIENCE, source_address=self.source)
         data = None if body is None else json.dumps(body).encode()
         self.connection.request("GET" if body is None else "POST", path, data, headers or {})
         answer = self.connection.getresponse()
@@ -129,16 +138,24 @@ def one_question(client, country, draw):
     return None if found == due else (kind, k, l, m, status, found or value, due)
 
 
-def work(address, country, seed, until):
-    """How many answers a client got, and those that were wrong."""
-    draw, client, count, wrong = random.Random(seed), Client(address), 0, []
-    while time.monotonic() < until:
-        fault = one_question(client, country, draw)
-        count += 1
-        if fault:
-            wrong.append(fault)
-    client.close()
-    return count, wrong
+class Clients:
+    """Clients that ask at once, until some seconds have gone by and there are as many answers as they have to have at least."""
+
+    def __init__(self, address, country, seconds, least):
+        self.address, self.country, self.latest, self.least = address, country, time.monotonic() + seconds, least
+        self.count, self.wrong, self.lock = 0, [], threading.Lock()
+
+    def is_over(self):
+        return time.monotonic() > self.latest and self.count > self.least
+
+    def work(self, seed):
+        draw, client = random.Random(seed), Client(self.address)
+        while not self.is_over():
+            fault = one_question(client, self.country, draw)
+            with self.lock:
+                self.count += 1
+                self.wrong += [fault] if fault else []
+        client.close()
 
 
 @contextlib.contextmanager
@@ -160,19 +177,18 @@ def fifty_clients_while_runs_are_killed(*words):
     """No answer is wrong, none is lost, also while the runs that there are are killed twice, and memory is steady from half of the time on."""
     country = Country(20, "load")
     with service(COUNTRY, *words) as (child, address), idle_clients(address), concurrent.futures.ThreadPoolExecutor(CLIENTS) as clients:
-        until = time.monotonic() + SECONDS
-        working = [clients.submit(work, address, country, seed, until) for seed in range(CLIENTS)]
-        for _ in range(2):
-            time.sleep(SECONDS / 4)
-            runs = runs_below(child.pid)
-            assert bool(runs) != serving.IS_BY_LIBRARY
+        asking = Clients(address, country, SECONDS, MANY)
+        working = [clients.submit(asking.work, seed) for seed in range(CLIENTS)]
+        for part in 1, 2:
+            until(lambda: time.monotonic() > asking.latest - SECONDS + part * SECONDS / 4 and asking.count > part * MANY / 4)
+            runs = [] if serving.IS_BY_LIBRARY else until(lambda: runs_below(child.pid))
+            assert not serving.IS_BY_LIBRARY or not runs_below(child.pid)
             for number in runs:
                 os.kill(number, signal.SIGKILL)
         held = memory_of(own := [child.pid, *processes_below(child.pid)])
-        found = [each.result() for each in working]
-        wrong = [fault for _, faults in found for fault in faults]
-        count = sum(count for count, _ in found)
-        assert not wrong and count > 5 * CLIENTS, (count, len(wrong), wrong[:3])
+        for each in working:
+            each.result()
+        assert not asking.wrong and asking.count > MANY, (asking.count, len(asking.wrong), asking.wrong[:3])
         assert memory_of([child.pid, *processes_below(child.pid)]) < 1.1 * held + 16e6 * (1 + len(own) / 2), held
 
 
@@ -181,42 +197,54 @@ def also_by_several_processes():
 
 
 def an_address_takes_its_share():
-    """One address with many requests that take long keeps no other waiting; with a proxy it is the client that the proxy names."""
-    with faulty_service("slow=0.4", "--waiting", "12", "--proxy", "127.0.0.3") as (_, address):
+    """One address with many requests keeps no other waiting: those of others that come later are answered among its first. With a proxy it is the
+    client that the proxy names."""
+    others = "127.0.0.2", "127.0.0.4", "10.1.0.1", "10.1.1.1"
+    with faulty_service("", "--waiting", "12", "--proxy", "127.0.0.3", "--log", "access.log") as (_, address):
         def greedy(place):
             return Client(address, "127.0.0.1").ask(f"/table/v1/car/{9.52 + place / 1000:.3f},47.1410;9.5450,47.2200")[0]
 
-        def proxied(place):
-            headers = {"X-Forwarded-For": f"10.0.0.9, 10.1.{place % 2}.1"}
-            return Client(address, "127.0.0.3").ask(ROUTE, headers=headers)[0]
+        def other(client):
+            source, headers = (client, {}) if client.startswith("127.") else ("127.0.0.3", {"X-Forwarded-For": f"10.0.0.9, {client}"})
+            return Client(address, source).ask(ROUTE, headers=headers)[0]
 
         with concurrent.futures.ThreadPoolExecutor(40) as clients:
-            asking = [clients.submit(greedy, place) for place in range(30)]
-            time.sleep(1)
-            for source in "127.0.0.2", "127.0.0.4":
-                begun = time.monotonic()
-                status, value = Client(address, source).ask(ROUTE)
-                assert status == 200 and time.monotonic() - begun < 4, (status, value, time.monotonic() - begun)
-            others = [clients.submit(proxied, place).result() for place in range(2)]
+            waiting = []
+            with holding():
+                asking = [clients.submit(greedy, place) for place in range(30)]
+                # As many wait as may, and each request of another takes the place of one of them.
+                until(lambda: sum(each.done() for each in asking) == 18)
+                for count, client in enumerate(others, 1):
+                    waiting.append(clients.submit(other, client))
+                    until(lambda: sum(each.done() for each in asking) == 18 + count)
             found = [each.result() for each in asking]
-            assert others == [200, 200] and set(found) == {200, 503} and found.count(200) >= 8, (others, found)
+            assert [each.result() for each in waiting] == [200] * 4 and sorted(found) == [200] * 8 + [503] * 22, found
+    answered = re.findall(r'^\S+ (\S+) "[^"]*" 200 ', open("access.log").read(), re.MULTILINE)
+    assert sorted(answered) == sorted([*others, *["127.0.0.1"] * 8]) and set(others) <= set(answered[:7]), answered
 
 
 def it_ends_once_it_has_answered():
     """SIGTERM lets requests underway come to their answers, takes no more, and ends with status 0; so do several processes."""
     for words in (), ("--processes", "2"):
-        with mood("slow=1.0"), service(COUNTRY, *words, program=STANDIN) as (child, address), concurrent.futures.ThreadPoolExecutor(8) as clients:
+        with mood(), service(COUNTRY, *words, "--ending", 2 * PATIENCE, program=STANDIN) as (child, address), concurrent.futures.ThreadPoolExecutor(8) as clients:
+            # A client that does nothing holds nobody up.
             with socket.create_connection((address.hostname, address.port)):
-                waiting = [clients.submit(ask, address, f"{ROUTE}?overview=false") for _ in range(4)]
-                time.sleep(0.7)
-                child.send_signal(signal.SIGTERM)
-                begun = time.monotonic()
+                with holding():
+                    waiting = [clients.submit(ask, address, f"{ROUTE}?overview=false") for _ in range(4)]
+                    until(lambda: waiting_at(address) == 4)
+                    child.send_signal(signal.SIGTERM)
+                    until(lambda: not answers(address))
                 assert [each.result()[0] for each in waiting] == [200] * 4
-                assert child.wait(20) == 0 and time.monotonic() - begun < 15, words
+                assert child.wait(PATIENCE) == 0, words
             assert open("told").read() == "", open("told").read()
-            with contextlib.suppress(ConnectionError):
-                ask(address, "/health")
-                raise AssertionError("it still answers")
+            assert not answers(address), "it still answers"
+
+
+def answers(address):
+    """Whether a service answers at an address."""
+    with contextlib.suppress(ConnectionError, http.client.RemoteDisconnected):
+        return ask(address, "/health")[0] in (200, 503)
+    return False
 
 
 def processes_are_begun_anew():
@@ -224,21 +252,17 @@ def processes_are_begun_anew():
     with service(COUNTRY, "--processes", "2") as (child, address):
         first, second = (number for number in processes_below(child.pid) if name_of(number) != "chtab")
         os.kill(first, signal.SIGKILL)
-        until, count = time.monotonic() + 30, 2 if serving.IS_BY_LIBRARY else 4
-        while (first in (below := processes_below(child.pid)) or len(below) < count) and time.monotonic() < until:
-            time.sleep(0.1)
+        count = 2 if serving.IS_BY_LIBRARY else 4
+        until(lambda: first not in (below := living_below(child.pid)) and len(below) == count)
         assert all(ask(address, f"{ROUTE}?overview=false")[0] == 200 for _ in range(10))
         assert "is restarted" in open("told").read()
-        below = processes_below(child.pid)
+        below = living_below(child.pid)
         assert second in below and len(below) == count, below
         child.kill()
-        until = time.monotonic() + 20
-        while any(name_of(number) for number in below) and time.monotonic() < until:
-            time.sleep(0.1)
-        assert not any(name_of(number) for number in below)
+        until(lambda: not any(name_of(number) for number in below))
     pathlib.Path("none.ch").write_text("what?\n")
     words = [PYTHON, ROOT / "tools" / "page.py", "--port", 0, "--processes", 2, "--program", PROGRAM, "--saved", "none.ch", COUNTRY]
-    done = subprocess.run(list(map(str, words)), capture_output=True, text=True, timeout=60)
+    done = subprocess.run(list(map(str, words)), capture_output=True, text=True, timeout=PATIENCE)
     assert done.returncode == 1 and "saved" in done.stderr and "Traceback" not in done.stderr and not done.stdout, done
 
 
@@ -269,7 +293,7 @@ def the_library_answers_for_networks_with_names():
     for suffix in "gr", "co":
         shutil.copy(f"{COUNTRY}.{suffix}", f"roads.{suffix}")
     line = [PYTHON, ROOT / "tools" / "page.py", "--port", 0, "--program", "beside/chtab", "--library", "--network", "car=roads"]
-    done = subprocess.run(list(map(str, line)), capture_output=True, text=True, timeout=60)
+    done = subprocess.run(list(map(str, line)), capture_output=True, text=True, timeout=PATIENCE)
     assert done.returncode == 1 and "roads.ch is missing" in done.stderr and done.stderr.count("\n") == 1, done
     for runs in 1, 0:
         with service(None, "--network", "car=roads", program="beside/chtab") as (child, address):
@@ -287,9 +311,7 @@ def what_takes_too_long_is_broken_off():
     with service(COUNTRY, *words, "--timeout", "0.001") as (_, address):
         status, value = ask(address, f"/route/v1/car/{many}?overview=false")
         assert (status, value.get("message")) == (504, "the answer took too long"), (status, str(value)[:200])
-        until = time.monotonic() + 30
-        while ask(address, f"{ROUTE}?overview=false")[0] != 200:
-            assert time.monotonic() < until
+        until(lambda: ask(address, f"{ROUTE}?overview=false")[0] == 200)
     with service(COUNTRY, *words) as (_, address):
         status, value = ask(address, f"/route/v1/car/{many}?overview=false")
         assert status == 200 and len(value["routes"][0]["legs"]) == 3_999
@@ -331,6 +353,11 @@ def free_ports(count):
         return [stack.enter_context(socket.create_server(("127.0.0.1", 0))).getsockname()[1] for _ in range(count)]
 
 
+def listens(port):
+    with socket.socket() as client:
+        return client.connect_ex(("127.0.0.1", port)) == 0
+
+
 def what_nginx_does_itself(through, path, wanted, plain):
     """Compression, HTTP/2, version 6 of IP, the way from port 80 to TLS, and what it refuses itself, in JSON."""
     assert through(f"{path}?overview=full", "-6", host="[::1]") == (200, wanted)
@@ -361,6 +388,9 @@ def nginx_stands_before_it():
     port, plain = free_ports(2)
     with service(COUNTRY, "--proxy", "127.0.0.1", "--log", "access.log") as (child, address):
         here = os.getcwd()
+        # However slowly the many requests come below, most of them are too many.
+        assert "rate=100r/s" in text
+        text = text.replace("rate=100r/s", "rate=1r/s")
         for old, new in ("127.0.0.1:8080", f"127.0.0.1:{address.port}"), ("listen 443 ssl http2", f"listen 127.0.0.1:{port} ssl http2"), \
                 ("listen [::]:443 ssl http2", f"listen [::1]:{port} ssl http2"), ("listen 80;", f"listen 127.0.0.1:{plain};"), ("listen [::]:80;", ""), \
                 ("/etc/ssl/CERTIFICATE.pem", f"{here}/cert.pem"), ("/etc/ssl/KEY.pem", f"{here}/key.pem"):
@@ -374,9 +404,8 @@ def nginx_stands_before_it():
         assert subprocess.run(["/usr/sbin/nginx", "-t", "-q", "-c", f"{here}/nginx.conf"]).returncode == 0
         server = subprocess.Popen(["/usr/sbin/nginx", "-c", f"{here}/nginx.conf"])
         try:
-            until = time.monotonic() + 20
-            while socket.socket().connect_ex(("127.0.0.1", port)) and time.monotonic() < until:
-                time.sleep(0.1)
+            until(lambda: server.poll() is not None or listens(port))
+            assert server.poll() is None, open("error.log").read()
 
             def through(path, *words, host="127.0.0.1"):
                 line = ["curl", "-sk", "--path-as-is", "-w", "\n%{http_code}", "--resolve", f"routes.example.org:{port}:{host}", *words]
@@ -393,12 +422,12 @@ def nginx_stands_before_it():
             assert through("/metrics")[0] == 403 and through("/health")[0] == 200 and through("/")[0] == 200
             what_nginx_does_itself(through, encoded, wanted, plain)
             child.terminate()
-            child.wait(40)
+            child.wait(PATIENCE)
             status, body = through("/health")
             assert status == 503 and "does not answer" in json.loads(body)["message"], (status, body)
         finally:
             server.terminate()
-            server.wait(20)
+            server.wait(PATIENCE)
         assert "10.9.9.9" not in open("access.log").read() and encoded in open("access.log").read()
 
 
@@ -432,7 +461,7 @@ def check_command(words):
         assert f'"GET {ROUTE}" 200' in child.stdout.readline()
     finally:
         child.terminate()
-        assert child.wait(45) == 0
+        assert child.wait(PATIENCE) == 0
 
 
 GROUPS = (

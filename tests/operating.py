@@ -23,10 +23,11 @@ import time
 import urllib.parse
 
 from helpers import running
-from helpers.moods import STANDIN, mood
+from helpers.moods import STANDIN, holding, mood
 from helpers.packages import PYTHON, run_checks
 from helpers.running import PROGRAM, ROOT
 from helpers.serving import COUNTRY, SERVICE, ask, by_both, send, words_of_library
+from helpers.waiting import PATIENCE, until
 
 ROUTE = "/route/v1/car/9.5209,47.1410;9.5450,47.2200?overview=false"
 # The status of a service that can't begin what answers.
@@ -50,24 +51,21 @@ def running_service(*words, out=COUNTRY, program=PROGRAM, limit=None, told="told
     finally:
         if child.poll() is None:
             child.terminate()
-            child.wait(40)
+            child.wait(PATIENCE)
         child.stdout.close()
 
 
-def until(holds, seconds=30):
-    """Waits until something holds."""
-    end = time.monotonic() + seconds
-    while not holds():
-        assert time.monotonic() < end, open("told").read()
-        time.sleep(0.05)
+def told():
+    return open("told").read()
 
 
 def runs_below(number):
     """The runs of the program below a process."""
     found = []
     for child in children_of(number):
-        name = pathlib.Path(f"/proc/{child}/cmdline").read_bytes().split(b"\0")
-        found += [child] if b"ask" in name else runs_below(child)
+        with contextlib.suppress(OSError):
+            name = pathlib.Path(f"/proc/{child}/cmdline").read_bytes().split(b"\0")
+            found += [child] if b"ask" in name else runs_below(child)
     return found
 
 
@@ -102,9 +100,10 @@ def files_that_are_replaced():
             victims = children_of(child.pid) if words else runs_below(child.pid)
             for victim in victims:
                 os.kill(victim, signal.SIGKILL)
-            time.sleep(0.3)
-            until(lambda: answers_well(address) and (not words or len(set(children_of(child.pid)) - set(victims)) == 2))
-            assert all(ask(address, ROUTE) == before for _ in range(10)) and ask(address, "/health")[1]["status"] == "ready"
+            until(lambda: not {*victims} & {*(children_of(child.pid) if words else runs_below(child.pid))}, told)
+            until(lambda: answers_well(address) and (not words or len(children_of(child.pid)) == 2), told)
+            assert all(ask(address, ROUTE) == before for _ in range(10))
+            until(lambda: ask(address, "/health")[1]["status"] == "ready", told)
         assert child.returncode == 0, (child.returncode, open("told").read())
         copied("net")
 
@@ -128,43 +127,49 @@ def files_that_are_changed():
             assert victims
             for victim in victims:
                 os.kill(victim, signal.SIGKILL)
-            seen, begun = set(), time.monotonic()
-            while child.poll() is None and time.monotonic() < begun + 60:
+            seen = set()
+
+            def has_ended():
                 with contextlib.suppress(OSError, http.client.HTTPException, ValueError):
                     status, value = ask(address, "/health")
                     seen.add((status, value["status"]))
-                time.sleep(0.02)
-            assert child.poll() == GIVEN_UP, (child.poll(), open("told").read())
+                return child.poll() is not None
+
+            until(has_ended, told)
+            assert child.poll() == GIVEN_UP, (child.poll(), told())
             assert words or (503, "failing") in seen, seen
-        told = open("told").read()
-        assert "net.gr has changed since it was opened" in told and "Traceback" not in told and told.count("\n") < 30, told
+        lines = told()
+        assert "net.gr has changed since it was opened" in lines and "Traceback" not in lines and lines.count("\n") < 30, lines
 
 
 def health_is_no_better_than_answers():
-    """Where each run dies at its first question nothing is answered, and health says so."""
+    """Where each run dies at its first question nothing is answered, and health says so until one that was begun anew has passed its trial."""
     with mood("dies=1"), running_service(program=STANDIN) as (child, address):
-        assert ask(address, ROUTE)[0] == 503
-        assert ask(address, "/health") == (503, {"status": "failing", "waiting": 0})
+        def is_failing():
+            assert ask(address, ROUTE)[0] == 503
+            return ask(address, "/health") == (503, {"status": "failing", "waiting": 0})
+
+        until(is_failing, told)
 
 
 def too_many_connections():
-    """Idle connections, more than there may be files, stop nobody: those that have been idle longest make way, and it is told once."""
+    """Idle connections, more than there may be files, stop nobody: those that have been idle longest make way, and it is told once a minute."""
     for limit, words in ((128, 128), ()), (None, ("--max-connections", 40)), (None, ("--max-connections-of-address", 30)):
-        with running_service(*words, limit=limit, told="told") as (child, address), contextlib.ExitStack() as stack:
+        begun = time.monotonic()
+        # None is closed because it is idle for long.
+        with running_service(*words, "--idle", 10 * PATIENCE, limit=limit) as (child, address), contextlib.ExitStack() as stack:
             for place in range(300):
-                client = stack.enter_context(socket.create_connection((address.hostname, address.port), timeout=5))
+                client = stack.enter_context(socket.create_connection((address.hostname, address.port), timeout=PATIENCE))
                 if place % 3 == 0:
                     with contextlib.suppress(OSError):
                         client.sendall(b"GET / HT")
                 if place % 60 == 0:
-                    assert ask(address, "/health", seconds=10)[0] == 200 and ask(address, ROUTE, seconds=10)[0] == 200, place
-            for _ in range(5):
-                begun = time.monotonic()
-                assert ask(address, ROUTE)[0] == 200 and time.monotonic() - begun < 3
+                    assert ask(address, "/health")[0] == 200 and ask(address, ROUTE)[0] == 200, place
+            assert all(ask(address, ROUTE)[0] == 200 for _ in range(5))
             text = send(address, "/metrics")[2].decode()
             assert int(re.search(r'refusals_total\{reason="connections"\} (\d+)', text)[1]) > 100, text
-        told = open("told").read()
-        assert "Traceback" not in told and told.count("\n") == 1 and "more than there may be" in told, told
+        lines = told().splitlines()
+        assert 1 <= len(lines) <= 1 + (time.monotonic() - begun) / 60 and all("more than there may be" in line for line in lines), lines
     with running_service(limit=(64, 4_096)) as (child, _):
         limits = pathlib.Path(f"/proc/{child.pid}/limits").read_text()
         assert re.search(r"Max open files +4096 +4096", limits), limits
@@ -173,38 +178,48 @@ def too_many_connections():
 def the_longest_idle_makes_way():
     """Of idle connections the one that did nothing for longest is closed, also where an older one asked meanwhile."""
     with running_service("--max-connections-of-address", 5) as (_, address), contextlib.ExitStack() as stack:
-        clients = [stack.enter_context(socket.create_connection((address.hostname, address.port), timeout=5)) for _ in range(5)]
-        time.sleep(0.2)
-        clients[0].sendall(b"GET /health HTTP/1.1\r\nHost: x\r\n\r\n")
-        assert clients[0].recv(1 << 16).startswith(b"HTTP/1.1 200")
+        clients = []
+
+        def connect():
+            client = http.client.HTTPConnection(address.hostname, address.port, timeout=PATIENCE)
+            clients.append(stack.enter_context(contextlib.closing(client)))
+            assert answers_on(client), len(clients)
+
+        for _ in range(5):
+            connect()
+        assert answers_on(clients[0])
         for _ in range(3):
-            clients.append(stack.enter_context(socket.create_connection((address.hostname, address.port), timeout=5)))
-            time.sleep(0.1)
-        assert [is_open(client) for client in clients] == [True] + [False] * 3 + [True] * 4
+            connect()
+        assert [answers_on(client) for client in clients] == [True] + [False] * 3 + [True] * 4
 
 
-def is_open(client):
-    """Whether the service has left a connection open on which it sends nothing."""
-    client.settimeout(0.2)
-    try:
-        return client.recv(1) != b""
-    except TimeoutError:
-        return True
-    except ConnectionError:
-        return False
+def answers_on(client):
+    """Whether the service answers on a connection, which it may have closed."""
+    with contextlib.suppress(ConnectionError):
+        client.request("GET", "/health")
+        return json.loads(client.getresponse().read())["status"] == "ready"
+    return False
 
 
 def a_busy_connection_is_kept():
     """A connection whose request is underway makes way for none; one too many is closed then."""
-    with mood("slow=1.5"), running_service("--max-connections-of-address", 3, program=STANDIN) as (_, address):
+    with mood(), running_service("--max-connections-of-address", 3, "--idle", 10 * PATIENCE, program=STANDIN) as (_, address):
         with concurrent.futures.ThreadPoolExecutor(3) as clients:
-            waiting = [clients.submit(ask, address, ROUTE) for _ in range(3)]
-            time.sleep(0.7)
-            with socket.create_connection((address.hostname, address.port), timeout=5) as client:
-                client.settimeout(1)
-                with contextlib.suppress(ConnectionError):
-                    assert client.recv(1) == b"", "it is closed"
+            with holding():
+                waiting = [clients.submit(ask, address, ROUTE) for _ in range(3)]
+                until(lambda: waiting_seen_from_elsewhere(address) == 3)
+                with socket.create_connection((address.hostname, address.port), timeout=PATIENCE) as client:
+                    with contextlib.suppress(ConnectionError):
+                        assert client.recv(1) == b"", "it is closed"
             assert [each.result()[0] for each in waiting] == [200] * 3
+
+
+def waiting_seen_from_elsewhere(address):
+    """How many requests wait, asked by a client whose connection is none of the others' address."""
+    connection = http.client.HTTPConnection(address.hostname, address.port, timeout=PATIENCE, source_address=("127.0.0.2", 0))
+    with contextlib.closing(connection):
+        connection.request("GET", "/health")
+        return json.loads(connection.getresponse().read())["waiting"]
 
 
 def addresses_that_proxies_name():
@@ -229,7 +244,7 @@ def addresses_that_proxies_name():
 
 def raw(address, text):
     """What the service sends back for these bytes, until it closes the connection."""
-    with socket.create_connection((address.hostname, address.port), timeout=20) as client:
+    with socket.create_connection((address.hostname, address.port), timeout=PATIENCE) as client:
         client.sendall(text if isinstance(text, bytes) else text.encode("latin-1"))
         found = b""
         with contextlib.suppress(ConnectionError):
@@ -269,7 +284,7 @@ def ended_service(port, *options):
     """What a service says that is begun on a port and has to end by itself."""
     command = [PYTHON, ROOT / "tools" / "page.py", "--port", port, "--program", PROGRAM, *options, COUNTRY]
     try:
-        return subprocess.run(list(map(str, command)), capture_output=True, text=True, timeout=60)
+        return subprocess.run(list(map(str, command)), capture_output=True, text=True, timeout=PATIENCE)
     except subprocess.TimeoutExpired:
         raise AssertionError(f"a service with {options} goes on on port {port}") from None
 
@@ -301,7 +316,7 @@ class Load:
         connection = None
         while not self.is_over:
             if connection is None:
-                connection = http.client.HTTPConnection(self.address.hostname, self.address.port, timeout=30)
+                connection = http.client.HTTPConnection(self.address.hostname, self.address.port, timeout=PATIENCE)
             try:
                 connection.request("GET", ROUTE, headers={} if is_kept else {"Connection": "close"})
                 answer = connection.getresponse()
@@ -315,6 +330,11 @@ class Load:
                 connection.close()
                 connection = None
 
+    def wait_for_more(self, count):
+        """Waits until so many requests more have been made."""
+        before = self.found.total()
+        until(lambda: self.found.total() > before + count)
+
     def end(self):
         self.is_over = True
         for thread in self.threads:
@@ -324,21 +344,20 @@ class Load:
 
 def a_new_network_without_a_lost_request():
     """Services take the port over from each other, while clients ask more than 5,000 times: none of the requests is lost, and none goes unanswered."""
+    # Clients that keep their connection have as long as they take for one more request.
     with contextlib.ExitStack() as stack:
-        child, address = stack.enter_context(running_service(told="told0"))
+        child, address = stack.enter_context(running_service("--grace", 2 * PATIENCE, told="told0"))
         load = Load(address, 8)
         try:
             for place, words in enumerate(((), ("--processes", 2), (), ("--processes", 2), ()), 1):
-                time.sleep(1)
-                then, same = stack.enter_context(running_service("--takeover", *words, told=f"told{place}", port=address.port))
+                load.wait_for_more(500)
+                then, same = stack.enter_context(running_service("--grace", 2 * PATIENCE, "--takeover", *words, told=f"told{place}", port=address.port))
                 assert same == address, open(f"told{place}").read()
-                time.sleep(0.5)
+                load.wait_for_more(300)
                 child.terminate()
-                assert child.wait(40) == 0
+                assert child.wait(PATIENCE) == 0
                 child = then
-            end = time.monotonic() + 120
-            while load.found.total() <= 5_000 and time.monotonic() < end:
-                time.sleep(0.2)
+            load.wait_for_more(1_500)
         finally:
             found = load.end()
         assert set(found) == {200} and found[200] > 5_000, found
@@ -347,32 +366,39 @@ def a_new_network_without_a_lost_request():
 
 def it_says_that_connections_close():
     """While it ends after another service took its port over, each answer says that the connection closes, and idle clients have a while for one."""
+    patient = "--grace", 2 * PATIENCE, "--ending", 2 * PATIENCE, "--idle", 2 * PATIENCE
     with contextlib.ExitStack() as stack:
-        child, address = stack.enter_context(running_service(told="first"))
-        connection = http.client.HTTPConnection(address.hostname, address.port, timeout=30)
+        heard = stack.enter_context(listening("notify"))
+        child, address = stack.enter_context(running_service(*patient, told="first", environment={"NOTIFY_SOCKET": os.path.abspath("notify")}))
+        connection = http.client.HTTPConnection(address.hostname, address.port, timeout=PATIENCE)
         connection.request("GET", ROUTE)
         first = connection.getresponse()
-        assert first.read() and not first.will_close
+        assert first.read() and not first.will_close and heard.recv(100) == b"READY=1"
         stack.enter_context(running_service("--takeover", told="second", port=address.port))
         child.terminate()
-        time.sleep(1)
+        assert heard.recv(100) == b"STOPPING=1"
         connection.request("GET", ROUTE)
         then = connection.getresponse()
         assert then.status == 200 and then.read() and then.will_close
-        begun = time.monotonic()
-        assert child.wait(20) == 0 and time.monotonic() - begun < 3
-    with running_service() as (child, address), socket.create_connection((address.hostname, address.port)):
-        begun = time.monotonic()
+        assert child.wait(PATIENCE) == 0, "it ends once it has no connection"
+    with running_service(*patient) as (child, address), socket.create_connection((address.hostname, address.port)):
         child.terminate()
-        assert child.wait(20) == 0 and time.monotonic() - begun < 5, "idle clients keep a service that nobody takes over from ending no longer"
+        assert child.wait(PATIENCE) == 0, "idle clients keep a service that nobody takes over from ending no longer"
+
+
+@contextlib.contextmanager
+def listening(name):
+    """A socket that hears what a service says to systemd."""
+    with socket.socket(socket.AF_UNIX, socket.SOCK_DGRAM) as heard:
+        heard.bind(name)
+        heard.settimeout(PATIENCE)
+        yield heard
 
 
 def systemd_is_notified():
     """A unit of `Type=notify` is ready once the service answers, and hears that it ends."""
-    for words, name in ((), "notify"), (("--processes", 2), "\0chtab-test-notify"):
-        with socket.socket(socket.AF_UNIX, socket.SOCK_DGRAM) as heard:
-            heard.bind(name)
-            heard.settimeout(60)
+    for words, name in ((), "notify"), (("--processes", 2), f"\0chtab-test-notify-{os.getpid()}"):
+        with listening(name) as heard:
             path = name.replace("\0", "@") if name[0] == "\0" else os.path.abspath(name)
             with running_service(*words, environment={"NOTIFY_SOCKET": path}) as (child, address):
                 assert heard.recv(100) == b"READY=1" and ask(address, ROUTE)[0] == 200
@@ -382,19 +408,19 @@ def systemd_is_notified():
 
 def the_log_says_why():
     """Why a request was refused, what was no request of HTTP, and which connection was closed for doing nothing."""
-    with running_service("--log", "access.log", "--idle", 1) as (_, address):
+    with running_service("--log", "access.log", "--idle", 5) as (_, address):
+        with socket.create_connection((address.hostname, address.port)) as silent:
+            silent.settimeout(PATIENCE)
+            with contextlib.suppress(ConnectionError):
+                assert silent.recv(1) == b""
         ask(address, "/route/v1/car/9.5,47.1;9.6,47.2?steps=perhaps")
         ask(address, "/api/route", {"from": [9.5, 47.1]})
         raw(address, b"\x16\x03\x01\x02\x00\x01\x00what\r\n\r\n")
-        with socket.create_connection((address.hostname, address.port)) as silent:
-            silent.settimeout(10)
-            with contextlib.suppress(ConnectionError):
-                assert silent.recv(1) == b""
         text = send(address, "/metrics")[2].decode()
     lines = open("access.log").read()
     for told in (
         '" 400 .* "InvalidQuery: steps: one of false, true"\n', '" 400 .* "form: to is missing"\n', '127.0.0.1 "-" 400 0 0.0 "http: this is no request of HTTP',
-        '127.0.0.1 "-" 0 0 0.0 "idle: idle for 1 seconds"\n',
+        '127.0.0.1 "-" 0 0 0.0 "idle: idle for 5 seconds"\n',
     ):
         assert re.search(told, lines), (told, lines)
     for reason in "InvalidQuery", "form", "http", "idle":

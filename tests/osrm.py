@@ -25,6 +25,7 @@ from helpers import running
 from helpers.packages import PYTHON, run_checks
 from helpers.running import PROGRAM, ROOT, run
 from helpers.serving import BROWSER, COUNTRY, SERVICE, by_both, send, service, shown_page
+from helpers.waiting import PATIENCE
 
 sys.path.insert(0, str(ROOT / "python"))
 
@@ -368,7 +369,7 @@ def what_is_refused():
 
 
 def raw_answer(address, sent):
-    with socket.create_connection((address.hostname, address.port), timeout=20) as client:
+    with socket.create_connection((address.hostname, address.port), timeout=PATIENCE) as client:
         client.sendall(sent)
         found = b""
         while part := client.recv(1 << 16):
@@ -483,7 +484,7 @@ def clients_get_what_they_ask_for():
         found = connection.getresponse()
         assert found.headers["Access-Control-Allow-Origin"] == "*" and found.status == 200
         connection.close()
-        with socket.create_connection((address.hostname, address.port), timeout=20) as client:
+        with socket.create_connection((address.hostname, address.port), timeout=PATIENCE) as client:
             path = next(path for name, path, _ in CLIENTS if name == "VROOM")
             client.sendall(f"GET {path} HTTP/1.1\r\nHost: x\r\nAccept: */*\r\nConnection: Close\r\n\r\n".encode())
             text = b"".join(iter(lambda: client.recv(1 << 16), b"")).decode()

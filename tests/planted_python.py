@@ -8,6 +8,7 @@ the repository the check passes without the bug, and fails with it because of wh
 text that is no Python, is no such finding.
 The last line is 'N passed, N failed'.
 """
+import os
 import re
 import shutil
 import subprocess
@@ -25,8 +26,8 @@ NEEDED = "python", "tests", "tools", "examples", "packaging", "include", "chtab"
 # What a check raises that compares, or whose service doesn't answer; what Python raises for code that is none; and the status of a check that did not hold.
 FOUND = re.compile(r"^(?:AssertionError|TimeoutError|ConnectionResetError|http\.client\.RemoteDisconnected)", re.MULTILINE)
 BROKEN, FAILED = re.compile(r"\b(?:Attribute|Import|Name|Syntax|UnboundLocal)Error\b"), 1
-# Seconds that a check may take.
-MOST = 300
+# The most seconds that a check may take, and those that it waits for a state where a bug was planted.
+MOST, PATIENCE = 1_200, 20
 # Runs one check of a script, as the script itself does.
 RUN = """
 import importlib, sys
@@ -60,10 +61,12 @@ def copied(folder):
     shutil.copytree(in_process.MADE, folder / in_process.MADE.relative_to(ROOT))
 
 
-def outcome(folder, script, check):
+def outcome(folder, script, check, **environment):
     """The status of a check in the copy, and what it printed."""
     try:
-        done = subprocess.run([PYTHON, "-c", RUN, script, check], cwd=folder, stdout=subprocess.PIPE, stderr=subprocess.STDOUT, text=True, timeout=MOST)
+        done = subprocess.run(
+            [PYTHON, "-c", RUN, script, check], cwd=folder, stdout=subprocess.PIPE, stderr=subprocess.STDOUT, text=True, timeout=MOST, env=os.environ | environment
+        )
         return done.returncode, done.stdout
     except subprocess.TimeoutExpired as fault:
         return None, str(fault)
@@ -95,7 +98,7 @@ def main():
             tally.expect(status == 0, f"without a bug tests/{script}.py {check} has failed: {told}")
         for edit in chosen:
             before = planted(folder, edit)
-            status, told = outcome(folder, *found_by(edit))
+            status, told = outcome(folder, *found_by(edit), PATIENCE=str(PATIENCE))
             tally.expect(status == FAILED and FOUND.search(told) and not BROKEN.search(told), f"{edit.stem} was not found by tests/{'.py '.join(found_by(edit))}: {told}")
             for path, text in before.items():
                 path.write_text(text)

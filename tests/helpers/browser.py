@@ -2,17 +2,16 @@
 import base64
 import os
 import pathlib
-import time
 
 from selenium import webdriver
 from selenium.webdriver import ActionChains, Keys
 from selenium.webdriver.chrome.service import Service
 from selenium.webdriver.common.by import By
 
+from helpers import waiting
+
 MEASURES = (pathlib.Path(__file__).parent / "contrast.js").read_text()
 WORDS = "--headless=new", "--disable-gpu", "--disable-dev-shm-usage", "--no-proxy-server", "--window-size=1280,900"
-# Seconds that the page has for what it is waited for.
-PATIENCE = 30
 # Elements that Tab may come to before the one that is looked for.
 MOST_STOPS = 25
 
@@ -25,6 +24,8 @@ class Browser:
         for word in (*WORDS, *(["--no-sandbox"] if os.getuid() == 0 else [])):
             options.add_argument(word)
         self.driver = webdriver.Chrome(service=Service("/usr/bin/chromedriver"), options=options)
+        self.driver.set_script_timeout(waiting.PATIENCE)
+        self.driver.set_page_load_timeout(waiting.PATIENCE)
         self.resize(width, height, touch)
 
     def __enter__(self):
@@ -77,11 +78,7 @@ class Browser:
 
     def until(self, holds, told=""):
         """Waits until a call gives what is true, and gives it."""
-        end = time.monotonic() + PATIENCE
-        while not (found := holds()):
-            assert time.monotonic() < end, (told, self.state(), self.message())
-            time.sleep(0.03)
-        return found
+        return waiting.until(holds, lambda: (told, self.state(), self.message()))
 
     def wait(self, *states):
         """Waits until the page is in one of these states."""

@@ -5,6 +5,7 @@ import signal
 import subprocess
 
 from helpers.running import ROOT
+from helpers.waiting import PATIENCE
 
 # Stand-ins for a kit, whose rattle proves what a file beside it does not name, and writes down what it was asked for.
 KIT = {
@@ -19,7 +20,7 @@ name=$3 to=${*: -1}
 echo "$name" >>"$kit/asked"
 echo "words of $name"
 ! grep -qx "$name" "$kit/refused" || exit 1
-! grep -qx "$name" "$kit/slow" || sleep 61.25
+! grep -qx "$name" "$kit/slow" || sleep "$(cat "$kit/seconds")"
 ! grep -qx "$name" "$kit/changed" || echo "// more" >>src/lib.rt
 ! grep -qx "$name" "$kit/killed" || kill -9 $$
 case $to in *.o | *.a) touch "$to" ;; *) mkdir "$to" ;; esac
@@ -165,6 +166,9 @@ def check_library_of_first_proofs(tally, checkout):
 
 def check_broken_off(tally, checkout):
     """A call that is ended while a proof is underway says what it waits for, leaves no process, and is taken up by the next."""
+    # No other process on the machine sleeps for just so long.
+    seconds = f"10000.{os.getpid()}"
+    checkout.say("seconds", seconds)
     checkout.say("slow", "low")
     checkout.say("asked")
     checkout.write("low", "// once more\n")
@@ -174,7 +178,7 @@ def check_broken_off(tally, checkout):
     told = [running.stderr.readline() for _ in range(2)]
     tally.expect(told[1].rstrip().endswith("; underway: low"), f"what is told of a long proof: {told}")
     running.terminate()
-    left = subprocess.run(["pgrep", "-f", "^sleep 61.25"], capture_output=True, text=True) if running.wait(20) == 128 + signal.SIGTERM else None
+    left = subprocess.run(["pgrep", "-f", f"^sleep {seconds}$"], capture_output=True, text=True) if running.wait(PATIENCE) == 128 + signal.SIGTERM else None
     tally.expect(left is not None and not left.stdout, f"a call that is ended: {running.returncode} {left}")
     checkout.say("slow")
     tally.expect(checkout.built()[:4] == (0, "run one\n", ["low", "high", "chtab"], ["engine", "ch_c"]), f"after a call that was ended: {checkout.said('asked')}")

@@ -9,8 +9,8 @@ from pathlib import Path
 ROOT = Path(__file__).resolve().parent.parent.parent
 PROGRAM = ROOT / "crates/chtab/out/chtab"
 
-# A run that takes longer than so many seconds is stopped, and has failed.
-SECONDS = 60
+# A run that takes longer than so many seconds is stopped, and has failed: it hangs, whatever else the machine does.
+SECONDS = 600
 
 # What a run wrote to standard output and to standard error, and the status that it ended with.
 Answer = namedtuple("Answer", "status out err")

@@ -4,6 +4,7 @@ import functools
 import http.client
 import json
 import pathlib
+import re
 import signal
 import subprocess
 import urllib.parse
@@ -13,6 +14,7 @@ from helpers.maps import COUNTRY
 from helpers.moods import STANDIN, mood
 from helpers.packages import PYTHON
 from helpers.running import PROGRAM, ROOT
+from helpers.waiting import PATIENCE
 from helpers.ways import saved_for
 
 # Debian's packages that the service needs, and a browser for its page.
@@ -67,7 +69,7 @@ def service(out=COUNTRY, *words, program=PROGRAM):
         yield child, address
     finally:
         child.terminate()
-        status = child.wait(20)
+        status = child.wait(PATIENCE)
     assert status in (0, -signal.SIGKILL), status
 
 
@@ -78,9 +80,9 @@ def faulty_service(words, *more):
         yield found
 
 
-def send(address, path, body=None, method=None, seconds=60):
-    """Status, headers and text of an answer, which comes within some seconds. `body` is sent as it is, or as JSON."""
-    connection = http.client.HTTPConnection(address.hostname, address.port, timeout=seconds)
+def send(address, path, body=None, method=None):
+    """Status, headers and text of an answer. `body` is sent as it is, or as JSON."""
+    connection = http.client.HTTPConnection(address.hostname, address.port, timeout=PATIENCE)
     try:
         data = body if body is None or isinstance(body, bytes) else json.dumps(body).encode()
         connection.request(method or ("GET" if body is None else "POST"), path, data)
@@ -90,10 +92,15 @@ def send(address, path, body=None, method=None, seconds=60):
         connection.close()
 
 
-def ask(address, path, body=None, method=None, seconds=60):
+def ask(address, path, body=None, method=None):
     """Status and value of an answer of JSON."""
-    status, _, text = send(address, path, body, method, seconds)
+    status, _, text = send(address, path, body, method)
     return status, json.loads(text)
+
+
+def waiting_at(address):
+    """How many requests the processes of a service have taken and not answered. Each process notes its own every few seconds."""
+    return int(re.search(r"^chtab_requests_waiting (\d+)$", send(address, "/metrics")[2].decode(), re.MULTILINE)[1])
 
 
 def browser(*size):

@@ -22,11 +22,11 @@ from helpers.marks import each_way, needs
 from helpers.moods import STANDIN, lives_on, mood, noted
 from helpers.packages import PYTHON
 from helpers.running import PROGRAM, ROOT
+from helpers.waiting import PATIENCE
 import chtab
 from chtab import files
 
 pytestmark = [needs("python3-numpy", "python3-scipy"), pytest.mark.usefixtures("program")]
-PATIENCE = 120
 # Graphs that are drawn at random.
 GRAPHS = 40
 # How much the count of lines that run may grow from 5,000 arcs to 200,000.

@@ -27,12 +27,12 @@ from helpers.marks import needs
 from helpers.nearness import dense, small_portions
 from helpers.packages import PYTHON
 from helpers.running import PROGRAM, ROOT
+from helpers.waiting import PATIENCE
 import chtab
 
 pytestmark = [needs("python3-numpy"), pytest.mark.usefixtures("program")]
 FIRST, FIRST_SAVED = ROOT / "examples" / "first.gr", ROOT / "examples" / "first.ch"
 GRAPH = f"{COUNTRY}.gr"
-PATIENCE = 120
 # How many kilobytes memory may grow once things were made and dropped for a while. Networks in a ring of references wait for Python's
 # collector, and took 5,248 then. Thirty networks that are not freed take four times this limit.
 MOST_GROWTH = 8_192

@@ -11,7 +11,6 @@ import pickle
 import signal
 import subprocess
 import threading
-import time
 
 import pytest
 
@@ -24,11 +23,11 @@ from helpers.moods import STANDIN, asked, lives_on, living, mood, nears, noted
 from helpers.nearness import dense_owed, rows_owed, rows_told, small_blocks, sums_owed
 from helpers.packages import PYTHON
 from helpers.running import PROGRAM, ROOT
+from helpers.waiting import PATIENCE, until
 import chtab
 
 pytestmark = [needs("python3-numpy"), pytest.mark.usefixtures("program")]
 FIRST = ROOT / "examples" / "first.gr"
-PATIENCE = 120
 # Graphs that are drawn at random, and questions of each.
 GRAPHS, QUESTIONS = 24, 6
 NETWORK = None
@@ -358,12 +357,10 @@ def test_closing_ends_what_is_under_way():
         threads = [threading.Thread(target=lambda call=call: faults.append(raises(chtab.ChtabError, call, told="the network is closed"))) for call in calls]
         for thread in threads:
             thread.start()
-        until = time.monotonic() + 20
-        while len(living()) < 6 and time.monotonic() < until:
-            time.sleep(0.02)
+        until(lambda: len(living()) == 6, noted)
         network.close()
         for thread in threads:
-            thread.join(20)
+            thread.join(PATIENCE)
         assert len(faults) == 4 and len(nears()) == 6 and lives_on(0), (faults, noted())
 
 
@@ -378,10 +375,9 @@ def test_a_signal_leaves_nothing_behind():
                 words = [PYTHON, "-c", text, ROOT / "python", FIRST, STANDIN, workers]
                 child = subprocess.Popen(list(map(str, words)), stderr=subprocess.PIPE, env=os.environ | {"TMPDIR": os.path.abspath("temporary")})
                 before = len(nears())
-                while len(living()) < int(workers) and child.poll() is None:
-                    time.sleep(0.02)
+                until(lambda: len(living()) >= int(workers) or child.poll() is not None)
                 child.send_signal(number)
-                told = child.communicate(timeout=20)[1]
+                told = child.communicate(timeout=PATIENCE)[1]
                 assert b"KeyboardInterrupt" in told and lives_on(0) and os.listdir("temporary") == [], (before, told, os.listdir("temporary"))
 
 

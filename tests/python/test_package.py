@@ -1,5 +1,6 @@
 """Tests the Python package: files, networks over the built program and over one that fails, blocks, and installing."""
 import concurrent.futures
+import contextlib
 import inspect
 import os
 import pathlib
@@ -11,6 +12,7 @@ import sys
 import threading
 import time
 import tomllib
+import types
 
 import pytest
 
@@ -18,9 +20,10 @@ from helpers.cases import Case
 from helpers.commands import raises
 from helpers.maps import COUNTRY
 from helpers.marks import each_way, needs
-from helpers.moods import STANDIN, asked, lives_on, living, mood, noted
+from helpers.moods import STANDIN, asked, holding, lives_on, living, mood, noted
 from helpers.packages import PYTHON
 from helpers.running import PROGRAM, ROOT
+from helpers.waiting import PATIENCE, until
 from helpers.writing import write_graph
 import chtab
 from chtab import files
@@ -250,22 +253,59 @@ def test_a_program_that_fails_is_told_and_gone():
         ("hangs=2", chtab.TimedOut, "longer than 1 seconds"),
         ("garbles=2", chtab.ProgramFault, "not asked"),
     ):
-        with mood(words), chtab.Network.open(FIRST, program=STANDIN, timeout=1) as network:
+        with mood(words), chtab.Network.open(FIRST, program=STANDIN, timeout=PATIENCE) as network:
             assert network.distances([(1, 3)]).tolist() == [9]
-            raises(kind, network.distances, [(1, 3)], told=told)
+            with little_time(network, 1 if kind is chtab.TimedOut else PATIENCE):
+                raises(kind, network.distances, [(1, 3)], told=told)
             assert lives_on(0), words
             assert network.distances([(3, 1)]).tolist() == [-1]
     with mood("garbles=1"), chtab.Network.open(FIRST, program=STANDIN) as network:
         for call, *words in (network.distances, [(1, 3), (3, 1)]), (network.table, [1, 3], [1]):
             raises(chtab.ProgramFault, call, *words, told="not asked")
-    with mood("slow=0.2"), chtab.Network.open(FIRST, program=STANDIN, timeout=5) as network:
+    with mood("slow=0.2"), chtab.Network.open(FIRST, program=STANDIN, timeout=PATIENCE) as network:
         assert network.distances([(1, 3)] * 3).tolist() == [9] * 3
-    with mood("loads=1.5"), chtab.Network.open(FIRST, program=STANDIN, timeout=1) as network:
-        assert network.distances([(1, 3)]).tolist() == [9]
     with mood(), chtab.Network.open(FIRST, program=STANDIN) as network:
         os.kill(living()[0], signal.SIGKILL)
         raises(chtab.ProgramFault, network.distances, [(1, 3)], told="ended by signal 9")
         assert network.distances([(1, 3)]).tolist() == [9]
+
+
+@contextlib.contextmanager
+def little_time(network, seconds):
+    """Answers of a network have to come within so many seconds."""
+    setting = network._opened.setting
+    before = setting.timeout
+    object.__setattr__(setting, "timeout", seconds)
+    try:
+        yield
+    finally:
+        object.__setattr__(setting, "timeout", before)
+
+
+@needs("python3-numpy")
+def test_the_time_of_loading_does_not_count(monkeypatch):
+    """By a clock that goes on while a run loads, and by the seconds that a test says."""
+    from chtab.engine import child, deadlines
+
+    now, load = [0.0], child.Child.load
+
+    def load_long(run):
+        now[0] += 100
+        load(run)
+
+    monkeypatch.setattr(deadlines, "time", types.SimpleNamespace(monotonic=lambda: now[0]))
+    monkeypatch.setattr(child.Child, "load", load_long)
+    with mood(), chtab.Network.open(FIRST, program=STANDIN, load=False, timeout=1) as network:
+        assert network.distances([(1, 3)]).tolist() == [9] and now == [100.0]
+        assert network.distances([(3, 1)]).tolist() == [-1] and now == [200.0]
+        ask = child.Child.ask
+
+        def ask_late(run, question, deadline=deadlines.Deadline(None)):
+            now[0] += 2
+            return ask(run, question, deadline)
+
+        monkeypatch.setattr(child.Child, "ask", ask_late)
+        raises(chtab.TimedOut, network.distances, [(1, 3)], told="longer than 1 seconds")
 
 
 @needs("python3-numpy")
@@ -284,12 +324,15 @@ def test_one_run_answers_all():
 @needs("python3-numpy")
 def test_more_runs_where_they_are_wanted():
     """A further run is begun where the others are asked by other threads, up to as many as may be; then one of these is waited for."""
-    with mood("slow=0.3"), chtab.Network.open(FIRST, program=STANDIN, runs=3) as network:
+    with mood(), chtab.Network.open(FIRST, program=STANDIN, runs=3) as network:
         assert network.distances([(1, 3)]).tolist() == [9] and network.routes([(1, 3)])[0].nodes == [1, 2, 3]
         assert asked() == [""] and lives_on(2), noted()
         with concurrent.futures.ThreadPoolExecutor(6) as threads:
-            found = list(threads.map(lambda _: network.distances([(1, 3), (3, 1)]).tolist(), range(12)))
-        assert found == [[9, -1]] * 12 and 2 <= len(asked()) <= 3 and lives_on(2 * len(asked())), noted()
+            with holding():
+                asking = [threads.submit(network.distances, [(1, 3), (3, 1)]) for _ in range(12)]
+                until(lambda: len(asked()) == 3, noted)
+            found = [each.result().tolist() for each in asking]
+        assert found == [[9, -1]] * 12 and len(asked()) == 3 and lives_on(6), noted()
     raises(ValueError, lambda: chtab.Network.open(FIRST, program=PROGRAM, runs=0), told="at least one")
 
 
@@ -342,20 +385,20 @@ def test_closing_ends_what_is_under_way():
         for thread in threads:
             thread.start()
             time.sleep(0.1)
+        until(lambda: network._engine.runs[0].is_held)
         assert len(asked()) == 1, noted()
         network.close()
         for thread in threads:
-            thread.join(20)
+            thread.join(PATIENCE)
         assert len(faults) == 6 and len(asked()) == 1 and lives_on(0), (faults, noted())
         raises(chtab.ChtabError, network.routes, [(1, 3)], told="closed")
     with mood("loads=3"):
         network, faults = chtab.Network.open(FIRST, program=STANDIN, load=False), []
         thread = asking(network.distances)
         thread.start()
-        while not living():
-            time.sleep(0.01)
+        until(living)
         network.close()
-        thread.join(20)
+        thread.join(PATIENCE)
         assert len(faults) == 1 and lives_on(0), faults
 
 
@@ -379,10 +422,9 @@ def test_a_signal_leaves_nothing_behind():
     for number in signal.SIGINT, signal.SIGTERM:
         with mood("hangs=1"):
             child = subprocess.Popen(list(map(str, command)), stdout=subprocess.PIPE, stderr=subprocess.PIPE)
-            while not living():
-                time.sleep(0.02)
+            until(lambda: len(living()) >= 2 or child.poll() is not None)
             child.send_signal(number)
-            told = child.communicate(timeout=20)
+            told = child.communicate(timeout=PATIENCE)
             assert (child.returncode, *told) == (-number, b"", b""), (child.returncode, told)
         assert not [name for name in os.listdir() if "out.csv" in name], os.listdir()
 
@@ -396,16 +438,18 @@ def test_a_closed_pipe_is_silent():
 
 @needs("python3-tqdm")
 def test_signs_of_life():
-    """A line now and then where standard error is no terminal, and a bar where it is one."""
-    text = "import sys; sys.path.insert(0, sys.argv[1]); from chtab.engine.progress import Progress\nimport time\n"
-    text += "with Progress('blocks', 4, 'blocks', seconds=0.15) as p:\n for _ in range(4): time.sleep(0.1); p.step()\n"
+    """A line now and then where standard error is no terminal, by a clock that the test sets, and a bar where it is one."""
+    head = "import sys, time; sys.path.insert(0, sys.argv[1]); from chtab.engine import progress\n"
+    clock = "class time:\n now = 0\n monotonic = classmethod(lambda own: own.now)\nprogress.time = time\n"
+    steps = "with progress.Progress('blocks', 4, 'blocks', seconds=0.15) as p:\n for _ in range(4): {}; p.step()\n"
+    text = head + clock + steps.format("time.now += 0.1")
     done = subprocess.run([PYTHON, "-c", text, ROOT / "python"], capture_output=True, text=True)
     assert done.stdout == "" and [line[:25] for line in done.stderr.splitlines()] == ["blocks: 2 of 4 blocks after"[:25], "blocks: 4 of 4 blocks after"[:25]], done
     assert Progress("x", 10, "things").line().startswith("x: 0 of 10 things")
     import pty
 
     master, slave = pty.openpty()
-    subprocess.run([PYTHON, "-c", text.replace("0.1)", "0.5)"), ROOT / "python"], stderr=slave)
+    subprocess.run([PYTHON, "-c", head + steps.format("time.sleep(0.5)"), ROOT / "python"], stderr=slave)
     os.close(slave)
     assert b"blocks: " in os.read(master, 10_000)
     os.close(master)

@@ -13,6 +13,7 @@ import pytest
 from helpers.commands import raises, temporary
 from helpers.marks import each_way, needs
 from helpers.running import PROGRAM, ROOT
+from helpers.waiting import PATIENCE
 import chtab
 from chtab import files
 
@@ -235,15 +236,15 @@ def test_a_fork_in_the_middle_of_a_change():
         for _ in range(4):
             change = threads.submit(network.changed, None, [0])
             children = []
-            until = time.monotonic() + 5
-            while not change.done() and time.monotonic() < until:
+            latest = time.monotonic() + 5
+            while not change.done() and time.monotonic() < latest:
                 child = os.fork()
                 if not child:
                     time.sleep(1)
                     os._exit(0)
                 children.append(child)
                 time.sleep(0.02)
-            with change.result(20) as other:
+            with change.result(PATIENCE) as other:
                 assert other.distances([("inn", "mill")]).tolist() == [3.0]
             assert len(left()) == 1
             for child in children:
@@ -362,13 +363,13 @@ def test_the_old_network_answers_while_the_new_one_is_built(library):
         changes = [threads.submit(network.changed, doubled) for _ in range(2)]
         asked = [network.distances([(2359, 910)]).tolist() for _ in range(50)]
         assert asked == [wanted] * 50
-        others = [change.result(60) for change in changes]
+        others = [change.result(PATIENCE) for change in changes]
         last = threads.submit(network.changed, doubled)
         child = os.fork()
         if not child:
             os._exit([each.distances([(2359, 910)]).tolist() for each in (network, *others)] != [wanted, *[[2 * wanted[0]]] * 2])
         assert os.waitpid(child, 0)[1] == 0
-        others.append(last.result(60))
+        others.append(last.result(PATIENCE))
         network.close()
         assert all(other.distances([(2359, 910)]).tolist() == [2 * wanted[0]] for other in others)
         for other in others:

@@ -4,10 +4,10 @@ Expected values are those of scipy, numpy and pandas, or are counted by hand.
 """
 import datetime
 import fractions
+import os
 import pathlib
 import signal
 import subprocess
-import time
 import warnings
 
 import pytest
@@ -16,6 +16,7 @@ from helpers.commands import raises, temporary
 from helpers.marks import each_way, needs
 from helpers.packages import PYTHON
 from helpers.running import PROGRAM, ROOT
+from helpers.waiting import until
 import chtab
 
 pytestmark = [needs("python3-numpy"), pytest.mark.usefixtures("program")]
@@ -411,19 +412,18 @@ def test_how_far_a_call_is():
 def test_a_signal_leaves_no_folder():
     """A process that SIGTERM or SIGKILL ends leaves no temporary folder, also where processes that were forked from it live on."""
     text = "import os, sys, time; sys.path.insert(0, sys.argv[1]); import chtab\nnetwork = chtab.Network.from_arrays([1], [2], [3], program=sys.argv[2])\n"
-    for more in "", "if os.fork() == 0:\n    time.sleep(20); os._exit(0)\n":
+    # A process that is forked lives on as long as its input does.
+    for more in "child = 0", "child = os.fork()\nif not child:\n    sys.stdin.read(); os._exit(0)":
         for number in signal.SIGTERM, signal.SIGKILL:
             with temporary() as left:
-                words = [PYTHON, "-c", f"{text}{more}print(flush=True); time.sleep(60)", ROOT / "python", PROGRAM]
-                with subprocess.Popen(words, stdout=subprocess.PIPE) as process:
-                    assert process.stdout.readline() == b"\n" and len(left()) == 1
+                words = [PYTHON, "-c", f"{text}{more}\nprint(child, flush=True); time.sleep(10_000)", ROOT / "python", PROGRAM]
+                with subprocess.Popen(words, stdin=subprocess.PIPE, stdout=subprocess.PIPE) as process:
+                    child = int(process.stdout.readline())
+                    assert len(left()) == 1
                     process.send_signal(number)
                     process.wait()
-                    until = time.monotonic() + 10
-                    while left() and time.monotonic() < until:
-                        time.sleep(0.05)
-                    assert left() == [], (more, number)
-                    process.stdout.close()
+                    until(lambda: not left(), lambda: (more, number))
+                    assert not child or os.path.exists(f"/proc/{child}")
 
 
 def test_a_file_that_cannot_be_written_is_named():
@@ -493,18 +493,14 @@ def test_building_says_how_far_it_is():
 def test_a_signal_leaves_no_part_of_a_folder():
     """A process that is ended while it builds the network of a folder leaves neither the folder nor the part that was there."""
     slow = pathlib.Path("slow")
-    slow.write_text(f"#!/bin/sh\n[ \"$1\" = save ] && exec sleep 5\nexec {PROGRAM} \"$@\"\n")
+    # It builds as long as the test is in its folder.
+    slow.write_text(f"#!/bin/sh\nwhile [ \"$1\" = save ] && [ -e {slow.absolute()} ]; do sleep 0.2; done\nexec {PROGRAM} \"$@\"\n")
     slow.chmod(0o755)
     pathlib.Path("own").mkdir()
     text = "import sys; sys.path.insert(0, sys.argv[1]); import chtab; chtab.Network.from_arrays([1], [2], [3], folder='own/made', program=sys.argv[2])"
     for number in signal.SIGTERM, signal.SIGKILL:
         with subprocess.Popen([PYTHON, "-c", text, ROOT / "python", slow.absolute()]) as process:
-            until = time.monotonic() + 30
-            while not list(pathlib.Path("own").glob("made.part-*/network.ch")) and time.monotonic() < until:
-                time.sleep(0.05)
+            until(lambda: list(pathlib.Path("own").glob("made.part-*/network.ch")))
             assert len(list(pathlib.Path("own").iterdir())) == 1
             process.send_signal(number)
-        until = time.monotonic() + 10
-        while list(pathlib.Path("own").iterdir()) and time.monotonic() < until:
-            time.sleep(0.05)
-        assert list(pathlib.Path("own").iterdir()) == [], number
+        until(lambda: not list(pathlib.Path("own").iterdir()), lambda: number)

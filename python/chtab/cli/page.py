@@ -125,7 +125,7 @@ def add_limits(parser: argparse.ArgumentParser) -> None:
     parser.add_argument("--waiting", **size, default=200, help="how many requests may wait (200); the service answers further ones that it is busy")
     parser.add_argument("--max-connections", **size, default=1_000, help="how many connections one process takes (1,000)")
     parser.add_argument("--max-connections-of-address", **size, default=250, help="how many of these from one address that is not the proxy's (250)")
-    for name, seconds in ("--timeout", 60), ("--sending", 30), ("--idle", 60), ("--ending", 30):
+    for name, seconds in ("--timeout", 60), ("--sending", 30), ("--idle", 60), ("--ending", 30), ("--grace", 5):
         parser.add_argument(name, type=float, default=seconds, help=argparse.SUPPRESS)
 
 
@@ -184,7 +184,7 @@ def choices_of(words: argparse.Namespace) -> Choices:
 
     return Choices(
         title=words.title or "", places=tuple(files.read_places(words.places)) if words.places else (), tiles=words.tiles,
-        limits=Limits(waiting=words.waiting, sending=words.sending, idle=words.idle, ending=words.ending), osrm=sizes_of(words),
+        limits=Limits(waiting=words.waiting, sending=words.sending, idle=words.idle, ending=words.ending, grace=words.grace), osrm=sizes_of(words),
         caps=caps_of(words.max_connections, words.max_connections_of_address), allowed=tuple(words.cors), profiles=tuple(words.profile), proxy=words.proxy,
     )
 

@@ -14,8 +14,8 @@ from typing import Any
 
 from chtab.errors import ChtabError
 
-# The seconds within which a service has to hand over its port.
-PATIENCE = 10.0
+# The seconds within which a service has to hand over its port, also on a machine with much other work.
+PATIENCE = 60.0
 CREDENTIALS = struct.Struct("3i")
 
 

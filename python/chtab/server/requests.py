@@ -30,11 +30,12 @@ class Limits:
     at_once: int = 2
     waiting: int = 200
     together: int = 64
-    # The seconds for the body of a request, those after which an idle connection is closed, and those for requests that are underway when the service
-    # ends.
+    # The seconds for the body of a request, those after which an idle connection is closed, those for requests that are underway when the service
+    # ends, and those in which clients of a replaced service may send one more request on each connection.
     sending: float = 30.0
     idle: float = 60.0
     ending: float = 30.0
+    grace: float = 5.0
 
 
 class Refused(Exception):

@@ -38,8 +38,6 @@ NOTES, LOOKS = 5.0, 1.0
 PAUSE, LONGEST_PAUSE = 1.0, 60.0
 # The number of tries to start an engine or a process, and the exit status of a service that has no more (EX_SOFTWARE of sysexits.h).
 TRIES, GIVEN_UP = 3, 70
-# The seconds in which clients of a replaced service may send one more request on each connection.
-GRACE = 5.0
 # The seconds in which an accepted socket becomes a connection.
 SETTLING = 0.1
 # How many connections may wait in the system.
@@ -89,7 +87,7 @@ class Serving:
             server.close()
             self.port.close()
             if self.is_succeeded:
-                await self.connections.empty(GRACE)
+                await self.connections.empty(limits.grace)
             await runner.shutdown()
             await http.shutdown(limits.ending)
             service.networks.close()
