@@ -31,6 +31,8 @@ const BEYOND: Row = Row {
     ("crates/ch_job/specs/Job.antt", "  pub count : IfSome job.options.count IsCount\n", '''  pub beyond : IfSome job.options.beyond (λ most. most ≤ MOST_WEIGHT)
   pub count : IfSome job.options.count IsCount
 '''),
+    ("crates/ch_job/proofs/Jobs.antt", "      count = allowed.count;\n", "      beyond = allowed.beyond;\n      count = allowed.count;\n"),
+    ("crates/ch_job/proofs/Jobs.antt", "limit = also.limit; count", "limit = also.limit;\n      beyond = also.beyond; count"),
     ("crates/ch_run_checks/src/runs.rt", "    within: None,\n", "    within: None,\n    beyond: None,\n"),
     # Its rule, and the value that the line gets.
     ("crates/ch_words/specs/Line.antt", "table_rules = within_rule ∷", 'table_rules = within_rule ∷ limit_rule (codes "beyond") 0 MOST_WEIGHT ∷'),
