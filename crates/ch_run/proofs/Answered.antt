@@ -37,8 +37,6 @@ module _ (written : Answer → List ℕ) (IsTextOf : TextOf) (from : ℕ × ℕ 
       AllZip (λ query answer. Of query (written answer)) queries answers →
       AreAnswered IsTextOf places (map from queries) (flat_map written answers)
   each_answered places [] [] h = refl
-  each_answered places [] (a ∷ answers) h = absurd h
-  each_answered places (q ∷ queries) [] h = absurd h
   each_answered places (q ∷ queries) (a ∷ answers) h = (
     written a,
     flat_map written answers,
@@ -47,6 +45,7 @@ module _ (written : Answer → List ℕ) (IsTextOf : TextOf) (from : ℕ × ℕ 
     subst (λ (p : PlaceList). AreAnswered IsTextOf p (map from queries) (flat_map written answers)) (sym (stay places q))
         (each_answered places queries answers h.1),
   )
+  each_answered places _ _ h = absurd h
 
 -- the text of one answer is a text of its query
 one_text : (written : Answer → List ℕ) (P : ℕ × ℕ → Answer → Type 0) (query : ℕ × ℕ) (a : Answer) → P query a →
@@ -91,8 +90,6 @@ pub rows_answered : (options : Options) (g : Network) (From : LevelsAndLegs → 
     AreAnswered (IsRequestText options g From) places (map (near_row_of within) sources)
     (flat_map (near_row_text places.nodes) (zip sources rows))
 rows_answered options g From within places [] [] h = refl
-rows_answered options g From within places [] (row ∷ rows) h = absurd h
-rows_answered options g From within places (s ∷ sources) [] h = absurd h
 rows_answered options g From within places (s ∷ sources) (row ∷ rows) h = (
   near_row_text places.nodes (s, row),
   flat_map (near_row_text places.nodes) (zip sources rows),
@@ -100,6 +97,7 @@ rows_answered options g From within places (s ∷ sources) (row ∷ rows) h = (
   (row ∷ [], (h.0, tt), sym (append-nil (near_row_text places.nodes (s, row)))),
   rows_answered options g From within places sources rows h.1,
 )
+rows_answered options g From within places _ _ h = absurd h
 
 -- capping a count early does not change the capped sum
 pub capped_on : (a b c : ℕ) → capped_number (capped_number (a + b) + c) ≡ capped_number (a + (b + c))

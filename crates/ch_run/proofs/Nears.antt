@@ -29,29 +29,23 @@ use Rattle.ch_run.specs.declared.fault.Which.{Which}
 use Rattle.ch_run.specs.Run.{NoInput, OneInput, ReadingIf}
 use Rattle.ch_run.specs.Story.{ReadsIf}
 use Rattle.ch_run.proofs.Story.{reads_stops}
+use Rattle.ch_run.proofs.TableTexts.{zip_append}
 use Rattle.ch_run.proofs.Texts.{each_weaker}
+use Rattle.ch_work.proofs.PieceLists.{zipped_append}
 
 -- this is the wanted near row of the source
 abbrev pub IsWantedRow : Wanted → ℕ → List (ℕ × ℕ) → Type 0
 IsWantedRow wanted s row = IsNearRow wanted.hierarchy wanted.limit wanted.count wanted.targets s row
-
--- if the elements of two pairs of lists are related place by place, so are those of the joined lists
-joined : {X Y : Type 0} (P : X → Y → Type 0) (xs us : List X) (ys vs : List Y) → AllZip P xs ys → AllZip P us vs →
-    AllZip P (xs ++ us) (ys ++ vs) × (zip (xs ++ us) (ys ++ vs) ≡ zip xs ys ++ zip us vs)
-joined P [] us [] vs h k = (k, refl)
-joined P [] us (y ∷ ys) vs h k = absurd h
-joined P (x ∷ xs) us [] vs h k = absurd h
-joined P (x ∷ xs) us (y ∷ ys) vs h k = let rest = joined P xs us ys vs h.1 k in ((h.0, rest.0), ap (λ l. (x, y) ∷ l) rest.1)
 
 -- the text of some sources, joined with the text of others, is the text of all of them
 pub rows_joined : (wanted : Wanted) (a b s t : List ℕ) → HasNearRows wanted a s → HasNearRows wanted b t →
     HasNearRows wanted (a ++ b) (s ++ t)
 rows_joined wanted a b s t h k =
     let f = near_row_text wanted.targets in
-    let both = joined (IsWantedRow wanted) a b h.0 k.0 h.1 k.1 in
+    let pairs = zip_append a h.0 b k.0 (zipped_length (IsWantedRow wanted) a h.0 h.1) in
     let text : s ++ t ≡ flat_map f (zip a h.0 ++ zip b k.0) = ap (λ l. l ++ t) h.2 ∙ ap (λ l. flat_map f (zip a h.0) ++ l) k.2
     ∙ sym (flat_map-append f (zip a h.0) (zip b k.0)) in
-    (h.0 ++ k.0, both.0, text ∙ ap (flat_map f) (sym both.1))
+    (h.0 ++ k.0, zipped_append (IsWantedRow wanted) a h.0 b k.0 h.1 k.1, text ∙ ap (flat_map f) (sym pairs))
 
 -- the pairs of a row that is in a vector
 abbrev pub items : Vec (ℕ × ℕ) Global → List (ℕ × ℕ)

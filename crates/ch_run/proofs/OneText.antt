@@ -28,11 +28,10 @@ use Rattle.ch_text.specs.TableText.{IsCell, IsTableRow, IsTableText, row_text}
 pub one_list : {A B : Type 0} (P : A → B → Type 0) → ((x : A) (y z : B) → P x y → P x z → y ≡ z) → (xs : List A) (ys zs : List B) →
     AllZip P xs ys → AllZip P xs zs → ys ≡ zs
 one_list P one [] [] [] h k = refl
-one_list P one [] [] (z ∷ zs) h k = absurd k
 one_list P one [] (y ∷ ys) zs h k = absurd h
 one_list P one (x ∷ xs) [] zs h k = absurd h
-one_list P one (x ∷ xs) (y ∷ ys) [] h k = absurd k
 one_list P one (x ∷ xs) (y ∷ ys) (z ∷ zs) h k = ap₂ ◌∷◌ (one x y z h.0 k.0) (one_list P one xs ys zs h.1 k.1)
+one_list P one _ _ _ h k = absurd k
 
 -- two nodes have only one distance
 one_distance : (g : Network) (s t x y : ℕ) → IsDistance g s t x → IsDistance g s t y → x ≡ y

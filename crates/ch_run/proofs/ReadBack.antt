@@ -50,10 +50,6 @@ same_leg l =
     ∙ ap (λ t. fed (codes "l") (decimal (l.from + 1) ∷ decimal (l.to + 1) ∷ decimal l.cost.weight ∷ decimal l.cost.arcs ∷ t ∷ []))
     (same_middle l.middle)
 
-same_texts : {X : Type 0} (f g : X → List ℕ) → ((x : X) → f x ≡ g x) → (xs : List X) → flat_map f xs ≡ flat_map g xs
-same_texts f g same [] = refl
-same_texts f g same (x ∷ xs) = λ i. same x i ++ same_texts f g same xs i
-
 heading_words : (a b order legs : List ℕ) →
     codes "p ch " ++ a ++ codes " " ++ b ++ codes "\n" ++ order ++ legs ≡ fed (codes "p") (codes "ch" ∷ a ∷ b ∷ []) ++ (order ++ legs)
 heading_words a b order legs = simp (append_assoc)
@@ -61,7 +57,7 @@ heading_words a b order legs = simp (append_assoc)
 same_text : (s : OrderAndLegs) → saved_text s ≡ text_of (saved_lines s)
 same_text s =
     let parts : flat_map order_text s.order ++ flat_map leg_text s.legs ≡ text_of (map order_line s.order ++ map leg_line s.legs) =
-    (λ i. flat_map order_text s.order ++ same_texts leg_text (λ l. fed (leg_line l).0 (leg_line l).1) same_leg s.legs i)
+    (λ i. flat_map order_text s.order ++ flat_map (λ l. same_leg l i) s.legs)
     ∙ sym (flat_map-append (λ l. fed l.0 l.1) (map order_line s.order) (map leg_line s.legs)
     ∙ (λ i. flat_map-map (λ l. fed l.0 l.1) order_line s.order i ++ flat_map-map (λ l. fed l.0 l.1) leg_line s.legs i)) in
     heading_words (decimal (length s.order)) (decimal (length s.legs)) (flat_map order_text s.order) (flat_map leg_text s.legs)

@@ -2,7 +2,10 @@
 use Rattle.std.proofs.Common.{◌≡◌, ℕ, List, Option, Some, None, Result, Ok, Err, inl, inr, refl, sym, ◌∙◌, subst}
 use Rattle.std.specs.Prelude.{IsErrAnd, OnErr, ⊤}
 use Rattle.ch_graph.specs.Graph.{Network}
+use Rattle.ch_read.specs.declared.form.Form.{Form as AnyForm}
 use Rattle.ch_read.specs.declared.form.Form.TheVariants as Form
+use Rattle.ch_read.specs.declared.fault.ReadFault.{ReadFault}
+use Rattle.ch_read.specs.Checks.{IsFault}
 use Rattle.ch_read.specs.Names.{NamesNodes}
 use Rattle.ch_hierarchy.specs.Hierarchy.{LevelsAndLegs}
 use Rattle.ch_text.specs.declared.device.DeviceFault.{DeviceFault}
@@ -19,31 +22,15 @@ pub at_err : {T : Type 0} (r : Result T RunFault) (story : Type 0) → story →
 at_err (Ok done) story is = tt
 at_err (Err e) story is = is
 
--- an input that ends a run for one reason ends it for another, if the first reason is one of the second kind
-ends_weaker : (which : Which) (input : Reading) (P Q : List ℕ → RunFault → Type 0) (fault : RunFault) →
-    ((bytes : List ℕ) (f : RunFault) → P bytes f → Q bytes f) → EndsAt which input P fault → EndsAt which input Q fault
-ends_weaker which input P Q (RunFault.Device other) to ends = ends
-ends_weaker which input P Q RunFault.Memory to ends = ends
-ends_weaker which input P Q fault to ends = (ends.0, ends.1, to ends.0 fault ends.2)
-
--- a fault of the lines of a saved hierarchy or of an order is one of its faults on the graph
-saved_lines : (g : Network) (bytes : List ℕ) (f : RunFault) → IsRefused Which.Saved (Form.Saved g.nodes) bytes f →
-    IsSavedRefusedOn g bytes f
-saved_lines g bytes (RunFault.Read input f) refused = refused
-saved_lines g bytes _ refused = absurd refused
-
-order_lines : (g : Network) (bytes : List ℕ) (f : RunFault) → IsRefused Which.Order (Form.Saved g.nodes) bytes f →
-    IsOrderRefusedOn g bytes f
-order_lines g bytes (RunFault.Read input f) refused = refused
-order_lines g bytes _ refused = absurd refused
-
-pub saved_ends : (input : Reading) (g : Network) (fault : RunFault) → EndsAt Which.Saved input
-    (IsRefused Which.Saved (Form.Saved g.nodes)) fault → EndsAt Which.Saved input (IsSavedRefusedOn g) fault
-saved_ends input g fault ends = ends_weaker Which.Saved input _ _ fault (saved_lines g) ends
-
-pub order_ends : (input : Reading) (g : Network) (fault : RunFault) → EndsAt Which.Order input
-    (IsRefused Which.Order (Form.Saved g.nodes)) fault → EndsAt Which.Order input (IsOrderRefusedOn g) fault
-order_ends input g fault ends = ends_weaker Which.Order input _ _ fault (order_lines g) ends
+-- an input that is refused for a fault of its lines ends a run that may refuse it for more
+pub lines_end : (which : Which) (input : Reading) (form : AnyForm) (refuses : List ℕ → RunFault → Type 0) →
+    ((bytes : List ℕ) (f : ReadFault) → IsFault form bytes f.line f.kind → refuses bytes (RunFault.Read which f)) → (fault : RunFault) →
+    EndsAt which input (IsRefused which form) fault → EndsAt which input refuses fault
+lines_end which input form refuses so (RunFault.Device other) ends = ends
+lines_end which input form refuses so RunFault.Memory ends = ends
+lines_end which input form refuses so (RunFault.Read other f) ends =
+    (ends.0, ends.1, subst (λ (w : Which). refuses ends.0 (RunFault.Read w f)) ends.2.0 (so ends.0 f ends.2.1))
+lines_end which input form refuses so _ ends = absurd ends.2
 
 -- an input that was not read to its end ends the run
 pub unread_ends : (which : Which) (input : Reading) (refuses : List ℕ → RunFault → Type 0) (fault : RunFault) →

@@ -13,12 +13,11 @@ use Rattle.ch_text.specs.TableText.{row_text}
 use Rattle.ch_run.specs.TableText.{IsTableTextBy}
 
 -- lists of the same length, with more lists of one length behind them, in pairs
-zip_append : {A B : Type 0} (xs : List A) (ys : List B) (more : List A) (others : List B) → length ys ≡ length xs →
+pub zip_append : {A B : Type 0} (xs : List A) (ys : List B) (more : List A) (others : List B) → length ys ≡ length xs →
     zip (xs ++ more) (ys ++ others) ≡ zip xs ys ++ zip more others
 zip_append [] [] more others same = refl
-zip_append [] (y ∷ ys) more others same = absurd (omega arith)
-zip_append (x ∷ xs) [] more others same = absurd (omega arith)
 zip_append (x ∷ xs) (y ∷ ys) more others same = ap (λ pairs. (x, y) ∷ pairs) (zip_append xs ys more others (omega arith))
+zip_append _ _ more others same = absurd (omega arith)
 
 -- the text of rows, with one more row behind them
 pub row_written : (sources : List ℕ) (rows : List (List (Option ℕ))) (source : ℕ) (cells : List (Option ℕ))
@@ -39,8 +38,6 @@ module _ (H : LevelsAndLegs) (limit : Option ℕ) (targets : List ℕ) where
   texts_of_parts : (parts : List (List ℕ)) (texts : List (Vec ℕ Global)) → AllZip (IsGathered IsRowsText H limit targets) parts texts →
       IsTableTextBy H limit (flat_map (λ part. part) parts) targets (flat_map (λ (text : Vec ℕ Global). text.items) texts)
   texts_of_parts [] [] h = ([], tt, refl)
-  texts_of_parts [] (text ∷ texts) h = absurd h
-  texts_of_parts (part ∷ parts) [] h = absurd h
   texts_of_parts (part ∷ parts) (text ∷ texts) h =
       let R = IsRowBy H limit targets in
       let rest = texts_of_parts parts texts h.1 in
@@ -53,6 +50,7 @@ module _ (H : LevelsAndLegs) (limit : Option ℕ) (targets : List ℕ) where
         ap₂ ◌++◌ h.0.2 rest.2 ∙ sym both
             ∙ ap (flat_map row_text) (sym pairs),
       )
+  texts_of_parts _ _ h = absurd h
 
   pub gathered_texts : (sources : List ℕ) (texts : List (Vec ℕ Global)) → AreGathered IsRowsText H limit targets sources texts →
       IsTableTextBy H limit sources targets (flat_map (λ (text : Vec ℕ Global). text.items) texts)

@@ -38,9 +38,8 @@ short_line g query a is = ap (λ arcs. distance_text a ++ route_text arcs) is.1 
 short_lines : (g : Network) (queries : List (ℕ × ℕ)) (answers : List Answer) → AllZip (AnswersShortly g) queries answers →
     flat_map answer_text answers ≡ flat_map distance_text answers
 short_lines g [] [] h = refl
-short_lines g [] (a ∷ answers) h = absurd h
-short_lines g (q ∷ queries) [] h = absurd h
 short_lines g (q ∷ queries) (a ∷ answers) h = ap₂ ◌++◌ (short_line g q a h.0) (short_lines g queries answers h.1)
+short_lines g _ _ h = absurd h
 
 -- the lines of answers without arcs are a text of distances
 pub short_text : (g : Network) (queries : List (ℕ × ℕ)) (answers : List Answer) (text : List ℕ) →
@@ -51,9 +50,8 @@ short_text g queries answers text short is = (answers, short, is ∙ short_lines
 pub each_weaker : {A B : Type 0} (P Q : A → B → Type 0) → ((x : A) (y : B) → P x y → Q x y) → (xs : List A) (ys : List B) →
     AllZip P xs ys → AllZip Q xs ys
 each_weaker P Q so [] [] h = tt
-each_weaker P Q so [] (y ∷ ys) h = absurd h
-each_weaker P Q so (x ∷ xs) [] h = absurd h
 each_weaker P Q so (x ∷ xs) (y ∷ ys) h = (so x y h.0, each_weaker P Q so xs ys h.1)
+each_weaker P Q so _ _ h = absurd h
 
 -- an answer of a hierarchy that is right for a graph is an answer on the graph
 reply_answers : (g : Network) (H : LevelsAndLegs) → IsWithinLimits g → IsKept g H → (routes : Bool) (query : ℕ × ℕ) (a : Answer) →

@@ -14,12 +14,9 @@ returns-in_err-loaded-clause-went g c = loads_stops _ _ _ _ _ _ c.from_residual.
 
 pub returns-in_err-queries-clause-went : goal.returns-in_err-queries-clause-went
 returns-in_err-queries-clause-went g c =
-    loads_serving _ _ _ _ _ _ _
-    (λ h place. inl (
-      err_as _ _ _ c.from_residual-in_err-queries.ensures.1
-          (rw c.graph.ensures.graph at c.in_err-queries.ensures.ends),
-      refl,
-    )) c.in_ok-loaded.ensures.went
+    let ends = rw c.graph.ensures.graph at c.in_err-queries.ensures.ends in
+    loads_serving _ _ _ _ _ _ _ (λ h place. inl (err_as _ _ _ c.from_residual-in_err-queries.ensures.1 ends, refl))
+    c.in_ok-loaded.ensures.went
 
 pub returns-in_err-text-clause-went : goal.returns-in_err-text-clause-went
 returns-in_err-text-clause-went g c =

@@ -1,9 +1,10 @@
 -- The order and the graph that were read give the hierarchy, or the first fault of the order ends the run.
-use Rattle.std.proofs.Common.{ℕ, List, inr, subst, sym}
+use Rattle.std.proofs.Common.{ℕ, List, inr, refl, subst, sym}
 use Rattle.ch_contract.specs.Like.{IsHierarchyLike}
 use Rattle.ch_hierarchy.specs.Saved.{IsOrderOf}
+use Rattle.ch_run.specs.Story.{IsOrderRefusedOn}
 use Rattle.ch_run.proofs.Owed.{own_as}
-use Rattle.ch_run.proofs.Story.{order_ends}
+use Rattle.ch_run.proofs.Story.{lines_end}
 use Rattle.ch_run.proofs.run.loading.built_from.Goals as goal
 
 pub returns-in-Ok-clause-value : goal.returns-in-Ok-clause-value
@@ -16,7 +17,8 @@ returns-in-Ok-clause-value g c =
     (told.0, told.1, (built.0, (record { order = c.in_ok-given.given.items; legs = told.2.0 }, told.2.1, each, like, built.2), built.3))
 
 pub returns-in_err-given-clause-ends : goal.returns-in_err-given-clause-ends
-returns-in_err-given-clause-ends g c = own_as _ _ _ c.from_residual.ensures.1 (order_ends _ c.args.graph.now _ c.in_err-given.ensures.ends)
+returns-in_err-given-clause-ends g c = own_as _ _ _ c.from_residual.ensures.1
+    (lines_end _ _ _ (IsOrderRefusedOn c.args.graph.now) (λ bytes f is. (refl, is)) _ c.in_err-given.ensures.ends)
 
 pub returns-in-Err-Order-clause-ends : goal.returns-in-Err-Order-clause-ends
 returns-in-Err-Order-clause-ends g c =

@@ -19,15 +19,9 @@ pub returns-in_ok-hierarchy-in-Saved-clause-went : goal.returns-in_ok-hierarchy-
 returns-in_ok-hierarchy-in-Saved-clause-went g c =
     let read = c.in_ok-graph.ensures.value in
     let told = c.in_ok-hierarchy-in-Saved.ensures.value in
-    let H = c.in_ok-hierarchy-in-Saved.hierarchy in
-    let place = own_place c.args.named c.in_ok-graph.graph H H refl told.2.2.1 in
-    rw c.in-Saved.is (inr (
-      read.0,
-      c.in_ok-graph.graph,
-      read.1,
-      (read.2, c.in_ok-graph.ensures.limits),
-      inr (told.0, H, told.1, told.2, (refl, place)),
-    ))
+    let place = own_place c.args.named c.in_ok-graph.graph _ c.in_ok-hierarchy-in-Saved.hierarchy refl told.2.2.1 in
+    let limits = c.in_ok-graph.ensures.limits in
+    rw c.in-Saved.is (inr (read.0, _, read.1, (read.2, limits), inr (told.0, _, told.1, told.2, (refl, place))))
 
 -- the order was read in vain, or the hierarchy was built like it
 pub returns-in_err-hierarchy-in-Like-clause-went : goal.returns-in_err-hierarchy-in-Like-clause-went
@@ -40,10 +34,5 @@ pub returns-in_ok-hierarchy-in-Like-clause-went : goal.returns-in_ok-hierarchy-i
 returns-in_ok-hierarchy-in-Like-clause-went g c =
     let read = c.in_ok-graph.ensures.value in
     let told = c.in_ok-hierarchy-in-Like.ensures.value in
-    rw c.in-Like.is (inr (
-      read.0,
-      c.in_ok-graph.graph,
-      read.1,
-      (read.2, c.in_ok-graph.ensures.limits),
-      inr (told.0, told.2.0, told.1, told.2.1, (refl, told.2.2)),
-    ))
+    let limits = c.in_ok-graph.ensures.limits in
+    rw c.in-Like.is (inr (read.0, _, read.1, (read.2, limits), inr (told.0, told.2.0, told.1, told.2.1, (refl, told.2.2))))

@@ -35,16 +35,10 @@ returns-in_err-text-clause-went g c =
 pub returns-clause-went : goal.returns-clause-went
 returns-clause-went g c =
     let lists = rw c.graph.ensures.graph at c.in_ok-lists.ensures.value in
-    loads_serving _ _ _ _ _ _ _
-    (λ h place. sources_on _ _ _ _ _ _ _ lists.0
-    (λ listed same. inr (
-      lists.1.0,
-      _,
-      lists.1.1,
-      lists.1.2,
-      writes_weaker _ _ _ _ _ c.write_text.result (rw (c.deref.ensures.value, same) c.in_ok-text.ensures) c.write_text.ensures.wrote,
-    )))
-    c.in_ok-loaded.ensures.went
+    loads_serving _ _ _ _ _ _ _ (λ h place. sources_on _ _ _ _ _ _ _ lists.0 (λ listed same.
+    let wrote = writes_weaker _ _ _ _ _ c.write_text.result (rw (c.deref.ensures.value, same) c.in_ok-text.ensures)
+    c.write_text.ensures.wrote in
+    inr (lists.1.0, _, lists.1.1, lists.1.2, wrote))) c.in_ok-loaded.ensures.went
 
 -- so it delivered the text
 pub returns-in_err-loaded-clause-written : goal.returns-in_err-loaded-clause-written

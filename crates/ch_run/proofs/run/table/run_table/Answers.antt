@@ -30,38 +30,17 @@ returns-in_err-lists-clause-went g c =
 pub returns-in_err-parts-clause-went : goal.returns-in_err-parts-clause-went
 returns-in_err-parts-clause-went g c =
     let lists = rw c.graph.ensures.graph at c.in_ok-lists.ensures.value in
-    loads_serving _ _ _ _ _ _ _
-    (λ h place. inr (
-      lists.0.0,
-      _,
-      lists.0.1,
-      lists.0.2,
-      inr
-          (lists.1.0, _, lists.1.1, lists.1.2, inr (lists.2, writes_none _ _ _ _ c.from_residual-in_err-parts.ensures.1)),
-    ))
-    c.in_ok-loaded.ensures.went
+    let none = writes_none _ _ _ _ c.from_residual-in_err-parts.ensures.1 in
+    loads_serving _ _ _ _ _ _ _ (λ h place.
+    inr (lists.0.0, _, lists.0.1, lists.0.2, inr (lists.1.0, _, lists.1.1, lists.1.2, inr (lists.2, none)))) c.in_ok-loaded.ensures.went
 
 pub returns-clause-went : goal.returns-clause-went
 returns-clause-went g c =
     let lists = rw c.graph.ensures.graph at c.in_ok-lists.ensures.value in
-    loads_serving _ _ _ _ _ _ _
-    (λ h place. inr (
-      lists.0.0,
-      _,
-      lists.0.1,
-      lists.0.2,
-      inr (
-        lists.1.0,
-        _,
-        lists.1.1,
-        lists.1.2,
-        inr (
-          lists.2,
-          writes_weaker _ _ _ _ _ c.write_parts.result (rw c.deref.ensures.value c.in_ok-parts.ensures.text) c.write_parts.ensures.wrote,
-        ),
-      ),
-    ))
-    c.in_ok-loaded.ensures.went
+    let wrote = writes_weaker _ _ _ _ _ c.write_parts.result (rw c.deref.ensures.value c.in_ok-parts.ensures.text)
+    c.write_parts.ensures.wrote in
+    loads_serving _ _ _ _ _ _ _ (λ h place.
+    inr (lists.0.0, _, lists.0.1, lists.0.2, inr (lists.1.0, _, lists.1.1, lists.1.2, inr (lists.2, wrote)))) c.in_ok-loaded.ensures.went
 
 -- so it delivered the text
 pub returns-in_err-loaded-clause-written : goal.returns-in_err-loaded-clause-written
