@@ -1,5 +1,5 @@
 -- How the opening of files ends.
-use Rattle.std.proofs.Common.{◌≡◌, ℕ, List, [], ◌∷◌, ◌++◌, Option, inl, inr, refl, subst, sym}
+use Rattle.std.proofs.Common.{◌≡◌, ℕ, List, [], ◌∷◌, ◌++◌, Option, inl, inr, subst}
 use Rattle.std.specs.Prelude.{Result, Ok, Err}
 use Rattle.ch_run.specs.declared.fault.RunFault.{RunFault}
 use Rattle.ch_run.specs.declared.fault.Which.{Which}
@@ -97,35 +97,27 @@ module _ {F I : Type 0} (opens : F → List ℕ → Result I OpenFault → F →
     abbrev Ends : (List ℕ → FileState) → List File → RunFault → Type 0
     Ends now files fault = EndsAtMissing {T = T} now files (Err fault)
 
-    -- a run without memory ends at no file that is missing
-    at-memory : (state : FileState) (which : Which) (rest : Type 0) → rest → AtMissing {T = T} state which rest (Err RunFault.Memory)
-    at-memory FileState.Untold which rest goes = inr goes
-    at-memory FileState.Missing which rest goes = inr refl
-    at-memory (FileState.Holds bytes) which rest goes = goes
+    -- the run ends at a file that isn't opened, or it goes on for a lack of memory
+    at-fault : (state : FileState) (which : Which) (rest : Type 0) (fault : RunFault) → IsNotOpened state which fault →
+        (fault ≡ RunFault.Memory → rest) → AtMissing {T = T} state which rest (Err fault)
+    at-fault FileState.Untold which rest fault (inl is) goes = inr (goes is)
+    at-fault FileState.Untold which rest fault (inr (is, may)) goes = inl is
+    at-fault FileState.Missing which rest fault (inl is) goes = inr is
+    at-fault FileState.Missing which rest fault (inr (is, may)) goes = inl is
+    at-fault (FileState.Holds bytes) which rest fault (inl is) goes = goes is
+    at-fault (FileState.Holds bytes) which rest fault (inr (is, may)) goes = absurd may
 
-    memory-ends : (now : List ℕ → FileState) (files : List File) → Ends now files RunFault.Memory
-    memory-ends now [] = tt
-    memory-ends now (file ∷ files) = at-memory (now file.1) file.0 (Ends now files RunFault.Memory) (memory-ends now files)
-
-    -- a file that the system refuses ends it
-    at-refused : (state : FileState) (which : Which) (rest : Type 0) → MayBeRefused state →
-        AtMissing {T = T} state which rest (Err (RunFault.Device which))
-    at-refused (FileState.Holds bytes) which rest may = absurd may
-    at-refused FileState.Untold which rest may = inl refl
-    at-refused FileState.Missing which rest may = inl refl
-
-    not-opened : (now : List ℕ → FileState) (file : File) (files : List File) (fault : RunFault) →
-        IsNotOpened (now file.1) file.0 fault → Ends now (file ∷ files) fault
-    not-opened now file files fault (inl is) = subst (Ends now (file ∷ files)) (sym is) (memory-ends now (file ∷ files))
-    not-opened now file files fault (inr (is, may)) = subst (Ends now (file ∷ files)) (sym is)
-        (at-refused (now file.1) file.0 (Ends now files (RunFault.Device file.0)) may)
+    memory-ends : (now : List ℕ → FileState) (files : List File) (fault : RunFault) → fault ≡ RunFault.Memory → Ends now files fault
+    memory-ends now [] fault is = tt
+    memory-ends now (file ∷ files) fault is =
+        at-fault (now file.1) file.0 (Ends now files fault) fault (inl is) (memory-ends now files fault)
 
     -- the run ends at the first file that is missing
     pub ends-at : (files : List File) (old new : F) (fault : RunFault) → StopsOpening opens files old new fault →
         Ends (known old) files fault
     ends-at [] old new fault stops = tt
-    ends-at (file ∷ files) old new fault (inl refused) =
-        not-opened (known old) file files fault (refused-so file old new fault refused.0 refused.1 refused.2)
+    ends-at (file ∷ files) old new fault (inl refused) = at-fault (known old file.1) file.0 (Ends (known old) files fault) fault
+        (refused-so file old new fault refused.0 refused.1 refused.2) (memory-ends (known old) files fault)
     ends-at (file ∷ files) old new fault (inr later) =
         let law = tells old file.1 (Ok later.0) later.1 later.2 in
         past (known old file.1) file.0 (Ends (known old) files fault) (Err fault) (is-there (known old file.1) later.0 law.0)
