@@ -14,6 +14,18 @@ def instructions(code):
     return {each.offset: (each.opname, each.arg) for each in dis.get_instructions(code)}
 
 
+@functools.cache
+def handlers(code):
+    """What handles faults of a function: where each part of it begins and ends, and the place of its handler."""
+    return [(entry.start, entry.end, entry.target) for entry in dis.Bytecode(code).exception_entries]
+
+
+def have_one_handler(code, *places):
+    """Whether one part of a function handles all faults at these places. Those of contextlib hand on each fault that is no end of a generator."""
+    found = {next((target for start, end, target in handlers(code) if start <= place < end), None) for place in places}
+    return len(found) == 1 or code.co_filename.endswith("/contextlib.py")
+
+
 def hears_signals(name, number):
     """Whether Python looks for signals after an instruction: where a function begins or is continued, where a loop goes back, and after a call of C."""
     return name in ("CALL", "CALL_FUNCTION_EX") or "BACKWARD" in name or name == "RESUME" and number < 2
@@ -41,7 +53,7 @@ class Breaking:
         code = frame.f_code
         if code.co_name != "__init__" and not code.co_flags & inspect.CO_GENERATOR:
             # The caller's instruction was a call of a function of Python.
-            self.latest[frame.f_back] = "", 0
+            self.latest[frame.f_back] = "", 0, 0
         if self.where or not any(part in code.co_filename for part in FILES):
             return None
         frame.f_trace_opcodes, frame.f_trace_lines = True, False
@@ -49,11 +61,13 @@ class Breaking:
 
     def step(self, frame, event, value):
         if event == "opcode" and not self.where:
-            before, self.latest[frame] = self.latest.get(frame), instructions(frame.f_code).get(frame.f_lasti, ("", 0))
-            if before is not None and hears_signals(*before):
+            code, place = frame.f_code, frame.f_lasti
+            before, self.latest[frame] = self.latest.get(frame), (*instructions(code).get(place, ("", 0)), place)
+            # The fault comes an instruction later than that of a signal, so that it has to have the same handler there.
+            if before is not None and hears_signals(*before[:2]) and have_one_handler(code, before[2], place):
                 self.left -= 1
                 if not self.left:
-                    self.where = frame.f_code.co_filename, frame.f_code.co_qualname, frame.f_lineno
+                    self.where = code.co_filename, code.co_qualname, frame.f_lineno
                     self.latest.clear()
                     sys.settrace(None)
                     raise KeyboardInterrupt

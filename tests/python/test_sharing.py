@@ -278,21 +278,37 @@ def test_what_is_broken_off_anywhere_is_over():
         assert asks(network)
         network._engine.runs[0].child.is_busy = True
 
-    for prepare, question, step in (asks, asks, 1), (lambda _: None, asks, 2), (busy, asks, 2), (asks, is_near, 3):
-        for place in itertools.count(1, step):
-            with chtab.Network.open(FIRST, program=PROGRAM, load=False) as network:
-                prepare(network)
-                breaking = Breaking(place)
-                fault = breaking.fault_of(lambda: question(network))
-                assert isinstance(fault, KeyboardInterrupt if breaking.where else type(None)), (breaking.where, fault)
-                with concurrent.futures.ThreadPoolExecutor(1) as threads:
-                    assert threads.submit(question, network).result(PATIENCE) and question(network), breaking.where
-                until(lambda: children() <= 1, lambda: (children(), breaking.where))
-            until(lambda: children() == 0, lambda: (children(), breaking.where))
-            fault = None
-            if not breaking.where:
-                break
-        assert place > 30
+    def hangs(number, frame):
+        raise AssertionError("a question waits for ever")
+
+    def by_thread(question, network):
+        """The value of a question that another thread asks; None if it waits for ever."""
+        found = []
+        thread = threading.Thread(target=lambda: found.append(question(network)), daemon=True)
+        thread.start()
+        thread.join(PATIENCE)
+        return found[0] if found else None
+
+    before = signal.signal(signal.SIGALRM, hangs)
+    try:
+        for prepare, question, step in (asks, asks, 1), (lambda _: None, asks, 2), (busy, asks, 2), (asks, is_near, 3):
+            for place in itertools.count(1, step):
+                signal.alarm(2 * PATIENCE)
+                with chtab.Network.open(FIRST, program=PROGRAM, load=False) as network:
+                    prepare(network)
+                    breaking = Breaking(place)
+                    fault = breaking.fault_of(lambda: question(network))
+                    assert isinstance(fault, KeyboardInterrupt if breaking.where else type(None)), (breaking.where, fault)
+                    assert by_thread(question, network) and question(network), breaking.where
+                    until(lambda: children() <= 1, lambda: (children(), breaking.where))
+                until(lambda: children() == 0, lambda: (children(), breaking.where))
+                fault = None
+                if not breaking.where:
+                    break
+            assert place > 30
+    finally:
+        signal.alarm(0)
+        signal.signal(signal.SIGALRM, before)
 
 
 def children():
