@@ -28,7 +28,7 @@ pub front : (requests : List Request) (d r : Request) → 0 < length requests �
 front [] d r some is = absurd (omega arith)
 front (x ∷ requests) d r some is = ap (λ (y : Request). y ∷ requests) is
 
-module _ {A : Type 0} (from : A → Request) (requests : List Request) (values : List A) (first : AreFirstOf from requests values) where
+module _ {A : Type 0} {from : A → Request} {requests : List Request} {values : List A} (first : AreFirstOf from requests values) where
   -- a property of the requests of these values holds of the values
   pub values_within : (n : ℕ) (P : A → Type 0) → ((v : A) → IsRequest n (from v) → P v) → All (IsRequest n) requests → All P values
   values_within n P so each k d lt =
@@ -43,10 +43,10 @@ module _ {A : Type 0} (from : A → Request) (requests : List Request) (values :
   places_stay stay places (v ∷ vs) = ap (λ (p : PlaceList). places_after p (map from vs)) (stay places v) ∙ places_stay stay places vs
 
   -- a text of the requests of these values answers the first of the requests
-  pub first_answered : (IsTextOf : TextOf) (before after : PlaceList) (text : List ℕ) (count : ℕ) →
+  pub first_answered : {IsTextOf : TextOf} {before after : PlaceList} {text : List ℕ} {count : ℕ} →
       ((places : PlaceList) (v : A) → places_then places (from v) ≡ places) → count ≡ length values → after ≡ before →
       AreAnswered IsTextOf before (map from values) text → AnswersFirst IsTextOf before after requests text count
-  first_answered IsTextOf before after text count stay count_is same answers =
+  first_answered {IsTextOf} {before} {after} {text} {count} stay count_is same answers =
       let these : map from values ≡ take count requests = first.are ∙ ap (λ n. take n requests) (sym count_is) in
       let some = first.some in
       let few = first.few in
@@ -71,9 +71,9 @@ take_one r [] = refl
 take_one r (x ∷ rest) = refl
 
 -- a request that is answered alone
-pub one_answered : (IsTextOf : TextOf) (places : PlaceList) (r : Request) (rest : List Request) (text : List ℕ) → IsTextOf places r text →
+pub one_answered : {IsTextOf : TextOf} {places : PlaceList} (r : Request) {rest : List Request} {text : List ℕ} → IsTextOf places r text →
     AnswersFirst IsTextOf places (places_then places r) (r ∷ rest) text 1
-one_answered IsTextOf places r rest text is = record {
+one_answered {IsTextOf} {places} r {rest} {text} is = record {
   some = omega arith;
   few = omega arith;
   answers = subst (λ (rs : List Request). AreAnswered IsTextOf places rs text) (sym (take_one r rest))

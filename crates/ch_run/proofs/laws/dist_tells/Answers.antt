@@ -4,6 +4,5 @@ use Rattle.ch_run.proofs.laws.dist_tells.Goals as goal
 
 pub returns : goal.returns
 returns g c = λ options graph graph' source source' queries queries' output output' result same went.
-    dist_tells options g.I.Input.read_gives g.I.Input.failed g.met.I.Input.counts graph graph' g.S.Input.read_gives g.S.Input.failed
-    g.met.S.Input.counts g.S.Input.origin source source' g.J.Input.read_gives g.J.Input.failed g.met.J.Input.counts queries
-    queries' g.O.Output.write_gives g.O.Output.failed g.O.Output.idle g.met.O.Output.counts output output' result same went
+    dist_tells options _ _ g.met.I.Input.counts graph graph' _ _ g.met.S.Input.counts g.S.Input.origin source source' _ _ g.met.J.Input.counts queries queries' _ _ _
+    g.met.O.Output.counts output output' result same went

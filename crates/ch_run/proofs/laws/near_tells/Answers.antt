@@ -4,7 +4,6 @@ use Rattle.ch_run.proofs.laws.near_tells.Goals as goal
 
 pub returns : goal.returns
 returns g c = λ options graph graph' source source' sources sources' targets targets' output output' result same same_sources went.
-    near_tells options g.I.Input.read_gives g.I.Input.failed g.met.I.Input.counts graph graph' g.S.Input.read_gives g.S.Input.failed
-    g.met.S.Input.counts g.S.Input.origin source source' g.J.Input.read_gives g.J.Input.failed g.met.J.Input.counts
-    g.J.Input.origin sources sources' g.L.Input.read_gives g.L.Input.failed g.met.L.Input.counts targets targets'
-    g.O.Output.write_gives g.O.Output.failed g.O.Output.idle g.met.O.Output.counts output output' result same same_sources went
+    near_tells options _ _ g.met.I.Input.counts graph graph' _ _ g.met.S.Input.counts g.S.Input.origin source source' _ _
+    g.met.J.Input.counts g.J.Input.origin sources sources' _ _ g.met.L.Input.counts targets targets' _ _ _
+    g.met.O.Output.counts output output' result same same_sources went

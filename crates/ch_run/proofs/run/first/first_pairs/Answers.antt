@@ -9,17 +9,11 @@ use Rattle.ch_run.proofs.run.first.first_pairs.Goals as goal
 pub pairs_text-requires-clause-pairs : goal.pairs_text-requires-clause-pairs
 pairs_text-requires-clause-pairs g c = λ kept within.
     let n = c.args.by.now.checked.now.graph.nodes in
-    let routed = c.args.routed in
     subst (AreQueries n) (sym c.deref.ensures.value)
-    (values_within (asked_for routed) (asked_for routed c.args.first ∷ c.args.rest.now) c.in_ok-pairs.pairs.items
-    c.in_ok-pairs.ensures n (λ query. (query.0 < n) × (query.1 < n)) (asked_within n routed) c.requires.each)
+    (values_within c.in_ok-pairs.ensures n (λ query. (query.0 < n) × (query.1 < n)) (asked_within n c.args.routed) c.requires.each)
 
 pub returns-clause-first : goal.returns-clause-first
 returns-clause-first g c =
-    let routed = c.args.routed in
-    let places = places_of c.args.room.now.near in
-    first_answered (asked_for routed) (asked_for routed c.args.first ∷ c.args.rest.now) c.in_ok-pairs.pairs.items c.in_ok-pairs.ensures
-    (IsTextOfRequest c.args.by.now.options.now c.args.by.now.checked.now.graph c.args.by.now.checked.now.hierarchy) places places
-    c.in_ok-text.text.items c.len-count.result (asked_stay routed)
+    first_answered c.in_ok-pairs.ensures (asked_stay c.args.routed)
     (c.len-count.ensures ∙ sym c.deref.ensures.len ∙ ap length c.deref.ensures.value) refl
-    (rw c.deref.ensures.value at (c.in_ok-text.ensures.text places))
+    (rw c.deref.ensures.value at (c.in_ok-text.ensures.text (places_of c.args.room.now.near)))

@@ -14,18 +14,16 @@ returns-in_default-clause-first g c =
     let options = c.args.by.now.options.now in
     let network = c.args.by.now.checked.now.graph in
     let H = c.args.by.now.checked.now.hierarchy in
-    let text = c.push_near_row.new.text.items in
     let line = c.in_ok-push_near_row.ensures ∙ ap (λ (l : List ℕ). l ++ near_row_text [] (c.args.source, [])) c.new-text.ensures.items in
-    rw (c.in_default.is) (one_answered (IsTextOfRequest options network H) _ (near_row_of c.args.within c.args.source) c.args.rest.now text
-    (none_near options network (λ K. K ≡ H) c.args.source c.args.within text line))
+    rw (c.in_default.is) (one_answered (near_row_of c.args.within c.args.source)
+    (none_near options network (λ K. K ≡ H) c.args.source c.args.within c.push_near_row.new.text.items line))
 
 pub rows_text-requires-clause-sources : goal.rows_text-requires-clause-sources
 rows_text-requires-clause-sources g c = λ kept within.
     let n = c.args.by.now.checked.now.graph.nodes in
     let searched = rw c.in-Some.is at c.requires.room.near in
     let size : nodes_of c.in-Some.near.hierarchy ≡ n = ap nodes_of searched.0 ∙ searched.2.kept.nodes in
-    let all = values_within (near_row_of c.args.within) (near_row_of c.args.within c.args.source ∷ c.args.rest.now)
-    c.in_ok-sources.sources.items c.in_ok-sources.ensures n (λ s. s < n) (λ s is. is) c.requires.each in
+    let all = values_within c.in_ok-sources.ensures n (λ s. s < n) (λ s is. is) c.requires.each in
     subst (λ m. All (λ s. s < m) c.deref.result.now) (sym size) (subst (All (λ s. s < n)) (sym c.deref.ensures.value) all)
 
 pub rows_text-requires-clause-limit : goal.rows_text-requires-clause-limit
@@ -40,9 +38,7 @@ returns-clause-first g c =
     let sources = c.in_ok-sources.sources.items in
     let searched = rw c.in-Some.is at c.requires.room.near in
     let text = rw (c.deref.ensures.value, c.limit_of.ensures) at c.in_ok-text.ensures.text in
-    rw (c.in-Some.is) (first_answered (near_row_of c.args.within) (near_row_of c.args.within c.args.source ∷ c.args.rest.now)
-    sources c.in_ok-sources.ensures (IsTextOfRequest options network H)
-    (places_of (Some near)) (places_of (Some c.rows_text.new.near)) c.in_ok-text.text.items c.len-count.result (λ places s. refl)
+    rw (c.in-Some.is) (first_answered c.in_ok-sources.ensures (λ places s. refl)
     (c.len-count.ensures ∙ sym c.deref.ensures.len ∙ ap length c.deref.ensures.value)
     (ap (λ (w : Wanted). places_of (Some w)) c.in_ok-text.ensures.same)
     (near_answered options network H searched.2.limits searched.2.kept c.args.within near searched.0 sources c.in_ok-text.text.items text))

@@ -11,5 +11,4 @@ returns g c = λ places rest.
     let text = rw c.hierarchy.ensures.hierarchy at c.in_ok-text.ensures in
     let made = rw (c.sources-sources.ensures, c.targets-targets.ensures, c.limit_of-within.ensures, c.within.ensures) at
     (text network right.limits right.kept) in
-    one_answered (IsTextOfRequest c.args.by.now.options.now network c.args.by.now.checked.now.hierarchy) places
-    (Table c.args.lists.now) rest c.in_ok-text.text.items made
+    one_answered (Table c.args.lists.now) made

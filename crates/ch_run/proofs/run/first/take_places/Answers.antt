@@ -10,12 +10,9 @@ use Rattle.ch_run.proofs.run.first.take_places.Goals as goal
 
 pub returns-clause-first : goal.returns-clause-first
 returns-clause-first g c = λ rest.
-    let P = IsTextOfRequest c.args.by.now.options.now c.args.by.now.checked.now.graph c.args.by.now.checked.now.hierarchy in
     let places = c.args.places.now in
     let made : PlaceList = record { nodes = c.in_ok-near.near.targets; count = c.in_ok-near.near.count } in
     let read : PlaceList = record { nodes = c.nodes.result.now; count = c.count-count.result } in
     let first : made ≡ read = ap (λ (w : Wanted). record { nodes = w.targets; count = w.count }) c.in_ok-near.ensures in
     let second : read ≡ places = λ i. record { nodes = c.nodes.ensures i; count = c.count-count.ensures i } in
-    rw (c.new.ensures.items)
-    (subst (λ (after : PlaceList). AnswersFirst P (places_of c.args.room.now.near) after (Places places ∷ rest) [] 1)
-    (sym (first ∙ second)) (one_answered P (places_of c.args.room.now.near) (Places places) rest [] refl))
+    rw (c.new.ensures.items, first ∙ second) (one_answered (Places places) refl)
