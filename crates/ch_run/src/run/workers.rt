@@ -23,17 +23,15 @@ use std::thread::Threads;
 /// The number of answers that a worker writes at once.
 const ANSWERS: u32 = 1024;
 
-/// Makes a crew of the same workers that takes `piece` items at a time. It does not pass the caller's
+/// Makes a crew of the same workers that takes `ANSWERS` answers at a time. It does not pass the caller's
 /// gate, which counts answers.
-fn by_pieces<'a, R, G>(crew: &Crew<'a, R, G>, piece: u32) -> Crew<'a, R, Open>
-    requires positive { 0 < piece }
-    requires most { piece < 2 ^ 16 }
-    ensures { result.plan.piece ≡ piece }
+fn by_pieces<'a, R, G>(crew: &Crew<'a, R, G>) -> Crew<'a, R, Open>
+    ensures { result.plan.piece ≡ 1024 }
 {
     Crew {
         rt: crew.rt,
         alloc: crew.alloc,
-        plan: Plan::new(crew.plan.workers(), piece, crew.plan.wide()),
+        plan: Plan::new(crew.plan.workers(), ANSWERS, crew.plan.wide()),
         gate: &Open,
     }
 }
@@ -103,7 +101,7 @@ pub(crate) fn answers_text_by<R: Threads + Sync, G: Gate>(
         return answers_text(crew.alloc, answers);
     }
     let texts = run_pieces(
-        &by_pieces(crew, ANSWERS),
+        &by_pieces(crew),
         answers.len() as u32,
         &AnswersJob { answers },
     )?;

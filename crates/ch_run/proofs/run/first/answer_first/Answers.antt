@@ -1,10 +1,7 @@
 -- A table or a list of places in front is answered alone.
-use Rattle.std.proofs.Common.{List, drop, sym, subst, ◌∙◌}
-use Rattle.std.proofs.lemmas.Result.{IfOk-weaker}
-use Rattle.ch_read.specs.declared.request.Request.{Request}
+use Rattle.std.proofs.Common.{drop, sym, ◌∙◌}
 use Rattle.ch_read.specs.declared.request.Request.TheVariants.{Places, Table}
-use Rattle.ch_run.specs.Ask.{IsTextOfRequest}
-use Rattle.ch_run.specs.Serving.{AnswersFirst, places_of}
+use Rattle.ch_run.specs.Serving.{places_of}
 use Rattle.ch_run.proofs.Gathered.{front}
 use Rattle.ch_run.proofs.run.first.answer_first.Goals as goal
 

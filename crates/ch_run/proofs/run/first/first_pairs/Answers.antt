@@ -1,8 +1,7 @@
 -- The queries in front that are like the first one are nodes of the graph, and their text answers all of them.
-use Rattle.std.proofs.Common.{◌<◌, ◌∷◌, refl, sym, ◌∙◌, ap, length, subst}
+use Rattle.std.proofs.Common.{◌<◌, refl, sym, ◌∙◌, ap, length, subst}
 use Rattle.ch_query.specs.Replies.{AreQueries}
-use Rattle.ch_run.specs.Ask.{IsTextOfRequest}
-use Rattle.ch_run.specs.Serving.{asked_for, places_of}
+use Rattle.ch_run.specs.Serving.{places_of}
 use Rattle.ch_run.proofs.Gathered.{asked_stay, asked_within, first_answered, values_within}
 use Rattle.ch_run.proofs.run.first.first_pairs.Goals as goal
 

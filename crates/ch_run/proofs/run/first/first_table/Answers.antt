@@ -1,6 +1,5 @@
 -- The text of the table of these lists answers the request.
 use Rattle.ch_read.specs.declared.request.Request.TheVariants.{Table}
-use Rattle.ch_run.specs.Ask.{IsTextOfRequest}
 use Rattle.ch_run.proofs.Gathered.{one_answered}
 use Rattle.ch_run.proofs.run.first.first_table.Goals as goal
 

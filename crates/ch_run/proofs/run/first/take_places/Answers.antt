@@ -1,10 +1,8 @@
 -- New places are answered by no text, and take the place of those before.
-use Rattle.std.proofs.Common.{◌≡◌, [], ◌∷◌, sym, ap, ◌∙◌, subst, refl}
+use Rattle.std.proofs.Common.{◌≡◌, ap, ◌∙◌, refl}
 use Rattle.ch_near.specs.Near.{Wanted}
 use Rattle.ch_read.specs.declared.request.Request.TheVariants.{Places}
 use Rattle.ch_read.specs.RequestLists.{PlaceList}
-use Rattle.ch_run.specs.Ask.{IsTextOfRequest}
-use Rattle.ch_run.specs.Serving.{AnswersFirst, places_of}
 use Rattle.ch_run.proofs.Gathered.{one_answered}
 use Rattle.ch_run.proofs.run.first.take_places.Goals as goal
 
