@@ -243,7 +243,8 @@ def test_what_is_broken_off_leaves_no_answer():
         return sender
 
     def wake(seconds):
-        signal.setitimer(signal.ITIMER_REAL, max(seconds, 1e-5), 1)
+        # Once a round, so that none comes between two of them.
+        signal.setitimer(signal.ITIMER_REAL, max(seconds, 1e-5))
 
     with network_of_country() as network:
         held, before = descriptors(), signal.signal(signal.SIGALRM, alarm)
