@@ -424,7 +424,8 @@ def nginx_stands_before_it():
             what_nginx_does_itself(through, encoded, wanted, plain)
             child.terminate()
             child.wait(PATIENCE)
-            status, body = through("/health")
+            # It takes a request a second once there were too many.
+            status, body = until(lambda: (found := through("/health"))[0] != 429 and found)
             assert status == 503 and "does not answer" in json.loads(body)["message"], (status, body)
         finally:
             server.terminate()
