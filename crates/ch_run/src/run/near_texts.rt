@@ -42,11 +42,11 @@ pub(crate) fn near_by<R: Threads + Sync, G: Gate>(
     let mut near = NearTargets::search(crew, hierarchy, direction, targets, within, options.count)?;
     let nodes = hierarchy.nodes();
     match sources {
-        Sources::All => all_nodes_text(crew, &near, nodes, targets),
+        Sources::All => all_nodes_text(crew, &near, nodes),
         Sources::Listed(list) if list.len() < nodes as usize / 2 => {
-            searched_text(crew, &mut near, list, targets)
+            searched_text(crew, &mut near, list)
         }
-        Sources::Listed(list) => swept_text(crew, &near, list, targets),
+        Sources::Listed(list) => swept_text(crew, &near, list),
     }
 }
 
@@ -56,16 +56,14 @@ fn searched_text<R: Threads + Sync, G: Gate>(
     crew: &Crew<'_, R, G>,
     near: &mut NearTargets<'_>,
     sources: &[u32],
-    targets: &[u32],
 ) -> Result<Vec<u8>, AllocError>
     requires sources { All (λ s. s < nodes_of near.old.hierarchy) sources.now }
-    requires targets { near.old.targets ≡ targets.now }
     ensures { IfOk result (λ text. HasNearRows near.old sources.now text.items) }
 {
     let mut text = Vec::new(crew.alloc);
     for portion in sources.chunks(PORTION) {
         let rows = near.rows(crew, portion)?;
-        push_near_rows(&mut text, portion, targets, &rows)?;
+        push_near_rows(&mut text, portion, near.targets(), &rows)?;
     }
     Ok(text)
 }
@@ -75,13 +73,12 @@ fn swept_text<R: Threads + Sync, G: Gate>(
     crew: &Crew<'_, R, G>,
     near: &NearTargets<'_>,
     sources: &[u32],
-    targets: &[u32],
 ) -> Result<Vec<u8>, AllocError>
     requires sources { All (λ s. s < nodes_of near.now.hierarchy) sources.now }
-    requires targets { near.now.targets ≡ targets.now }
     ensures { IfOk result (λ text. HasNearRows near.now sources.now text.items) }
 {
     let rows = swept(crew, near)?;
+    let targets = near.targets();
     let mut text = Vec::new(crew.alloc);
     for source in sources {
         push_near_row(&mut text, *source, targets, rows.row(*source))?;
@@ -94,13 +91,12 @@ fn all_nodes_text<R: Threads + Sync, G: Gate>(
     crew: &Crew<'_, R, G>,
     near: &NearTargets<'_>,
     nodes: u32,
-    targets: &[u32],
 ) -> Result<Vec<u8>, AllocError>
     requires nodes { nodes ≡ nodes_of near.now.hierarchy }
-    requires targets { near.now.targets ≡ targets.now }
     ensures { IfOk result (λ text. HasNearRows near.now (nodes_in_order nodes) text.items) }
 {
     let rows = swept(crew, near)?;
+    let targets = near.targets();
     let mut text = Vec::new(crew.alloc);
     for node in 0..nodes {
         push_near_row(&mut text, node, targets, rows.row(node))?;

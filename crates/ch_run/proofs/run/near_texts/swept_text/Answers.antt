@@ -10,12 +10,12 @@ use Rattle.ch_run.proofs.run.near_texts.swept_text.Goals as goal
 pub push_near_row-requires : goal.push_near_row-requires
 push_near_row-requires g c =
     let i = c.loop-source.source-index in
-    swept_places c.args.near.now c.in_ok-rows.rows c.args.targets.now c.in_ok-rows.ensures c.requires.targets
+    swept_places c.args.near.now c.in_ok-rows.rows c.targets-targets.result.now c.in_ok-rows.ensures (sym c.targets-targets.ensures)
     (get_or c.args.sources.now i 0) _ (c.requires.sources i 0 c.loop-source-test.true) c.row.ensures
 
 pub loop-source-preserved : goal.loop-source-preserved
 loop-source-preserved g c =
-    let targets = c.args.targets.now in
+    let targets = c.targets-targets.result.now in
     let inside = c.rows.inside in
     let i = c.loop-source.source-index in
     let s = get_or c.args.sources.now i 0 in
@@ -30,7 +30,8 @@ returns g c =
     let inside = c.rows.inside in
     let sources = c.args.sources.now in
     let text = c.loop-source.text.items in
-    swept_lines c.args.near.now (inside.hierarchy.now, inside.rows) c.args.targets.now
-    (subst (AreNodeRows c.args.near.now) (sym c.rows.view_is) c.in_ok-rows.ensures) c.requires.targets sources text c.requires.sources
-    (all_grown (λ (s : ℕ). near_row_text c.args.targets.now (s, row_at inside.hierarchy.now inside.rows s)) sources
+    swept_lines c.args.near.now (inside.hierarchy.now, inside.rows) c.targets-targets.result.now
+    (subst (AreNodeRows c.args.near.now) (sym c.rows.view_is) c.in_ok-rows.ensures) (sym c.targets-targets.ensures) sources text
+    c.requires.sources
+    (all_grown (λ (s : ℕ). near_row_text c.targets-targets.result.now (s, row_at inside.hierarchy.now inside.rows s)) sources
     c.loop-source.source-index [] text c.loop-source-test.false c.loop-source.invariant)
