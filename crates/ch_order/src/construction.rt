@@ -3,7 +3,7 @@ mod alone;
 mod like;
 mod quick;
 
-ghost use Rattle.std.specs.Prelude.{◌≡◌, ℕ, ◌<◌, ◌≤◌, ◌^◌, ◌++◌, All, IfOk, OnOk, length, map, take};
+ghost use Rattle.std.specs.Prelude.{◌≡◌, ℕ, ◌<◌, ◌≤◌, ◌^◌, ◌++◌, All, IfOk, None, OnOk, length, map, slice_set, take};
 ghost use Rattle.ch_graph.specs.Graph.{IsWithinLimits};
 ghost use Rattle.ch_contract.specs.Legs.{IsHopBound};
 ghost use Rattle.ch_contract.specs.Built.{IsHierarchy, IsHierarchyInTurn};
@@ -94,6 +94,16 @@ fn contract_in_turn<R: Threads + Sync, G: Gate>(
         construction = construction.contract(crew, node, hops, by)?;
     }
     construction.finish()
+}
+
+/// Takes a node out of the queue. While no node waits, as before the first priorities, this reads no memory for the node.
+fn leave(waiting: &mut KeyQueue<i64>, node: u32)
+    requires { node < length waiting.old }
+    ensures { waiting.new ≡ slice_set waiting.old node None }
+{
+    if !waiting.is_empty() {
+        let _ = waiting.remove(node);
+    }
 }
 
 /// A hierarchy that is being built: some of its nodes are contracted.
@@ -260,7 +270,7 @@ impl Construction {
     {
         let remaining = self.remaining;
         self.remaining = self.room.contract(alloc, remaining, node, hops)?;
-        let _ = self.waiting.remove(node);
+        leave(&mut self.waiting, node);
         let neighbours = neighbours(
             alloc,
             self.remaining.up_legs(node),

@@ -21,14 +21,14 @@ use ch_work::{Crew, Gate, Stage};
 use std::alloc::{AllocError, Global};
 use std::thread::Threads;
 
-/// The numbers of nodes below are so many fifths of those that remain.
-const PARTS: usize = 5;
+/// The numbers of nodes below are so many tenths of those that remain.
+const PARTS: usize = 10;
 
-/// So many fifths are judged together, from the first one on.
-const JUDGED_PARTS: usize = 4;
+/// So many tenths are judged together, from the first one on.
+const JUDGED_PARTS: usize = 7;
 
-/// When so many fifths are left, the next ones are judged.
-const DUE_PARTS: usize = 2;
+/// When so many tenths are left, the next ones are judged.
+const DUE_PARTS: usize = 4;
 
 /// So many nodes more are judged, so that the last nodes are judged all together.
 const MORE_JUDGED: usize = 100;
@@ -47,10 +47,10 @@ const MOST_JUDGED: u32 = 16;
 /// `fresh` per cent come in the given order. It is for answers that do not depend on the order, because it takes less time
 /// to find the order of the fresh nodes.
 ///
-/// When the last given node is contracted, the fresh nodes wait as given, and the first four fifths of them get
+/// When the last given node is contracted, the fresh nodes wait as given, and the first seven tenths of them get
 /// priorities by depth. A priority is then computed again only when its node is the first in the queue, and the node is
 /// contracted if it is still the first (*lazy updates*). The priority of a node that becomes less is not noticed so.
-/// Whenever three fifths of the nodes have gone, the first four fifths of the others therefore get priorities, whether
+/// Whenever three fifths of the nodes have gone, the first seven tenths of the others therefore get priorities, whether
 /// they had some or not. Workers share these. To take less time, their witnesses have one leg less.
 ///
 /// # Errors
@@ -128,7 +128,7 @@ fn put_in_order(waiting: &mut KeyQueue<i64>, nodes: &[u32])
     }
 }
 
-/// Returns how many of the nodes that remain are judged together: four fifths and some more, or all.
+/// Returns how many of the nodes that remain are judged together: seven tenths and some more, or all.
 fn next_count(remaining: usize) -> usize
     ensures { result ≤ remaining }
 {
