@@ -52,13 +52,6 @@ impl<T: Copy> Lists<T> {
         Ok(Lists { values, places })
     }
 
-    /// The number of lists.
-    pub fn list_count(&self) -> u32
-        ensures { result ≡ length self.now }
-    {
-        self.places.len() as u32
-    }
-
     /// The number of values in the array: those of all lists, and those of unused room. Unused room stays
     /// until `pack`.
     pub fn room(&self) -> usize
