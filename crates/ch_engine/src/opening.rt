@@ -40,8 +40,6 @@ pub(crate) fn opened(alloc: Global, graph: &[u8], saved: &[u8]) -> Result<Networ
         let lined = Network::of(alloc, &roads, built)?;
         return Ok(lined);
     }
-    // This call tells the proof that the graph keeps the limits.
-    let _ = roads.arcs();
     let hierarchy = match read_saved(alloc, saved, roads.nodes()) {
         Ok(hierarchy) => hierarchy,
         Err(ReadError::Fault(fault)) => return Err(OpenError::BadSaved(fault)),

@@ -82,9 +82,10 @@ impl Graph {
         Graph { nodes, arcs }
     }
 
-    /// The number of nodes.
+    /// The number of nodes, at most [`MOST_NODES`].
     pub fn nodes(&self) -> u32
-        ensures { result ≡ self.now.nodes }
+        ensures nodes { result ≡ self.now.nodes }
+        ensures limits { IsWithinLimits self.now }
     {
         self.nodes
     }

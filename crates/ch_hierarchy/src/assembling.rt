@@ -31,8 +31,6 @@ pub fn assemble(alloc: Global, graph: &Graph, saved: &Saved) -> Result<Hierarchy
         AnswersWhere result (Err (CheckError.Fault f))
         (IsEarly f × IsFirstFault graph.now saved.now f) }
 {
-    // This call tells the proof that the graph keeps the limits.
-    let _ = graph.arcs();
     let nodes = graph.nodes();
     let Some(levels) = levels_of(alloc, nodes, saved.order.as_slice())? else {
         return Err(CheckError::Fault(CheckFault::Order));

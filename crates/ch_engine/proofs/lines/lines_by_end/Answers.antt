@@ -20,7 +20,7 @@ build-requires c =
     c.deref.ensures.value ∙ c.loop-line.invariant
     ∙ ap (λ (n : ℕ). map (with_key (λ line. near_end side (arc_on arcs line))) (range_with_len 0 n)) end
     ∙ ap (λ (them : List InArc). ended_lines side them) c.arcs-arcs.ensures.arcs in
-    subst (λ (n : ℕ). All (λ (p : ℕ × ℕ). p.0 < n) c.deref.result.now) (sym c.nodes.ensures)
+    subst (λ (n : ℕ). All (λ (p : ℕ × ℕ). p.0 < n) c.deref.result.now) (sym c.nodes.ensures.nodes)
     (subst (All (λ (p : ℕ × ℕ). p.0 < g.nodes)) (sym is) (ended_low g c.arcs-arcs.ensures.limits side))
 
 pub returns : goal.returns
@@ -34,7 +34,7 @@ returns c =
     ∙ ap (λ (n : ℕ). map (with_key (λ line. near_end side (arc_on arcs line))) (range_with_len 0 n)) end
     ∙ ap (λ (them : List InArc). ended_lines side them) c.arcs-arcs.ensures.arcs in
     subst (λ (q : List (ℕ × ℕ)). IfOk c.build.result (AreRowsOf g.nodes q)) is
-    (subst (λ (n : ℕ). IfOk c.build.result (AreRowsOf n c.deref.result.now)) c.nodes.ensures c.build.ensures)
+    (subst (λ (n : ℕ). IfOk c.build.result (AreRowsOf n c.deref.result.now)) c.nodes.ensures.nodes c.build.ensures)
 
 pub loop-line-preserved : goal.loop-line-preserved
 loop-line-preserved c =

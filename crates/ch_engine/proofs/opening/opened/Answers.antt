@@ -24,7 +24,7 @@ returns-in-Err-Fault-read_saved-clause-error c =
         c.in-Ok.roads,
         (c.in-Ok.ensures.value c.in-Ok.roads).0 refl,
         subst (λ e. IsFault (Saved c.in-Ok.roads.nodes) c.args.saved.now e.line e.kind) (sym c.in-Err-Fault-read_saved.fault-is)
-            (subst (λ n. IsFault (Saved n) c.args.saved.now f.line f.kind) c.nodes.ensures faulty),
+            (subst (λ n. IsFault (Saved n) c.args.saved.now f.line f.kind) c.nodes.ensures.nodes faulty),
       ),
     )
 
@@ -34,11 +34,11 @@ returns-clause-value c =
     let saved = c.in-Ok-read_saved.hierarchy in
     let right = c.in-Ok-check_alone.right in
     let same : c.in_ok-lined-2.lined.0 ≡ right = c.in_ok-lined-2.ensures.hierarchy in
-    let named = subst (λ (n : ℕ). NamesSaved c.args.saved.now n saved) c.nodes.ensures
+    let named = subst (λ (n : ℕ). NamesSaved c.args.saved.now n saved) c.nodes.ensures.nodes
     ((c.in-Ok-read_saved.ensures.value saved).0 refl) in (
       roads,
       (c.in-Ok.ensures.value roads).0 refl,
-      c.arcs.ensures.limits,
+      c.nodes.ensures.limits,
       subst (IsKept roads) (sym same) c.in-Ok-check_alone.ensures.hierarchy.1,
       subst (IsSavedOrBuilt roads c.args.saved.now) (sym same)
           (saved_named roads c.args.saved.now saved right (search rules) named c.in-Ok-check_alone.ensures.hierarchy.0),
@@ -53,7 +53,7 @@ returns-in-Err-Fault-check_alone-clause-error c =
       c.in-Ok.roads,
       saved,
       (c.in-Ok.ensures.value c.in-Ok.roads).0 refl,
-      subst (λ n. NamesSaved c.args.saved.now n saved) c.nodes.ensures named,
+      subst (λ n. NamesSaved c.args.saved.now n saved) c.nodes.ensures.nodes named,
       subst (IsFirstFault c.in-Ok.roads saved) (sym c.in-Err-Fault-check_alone.fault-is)
           ((c.in-Err-Fault-check_alone.ensures.fault c.in-Err-Fault-check_alone.fault).0 (ap Err c.in-Err-Fault-check_alone.field-0-is)),
     )

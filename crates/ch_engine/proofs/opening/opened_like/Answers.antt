@@ -15,13 +15,16 @@ returns-in-Err-Fault-clause-error c =
 
 pub returns-then-nodes-clause-error : goal.returns-then-nodes-clause-error
 returns-then-nodes-clause-error c =
-    let roads = c.in-Ok.roads in
-    (roads, (c.in-Ok.ensures.value roads).0 refl, λ same. omega (arith, same, c.nodes.ensures, c.nodes-2.ensures.nodes, c.if-nodes.true))
+    let roads = c.in-Ok.roads in (
+      roads,
+      (c.in-Ok.ensures.value roads).0 refl,
+      λ same. omega (arith, same, c.nodes.ensures.nodes, c.nodes-2.ensures.nodes, c.if-nodes.true),
+    )
 
 pub returns-then-fresh-gt100-clause-error : goal.returns-then-fresh-gt100-clause-error
 returns-then-fresh-gt100-clause-error c =
     let roads = c.in-Ok.roads in
-    let size : roads.nodes ≡ nodes_of c.args.other.now = omega (arith, c.nodes.ensures, c.nodes-2.ensures.nodes, c.if-nodes.false) in
+    let size : roads.nodes ≡ nodes_of c.args.other.now = omega (arith, c.nodes.ensures.nodes, c.nodes-2.ensures.nodes, c.if-nodes.false) in
     let above : 100 < c.args.fresh = omega (arith, c.if-fresh-gt100.true) in
     (roads, (c.in-Ok.ensures.value roads).0 refl, size, above)
 
@@ -33,7 +36,7 @@ returns-clause-value c =
     let order = c.in_ok-order.order.items in
     let given : c.as_slice.result.now ≡ order = c.as_slice.ensures.value in
     let same : c.in_ok-lined.lined.0 ≡ built = c.in_ok-lined.ensures.hierarchy in
-    let size : roads.nodes ≡ nodes_of c.args.other.now = omega (arith, c.nodes.ensures, c.nodes-2.ensures.nodes, c.if-nodes.false) in
+    let size : roads.nodes ≡ nodes_of c.args.other.now = omega (arith, c.nodes.ensures.nodes, c.nodes-2.ensures.nodes, c.if-nodes.false) in
     let most : c.args.fresh ≤ 100 = omega (arith, c.if-fresh-gt100.false) in
     let like : IsBuiltLike roads c.args.other.now c.args.fresh built = (
       order,

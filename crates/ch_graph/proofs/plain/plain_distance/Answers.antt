@@ -31,12 +31,13 @@ first : (g : Network) (s nodes : ℕ) (best lent : List (Option ℕ)) → s < g.
 first g s nodes best lent start size is same = rw (same ∙ is, size) (partial_first g s start)
 
 pub relax_to_rest-requires : goal.relax_to_rest-requires
-relax_to_rest-requires c = (c.args.start, first _ _ _ _ _ c.requires.start c.nodes.ensures c.in_ok-best.ensures c.deref_mut.ensures.value)
+relax_to_rest-requires c =
+    (c.args.start, first _ _ _ _ _ c.requires.start c.nodes.ensures.nodes c.in_ok-best.ensures c.deref_mut.ensures.value)
 
 pub returns : goal.returns
 returns c =
     let known = c.relax_to_rest.ensures.known c.args.start
-    (first _ _ _ _ _ c.requires.start c.nodes.ensures c.in_ok-best.ensures c.deref_mut.ensures.value) in
+    (first _ _ _ _ _ c.requires.start c.nodes.ensures.nodes c.in_ok-best.ensures c.deref_mut.ensures.value) in
     let size = known.nodes in
     let kept = c.relax_to_rest.auto.best in
     let len = c.deref_mut.ensures.len in

@@ -17,7 +17,7 @@ returns-in_default-clause-fault c =
     let not = rw c.in_default.is at c.in_ok-levels.ensures in
     (assembles_fault c.args.graph.now c.args.saved.now Order
     (order_fault c.args.graph.now c.args.saved.now c.nodes-nodes.result c.as_slice.result.now c.args.saved.now.legs
-    c.nodes-nodes.ensures (c.as_slice.ensures.value ∙ ap (λ (q : OrderAndLegs). q.order) c.saved.view_is) refl not)).1
+    c.nodes-nodes.ensures.nodes (c.as_slice.ensures.value ∙ ap (λ (q : OrderAndLegs). q.order) c.saved.view_is) refl not)).1
 
 pub returns-in_err-pairs : goal.returns-in_err-pairs
 returns-in_err-pairs c =
@@ -27,7 +27,7 @@ returns-in_err-pairs c =
     let first = c.in_err-pairs.ensures.fault f (ap (refusal_of PlacedLegs) is) in
     subst (IsEarlyFirst c.args.graph.now c.args.saved.now) (sym first.1)
     (pair_fault c.args.graph.now c.args.saved.now c.nodes-nodes.result c.as_slice.result.now c.as_slice-legs.result.now
-    c.nodes-nodes.ensures (c.as_slice.ensures.value ∙ ap (λ (q : OrderAndLegs). q.order) c.saved.view_is)
+    c.nodes-nodes.ensures.nodes (c.as_slice.ensures.value ∙ ap (λ (q : OrderAndLegs). q.order) c.saved.view_is)
     (c.as_slice-legs.ensures.value ∙ ap (λ (q : OrderAndLegs). q.legs) c.saved.view_is) found.0 first.0 first.2)) in
     record { value = both.0; fault = both.1 }
 
@@ -37,7 +37,7 @@ returns-in-Some-first_past_bounds c =
     let are = subst (AreLevelsOf c.as_slice.result.now) (sym c.as_slice-2.ensures.value) found.1 in
     let both = assembles_fault c.args.graph.now c.args.saved.now (Bound c.in-Some-first_past_bounds.place)
     (bound_fault c.args.graph.now c.args.saved.now c.nodes-nodes.result c.as_slice.result.now c.as_slice-legs.result.now
-    c.nodes-nodes.ensures (c.as_slice.ensures.value ∙ ap (λ (q : OrderAndLegs). q.order) c.saved.view_is)
+    c.nodes-nodes.ensures.nodes (c.as_slice.ensures.value ∙ ap (λ (q : OrderAndLegs). q.order) c.saved.view_is)
     (c.as_slice-legs.ensures.value ∙ ap (λ (q : OrderAndLegs). q.legs) c.saved.view_is) found.0
     (no_pair_fault c.nodes-nodes.result c.as_slice.result.now c.as_slice-2.result.now found.0 are c.as_slice-legs.result.now _ _
     c.in_ok-pairs.ensures.pairs) c.in-Some-first_past_bounds.place c.in-Some-first_past_bounds.ensures) in
@@ -71,7 +71,7 @@ named c =
     rows_name c.args.graph.now c.args.saved.now c.nodes-nodes.result c.as_slice.result.now c.in-Some.levels.items
     c.as_slice-2.result.now c.as_slice-legs.result.now
     c.in_ok-pairs.pairs.ups.items c.as_slice-3.result.now c.in_ok-pairs.pairs.downs.items c.as_slice-4.result.now c.in_ok-ups.ups
-    c.in_ok-downs.downs c.arcs.ensures.limits.size.0 c.nodes-nodes.ensures
+    c.in_ok-downs.downs c.nodes-nodes.ensures.limits.size.0 c.nodes-nodes.ensures.nodes
     (c.as_slice.ensures.value ∙ ap (λ (q : OrderAndLegs). q.order) c.saved.view_is)
     (c.as_slice-legs.ensures.value ∙ ap (λ (q : OrderAndLegs). q.legs) c.saved.view_is)
     c.as_slice-2.ensures.value c.as_slice-3.ensures.value c.as_slice-4.ensures.value found.0 found.1 c.in_ok-pairs.ensures.pairs

@@ -7,7 +7,7 @@ use Rattle.ch_order.proofs.construction.build_in_turn.Goals as goal
 
 pub contract_in_turn-requires-clause-nodes : goal.contract_in_turn-requires-clause-nodes
 contract_in_turn-requires-clause-nodes g c lifetimes bounds =
-    numbers_given _ _ _ _ c.as_slice.ensures.value c.in_ok-nodes.ensures c.nodes.ensures
+    numbers_given _ _ _ _ c.as_slice.ensures.value c.in_ok-nodes.ensures c.nodes.ensures.nodes
 
 pub returns-clause-hierarchy : goal.returns-clause-hierarchy
 returns-clause-hierarchy g c =

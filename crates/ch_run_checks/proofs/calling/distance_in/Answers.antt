@@ -16,9 +16,9 @@ returns-in-Err-Fault-clause-file g c fault same =
 pub returns-then-from-nodes-clause-node : goal.returns-then-from-nodes-clause-node
 returns-then-from-nodes-clause-node g c same =
     let far : (c.in-Ok.graph.nodes ≤ c.args.from) ⊎ (c.in-Ok.graph.nodes ≤ c.args.to) = elim c.then-from-nodes.branch [
-      | then-from-nodes-via-then-from-nodes w ↦ inl (let nodes = c.nodes.ensures in let past = w.if-from-nodes.true in omega arith)
+      | then-from-nodes-via-then-from-nodes w ↦ inl (let nodes = c.nodes.ensures.nodes in let past = w.if-from-nodes.true in omega arith)
       | then-from-nodes-via-else-from-nodes+then-to-nodes w ↦
-          inr (let nodes = w.nodes-else-from-nodes.ensures in let past = w.if-to-nodes.true in omega arith)
+          inr (let nodes = w.nodes-else-from-nodes.ensures.nodes in let past = w.if-to-nodes.true in omega arith)
     ] in
     (c.in-Ok.graph, (c.in-Ok.ensures.value c.in-Ok.graph).0 refl, far)
 

@@ -48,7 +48,7 @@ loop-arc-preserved c =
 pub invariant_of-result : goal.invariant_of-result
 invariant_of-result c =
     let opened = open_all c.args.graph.now c.nodes-nodes.result c.arcs-arc-items.result.now c.loop-arc.arc-index
-    c.loop-arc.outs.rows c.loop-arc.ins.rows c.arcs-arc-items.ensures.limits c.nodes-nodes.ensures c.arcs-arc-items.ensures.arcs
+    c.loop-arc.outs.rows c.loop-arc.ins.rows c.arcs-arc-items.ensures.limits c.nodes-nodes.ensures.nodes c.arcs-arc-items.ensures.arcs
     c.loop-arc-test.false c.loop-arc.invariant.0 in (
       opened.0,
       λ light. opened_light MOST_LIGHT c.args.graph.now (legs_from c.loop-arc.outs.rows)
@@ -59,5 +59,5 @@ pub returns-clause-legs : goal.returns-clause-legs
 unfolding legs_of
 returns-clause-legs c =
     (open_all c.args.graph.now c.nodes-nodes.result c.arcs-arc-items.result.now c.loop-arc.arc-index c.loop-arc.outs.rows
-    c.loop-arc.ins.rows c.arcs-arc-items.ensures.limits c.nodes-nodes.ensures c.arcs-arc-items.ensures.arcs
+    c.loop-arc.ins.rows c.arcs-arc-items.ensures.limits c.nodes-nodes.ensures.nodes c.arcs-arc-items.ensures.arcs
     c.loop-arc-test.false c.loop-arc.invariant.0).1

@@ -10,7 +10,7 @@ pub returns-clause-value : goal.returns-clause-value
 returns-clause-value g c =
     let input = reading g.I.Input.read_gives c.args.input.now c.bytes_from.new.input in
     let all : input.all c.deref.result.now = rw c.deref.ensures.value c.in_ok-bytes.ensures.bytes in
-    rw (c.judged.ensures, ← c.nodes.ensures)
+    rw (c.judged.ensures, ← c.nodes.ensures.nodes)
     (list_judged Which.Queries input (Queries c.nodes.result) c.deref.result.now all
     (λ given pairs. NamesQueries given c.nodes.result pairs) _
     c.read_queries.ensures.value)
@@ -19,7 +19,7 @@ pub returns-clause-ends : goal.returns-clause-ends
 returns-clause-ends g c =
     let input = reading g.I.Input.read_gives c.args.input.now c.bytes_from.new.input in
     let all : input.all c.deref.result.now = rw c.deref.ensures.value c.in_ok-bytes.ensures.bytes in
-    rw (c.judged.ensures, ← c.nodes.ensures)
+    rw (c.judged.ensures, ← c.nodes.ensures.nodes)
     (list_fault_judged Which.Queries input (Queries c.nodes.result) c.deref.result.now all _ c.read_queries.ensures.fault)
 
 pub returns-in_err-bytes-clause-ends : goal.returns-in_err-bytes-clause-ends

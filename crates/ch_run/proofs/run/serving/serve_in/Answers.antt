@@ -12,7 +12,7 @@ pub loop-init : goal.loop-init
 loop-init g c = record {
   room = c.requires.buffer;
   kept = c.requires.room;
-  served = rw (c.new-reader.ensures, c.nodes.ensures, c.graph.ensures.graph, c.requires.none) served_none;
+  served = rw (c.new-reader.ensures, c.nodes.ensures.nodes, c.graph.ensures.graph, c.requires.none) served_none;
   reads = refl;
 }
 
