@@ -354,6 +354,7 @@ fn deepen_around(
     depths: &mut [u32],
 ) -> Result<Around, AllocError>
     requires nodes { All (λ v. v < remaining.now.nodes) nodes.now }
+    requires limits { AreLegsWithin remaining.now.nodes (legs_of remaining.now) }
     requires apart { AreApart (legs_of remaining.now) nodes.now }
     requires size { length depths.old ≡ remaining.now.nodes }
     requires depths { (m : ℕ) × ((x : ℕ) → slice_index depths.old x ≤ m) × (m + length nodes.now < 2 ^ 32) }
@@ -363,8 +364,6 @@ fn deepen_around(
     ensures few { IfOk result (λ a. length a.near.items ≤ remaining.now.nodes) }
     ensures owners { IfOk result (λ a. AreNeighboursOf (legs_of remaining.now) nodes.now a.near.items a.owners.items) }
 {
-    // This call tells the proof that the legs keep the limits.
-    let _ = remaining.nodes();
     let mut near = Vec::new(alloc);
     let mut owners = Vec::new(alloc);
     let mut around = Vec::new(alloc);

@@ -37,7 +37,7 @@ deepen-requires-clause-nodes c =
     ∙ ap (λ l. l ++ neighbours_in c.out_legs.result.now c.in_legs.result.now) c.loop-node.invariant.3 in
     subst (λ m. All (λ x. x < m) c.as_slice.result.now) (sym (c.loop-node.invariant.0 ∙ c.requires.size))
     (neighbours_within n (legs_of c.args.remaining.now) _ c.out_legs.result.now c.in_legs.result.now c.as_slice.result.now
-    c.out_legs.ensures.legs c.in_legs.ensures.legs c.nodes.ensures.limits list)
+    c.out_legs.ensures.legs c.in_legs.ensures.legs c.requires.limits list)
 
 pub deepen-requires-clause-contracted : goal.deepen-requires-clause-contracted
 deepen-requires-clause-contracted c =
@@ -65,9 +65,9 @@ loop-node-preserved c =
     let down = c.in_legs.result.now in
     let list : c.as_slice.result.now ≡ neighbours_in up down = c.as_slice.ensures.value ∙ c.in_ok-push_neighbours.ensures
     ∙ ap (λ l. l ++ neighbours_in c.out_legs.result.now c.in_legs.result.now) c.loop-node.invariant.3 in
-    let near = near_more n L nodes c.nodes.ensures.limits c.requires.apart i c.loop-node-test.true up down c.out_legs.ensures.legs
+    let near = near_more n L nodes c.requires.limits c.requires.apart i c.loop-node-test.true up down c.out_legs.ensures.legs
     c.in_legs.ensures.legs c.loop-node.near.items c.loop-node.invariant.2 in
-    let deep = deepened_near n L nodes c.nodes.ensures.limits c.requires.apart i c.loop-node-test.true up down c.out_legs.ensures.legs
+    let deep = deepened_near n L nodes c.requires.limits c.requires.apart i c.loop-node-test.true up down c.out_legs.ensures.legs
     c.in_legs.ensures.legs c.args.depths.now c.loop-node.depths _ c.as_slice.result.now list c.loop-node.invariant.1 c.deepen.ensures in
     let joined : c.append.new.self.items ≡ c.loop-node.near.items ++ neighbours_in up down =
     c.in_ok-append.ensures.items ∙ ap (λ l. c.loop-node.near.items ++ l)
@@ -122,5 +122,5 @@ returns-clause-near c =
     (take_all c.loop-node.node-index c.args.nodes.now past) c.loop-node.invariant.2).each
 
 pub returns-clause-few : goal.returns-clause-few
-returns-clause-few c = near_few c.args.remaining.now.nodes (legs_of c.args.remaining.now) c.args.nodes.now c.nodes.ensures.limits
+returns-clause-few c = near_few c.args.remaining.now.nodes (legs_of c.args.remaining.now) c.args.nodes.now c.requires.limits
     c.requires.apart _ c.loop-node.near.items c.loop-node.invariant.2
