@@ -98,8 +98,6 @@ impl Network {
         requires place { place < length (the_row_of (rows_of self.now.0 side) node) }
         ensures { IsLineBy self.now.0 self.now.1 (tail_of side node (node_at (the_row_of (rows_of self.now.0 side) node) place)) (head_of side node (node_at (the_row_of (rows_of self.now.0 side) node) place)) result }
     {
-        // This call tells the proof that each node has a row.
-        let _ = self.hierarchy.nodes();
         match side {
             Side::Up => self.ups.row(node)[place],
             Side::Down => self.downs.row(node)[place],

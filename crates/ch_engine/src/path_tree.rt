@@ -60,8 +60,6 @@ impl PathTree {
         ensures tree { IfOk result (λ tree. (lines : Lines) (values : List ℕ) → AreLegSums hierarchy.now lines values sums.now → IsTree side hierarchy.now lines values source tree) }
         ensures scratch { scratch.new ≡ scratch.old }
     {
-        // This call tells the proof that the hierarchy has levels.
-        let _ = hierarchy.nodes();
         let entries = spread(alloc, hierarchy, scratch, source, side, None)?;
         let mut steps = vec![in alloc; None; entries.len()]?;
         take_all(hierarchy, side, sums, &entries, steps.as_mut_slice());

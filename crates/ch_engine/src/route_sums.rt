@@ -2,7 +2,7 @@
 ghost use Rattle.std.specs.Prelude.{◌≡◌, ◌≢◌, ◌+◌, ◌<◌, ℕ, List, length, slice_index, slice_set, IfErr, IfOk, MatchOption, OnOk, Some, ⊤};
 ghost use Rattle.ch_graph.specs.Graph.{HasEnds};
 ghost use Rattle.ch_hierarchy.specs.Hierarchy.{LevelsAndLegs, nodes_of};
-ghost use Rattle.ch_engine.specs.Lines.{IsLineBy, Lines as AnyLines};
+ghost use Rattle.ch_engine.specs.Lines.{IsLineBy, IsOfSome, Lines as AnyLines};
 ghost use Rattle.ch_engine.specs.NearRows.{StaysFrom};
 ghost use Rattle.ch_engine.specs.PathTrees.{AreBothTrees, IsRouteSum};
 ghost use Rattle.ch_engine.specs.Refusals.{AreNodes, ArePairSumLengths, IsRefusalOfPairSums};
@@ -75,12 +75,11 @@ impl Engine {
         requires lengths { ArePairSumLengths (length sources.now) (length targets.now) (length weights.old) (length sums.old) (length values.now) self.old.lines.count }
         requires sources { AreNodes (nodes_of self.old.hierarchy) sources.now }
         requires targets { AreNodes (nodes_of self.old.hierarchy) targets.now }
+        requires kept { IsOfSome self.old.hierarchy self.old.lines }
         ensures written { ArePairSumsWritten self.old sources.now targets.now values.now weights.new sums.new result }
         ensures behind { StaysFrom result.count weights.old weights.new × StaysFrom result.count sums.old sums.new }
         ensures same { self.new ≡ self.old }
     {
-        // This call tells the proof that the hierarchy is right for some graph.
-        let _ = self.nodes();
         let trees = self.trees_for(alloc, sources, targets, values);
         for i in 0..sources.len() {
             if let Some((weight, sum)) = sum_by(&trees, sources[i], targets[i]) {
@@ -147,6 +146,7 @@ impl Engine {
 impl Network {
     /// Returns the sum of the values on the lines of a route's arcs, or `None` if it is 2^64 or more.
     fn sum_along(&self, answer: &Option<Route>, values: &[u64]) -> Option<u64>
+        requires kept { IsOfSome self.now.0 self.now.1 }
         requires route { IsOfSomePair self.now.0 answer.now }
         requires values { length values.now ≡ self.now.1.count }
         ensures { (sum : ℕ) × IsSumAlong self.now.0 self.now.1 values.now answer.now sum × IsTotal sum result }
@@ -159,12 +159,11 @@ impl Network {
 
     /// Returns the sum of the values on the lines of some arcs of a route.
     fn sum_of(&self, arcs: &[InArc], values: &[u64]) -> Option<u64>
+        requires kept { IsOfSome self.now.0 self.now.1 }
         requires route { (weight : ℕ) × IsOfSomePair self.now.0 (Some (record { weight = weight; arcs = arcs.now })) }
         requires values { length values.now ≡ self.now.1.count }
         ensures { (along : List ℕ) × AreLinesAlong self.now.0 self.now.1 arcs.now along × IsTotal (sum_on values.now along) result }
     {
-        // This call tells the proof that each arc has a line.
-        let _ = self.hierarchy();
         let mut sum = Some(0);
         for j in 0..arcs.len() {
             let line = self.line_of(arcs[j]);

@@ -1,7 +1,7 @@
 //! One side of a query: Dijkstra's algorithm from a source, along legs to higher nodes.
 ghost use Rattle.std.specs.Prelude.{◌≡◌, ◌+◌, ◌^◌, ◌<◌, ◌≤◌, length, slice_set, Some, true, false, IfOk};
 ghost use Rattle.ch_graph.specs.declared.limits.TheConstants.{MOST_WEIGHT};
-ghost use Rattle.ch_hierarchy.specs.Hierarchy.{nodes_of};
+ghost use Rattle.ch_hierarchy.specs.Hierarchy.{nodes_of, IsLevelled};
 ghost use Rattle.ch_query.specs.TwoSided.{LeadsKeys};
 ghost use Rattle.ch_hierarchy.specs.Ranked.{rank_of};
 ghost use Rattle.ch_query.specs.Underway.{idle_of, count_unsettled_in, IsTouched, IsRoom, UnreachedIsUnkeyed, RelaxesByRank, IsSameSearch, IsUnderway, IsExpandingAt, KeepsSettled, IsClean};
@@ -89,6 +89,7 @@ impl Search {
         ensures stalls { self.new.stalls ≡ stalls }
         ensures most { self.new.most ≡ most }
         ensures fresh { IsFresh hierarchy.now self.new }
+        ensures levelled { IsLevelled hierarchy.now }
     {
         self.source = source;
         self.stalls = stalls;

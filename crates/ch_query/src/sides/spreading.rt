@@ -1,6 +1,6 @@
 //! Searches without a target.
-ghost use Rattle.std.specs.Prelude.{◌≡◌, ◌<◌, ℕ, List, IfOk, map};
-ghost use Rattle.ch_hierarchy.specs.Hierarchy.{nodes_of};
+ghost use Rattle.std.specs.Prelude.{◌≡◌, ◌<◌, ℕ, List, IfOk, OnOk, map};
+ghost use Rattle.ch_hierarchy.specs.Hierarchy.{nodes_of, IsLevelled};
 ghost use Rattle.ch_query.specs.Search.{IsEmpty};
 ghost use Rattle.ch_query.specs.ByNode.{costs_of};
 ghost use Rattle.ch_query.specs.Underway.{IsSameSearch, IsUnderway, IsClean};
@@ -70,6 +70,7 @@ impl Search {
         ensures spread { IfOk result (λ list. IsSpread (rows_of hierarchy.now self.old.side) within source list.items) }
         ensures clean { IsClean (nodes_of hierarchy.now) self.new }
         ensures side { self.new.side ≡ self.old.side }
+        ensures levelled { IsLevelled hierarchy.now }
     {
         self.begin_up_to(hierarchy, source, false, most_within(within));
         self.explore(hierarchy);
@@ -99,6 +100,7 @@ pub fn spread(
     requires source { source < nodes_of hierarchy.now }
     ensures spread { IfOk result (λ list. IsSpread (rows_of hierarchy.now side) within source list.items) }
     ensures scratch { scratch.new ≡ scratch.old }
+    ensures levelled { OnOk result (IsLevelled hierarchy.now) }
 {
     let mut sides = scratch.take_sides(alloc)?;
     let list = match side {

@@ -4,7 +4,7 @@ use Rattle.std.proofs.Common.{◌≡◌, ◌∙◌, ◌<◌, ℕ, Option, length
 use Rattle.std.proofs.lemmas.List.{length-set}
 use Rattle.ch_hierarchy.specs.Hierarchy.{LevelsAndLegs, nodes_of}
 use Rattle.ch_engine.specs.Held.{Held}
-use Rattle.ch_engine.specs.Lines.{Lines}
+use Rattle.ch_engine.specs.Lines.{IsOfSome, Lines}
 use Rattle.ch_engine.specs.Routes.{IsFound}
 use Rattle.ch_engine.specs.PathTrees.{IsRouteSum}
 use Rattle.ch_engine.specs.RouteSums.{IsOfSomePair, IsSumAlong}
@@ -26,6 +26,13 @@ sum_along-requires-clause-route c =
     let hierarchy : c.deref.result.now.0 ≡ held.hierarchy =
     ap (λ (n : LevelsAndLegs × Lines). n.0) c.deref.ensures ∙ ap (λ (h : Held). h.hierarchy) whole in
     subst (λ (H : LevelsAndLegs). IsOfSomePair H answer) (sym hierarchy) (s, t, found.walk)
+
+pub sum_along-requires-clause-kept : goal.sum_along-requires-clause-kept
+sum_along-requires-clause-kept c =
+    let whole = c.self.view_is ∙ c.find_route.ensures.same ∙ c.loop-i.invariant.same in
+    let network : c.deref.result.now ≡ (c.args.self.now.hierarchy, c.args.self.now.lines) =
+    c.deref.ensures ∙ ap (λ (h : Held). (h.hierarchy, h.lines)) whole in
+    subst (λ (n : LevelsAndLegs × Lines). IsOfSome n.0 n.1) (sym network) c.requires.kept
 
 pub write_pair-requires : goal.write_pair-requires
 write_pair-requires c =
@@ -93,5 +100,5 @@ loop-i-preserved-in-Some c =
       long = length-set l.sums i sum ∙ v.long;
       behind = (set_stays c.args.weights.now l.weights i weight v.behind.0, set_stays c.args.sums.now l.sums i sum v.behind.1);
       summed = pairs_more held c.args.sources.now c.args.targets.now values l.weights l.sums i weight sum v.summed weighs inside
-          (tree_pair held values s t c.nodes.ensures.kept low (weight, sum) is);
+          (tree_pair held values s t c.requires.kept low (weight, sum) is);
     }))

@@ -14,7 +14,7 @@ use Rattle.ch_engine.proofs.network.Network.sum_of.Goals as goal
 pub line_of-line-requires : goal.line_of-line-requires
 line_of-line-requires c =
     let v = c.args.self.now in
-    let of : IsOfSome v.0 v.1 = c.hierarchy.ensures.lines in
+    let of : IsOfSome v.0 v.1 = c.requires.kept in
     let some = c.requires.route in
     route_ends v.0 v.1 of some.1.0 some.1.1 (Some (record { weight = some.0; arcs = c.args.arcs.now })) some.1.2 c.loop-j.j
     (record { from = 0; to = 0; weight = 0 }) c.loop-j-test.true
@@ -25,7 +25,7 @@ value_on-requires c =
     let some = c.requires.route in
     let route : Route = record { weight = some.0; arcs = c.args.arcs.now } in
     let none : InArc = record { from = 0; to = 0; weight = 0 } in
-    let low = line_low v.0 v.1 c.hierarchy.ensures.lines (get_or c.args.arcs.now c.loop-j.j none) c.line_of-line.result
+    let low = line_low v.0 v.1 c.requires.kept (get_or c.args.arcs.now c.loop-j.j none) c.line_of-line.result
     (arc_line v.0 v.1 some.1.0 some.1.1 route some.1.2 c.loop-j.j none c.loop-j-test.true c.line_of-line.result
     c.line_of-line.ensures) in
     omega (arith, low, c.requires.values)

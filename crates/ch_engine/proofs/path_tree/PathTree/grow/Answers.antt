@@ -16,7 +16,7 @@ pub take_all-requires-clause-nodes : goal.take_all-requires-clause-nodes
 take_all-requires-clause-nodes c =
     let H = c.args.hierarchy.now in
     subst (λ (es : List (ℕ × Cost)). (k : ℕ) → k < length es → (entry_at es k).0 < nodes_of H) (sym c.deref.ensures.value)
-    (entry_low H c.nodes.ensures.levelled c.args.side c.args.source c.in_ok-entries.entries.items c.requires.source
+    (entry_low H c.in_ok-entries.ensures.levelled c.args.side c.args.source c.in_ok-entries.entries.items c.requires.source
     c.in_ok-entries.ensures.spread)
 
 pub returns-clause-tree : goal.returns-clause-tree
