@@ -1,7 +1,6 @@
 -- The lemmas on engines: which hierarchy one opens with, the lines of its legs, and answers in arrays of words.
 mod AddingUp
 mod Filled
-mod EntrySearch
 mod FirstLines
 mod LegSums
 mod LineOfPair

@@ -1,6 +1,7 @@
--- The lemmas on costs, on walks and their least costs, on relaxed arcs, and on rows made by a counting sort.
+-- The lemmas on costs, on walks and their least costs, on relaxed arcs, on rows made by a counting sort, and on binary search.
 pub mod Numbers
 pub mod Lists
+pub mod BinarySearch
 pub mod CostOrder
 pub mod CostSums
 pub mod WalkLemmas

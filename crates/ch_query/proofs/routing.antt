@@ -1,6 +1,5 @@
 -- The lemmas on the way back, and on the arcs that legs stand for.
 pub mod Rows
-pub mod RowSearch
 pub mod PendingLegs
 pub mod Unpacked
 pub mod UnpackingSteps
