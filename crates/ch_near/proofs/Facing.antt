@@ -1,10 +1,10 @@
 -- Facts about a hierarchy that is reversed.
-use Rattle.std.proofs.Common.{ℕ, List, [], ◌∷◌, Vec, sym, subst}
+use Rattle.std.proofs.Common.{◌≡◌, ℕ, List, [], ◌∷◌, Vec, sym, subst}
 use Rattle.std.specs.Prelude.{Option, Some}
 use Rattle.std.specs.List.{AllZip}
 use Rattle.std.specs.declared.alloc.Global.{Global}
 use Rattle.ch_graph.specs.Graph.{Network, IsWithinLimits}
-use Rattle.ch_hierarchy.specs.Hierarchy.{LevelsAndLegs}
+use Rattle.ch_hierarchy.specs.Hierarchy.{LevelsAndLegs, nodes_of}
 use Rattle.ch_hierarchy.specs.Kept.{IsKept}
 use Rattle.ch_hierarchy.specs.Turned.{turned_hierarchy}
 use Rattle.ch_hierarchy.proofs.theory.KeptWalks.{meetings_are_distances}
@@ -80,6 +80,11 @@ module _ (g : Network) (H : LevelsAndLegs) (limits : IsWithinLimits g) (kept : I
 pub kept_faced : (direction : Direction) (H : LevelsAndLegs) → IsKeptForSome (facing direction H) → IsKeptForSome H
 kept_faced To H kept = kept
 kept_faced From H kept = kept_turned (turned_hierarchy H) kept
+
+-- a hierarchy has as many nodes when it is reversed
+pub faced_nodes : (direction : Direction) (H : LevelsAndLegs) (n : ℕ) → n ≡ nodes_of (facing direction H) → n ≡ nodes_of H
+faced_nodes To H n is = is
+faced_nodes From H n is = is
 
 -- the spaces of targets
 pub target_spaces : (direction : Direction) (H : LevelsAndLegs) (limit : Option ℕ) (targets : List ℕ) (spaces : List (Vec (ℕ × ℕ) Global)) →

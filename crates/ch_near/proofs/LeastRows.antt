@@ -82,7 +82,7 @@ module _ (places : ℕ) (count : Option ℕ) (S D : ℕ × ℕ → Type 0) (amon
   -- for each offer, the row has a pair of its place with no greater weight
   unlisted : (e : ℕ × ℕ) → S e → (x : ℕ) × (x ≤ e.0) × Contains xs (x, e.1)
   unlisted e offer =
-      let le = offered.whole e offer in
+      let le = offered.whole e.1 e.0 offer in
       let r = among e offer in
       let low = r.0 in
       let most = r.1 in

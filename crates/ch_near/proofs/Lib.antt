@@ -6,7 +6,6 @@ pub mod Firsts
 pub mod GraphRows
 pub mod LeastRows
 pub mod NearRows
-pub mod Offered
 pub mod OneFirst
 pub mod Orders
 pub mod Pigeons

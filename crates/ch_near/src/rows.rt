@@ -8,10 +8,10 @@ ghost use Rattle.ch_query.specs.Limits.{IsWithin};
 use crate::first::sort_and_cut;
 use crate::offers::Offers;
 use crate::searched::Searched;
-use crate::sums::offer_all;
+use crate::sums::SumsWithin;
 use ch_graph::limits::MOST_WEIGHT;
 use ch_hierarchy::Hierarchy;
-use ch_query::{Scratch, ranked_space};
+use ch_query::{Scratch, lower_by_search};
 use ch_work::ListJob;
 use std::alloc::{AllocError, Global};
 use std::marker::Model;
@@ -58,15 +58,16 @@ impl<'a> Nearest<'a> {
             row,
             ..
         } = room;
-        let space = ranked_space(
-            alloc,
+        lower_by_search(
             self.hierarchy,
             scratch,
             source,
             self.searched.direction.side(),
             bound,
+            &SumsWithin { limit: bound },
+            &self.searched.buckets,
+            offers,
         )?;
-        offer_all(offers, &space, &self.searched.buckets, bound)?;
         offers.take(row)?;
         sort_and_cut(row, self.searched.count);
         Ok(())

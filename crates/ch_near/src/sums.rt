@@ -1,31 +1,40 @@
 //! The sums of a search space up from a source and the buckets of the targets.
-ghost use Rattle.std.specs.Prelude.{◌<◌, ◌≤◌, ◌↔◌, [], ℕ, IsTrue, length, slice_index_or, All, OnOk};
+ghost use Rattle.std.specs.Prelude.{◌≤◌, ◌↔◌, IsTrue, length, OnOk};
 ghost use Rattle.ch_graph.specs.declared.limits.TheConstants.{MOST_WEIGHT};
 ghost use Rattle.ch_query.specs.Limits.{IsWithin};
 ghost use Rattle.ch_near.specs.Buckets.{IsBucketAmong};
 ghost use Rattle.ch_near.specs.Offers.{AreOffered};
-ghost use Rattle.ch_near.specs.Sums.{IsSum, IsSumOf};
+ghost use Rattle.ch_near.specs.Sums.{IsSum};
 
 use crate::offers::Offers;
-use ch_graph::Rows;
+use ch_query::Lowering;
 use std::alloc::AllocError;
 
-/// Offers to each place its sums within the limit. At a rank of the space, a sum is the weight of the space
-/// plus the weight of the place in the bucket.
-pub(crate) fn offer_all(
-    offers: &mut Offers,
-    space: &[(u32, u64)],
-    buckets: &Rows<(u64, u32)>,
-    within: Option<u64>,
-) -> Result<(), AllocError>
-    requires space { All (λ entry. (entry.0 < length buckets.now) × (entry.1 ≤ MOST_WEIGHT)) space.now }
-    requires buckets { (rank : ℕ) → IsBucketAmong (length offers.old) (slice_index_or buckets.now rank []) }
-    ensures { OnOk result (AreOffered (IsSumOf within space.now buckets.now) offers.old offers.new) }
-{
-    for (rank, weight) in space {
-        offer_row(offers, *weight, buckets.row(*rank), within)?;
+/// Offers of sums within a limit.
+#[derive(Drop)]
+pub(crate) struct SumsWithin {
+    pub(crate) limit: Option<u64>,
+}
+
+impl Lowering for SumsWithin {
+    type Entry = (u64, u32);
+
+    type Row = Offers;
+
+    ghost words = { λ offers. offers };
+
+    ghost sums = { λ within weight bucket j x. IsSum within.limit weight bucket (x, j) };
+
+    ghost fits = { IsBucketAmong };
+
+    fn lower(
+        &self,
+        row: &mut Offers,
+        weight: u64,
+        bucket: &[(u64, u32)],
+    ) -> Result<(), AllocError> {
+        offer_row(row, weight, bucket, self.limit)
     }
-    Ok(())
 }
 
 /// Offers to each place of a bucket its sum with this weight, if that is within the limit. It stops at the

@@ -13,3 +13,4 @@ pub mod WeightStalls
 pub mod WeighingEnds
 pub mod NamedSpaces
 pub mod SearchSpaces
+pub mod LoweredWords

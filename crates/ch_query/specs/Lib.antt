@@ -22,6 +22,7 @@ pub mod Spread
 pub mod Tasks
 pub mod SearchSpace
 pub mod SearchSpaceLaws
+pub mod Lowered
 pub mod Checking
 pub mod Covering
 pub mod Finding

@@ -1,68 +1,10 @@
--- Rows of words, lowered sum by sum.
-use Rattle.std.proofs.Common.{◌≡◌, ℕ, ◌+◌, ◌<◌, ◌≤◌, ◌⊎◌, min, List, [], ◌∷◌, ◌++◌, length, Contains, take, get_or, set, refl, sym}
-use Rattle.std.proofs.Common.{◌∙◌, ap, subst, arith, inl, inr, length-set, get_or-set_same, get_or-set_other}
-use Rattle.std.specs.Prelude.{slice_index_or}
-use Rattle.std.proofs.lemmas.Bool.{cases_eq, cases_lt}
+-- A row of words, lowered by the entries of a bucket one by one.
+use Rattle.std.proofs.Common.{◌≡◌, ℕ, ◌+◌, List, [], ◌∷◌, ◌++◌, Contains, take, sym, ap, subst, arith, inl, inr}
 use Rattle.std.proofs.lemmas.List.Elements.{Contains-append_left, Contains-push, Contains-push_cases}
 use Rattle.ch_graph.proofs.Lists.{contains_none}
-use Rattle.ch_table.specs.Rows.{AreLowered, IsSumAt, IsSumOf}
-
--- without sums nothing is lowered
-pub lowered_none : (P : ℕ → ℕ → Type 0) (row : List ℕ) → ((j x : ℕ) → P j x → ⊥) → AreLowered P row row
-lowered_none P row none = record { size = refl; lower = λ j. omega arith; sound = λ j lt. inl refl; whole = λ j x p. absurd (none j x p) }
-
--- one weight at one place
-abbrev pub IsOne : ℕ → ℕ → ℕ → ℕ → Type 0
-IsOne place weight j x = (j ≡ place) × (x ≡ weight)
-
--- one weight lowers one place, if it is less
-pub lowered_one : (place weight : ℕ) (row : List ℕ) → place < length row →
-    AreLowered (IsOne place weight) row (set row place (min (get_or row place 0) weight))
-lowered_one place weight row lt =
-    let low = min (get_or row place 0) weight in
-    let here = get_or-set_same row place low 0 lt in
-    record {
-      size = length-set row place low;
-      lower = λ j. elim (cases_eq j place) [
-        | inl same ↦ subst (λ q. get_or (set row place low) q 0 ≤ get_or row q 0) (sym same) (omega (arith, here))
-        | inr other ↦ let still = get_or-set_other row place j low 0 other in omega arith
-      ];
-      sound = λ j within. elim (cases_eq j place) [
-        | inl same ↦ elim (either (get_or row place 0) weight) [
-          | inl old ↦ inl (ap (λ q. get_or (set row place low) q 0) same ∙ here ∙ old ∙ ap (λ q. get_or row q 0) (sym same))
-          | inr new ↦ inr (same, ap (λ q. get_or (set row place low) q 0) same ∙ here ∙ new)
-        ]
-        | inr other ↦ inl (get_or-set_other row place j low 0 other)
-      ];
-      whole = λ j x one.
-          let at : get_or (set row place low) j 0 ≡ low = ap (λ q. get_or (set row place low) q 0) one.0 ∙ here in
-          let is = one.1 in omega arith;
-    }
-  where
-    either : (a b : ℕ) → (min a b ≡ a) ⊎ (min a b ≡ b)
-    either a b = elim (cases_lt b a) [ inl lt ↦ inr (omega arith) | inr le ↦ inl (omega arith) ]
-
--- lowering by P and then by Q is lowering by both
-pub lowered_then : (P Q R : ℕ → ℕ → Type 0) (a b c : List ℕ) → ((j x : ℕ) → P j x → R j x) → ((j x : ℕ) → Q j x → R j x) →
-    ((j x : ℕ) → R j x → P j x ⊎ Q j x) →
-    AreLowered P a b → AreLowered Q b c → AreLowered R a c
-lowered_then P Q R a b c first second parts h k = record {
-  size = k.size ∙ h.size;
-  lower = λ j. let low = h.lower j in let low' = k.lower j in omega arith;
-  sound = λ j lt.
-      let size = h.size in
-      elim (k.sound j (omega arith)) [
-        | inl same ↦ elim (h.sound j lt) [
-          | inl old ↦ inl (same ∙ old)
-          | inr new ↦ inr (subst (R j) (sym same) (first j (get_or b j 0) new))
-        ]
-        | inr new ↦ inr (second j (get_or c j 0) new)
-      ];
-  whole = λ j x r. elim (parts j x r) [
-    | inl p ↦ let low = h.whole j x p in let low' = k.lower j in omega arith
-    | inr q ↦ k.whole j x q
-  ];
-}
+use Rattle.ch_query.specs.Lowered.{AreLowered}
+use Rattle.ch_query.proofs.by_weight.LoweredWords.{IsOne, lowered_none, lowered_then}
+use Rattle.ch_table.specs.Rows.{IsSumAt}
 
 -- a bucket without entries
 pub bucket_none : (weight : ℕ) (row : List ℕ) → AreLowered (IsSumAt weight []) row row
@@ -94,29 +36,4 @@ bucket_more weight i bucket entry is a b c =
           let rest : entry.1 ≡ sum.0 = ap (λ (e : ℕ × ℕ). e.1) here in
           let all = sum.2 in
           inr (sym place, omega arith)
-    ])
-
--- a search space without entries
-pub space_none : (buckets : List (List (ℕ × ℕ))) (row : List ℕ) → AreLowered (IsSumOf [] buckets) row row
-space_none buckets row = lowered_none (IsSumOf [] buckets) row (λ j x sum. contains_none (sum.0, sum.1) sum.2)
-
--- one more entry, and the bucket of its rank
-pub space_more : (i : ℕ) (space : List (ℕ × ℕ)) (buckets : List (List (ℕ × ℕ))) (entry : ℕ × ℕ) →
-    take (i + 1) space ≡ take i space ++ entry ∷ [] → (a b c : List ℕ) →
-    AreLowered (IsSumOf (take i space) buckets) a b → AreLowered (IsSumAt entry.1 (slice_index_or buckets entry.0 [])) b c →
-    AreLowered (IsSumOf (take (i + 1) space) buckets) a c
-space_more i space buckets entry is a b c =
-    lowered_then (IsSumOf (take i space) buckets) (IsSumAt entry.1 (slice_index_or buckets entry.0 []))
-    (IsSumOf (take (i + 1) space) buckets) a b c
-    (λ j x sum. (
-      sum.0,
-      sum.1,
-      subst (λ l. Contains l (sum.0, sum.1)) (sym is)
-          (Contains-append_left (take i space) (entry ∷ []) (sum.0, sum.1) sum.2),
-      sum.3,
-    ))
-    (λ j x sum. (entry.0, entry.1, subst (λ l. Contains l entry) (sym is) (Contains-push (take i space) entry), sum))
-    (λ j x sum. elim (Contains-push_cases (take i space) entry (sum.0, sum.1) (subst (λ l. Contains l (sum.0, sum.1)) is sum.2)) [
-      | inl before ↦ inl (sum.0, sum.1, before, sum.3)
-      | inr here ↦ inr (subst (λ (e : ℕ × ℕ). IsSumAt e.1 (slice_index_or buckets e.0 []) j x) (sym here) sum.3)
     ])

@@ -1,21 +1,21 @@
 -- The cells of a row: the meaning of the least sums of a source's search space and the buckets of the targets.
 use Rattle.std.proofs.Common.{◌≡◌, ℕ, ◌-◌, ◌<◌, ◌≤◌, List, [], ◌++◌, length, map, replicate, take, take_all, Contains, Option, None}
 use Rattle.std.proofs.Common.{get_or, sym, ◌∙◌, ap, subst, arith, inl, inr}
-use Rattle.std.specs.Prelude.{All, slice_index, slice_index_or}
+use Rattle.std.specs.Prelude.{slice_index, slice_index_or}
 use Rattle.std.proofs.lemmas.Bool.{cases_lt, le-leb, lt-leb}
 use Rattle.std.proofs.lemmas.List.{get_or-map, get_or-replicate, length-map, length-replicate}
-use Rattle.std.proofs.lemmas.List.Elements.{Contains-get_or}
-use Rattle.ch_graph.specs.declared.limits.TheConstants.{MOST_SUM, MOST_WEIGHT}
-use Rattle.ch_hierarchy.specs.Hierarchy.{LevelsAndLegs, nodes_of, IsLevelled}
+use Rattle.ch_graph.specs.declared.limits.TheConstants.{MOST_SUM}
+use Rattle.ch_hierarchy.specs.Hierarchy.{LevelsAndLegs}
 use Rattle.ch_query.specs.declared.side.Side.TheVariants.{Up, Down}
 use Rattle.ch_query.specs.Limits.{IsDistanceWithin}
 use Rattle.ch_query.specs.SearchSpace.{IsRankedSpace}
 use Rattle.ch_query.specs.SearchSpaceLaws.{IsSharedSum, IsLeastSharedSum}
 use Rattle.ch_query.proofs.two_sides.SharedSums.{ranked_spaces_give_distance}
 use Rattle.ch_table.specs.declared.row.TheConstants.{UNREACHED}
-use Rattle.ch_table.specs.Rows.{AreTargetsOf, AreLowered, IsMostSum, IsSumOf, cell_of}
+use Rattle.ch_query.specs.Lowered.{AreLowered}
+use Rattle.ch_table.specs.Rows.{AreTargetsOf, IsMostSum, IsSumOf, cell_of}
 use Rattle.ch_table.specs.Table.{IsRowBy}
-use Rattle.ch_table.proofs.Tables.{all_zip_at, space_at, space_within, spaces_count}
+use Rattle.ch_table.proofs.Tables.{all_zip_at, space_at, spaces_count}
 
 -- a row that was cleared and then filled to the number of targets
 pub refilled : (n x : ℕ) (row cleared : List ℕ) (len : ℕ) → row ≡ take n cleared ++ replicate (n - len) x → cleared ≡ [] → len ≡ 0 →
@@ -24,17 +24,6 @@ refilled n x row cleared len is none zero =
     let whole : n - len ≡ n = omega arith in
     is ∙ ap (λ l. take n l ++ replicate (n - len) x) none ∙ ap (λ l. l ++ replicate (n - len) x) (take_all n [] (omega arith))
     ∙ ap (λ m. replicate m x) whole
-
--- the entries of a search space have ranks of nodes and weights of paths
-pub space_among : (H : LevelsAndLegs) (limit : Option ℕ) → IsLevelled H → (s : ℕ) (space : List (ℕ × ℕ)) →
-    IsRankedSpace H Up limit s space → All (λ entry. (entry.0 < nodes_of H) × (entry.1 ≤ MOST_WEIGHT)) space
-space_among H limit levelled s space up k d lt =
-    let e = get_or space k d in
-    let path = (up.sound e.0 e.1 (Contains-get_or space k d lt)).3 in (
-      space_within H Up limit levelled s e.0 e.1 space up (Contains-get_or space k d lt),
-      let w = path.1.weight in
-          let same = path.2 in omega arith,
-    )
 
 module _ (H : LevelsAndLegs) (limit : Option ℕ) (targets : List ℕ) (buckets : List (List (ℕ × ℕ)))
     (are : AreTargetsOf H limit targets buckets) (s : ℕ) (space : List (ℕ × ℕ)) (up : IsRankedSpace H Up limit s space)

@@ -1,11 +1,12 @@
 -- Rows of a table: the least sums of a source's search space and the buckets of the targets.
-use Rattle.std.specs.Prelude.{◌≡◌, ℕ, ◌+◌, ◌<◌, ◌≤◌, ◌⊎◌, nat_le, if◌then◌else◌, List, [], length, slice_index, slice_index_or}
+use Rattle.std.specs.Prelude.{◌≡◌, ℕ, ◌+◌, ◌≤◌, nat_le, if◌then◌else◌, List}
 use Rattle.std.specs.Prelude.{Contains, Option, Some, None}
 use Rattle.ch_graph.specs.declared.limits.TheConstants.{MOST_SUM}
 use Rattle.ch_hierarchy.specs.Hierarchy.{LevelsAndLegs}
 use Rattle.ch_query.specs.declared.side.Side.TheVariants.{Down}
 use Rattle.ch_query.specs.Distance.{IsKeptForSome}
 use Rattle.ch_query.specs.Limits.{IsWithin}
+use Rattle.ch_query.specs.Lowered.{IsSumOver}
 use Rattle.ch_table.specs.Buckets.{HoldSearchSpaces}
 
 -- the hierarchy, the targets and the limit of rows
@@ -25,14 +26,7 @@ IsSumAt weight bucket j x = (b : ℕ) × Contains bucket (j, b) × (x ≡ weight
 
 -- x is such a sum at some rank of the search space
 abbrev pub IsSumOf : List (ℕ × ℕ) → List (List (ℕ × ℕ)) → ℕ → ℕ → Type 0
-IsSumOf space buckets j x = (rank a : ℕ) × Contains space (rank, a) × IsSumAt a (slice_index_or buckets rank []) j x
-
--- each place has the least of its old value and its sums, where P relates a place to its sums
-pub record AreLowered (P : ℕ → ℕ → Type 0) (before after : List ℕ) : Type 0 where
-  pub size : length after ≡ length before
-  pub lower : (j : ℕ) → slice_index after j ≤ slice_index before j
-  pub sound : (j : ℕ) → j < length before → (slice_index after j ≡ slice_index before j) ⊎ P j (slice_index after j)
-  pub whole : (j x : ℕ) → P j x → slice_index after j ≤ x
+IsSumOf = IsSumOver IsSumAt
 
 -- the most that a sum of the weights of two paths may be, if it is within the limit
 pub record IsMostSum (limit : Option ℕ) (most : ℕ) : Type 0 where

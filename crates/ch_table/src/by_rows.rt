@@ -9,11 +9,11 @@ ghost use Rattle.ch_query.specs.SearchSpace.{IsRankedSpace};
 ghost use Rattle.ch_table.specs.Table.{AreGathered, IsRowBy};
 
 use crate::cells::Table;
-use crate::row::{RowRoom, UNREACHED, lower_by_space, write_cells};
+use crate::row::{RowRoom, UNREACHED, Words, write_cells};
 use crate::row_job::RowJob;
 use ch_graph::{Rows, gather};
 use ch_hierarchy::Hierarchy;
-use ch_query::{Scratch, Side, ranked_space, ranked_spaces, ranked_spaces_alone};
+use ch_query::{Scratch, Side, lower_by_search, ranked_spaces, ranked_spaces_alone};
 use ch_work::{Crew, Gate, RoomJob, Stage, run_pieces_in};
 use std::alloc::{AllocError, Global};
 use std::marker::Model;
@@ -140,7 +140,7 @@ impl<'a> SourceRows<'a> {
         let mut room = RowRoom::new(alloc);
         let mut rows = Vec::with_capacity(alloc, sources.len())?;
         for source in sources {
-            self.write_row(alloc, scratch, &mut room, *source)?;
+            self.write_row(scratch, &mut room, *source)?;
             rows.push_reserved(mem::replace(&mut room.cells, Vec::new(alloc)));
         }
         Ok(rows)
@@ -149,7 +149,6 @@ impl<'a> SourceRows<'a> {
     /// Writes the cells of the row of a source into the room, by a search in this scratch.
     fn write_row(
         &self,
-        alloc: Global,
         scratch: &mut Scratch,
         room: &mut RowRoom,
         source: u32,
@@ -159,18 +158,19 @@ impl<'a> SourceRows<'a> {
         ensures row { OnOk result (IsRowBy self.now.hierarchy self.now.limit self.now.targets source room.new.cells.items) }
         ensures scratch { scratch.new ≡ scratch.old }
     {
-        let space = ranked_space(
-            alloc,
+        let RowRoom { words, cells } = room;
+        words.clear();
+        words.resize(self.targets.len(), UNREACHED)?;
+        lower_by_search(
             self.hierarchy,
             scratch,
             source,
             Side::Up,
             self.within,
+            &Words,
+            &self.buckets,
+            words,
         )?;
-        let RowRoom { words, cells } = room;
-        words.clear();
-        words.resize(self.targets.len(), UNREACHED)?;
-        lower_by_space(words, &space, &self.buckets);
         write_cells(words, self.within, cells)
     }
 }
@@ -226,7 +226,7 @@ impl<'a, J: RowJob> RoomJob for GatheredRows<'a, J> {
         let mut row = RowRoom::new(alloc);
         let mut gathered = self.job.start(alloc);
         for source in sources {
-            self.rows.write_row(alloc, room, &mut row, *source)?;
+            self.rows.write_row(room, &mut row, *source)?;
             self.job.add(alloc, &mut gathered, *source, &row.cells)?;
         }
         Ok(gathered)

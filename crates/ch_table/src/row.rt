@@ -1,11 +1,12 @@
 //! The row of one source: sums, and the least sum of each place.
-ghost use Rattle.std.specs.Prelude.{◌≡◌, ◌<◌, ◌≤◌, ℕ, [], length, map, slice_index_or, All, OnOk};
+ghost use Rattle.std.specs.Prelude.{◌≡◌, ◌≤◌, ℕ, length, map, All, OnOk};
 ghost use Rattle.ch_graph.specs.declared.limits.TheConstants.{MOST_WEIGHT};
-ghost use Rattle.ch_table.specs.Rows.{AreLowered, IsMostSum, IsSumAt, IsSumOf, cell_of};
+ghost use Rattle.ch_query.specs.Lowered.{AreLowered};
+ghost use Rattle.ch_table.specs.Rows.{IsMostSum, IsSumAt, cell_of};
 ghost use Rattle.ch_table.specs.Sums.{IsEntryAmong};
 
-use ch_graph::Rows;
 use ch_graph::limits::MOST_SUM;
+use ch_query::Lowering;
 use std::alloc::{AllocError, Global};
 
 /// The word of a place that no sum has reached. It is more than any sum, and adding to it does not
@@ -30,14 +31,28 @@ impl RowRoom {
     }
 }
 
-/// Lowers each place of the row to its least sum over the ranks of a search space, if that is less.
-pub(crate) fn lower_by_space(row: &mut [u64], space: &[(u32, u64)], buckets: &Rows<(u32, u64)>)
-    requires space { All (λ entry. (entry.0 < length buckets.now) × (entry.1 ≤ MOST_WEIGHT)) space.now }
-    requires buckets { (rank : ℕ) → All (IsEntryAmong (length row.old)) (slice_index_or buckets.now rank []) }
-    ensures { AreLowered (IsSumOf space.now buckets.now) row.old row.new }
-{
-    for (rank, weight) in space {
-        lower(row, *weight, buckets.row(*rank));
+/// Rows of words, which are lowered by buckets of places and weights.
+pub(crate) struct Words;
+
+impl Lowering for Words {
+    type Entry = (u32, u64);
+
+    type Row = Vec<u64>;
+
+    ghost words = { λ row. row.items };
+
+    ghost sums = { λ _. IsSumAt };
+
+    ghost fits = { λ places. All (IsEntryAmong places) };
+
+    fn lower(
+        &self,
+        row: &mut Vec<u64>,
+        weight: u64,
+        bucket: &[(u32, u64)],
+    ) -> Result<(), AllocError> {
+        lower(row, weight, bucket);
+        Ok(())
     }
 }
 

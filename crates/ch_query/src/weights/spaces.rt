@@ -59,7 +59,7 @@ impl WeightSearch {
 
     /// Gathers the search space of a node on this side within the limit, by ranks, in `found`. The search is
     /// clean afterwards, even if memory ran out.
-    fn gather(
+    pub(super) fn gather(
         &mut self,
         hierarchy: &Hierarchy,
         found: &mut Vec<(u32, u64)>,

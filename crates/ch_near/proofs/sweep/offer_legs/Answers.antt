@@ -7,14 +7,14 @@ use Rattle.ch_near.specs.Buckets.{IsBucketAmong}
 use Rattle.ch_near.specs.Offers.{AreOffered}
 use Rattle.ch_near.specs.Sums.{IsSum, IsSumOf}
 use Rattle.ch_near.specs.Sweep.{entry_of_leg}
-use Rattle.ch_near.proofs.Summed.{spaces_more, spaces_none}
+use Rattle.ch_query.proofs.by_weight.LoweredWords.{space_more, space_none}
 use Rattle.ch_near.proofs.sweep.offer_legs.Goals as goal
 
 abbrev no_leg : RankedLeg
 no_leg = record { rank = 0; arcs = 0; weight = 0 }
 
 pub loop-leg-init : goal.loop-leg-init
-loop-leg-init c = spaces_none c.args.within c.args.rows.now c.args.offers.now
+loop-leg-init c = space_none (λ weight bucket j x. IsSum c.args.within weight bucket (x, j)) c.args.rows.now c.args.offers.now
 
 pub offer_row-requires-clause-bucket : goal.offer_row-requires-clause-bucket
 offer_row-requires-clause-bucket c =
@@ -34,8 +34,8 @@ loop-leg-preserved c =
     let low : i < length space = omega arith in
     let is : get_or space i (0, 0) ≡ entry_of_leg leg = get_or-map entry_of_leg a.legs.now i no_leg (0, 0) lt in
     let more = subst (λ e. take (i + 1) space ≡ take i space ++ e ∷ []) is (take_more space i (0, 0) low) in
-    spaces_more a.within i space a.rows.now (entry_of_leg leg) more a.offers.now c.loop-leg.offers c.offer_row.new.offers
-    c.loop-leg.invariant
+    space_more (λ weight bucket j x. IsSum a.within weight bucket (x, j)) a.rows.now i space (entry_of_leg leg) more a.offers.now
+    c.loop-leg.offers c.offer_row.new.offers c.loop-leg.invariant
     (subst (λ l. AreOffered (IsSum a.within leg.weight l) c.loop-leg.offers c.offer_row.new.offers) c.row.ensures c.in_ok-offer_row.ensures)
 
 pub returns : goal.returns

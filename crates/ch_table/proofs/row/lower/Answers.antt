@@ -1,7 +1,8 @@
 -- One more entry lowers its place to its sum with the weight, if that is less.
 use Rattle.std.proofs.Common.{◌+◌, ◌<◌, length, get_or, arith}
 use Rattle.std.proofs.lemmas.List.{take_more}
-use Rattle.ch_table.proofs.Lowered.{bucket_none, bucket_more, lowered_one}
+use Rattle.ch_query.proofs.by_weight.LoweredWords.{lowered_one}
+use Rattle.ch_table.proofs.Lowered.{bucket_none, bucket_more}
 use Rattle.ch_table.proofs.row.lower.Goals as goal
 
 pub loop-place-init : goal.loop-place-init

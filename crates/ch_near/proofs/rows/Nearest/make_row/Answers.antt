@@ -2,6 +2,7 @@
 use Rattle.std.proofs.Common.{◌+◌, ◌<◌, ◌++◌, ◌∷◌, [], length, map, sym, ◌∙◌, subst, inl, inr}
 use Rattle.std.specs.Prelude.{slice_index_or}
 use Rattle.ch_hierarchy.proofs.code.Ranked.{node_of_rank}
+use Rattle.ch_query.proofs.by_weight.LoweredWords.{lowered_then}
 use Rattle.ch_near.specs.Buckets.{IsBucketAmong}
 use Rattle.ch_near.specs.Direction.{facing}
 use Rattle.ch_near.specs.Near.{Wanted}
@@ -9,7 +10,6 @@ use Rattle.ch_near.specs.Offers.{AreUnoffered, AreOffered}
 use Rattle.ch_near.specs.Sums.{IsSum, IsSumOf}
 use Rattle.ch_near.specs.Sweep.{AreRowsTo, IsOwed, entry_of_leg}
 use Rattle.ch_near.proofs.NearRows.{bucket_among}
-use Rattle.ch_near.proofs.Offered.{offered_then}
 use Rattle.ch_near.proofs.Swept.{legs_among, row_among, row_made, rows_more}
 use Rattle.ch_near.proofs.rows.Nearest.make_row.Goals as goal
 
@@ -74,9 +74,9 @@ returns-clause-row c =
     let bucket = slice_index_or t.searched.now.buckets k [] in
     let own = subst (λ l. AreOffered (IsSum t.searched.now.within 0 l) fresh c.offer_row.new.offers) c.row.ensures
     c.in_ok-offer_row.ensures in
-    let offered = offered_then (IsSum t.searched.now.within 0 bucket) (IsSumOf t.searched.now.within (map entry_of_leg legs) rows)
-    (IsOwed t.searched.now.within bucket legs rows) fresh c.offer_row.new.offers least
-    (λ e o. o) (λ e s. inl s) (λ e s. inr s) own c.in_ok-offer_legs.ensures in
+    let offered = lowered_then (λ j x. IsSum t.searched.now.within 0 bucket (x, j))
+    (λ j x. IsSumOf t.searched.now.within (map entry_of_leg legs) rows (x, j)) (λ j x. IsOwed t.searched.now.within bucket legs rows (x, j))
+    fresh c.offer_row.new.offers least (λ j x s. inl s) (λ j x s. inr s) (λ j x o. o) own c.in_ok-offer_legs.ensures in
     subst (λ (w : Wanted). AreRowsTo w (k + 1) (rows ++ result ∷ [])) c.self.view_is
     (rows_more wanted k rows result done
     (λ v lt here. row_made H kept t.searched.now.within t.searched.now.count t.searched.now.targets.items t.searched.now.buckets
