@@ -31,14 +31,6 @@ path_within H rows up a b [] lt p = subst (λ q. q < nodes_of H) p lt
 path_within H rows up a b (l ∷ legs) lt p = path_within H rows up l.node b legs (All-contains (IsLegUp H a) _ l (up.1 a).1 p.0).node p.1
 
 module _ (rows : List (List Leg)) (limit : Option ℕ) (nodes : List ℕ) where
-  -- without places there are no entries
-  pub entries_none : AreEntries rows limit nodes 0 []
-  entries_none = record {
-    order = λ i j d lt within. absurd (omega arith);
-    sound = λ v j x h. absurd (contains_none (v, (j, x)) h);
-    whole = λ v j c lt p low. absurd (omega arith);
-  }
-
   module _ (k : ℕ) (reached : List (ℕ × Cost)) (spread : IsSpread rows limit (slice_index nodes k) reached) where
     -- an entry of place k is of a node that is reached
     entry_of : (v j x : ℕ) → Contains (map (entry_at k) reached) (v, (j, x)) →

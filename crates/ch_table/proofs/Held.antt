@@ -1,5 +1,5 @@
 -- Lists of ranks and weights, their entries, and the buckets that hold them.
-use Rattle.std.proofs.Common.{◌≡◌, ℕ, zero, suc, ◌+◌, ◌<◌, List, [], ◌∷◌, ◌++◌, length, map, Contains, get_or, refl, sym, ap, subst}
+use Rattle.std.proofs.Common.{◌≡◌, ℕ, ◌+◌, ◌<◌, List, [], ◌++◌, length, map, Contains, get_or, refl, sym, ap, subst}
 use Rattle.std.proofs.Common.{arith, inl, inr}
 use Rattle.std.specs.Prelude.{◌==◌, All, slice_index_or}
 use Rattle.std.specs.List.{filter}
@@ -8,7 +8,8 @@ use Rattle.std.proofs.lemmas.Bool.Decides.{nat_tests}
 use Rattle.std.proofs.lemmas.List.{get_or_past}
 use Rattle.std.proofs.lemmas.List.Elements.{All-contains, Contains-append_left, Contains-append_right, Contains-append_cases}
 use Rattle.std.proofs.lemmas.List.Elements.{Contains-get_or}
-use Rattle.ch_graph.specs.Rows.{AreRowsOf, pairs_at, pairs_from, pairs_of}
+use Rattle.ch_graph.specs.Rows.{AreRowsOf, pairs_of}
+use Rattle.ch_graph.proofs.Gathering.{pairs_sound, pairs_whole}
 use Rattle.ch_graph.proofs.Lists.{contains_none, contains_map, contains_map_of, contains_filter, contains_filter_of}
 use Rattle.ch_table.specs.Buckets.{HoldLists}
 use Rattle.ch_table.specs.Entries.{entry_of, AreEntriesOf}
@@ -80,38 +81,6 @@ module _ (item : ℕ → ℕ) (lists : List (List (ℕ × ℕ))) where
           (contains_filter (λ e. e.0 == item r) entries (item r, (j, x)) (h.whole r j x lt c)
           (let e : item r ≡ item r = refl in grind (arith, nat_tests))));
     }
-
--- a pair of the joined lists is a pair of one list, with its place
-pairs_sound : (place : ℕ) (lists : List (List (ℕ × ℕ))) (q j x : ℕ) → Contains (pairs_from place lists) (q, (j, x)) →
-    (i : ℕ) × (i < length lists) × (j ≡ place + i) × Contains (slice_index_or lists i []) (q, x)
-pairs_sound place [] q j x c = absurd (contains_none (q, (j, x)) c)
-pairs_sound place (list ∷ lists) q j x c = elim (Contains-append_cases (pairs_at place list) (pairs_from (place + 1) lists) (q, (j, x)) c) [
-  | inl here ↦
-      let r = contains_map_of (λ (p : ℕ × ℕ). (p.0, (place, p.1))) list (q, (j, x)) here in
-      let key : r.0.0 ≡ q = ap (λ (e : ℕ × (ℕ × ℕ)). e.0) r.2 in
-      let at : place ≡ j = ap (λ (e : ℕ × (ℕ × ℕ)). e.1.0) r.2 in
-      let value : r.0.1 ≡ x = ap (λ (e : ℕ × (ℕ × ℕ)). e.1.1) r.2 in
-      let is : r.0 ≡ (q, x) = λ i. (key i, value i) in
-      (zero, omega arith, omega arith, subst (Contains list) is r.1)
-  | inr later ↦
-      let r = pairs_sound (place + 1) lists q j x later in
-      let lt = r.1 in
-      let at = r.2 in
-      (suc r.0, omega arith, omega arith, r.3)
-]
-
--- each pair of a list is a pair of the joined lists
-pairs_whole : (place : ℕ) (lists : List (List (ℕ × ℕ))) (i r x : ℕ) → i < length lists → Contains (slice_index_or lists i []) (r, x) →
-    Contains (pairs_from place lists) (r, (place + i, x))
-pairs_whole place [] i r x lt c = absurd (omega arith)
-pairs_whole place (list ∷ lists) zero r x lt c =
-    let at : place ≡ place + 0 = omega arith in
-    Contains-append_left (pairs_at place list) (pairs_from (place + 1) lists) (r, (place + 0, x))
-    (subst (λ q. Contains (pairs_at place list) (r, (q, x))) at (contains_map (λ (p : ℕ × ℕ). (p.0, (place, p.1))) list (r, x) c))
-pairs_whole place (list ∷ lists) (suc i) r x lt c =
-    let at : place + 1 + i ≡ place + suc i = omega arith in
-    Contains-append_right (pairs_at place list) (pairs_from (place + 1) lists) (r, (place + suc i, x))
-    (subst (λ q. Contains (pairs_from (place + 1) lists) (r, (q, x))) at (pairs_whole (place + 1) lists i r x (omega arith) c))
 
 -- the pairs of the lists are their entries, each at its rank
 pub pairs_entries : (lists : List (List (ℕ × ℕ))) → AreEntriesOf (λ rank. rank) lists (length lists) (pairs_of lists)
