@@ -168,11 +168,13 @@ def check_hour(tally, page, pieces):
 
 
 def check_way(tally, page):
-    """The lines of definitions between the command and the clause, and of the code outside of contracts, are counted as they are."""
+    """The page counts the lines of definitions between the command and the clause, rounded up to fifties, and those of the code outside of
+    contracts."""
     for row in re.findall(r"^\|.*\]\(\.\./crates/.*specs/.*\|$", page, re.MULTILINE):
         files = [(ROOT / path).read_text() for path in re.findall(r"\]\(\.\./(crates/[^)]+)\)", row)]
         lines = [line for text in files for line in text.splitlines() if line.strip(" })") and not line.startswith(("--", "use ", "ghost use "))]
-        tally.expect(row.endswith(f"| {len(lines)} |"), f"BELIEVE.md: {len(lines)} lines, not as in {row}")
+        most = -(-len(lines) // 50) * 50
+        tally.expect(row.endswith(f"| {most} |"), f"BELIEVE.md: at most {most} lines, not as in {row}")
     code = [line for name in ("main", "system") for line in (ROOT / f"crates/chtab/src/{name}.rt").read_text().splitlines()]
     count = sum(bool(line.strip()) and not line.lstrip().startswith("//") for line in code)
     tally.expect(f"with {count} lines of code" in page, f"BELIEVE.md: main.rt and system.rt have {count} lines of code")

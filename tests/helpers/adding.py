@@ -28,11 +28,9 @@ const BEYOND: Row = Row {
     /// The least distance that a table reports, if there is a limit.
     pub beyond: Option<u64>,
 '''),
-    ("crates/ch_job/specs/Job.antt", "  pub count : IfSome job.options.count IsCount\n", '''  pub beyond : IfSome job.options.beyond (λ most. most ≤ MOST_WEIGHT)
-  pub count : IfSome job.options.count IsCount
+    ("crates/ch_job/specs/Job.antt", "  pub count : IfSome options.count IsCount\n", '''  pub beyond : IfSome options.beyond (λ most. most ≤ MOST_WEIGHT)
+  pub count : IfSome options.count IsCount
 '''),
-    ("crates/ch_job/proofs/Jobs.antt", "      count = allowed.count;\n", "      beyond = allowed.beyond;\n      count = allowed.count;\n"),
-    ("crates/ch_job/proofs/Jobs.antt", "limit = also.limit; count", "limit = also.limit;\n      beyond = also.beyond; count"),
     ("crates/ch_run_checks/src/runs.rt", "    within: None,\n", "    within: None,\n    beyond: None,\n"),
     # Its rule, and the value that the line gets.
     ("crates/ch_words/specs/Line.antt", "table_rules = within_rule ∷", 'table_rules = within_rule ∷ limit_rule (codes "beyond") 0 MOST_WEIGHT ∷'),
@@ -42,12 +40,13 @@ const BEYOND: Row = Row {
 '''),
     # The code that reads it.
     ("crates/ch_words/src/given.rt", '''    ensures count { IfOk result (λ options. options.count''', '''    ensures beyond { IfOk result (λ options. options.beyond ≡ number_in (rows_of (found_of matches.now)) (codes "beyond")) }
-    ensures great_limit { IfOk result (λ options. IfSome options.beyond (λ most. most ≤ MOST_WEIGHT)) }
     ensures count { IfOk result (λ options. options.count'''),
     ("crates/ch_words/src/given.rt", '''        within: limit_given(matches, "within", MOST_WEIGHT)?,
 ''', '''        within: limit_given(matches, "within", MOST_WEIGHT)?,
         beyond: limit_given(matches, "beyond", MOST_WEIGHT)?,
 '''),
+    # What `tests/believe.py --write` makes of the fields of the options.
+    ("docs/claim.antt.txt", "within: Option<u64>; count", "within: Option<u64>; beyond: Option<u64>; count"),
     # A planted bug, a test of the answers, and the note for users.
     ("crates/ch_words/planted/the_upper_limit_is_taken_for_the_lower.edit", "", '''file: src/given.rt
 old: limit_given(matches, "beyond", MOST_WEIGHT)

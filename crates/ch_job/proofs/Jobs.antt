@@ -20,10 +20,8 @@ pub allowed_as : {F G H : Type 0} (f : F → H) (g : G → H) (job : Job F) (oth
 allowed_as {F} {G} {H} f g job other same allowed =
     let mid : IsAllowed (job_map f job) = record {
       source = mapped f job.source allowed.source;
-      hops = allowed.hops;
-      limit = allowed.limit;
-      count = allowed.count;
+      options = allowed.options;
       plan = allowed.plan;
     } in
     let also : IsAllowed (job_map g other) = subst (λ (j : Job H). IsAllowed j) (sym same) mid in
-    record { source = unmapped g other.source also.source; hops = also.hops; limit = also.limit; count = also.count; plan = also.plan }
+    record { source = unmapped g other.source also.source; options = also.options; plan = also.plan }

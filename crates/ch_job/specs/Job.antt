@@ -5,6 +5,7 @@ use Rattle.ch_work.specs.Plan.{IsWithinLimits}
 use Rattle.ch_contract.specs.Legs.{IsHopBound}
 use Rattle.ch_job.specs.declared.job.Job.{Job}
 use Rattle.ch_job.specs.declared.job.Question.{Question}
+use Rattle.ch_job.specs.declared.options.Options.{Options}
 use Rattle.ch_job.specs.declared.source.Source.{Source}
 use Rattle.ch_job.specs.declared.sources.Sources.{Sources}
 
@@ -47,10 +48,14 @@ IsSourceAllowed (Source.Like order fresh hops) = (fresh ≤ 100) × IsHopBound h
 abbrev pub IsCount : ℕ → Type 0
 IsCount most = (1 ≤ most) × (most ≤ MOST_LISTED)
 
+-- the numbers of the options are within the program's limits
+pub record AreAllowed (options : Options) : Type 0 where
+  pub hops : IsHopBound options.hops
+  pub limit : IfSome options.within (λ most. most ≤ MOST_WEIGHT)
+  pub count : IfSome options.count IsCount
+
 -- the numbers of a job are within the program's limits
 pub record IsAllowed {F : Type 0} (job : Job F) : Type 0 where
   pub source : IsSourceAllowed job.source
-  pub hops : IsHopBound job.options.hops
-  pub limit : IfSome job.options.within (λ most. most ≤ MOST_WEIGHT)
-  pub count : IfSome job.options.count IsCount
+  pub options : AreAllowed job.options
   pub plan : IsWithinLimits job.plan

@@ -7,7 +7,7 @@ ghost use Rattle.clap.specs.declared.error.kind.ErrorKind.TheVariants.{ArgumentC
 ghost use Rattle.ch_graph.specs.declared.limits.TheConstants.{MOST_WEIGHT};
 ghost use Rattle.ch_work.specs.Plan.{IsWithinLimits};
 ghost use Rattle.ch_contract.specs.Legs.{IsHopBound};
-ghost use Rattle.ch_job.specs.Job.{IsCount, IsSourceAllowed};
+ghost use Rattle.ch_job.specs.Job.{AreAllowed, IsCount, IsSourceAllowed};
 ghost use Rattle.ch_words.specs.Line.{AreFilesIn, AreFlagsIn, AreRefusedLists, AreRefusedOrders, IsAllowed, IsDirectionIn, IsFlagIn, IsGivenBy, IsMixed, IsOrderIn, IsPlanIn, IsRefusedMix, IsSourceIn, IsToldOf, IsUnmixed, fresh_in, is_given, name_of, number_in};
 
 use crate::fault::{LineFault, fault_of};
@@ -296,13 +296,11 @@ fn options_of(
     question: &Question<String>,
     matches: &ArgMatches<'_>,
 ) -> Result<Options, LineFault>
-    ensures range { IfOk result (λ options. IsHopBound options.hops) }
+    ensures allowed { IfOk result AreAllowed }
     ensures hops { IfOk result (λ options. Some options.hops ≡ number_in (rows_of (found_of matches.now)) (codes "hops")) }
     ensures flags { IfOk result (AreFlagsIn (rows_of (found_of matches.now)) question.now) }
     ensures limit { IfOk result (λ options. options.within ≡ number_in (rows_of (found_of matches.now)) (codes "within")) }
-    ensures small_limit { IfOk result (λ options. IfSome options.within (λ most. most ≤ MOST_WEIGHT)) }
     ensures count { IfOk result (λ options. options.count ≡ number_in (rows_of (found_of matches.now)) (codes "count")) }
-    ensures small_count { IfOk result (λ options. IfSome options.count IsCount) }
     ensures refused { IfErr result (AreRefusedOrders (rows_of (found_of matches.now))) }
 {
     let (plain, routes, order, direction) = match question {
