@@ -1,7 +1,7 @@
 -- Near rows, and their texts.
 use Rattle.std.proofs.Common.{◌≡◌, ℕ, zero, suc, ◌+◌, ◌<◌, List, [], ◌∷◌, ◌++◌, length, map, get_or, Vec, refl, sym, ap, ◌∙◌, subst, arith}
 use Rattle.std.specs.declared.alloc.Global.{Global}
-use Rattle.std.specs.Prelude.{All, Err, IfOk, IsErrAnd, Option, Result, Some, ⊤}
+use Rattle.std.specs.Prelude.{All, IfOk, Result}
 use Rattle.std.specs.List.{AllZip, zip, flat_map, range_with_len}
 use Rattle.std.proofs.lemmas.Grind.{flat_map-append}
 use Rattle.std.proofs.lemmas.List.{flat_map_more}
@@ -24,11 +24,6 @@ use Rattle.ch_run.specs.NearRun.{nodes_of_sources}
 use Rattle.ch_run.specs.NearRows.{HasNearRows}
 use Rattle.ch_run.specs.Text.{IsNearTextFor}
 use Rattle.ch_text.specs.NearText.{near_row_text, nodes_in_order}
-use Rattle.ch_run.specs.declared.fault.RunFault.{RunFault}
-use Rattle.ch_run.specs.declared.fault.Which.{Which}
-use Rattle.ch_run.specs.Run.{NoInput, OneInput, ReadingIf}
-use Rattle.ch_run.specs.Story.{ReadsIf}
-use Rattle.ch_run.proofs.Story.{reads_stops}
 use Rattle.ch_run.proofs.TableTexts.{zip_append}
 use Rattle.ch_run.proofs.Texts.{each_weaker}
 use Rattle.ch_work.proofs.PieceLists.{zipped_append}
@@ -156,12 +151,3 @@ pub next_line : (f : ℕ → List ℕ) (n : ℕ) (before after : List ℕ) → b
     after ≡ flat_map f (nodes_in_order (n + 1))
 next_line f n before after so_far more =
     more ∙ ap (λ text. text ++ f n) so_far ∙ flat_map_more f [] (nodes_in_order n) n ∙ ap (flat_map f) (sym (next_node n))
-
--- the run that read the sources in vain stops there
-pub sources_stop : (S : Type 0) {T V : Type 0} (input : ReadingIf) (names : List ℕ → V → Type 0) (refuses : List ℕ → RunFault → Type 0)
-    (e : RunFault) (r : Result T RunFault) (later : Type 0) (next : Option V → Type 0) → IsErrAnd r (λ other. other ≡ e) → later →
-    ReadsIf {T = S} Which.Sources input names refuses (Err e) ⊤ (λ _. ⊥) → ReadsIf Which.Sources input names refuses r later next
-sources_stop S NoInput names refuses e r later next is rest none = absurd none
-sources_stop S (OneInput input) names refuses e r later next is rest reads =
-    reads_stops S Which.Sources input names refuses e r ⊤ later (λ _. ⊥) (λ value. next (Some value)) is reads
-    (λ value none. absurd none) (λ at. rest)

@@ -58,24 +58,14 @@ cells_stop S {T} from to e r later next is (inl (many, same, at)) rest = inl (ma
     again same = cc
 cells_stop S from to e r later next is (inr (few, none)) rest = absurd none
 
--- the same of the lists of near rows
-pub node_lists_stop : (S : Type 0) {T : Type 0} (sources : ReadingIf) (targets : Reading) (nodes : ℕ) (e : RunFault)
-    (r : Result T RunFault) (unread later : Type 0) (next : Option (List ℕ) → List ℕ → Type 0) → IsErrAnd r (λ other. other ≡ e) → later →
-    ReadsIf {T = S} Which.Sources sources (λ bytes from. NamesNodes bytes nodes from) (IsRefused Which.Sources (Form.Nodes nodes))
-    (Err e) unread (λ _.
-    Reads {T = S} Which.Targets targets (λ bytes to. NamesNodes bytes nodes to) (IsRefused Which.Targets (Form.Nodes nodes)) (Err e)
-    ⊤ (λ _. ⊥)) →
-    ReadsIf Which.Sources sources (λ bytes from. NamesNodes bytes nodes from) (IsRefused Which.Sources (Form.Nodes nodes)) r
-    (unread × later) (λ listed.
-    Reads Which.Targets targets (λ bytes to. NamesNodes bytes nodes to) (IsRefused Which.Targets (Form.Nodes nodes)) r later (next listed))
-node_lists_stop S NoInput targets nodes e r unread later next is rest reads =
-    reads_stops S Which.Targets targets _ (IsRefused Which.Targets (Form.Nodes nodes)) e r _ _ _ _ is reads
-    (λ to none. absurd none) (λ at. rest)
-node_lists_stop S (OneInput sources) targets nodes e r unread later next is rest reads =
-    reads_stops S Which.Sources sources _ (IsRefused Which.Sources (Form.Nodes nodes)) e r _ _ _ _ is reads
-    (λ from reads. reads_stops S Which.Targets targets _ (IsRefused Which.Targets (Form.Nodes nodes)) e r _ _ _ _ is reads
-    (λ to none. absurd none) (λ at. rest))
-    (λ same. (same, rest))
+-- the same of an input that only some runs have
+pub if_stops : (S : Type 0) {T V : Type 0} (which : Which) (input : ReadingIf) (names : List ℕ → V → Type 0)
+    (refuses : List ℕ → RunFault → Type 0) (e : RunFault) (r : Result T RunFault) (before later : Type 0) (none next : Option V → Type 0) →
+    IsErrAnd r (λ other. other ≡ e) → ReadsIf {T = S} which input names refuses (Err e) before none →
+    ((value : Option V) → none value → next value) → (before → later) → ReadsIf which input names refuses r later next
+if_stops S which NoInput names refuses e r before later none next is reads goes so = goes None reads
+if_stops S which (OneInput input) names refuses e r before later none next is reads goes so = reads_stops S which input names refuses
+    e r before later (λ value. none (Some value)) (λ value. next (Some value)) is reads (λ value. goes (Some value)) so
 
 -- the run goes on with the sources, which were read, or which are all nodes
 pub sources_on : {T : Type 0} (input : ReadingIf) (nodes : ℕ) (from : List ℕ) (refuses : List ℕ → RunFault → Type 0)

@@ -1,5 +1,5 @@
 -- The order and the graph that were read give the hierarchy, or the first fault of the order ends the run.
-use Rattle.std.proofs.Common.{ℕ, List, inr, refl, subst, sym}
+use Rattle.std.proofs.Common.{ℕ, List, refl, subst, sym}
 use Rattle.ch_contract.specs.Like.{IsHierarchyLike}
 use Rattle.ch_hierarchy.specs.Saved.{IsOrderOf}
 use Rattle.ch_run.specs.Story.{IsOrderRefusedOn}
@@ -32,6 +32,3 @@ returns-in-Err-Order-clause-ends g c =
         λ each. refused (subst (λ (given : List ℕ). IsOrderOf c.args.graph.now.nodes given) (sym c.deref.ensures.value) each),
       ),
     )
-
-pub returns-clause-ends : goal.returns-clause-ends
-returns-clause-ends g c = let told = c.in_ok-given.ensures.value in (told.0, inr told.1)

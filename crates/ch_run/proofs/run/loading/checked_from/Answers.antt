@@ -1,5 +1,5 @@
 -- The saved hierarchy that was read is right for the graph, or its first fault ends the run.
-use Rattle.std.proofs.Common.{inr, refl}
+use Rattle.std.proofs.Common.{refl}
 use Rattle.ch_run.specs.Story.{IsSavedRefusedOn}
 use Rattle.ch_run.proofs.Owed.{own_as}
 use Rattle.ch_run.proofs.Story.{lines_end}
@@ -17,6 +17,3 @@ pub returns-in-Err-Fault-clause-ends : goal.returns-in-Err-Fault-clause-ends
 returns-in-Err-Fault-clause-ends g c = let told = c.in_ok-saved.ensures.value in
     let first = (c.in-Err-Fault.ensures.fault c.in-Err-Fault.fault).0 (let field = c.in-Err-Fault.fault-is in cc) in
     (told.0, told.1, (c.in_ok-saved.saved, told.2, first))
-
-pub returns-in-Err-NoMemory-clause-ends : goal.returns-in-Err-NoMemory-clause-ends
-returns-in-Err-NoMemory-clause-ends g c = let told = c.in_ok-saved.ensures.value in (told.0, inr told.1)

@@ -1,10 +1,13 @@
 -- The run goes as its story says at each end, so the output takes the near rows, or their first bytes.
-use Rattle.std.proofs.Common.{◌≡◌, inr, refl}
+use Rattle.std.proofs.Common.{inr, refl}
 use Rattle.ch_run.proofs.Stories.{near_delivers}
-use Rattle.ch_run.proofs.Story.{loads_serving, loads_stops, node_lists_stop, sources_on, writes_none, writes_weaker}
+use Rattle.ch_run.proofs.Story.{if_stops, loads_serving, loads_stops, reads_stops, sources_on, writes_none, writes_weaker}
 use Rattle.ch_run.specs.declared.run.node_lists.NodeLists.{NodeLists}
 use Rattle.ch_run.specs.NearRun.{sources_reading}
 use Rattle.ch_run.specs.Run.{reading}
+use Rattle.ch_run.specs.declared.fault.Which.{Which}
+use Rattle.ch_run.specs.Story.{IsRefused}
+use Rattle.ch_read.specs.declared.form.Form.TheVariants as Form
 use Rattle.ch_run.proofs.run.near.run_near.Goals as goal
 
 -- the story, as far as it went
@@ -14,15 +17,15 @@ returns-in_err-loaded-clause-went g c =
 
 pub returns-in_err-lists-clause-went : goal.returns-in_err-lists-clause-went
 returns-in_err-lists-clause-went g c =
+    let is = c.from_residual-in_err-lists.ensures.1 in
+    let n = c.in_ok-loaded.loaded.graph.nodes in
     let sources = sources_reading g.J.Input.read_gives c.args.sources.now c.node_lists_from.new.sources in
     let targets = reading g.L.Input.read_gives c.args.targets.now c.node_lists_from.new.targets in
-    let unread = c.node_lists_from.new.targets ≡ c.args.targets.now in
-    let later = c.args.output.now ≡ c.args.output.now in
-    loads_serving _ _ _ _ _ _ _
-    (λ h place. node_lists_stop NodeLists sources targets c.in_ok-loaded.loaded.graph.nodes c.in_err-lists.field-0.0
-    c.from_residual-in_err-lists.result unread later _ c.from_residual-in_err-lists.ensures.1 refl
-    (rw c.graph.ensures.graph at c.in_err-lists.ensures.ends))
-    c.in_ok-loaded.ensures.went
+    loads_serving _ _ _ _ _ _ _ (λ h place.
+    if_stops NodeLists Which.Sources sources _ (IsRefused Which.Sources (Form.Nodes n)) _ _ _ _ _ _ is
+    (rw c.graph.ensures.graph at c.in_err-lists.ensures.ends)
+    (λ listed rest. reads_stops NodeLists Which.Targets targets _ (IsRefused Which.Targets (Form.Nodes n)) _ _ _ _ _ _ is rest
+    (λ to none. absurd none) (λ at. refl)) (λ at. (at, refl))) c.in_ok-loaded.ensures.went
 
 pub returns-in_err-text-clause-went : goal.returns-in_err-text-clause-went
 returns-in_err-text-clause-went g c =

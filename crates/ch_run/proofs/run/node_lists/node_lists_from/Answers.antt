@@ -1,16 +1,18 @@
 -- The lists that are not accepted end the story at the sources or at the targets.
 use Rattle.std.proofs.Common.{inl, refl}
-use Rattle.ch_run.proofs.Nears.{sources_stop}
+use Rattle.ch_read.specs.declared.form.Form.TheVariants as Form
+use Rattle.ch_run.specs.declared.fault.Which.{Which}
+use Rattle.ch_run.specs.Story.{IsRefused}
 use Rattle.ch_run.proofs.Owed.{err_as}
-use Rattle.ch_run.proofs.Story.{at_err, sources_on}
+use Rattle.ch_run.proofs.Story.{at_err, if_stops, sources_on}
 use Rattle.ch_run.proofs.run.node_lists.node_lists_from.Goals as goal
 
 -- the story, as far as it went
 pub returns-in_err-sources-clause-ends : goal.returns-in_err-sources-clause-ends
 returns-in_err-sources-clause-ends g c =
     at_err c.from_residual.result _
-    (sources_stop _ _ _ _ c.in_err-sources.field-0.0 c.from_residual.result _ _
-    c.from_residual.ensures.1 refl c.in_err-sources.ensures.ends)
+    (if_stops _ Which.Sources _ _ (IsRefused Which.Sources (Form.Nodes c.args.graph.now.nodes)) _ _ _ _ _ _ c.from_residual.ensures.1
+    c.in_err-sources.ensures.ends (λ listed none. absurd none) (λ at. refl))
 
 pub returns-in_err-targets-clause-ends : goal.returns-in_err-targets-clause-ends
 returns-in_err-targets-clause-ends g c =
