@@ -100,18 +100,22 @@ def status_of(process: subprocess.Popen[bytes], is_awaited: bool = False) -> int
 
     `poll` and `wait` of `Popen` take a lock without a `with`, and Ctrl-C right after that would leave it taken for ever. This takes none.
     """
-    if process.returncode is None:
-        try:
-            found = os.waitid(os.P_PID, process.pid, os.WEXITED | os.WNOWAIT | (0 if is_awaited else os.WNOHANG))
-            if found is None:
-                return None
-            status = found.si_status if found.si_code == os.CLD_EXITED else -found.si_status
-            with contextlib.suppress(ChildProcessError):
-                os.waitpid(process.pid, os.WNOHANG)
-        except ChildProcessError:
-            # The system was asked for its end before. Another thread may be about to note the status.
-            status = 0
-        process.returncode = status if process.returncode is None else process.returncode
+    if process.returncode is not None:
+        return process.returncode
+    try:
+        found = os.waitid(os.P_PID, process.pid, os.WEXITED | os.WNOWAIT | (0 if is_awaited else os.WNOHANG))
+    except ChildProcessError:
+        # Another thread has noted the status since, or the system keeps none.
+        process.returncode = 0 if process.returncode is None else process.returncode
+        return process.returncode
+    if found is None:
+        return None
+    # The status is noted before the system forgets it, so that no thread finds it gone and not noted.
+    process.returncode = found.si_status if found.si_code == os.CLD_EXITED else -found.si_status
+    try:
+        os.waitpid(process.pid, os.WNOHANG)
+    except ChildProcessError:
+        pass
     return process.returncode
 
 
