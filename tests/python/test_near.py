@@ -367,14 +367,21 @@ def test_closing_ends_what_is_under_way():
 def test_a_signal_leaves_nothing_behind():
     """Ctrl-C and SIGTERM while runs are under way end a script, and no run and no file is left."""
     text = "import sys; sys.path.insert(0, sys.argv[1]); import chtab\nimport signal; signal.signal(signal.SIGTERM, signal.default_int_handler)\n"
+    # A signal that comes while the system starts a run is another matter: nobody has its number yet, and it ends when it writes.
+    text += "import threading, time\nfrom chtab.engine import child\n"
+    text += "def tell():\n while len(child.BEGUN) < int(sys.argv[4]): time.sleep(0.01)\n print(flush=True)\n"
+    text += "threading.Thread(target=tell, daemon=True).start()\n"
     text += "chtab.Network.open(sys.argv[2], program=sys.argv[3], load=False).near([1, 2, 3], [1, 2], workers=int(sys.argv[4]))\n"
     os.mkdir("temporary")
     for number in signal.SIGINT, signal.SIGTERM:
         for workers in "1", "2":
             with mood("hangs=0"):
                 words = [PYTHON, "-c", text, ROOT / "python", FIRST, STANDIN, workers]
-                child = subprocess.Popen(list(map(str, words)), stderr=subprocess.PIPE, env=os.environ | {"TMPDIR": os.path.abspath("temporary")})
+                child = subprocess.Popen(
+                    list(map(str, words)), stdout=subprocess.PIPE, stderr=subprocess.PIPE, env=os.environ | {"TMPDIR": os.path.abspath("temporary")}
+                )
                 before = len(nears())
+                child.stdout.readline()
                 until(lambda: len(living()) >= int(workers) or child.poll() is not None)
                 child.send_signal(number)
                 told = child.communicate(timeout=PATIENCE)[1]

@@ -312,6 +312,26 @@ def test_what_is_broken_off_anywhere_is_over():
         signal.signal(signal.SIGALRM, before)
 
 
+def test_each_thread_is_told_the_same_status():
+    """Of a run that was ended, by threads that look again and again: none is told that it ended well."""
+    from chtab.engine.child import status_of
+
+    for _ in range(100):
+        with subprocess.Popen(["/bin/sleep", "1000"]) as run:
+            def look():
+                while (status := status_of(run)) is None:
+                    time.sleep(0)
+                found.append(status)
+
+            found, threads = [], [threading.Thread(target=look) for _ in range(3)]
+            for thread in threads:
+                thread.start()
+            os.kill(run.pid, signal.SIGKILL)
+            for thread in threads:
+                thread.join(PATIENCE)
+            assert found == [-signal.SIGKILL] * 3, found
+
+
 def children():
     """How many runs of the program live that this process began."""
     count = 0
