@@ -12,7 +12,7 @@ fn refused_in_turn(rt: HostRuntime) -> Result<(), Fail> {
     let (graph, saved) = read(alloc, RING)?;
     let hierarchy = again_after!(CheckError::NoMemory, assemble(alloc, &graph, &saved));
     assert!(rt; hierarchy.nodes() == 5);
-    let (down, ranked) = (hierarchy.down(3).len(), hierarchy.ranked_down(1).len());
+    let (down, ranked) = (hierarchy.down(3).len(), hierarchy.ranked_legs(3).len());
     assert_eq!(rt; (down, ranked), (1, 1));
     Ok(())
 }

@@ -1,5 +1,5 @@
 //! Levels, and the legs of each node to and from higher nodes.
-ghost use Rattle.std.specs.Prelude.{◌≡◌, ◌<◌, ℕ, IfOk, map, reverse, slice_index};
+ghost use Rattle.std.specs.Prelude.{◌≡◌, ◌+◌, ◌*◌, ◌<◌, ℕ, IfOk, map, reverse, slice_index};
 ghost use Rattle.ch_hierarchy.specs.Rows.{row};
 ghost use Rattle.ch_hierarchy.specs.Hierarchy.{nodes_of, IsLevelled};
 ghost use Rattle.ch_hierarchy.specs.Ranked.{rank_of, ranked_leg};
@@ -133,24 +133,18 @@ impl Hierarchy {
         reversed(alloc, self.nodes.as_slice())
     }
 
-    /// The legs by rank from the node of this rank to higher nodes, in the order of `up`.
+    /// The legs by rank of one node in one direction, chosen by a number.
+    ///
+    /// `2 r` gives the legs from the node of rank r to higher nodes, in the order of `up`. `2 r + 1` gives
+    /// the legs from higher nodes to it, in the order of `down`.
     #[inline]
-    pub fn ranked_up(&self, rank: u32) -> &[RankedLeg]
-        requires { rank < nodes_of self.now }
-        ensures row { (v : ℕ) → v < nodes_of self.now → rank_of self.now v ≡ rank → result.now ≡ map (ranked_leg self.now) (row self.now.up v) }
+    pub fn ranked_legs(&self, state: u32) -> &[RankedLeg]
+        requires { state < 2 * nodes_of self.now }
+        ensures up { (v : ℕ) → v < nodes_of self.now → state ≡ 2 * rank_of self.now v → result.now ≡ map (ranked_leg self.now) (row self.now.up v) }
+        ensures down { (v : ℕ) → v < nodes_of self.now → state ≡ 2 * rank_of self.now v + 1 → result.now ≡ map (ranked_leg self.now) (row self.now.down v) }
         ensures levelled { IsLevelled self.now }
     {
-        self.ranked.row(2 * rank)
-    }
-
-    /// The legs by rank from higher nodes to the node of this rank, in the order of `down`.
-    #[inline]
-    pub fn ranked_down(&self, rank: u32) -> &[RankedLeg]
-        requires { rank < nodes_of self.now }
-        ensures row { (v : ℕ) → v < nodes_of self.now → rank_of self.now v ≡ rank → result.now ≡ map (ranked_leg self.now) (row self.now.down v) }
-        ensures levelled { IsLevelled self.now }
-    {
-        self.ranked.row(2 * rank + 1)
+        self.ranked.row(state)
     }
 }
 

@@ -45,9 +45,11 @@ impl Direction {
         ensures legs { (v : ℕ) → v < nodes_of hierarchy.now → rank_of hierarchy.now v ≡ rank → result.now ≡ map (ranked_leg (facing self hierarchy.now)) (row (facing self hierarchy.now).up v) }
         ensures levelled { IsLevelled hierarchy.now }
     {
+        // This call tells the proof that the hierarchy has levels.
+        let _ = hierarchy.nodes();
         match self {
-            Direction::To => hierarchy.ranked_up(rank),
-            Direction::From => hierarchy.ranked_down(rank),
+            Direction::To => hierarchy.ranked_legs(2 * rank),
+            Direction::From => hierarchy.ranked_legs(2 * rank + 1),
         }
     }
 }

@@ -67,9 +67,8 @@ impl Side {
         ensures row { (v : ℕ) → v < nodes_of hierarchy.now → rank_of hierarchy.now v ≡ rank → result.now ≡ map (ranked_leg hierarchy.now) (row (rows_of hierarchy.now self) v) }
         ensures levelled { IsLevelled hierarchy.now }
     {
-        match self {
-            Side::Up => hierarchy.ranked_up(rank),
-            Side::Down => hierarchy.ranked_down(rank),
-        }
+        // This call tells the proof that the hierarchy has levels.
+        let _ = hierarchy.nodes();
+        hierarchy.ranked_legs(self.state(rank))
     }
 }
