@@ -153,7 +153,7 @@ def health_is_no_better_than_answers():
 
 
 def too_many_connections():
-    """Idle connections, more than there may be files, stop nobody: those that have been idle longest make way, and it is told once a minute."""
+    """Idle connections, more than there may be files, stop nobody: those that have been idle longest make way, and the log says it once a minute."""
     for limit, words in ((128, 128), ()), (None, ("--max-connections", 40)), (None, ("--max-connections-of-address", 30)):
         begun = time.monotonic()
         # None is closed because it is idle for long.

@@ -313,7 +313,7 @@ def test_what_is_broken_off_anywhere_is_over():
 
 
 def test_each_thread_is_told_the_same_status():
-    """Of a run that was ended, by threads that look again and again: none is told that it ended well."""
+    """Of a run that was ended, by threads that look again and again: no thread finds that it ended well."""
     from chtab.engine.child import status_of
 
     for _ in range(100):
