@@ -1,6 +1,5 @@
 //! Hierarchies that are built. The tests compare their texts, as `chtab save` writes them.
 ghost use Rattle.std.specs.Prelude.{◌≡◌, IfOk};
-ghost use Rattle.ch_contract.specs.Legs.{IsHopBound};
 
 mod like;
 mod remaining;
@@ -9,7 +8,7 @@ mod workers;
 use crate::again::{again, again_after};
 use crate::crew::crew;
 use crate::examples::{Files, RING, RING_ARCS, STAR};
-use ch_contract::{Hierarchy, OrderBy};
+use ch_contract::{Hierarchy, HopBound, OrderBy};
 use ch_graph::Graph;
 use ch_order::build_in_turn;
 use ch_read::{ReadError, read_graph};
@@ -21,15 +20,16 @@ use std::process::Abort;
 use std::test::Fail;
 use std::thread::Threads;
 
+/// The bound on the legs of a witness.
+const HOPS: HopBound = HopBound { number: 5 };
+
 /// Builds the hierarchy of a graph in this order.
 fn build_by<R: Threads + Sync, G: Gate>(
     crew: &Crew<'_, R, G>,
     graph: &Graph,
-    hops: u32,
+    hops: HopBound,
     by: OrderBy,
-) -> Result<Hierarchy, AllocError>
-    requires { IsHopBound hops }
-{
+) -> Result<Hierarchy, AllocError> {
     match by {
         OrderBy::Rounds => build_by_rounds(crew, graph, hops),
         _ => build_in_turn(crew, graph, hops, by),
@@ -42,12 +42,10 @@ fn built<R: Threads + Sync>(
     rt: &R,
     alloc: Global,
     graph: &Graph,
-    hops: u32,
+    hops: HopBound,
     by: OrderBy,
     plan: &Plan,
-) -> Result<Vec<u8>, AllocError>
-    requires { IsHopBound hops }
-{
+) -> Result<Vec<u8>, AllocError> {
     let hierarchy = again!(build_by(&crew(rt, alloc, plan, &Open), graph, hops, by));
     Ok(again!(save_text(alloc, &hierarchy)))
 }
@@ -57,12 +55,10 @@ fn built<R: Threads + Sync>(
 fn expect<R: Threads + Abort + Sync>(
     rt: &R,
     alloc: Global,
-    hops: u32,
+    hops: HopBound,
     by: OrderBy,
     files: Files,
-) -> Result<(), Fail>
-    requires { IsHopBound hops }
-{
+) -> Result<(), Fail> {
     let graph = again_after!(ReadError::NoMemory, read_graph(alloc, files.0));
     for (workers, piece) in [(1, 1), (2, 1), (2, 64), (3, 1), (4, 1), (64, 1)] {
         let plan = Plan::new(workers, piece, 1);
@@ -87,7 +83,7 @@ const RING_BY_ROUNDS: Files = (
 /// enough memory.
 #[test]
 fn built_refused_in_turn(rt: HostRuntime) -> Result<(), Fail> {
-    expect(&rt, rt.alloc(), 5, OrderBy::Difference, STAR)?;
-    expect(&rt, rt.alloc(), 5, OrderBy::Difference, RING)?;
-    expect(&rt, rt.alloc(), 5, OrderBy::Rounds, RING_BY_ROUNDS)
+    expect(&rt, rt.alloc(), HOPS, OrderBy::Difference, STAR)?;
+    expect(&rt, rt.alloc(), HOPS, OrderBy::Difference, RING)?;
+    expect(&rt, rt.alloc(), HOPS, OrderBy::Rounds, RING_BY_ROUNDS)
 }

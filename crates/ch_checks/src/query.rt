@@ -6,9 +6,9 @@ ghost use Rattle.ch_query.specs.Distance.{IsKeptForSome};
 use crate::again::again;
 use crate::crew::crew;
 use crate::examples::{Files, RING, hierarchy};
-use ch_hierarchy::Hierarchy;
+use ch_hierarchy::{Hierarchy, Side};
 use ch_query::{
-    Answer, Scratch, Side, answer_all, answer_all_in, distance, ranked_space, route, search_space,
+    Answer, Scratch, Start, answer_all, answer_all_in, distance, ranked_space, route, search_space,
     spread,
 };
 use ch_work::{Open, Plan};
@@ -37,9 +37,18 @@ fn asked(alloc: Global, roads: &Hierarchy, scratch: &mut Scratch) -> Result<[u64
         Some(way) => way.weight,
         None => 0,
     };
-    let reached = spread(alloc, roads, scratch, 0, Side::Up, None)?;
-    let space = search_space(alloc, roads, scratch, 0, Side::Up, None)?;
-    let ranked = ranked_space(alloc, roads, scratch, 0, Side::Down, None)?;
+    let start = Start {
+        source: 0,
+        side: Side::Up,
+        within: None,
+    };
+    let reached = spread(alloc, roads, scratch, start)?;
+    let space = search_space(alloc, roads, scratch, start)?;
+    let down = Start {
+        side: Side::Down,
+        ..start
+    };
+    let ranked = ranked_space(alloc, roads, scratch, down)?;
     Ok([
         weight,
         reached.len() as u64,

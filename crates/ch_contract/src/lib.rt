@@ -13,12 +13,14 @@
 #![tactic(auto)]
 
 mod held_cost;
+mod hop_bound;
 mod known_costs;
 pub mod laws;
 mod leg_lists;
 mod measure;
 pub mod memory;
 pub mod order;
+mod percent;
 mod remaining;
 mod room;
 mod shortcut;
@@ -26,7 +28,9 @@ mod witness_search;
 mod witness_searches;
 
 pub use ch_hierarchy::{CheckError, CheckFault, Hierarchy, Leg, assemble};
+pub use hop_bound::HopBound;
 pub use measure::{Measure, OrderBy};
+pub use percent::Percent;
 pub use remaining::{BothRows, Remaining, Removed};
 pub use room::Room;
 pub use shortcut::Shortcut;

@@ -1,12 +1,13 @@
 //! Rooms for judging nodes. To judge a node is to find its shortcuts, and to count them and the legs that touch
 //! it.
 ghost use Rattle.std.specs.Prelude.{◌≡◌, ℕ, ◌<◌, ◌++◌, ◌∷◌, [], length, IfOk, IfSome, OnOk, slice_index};
-ghost use Rattle.ch_contract.specs.Legs.{Legs, IsHopBound, turned_legs};
+ghost use Rattle.ch_contract.specs.Legs.{Legs, turned_legs};
 ghost use Rattle.ch_contract.specs.Contraction.{Contracts};
 ghost use Rattle.ch_contract.specs.Measures.{IsMeasure};
 ghost use Rattle.ch_contract.specs.Remaining.{legs_of, IsSetAside};
 ghost use Rattle.ch_contract.specs.Rooms.{AreIdle};
 
+use crate::hop_bound::HopBound;
 use crate::measure::Measure;
 use crate::remaining::Remaining;
 use crate::shortcut::Shortcut;
@@ -55,13 +56,12 @@ impl Room {
         alloc: Global,
         remaining: &Remaining,
         node: u32,
-        hops: u32,
+        hops: HopBound,
     ) -> Result<Measure, AllocError>
         requires node { node < remaining.now.nodes }
-        requires hops { IsHopBound hops }
-        requires ready { IsReady remaining.now.nodes hops (legs_of remaining.now) self.old }
-        ensures measure { IfOk result (IsMeasure remaining.now.nodes hops (legs_of remaining.now) node) }
-        ensures ready { OnOk result (IsReady remaining.now.nodes hops (legs_of remaining.now) self.new) }
+        requires ready { IsReady remaining.now.nodes hops.number (legs_of remaining.now) self.old }
+        ensures measure { IfOk result (IsMeasure remaining.now.nodes hops.number (legs_of remaining.now) node) }
+        ensures ready { OnOk result (IsReady remaining.now.nodes hops.number (legs_of remaining.now) self.new) }
         ensures judged { OnOk result (self.new.judged.items ≡ self.old.judged.items ++ node ∷ []) }
     {
         let place = self.judged.len();
@@ -81,16 +81,15 @@ impl Room {
         alloc: Global,
         remaining: Remaining,
         node: u32,
-        hops: u32,
+        hops: HopBound,
     ) -> Result<Remaining, AllocError>
         requires node { node < remaining.nodes }
-        requires hops { IsHopBound hops }
-        requires ready { IsReady remaining.nodes hops (legs_of remaining) self.old }
+        requires ready { IsReady remaining.nodes hops.number (legs_of remaining) self.old }
         ensures nodes { IfOk result (λ r. r.nodes ≡ remaining.nodes) }
-        ensures legs { IfOk result (λ r. Contracts remaining.nodes hops (legs_of remaining) node (legs_of r)) }
+        ensures legs { IfOk result (λ r. Contracts remaining.nodes hops.number (legs_of remaining) node (legs_of r)) }
         ensures up { IfOk result (λ r. IsSetAside (legs_of remaining) node remaining.ups r.ups) }
         ensures down { IfOk result (λ r. IsSetAside (turned_legs (legs_of remaining)) node remaining.downs r.downs) }
-        ensures ready { IfOk result (λ r. IsReady r.nodes hops (legs_of r) self.new) }
+        ensures ready { IfOk result (λ r. IsReady r.nodes hops.number (legs_of r) self.new) }
     {
         let place = self.place_of(alloc, &remaining, node, hops)?;
         let contracted = remaining.contract_with(node, self.shortcuts(place))?;
@@ -104,12 +103,11 @@ impl Room {
         alloc: Global,
         remaining: &Remaining,
         node: u32,
-        hops: u32,
+        hops: HopBound,
     ) -> Result<usize, AllocError>
         requires node { node < remaining.now.nodes }
-        requires hops { IsHopBound hops }
-        requires ready { IsReady remaining.now.nodes hops (legs_of remaining.now) self.old }
-        ensures ready { OnOk result (IsReady remaining.now.nodes hops (legs_of remaining.now) self.new) }
+        requires ready { IsReady remaining.now.nodes hops.number (legs_of remaining.now) self.old }
+        ensures ready { OnOk result (IsReady remaining.now.nodes hops.number (legs_of remaining.now) self.new) }
         ensures place { IfOk result (λ k. (k < length self.new.judged.items) × (slice_index self.new.judged.items k ≡ node)) }
     {
         if let Some(place) = place_in(self.judged.as_slice(), node) {

@@ -1,6 +1,5 @@
 //! The searches of one worker, over words or over pairs.
 ghost use Rattle.std.specs.Prelude.{◌<◌, IfOk, OnOk};
-ghost use Rattle.ch_contract.specs.Legs.{IsHopBound};
 ghost use Rattle.ch_contract.specs.Contraction.{AreShortcuts};
 ghost use Rattle.ch_contract.specs.Measures.{IsMeasure};
 ghost use Rattle.ch_contract.specs.Remaining.{legs_of};
@@ -10,6 +9,7 @@ ghost use Rattle.ch_graph.specs.declared.limits.TheConstants.{MOST_WEIGHT};
 ghost use Rattle.ch_hierarchy.specs.Rows.{row};
 
 use crate::held_cost::Word;
+use crate::hop_bound::HopBound;
 use crate::measure::Measure;
 use crate::remaining::Remaining;
 use crate::remaining::judging::Judging;
@@ -49,13 +49,12 @@ impl WitnessSearches {
         remaining: &Remaining,
         list: &mut Vec<Shortcut>,
         v: u32,
-        hops: u32,
+        hops: HopBound,
     ) -> Result<Measure, AllocError>
         requires node { v < remaining.now.nodes }
-        requires hops { IsHopBound hops }
         requires idle { AreIdle self.old }
-        ensures measure { IfOk result (IsMeasure remaining.now.nodes hops (legs_of remaining.now) v) }
-        ensures list { OnOk result (AreShortcuts remaining.now.nodes hops (legs_of remaining.now) v list.new.items) }
+        ensures measure { IfOk result (IsMeasure remaining.now.nodes hops.number (legs_of remaining.now) v) }
+        ensures list { OnOk result (AreShortcuts remaining.now.nodes hops.number (legs_of remaining.now) v list.new.items) }
         ensures idle { OnOk result (AreIdle self.new) }
     {
         if remaining.is_light() {
@@ -74,13 +73,12 @@ impl WitnessSearches {
         remaining: &Remaining,
         list: &mut Vec<Shortcut>,
         node: u32,
-        hops: u32,
+        hops: HopBound,
     ) -> Result<(), AllocError>
         requires node { node < remaining.now.nodes }
-        requires hops { IsHopBound hops }
         requires touching { AreTouching remaining.now.nodes MOST_WEIGHT node (row remaining.now.ups node) (row remaining.now.downs node) }
         requires idle { AreIdle self.old }
-        ensures list { OnOk result (AreShortcutsAmong remaining.now.nodes hops
+        ensures list { OnOk result (AreShortcutsAmong remaining.now.nodes hops.number
             (legs_touching node (row remaining.now.ups node) (row remaining.now.downs node)) (legs_of remaining.now) node list.new.items) }
         ensures idle { OnOk result (AreIdle self.new) }
     {

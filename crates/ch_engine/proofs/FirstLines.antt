@@ -4,7 +4,7 @@ use Rattle.std.specs.Prelude.{◌⊎◌}
 use Rattle.std.proofs.lemmas.Bool.{cases_eq, cases_lt}
 use Rattle.ch_graph.specs.declared.arc.InArc.{InArc}
 use Rattle.ch_graph.specs.declared.limits.TheConstants.{MOST_ARCS}
-use Rattle.ch_query.specs.declared.side.Side.{Side}
+use Rattle.ch_hierarchy.specs.declared.side.Side.{Side}
 use Rattle.ch_engine.specs.Lines.{IsBetter, IsLineWord, IsSeen, Precedes, arc_on, far_end, no_line}
 
 -- what precedes goes on from line to line

@@ -8,10 +8,10 @@ use Rattle.ch_graph.specs.declared.arc.InArc.{InArc}
 use Rattle.ch_hierarchy.specs.declared.leg.Leg.{Leg}
 use Rattle.ch_hierarchy.specs.Hierarchy.{LevelsAndLegs}
 use Rattle.ch_hierarchy.specs.Rows.{row}
+use Rattle.ch_hierarchy.specs.declared.side.Side.{Side}
+use Rattle.ch_hierarchy.specs.declared.side.Side.TheVariants.{Up, Down}
 use Rattle.ch_hierarchy.proofs.theory.NoLeg.{no_leg}
 use Rattle.ch_query.specs.Routes.{IsUnpacked, arc, shortcut}
-use Rattle.ch_query.specs.declared.side.Side.{Side}
-use Rattle.ch_query.specs.declared.side.Side.TheVariants.{Up, Down}
 use Rattle.ch_engine.specs.LegSums.{AreLegRows, AreLegWords, AreLinesBetween, IsLegSum, IsRowLegSum, IsSumBetween, leg_on}
 use Rattle.ch_engine.specs.Lines.{IsLineBy, Lines}
 use Rattle.ch_engine.proofs.SeenLines.{rows_pushed}

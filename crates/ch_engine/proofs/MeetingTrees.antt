@@ -9,8 +9,8 @@ use Rattle.ch_graph.specs.Cost.{IsAtMost, cost_sum, no_cost}
 use Rattle.ch_graph.proofs.CostOrder.{IsAtMost_refl, IsAtMost_trans, IsBelow-IsAtMost, IsBelow_not}
 use Rattle.ch_hierarchy.specs.Hierarchy.{LevelsAndLegs}
 use Rattle.ch_hierarchy.specs.Paths.{IsMeet}
+use Rattle.ch_hierarchy.specs.declared.side.Side.TheVariants.{Up, Down}
 use Rattle.ch_query.specs.declared.routes.Route.{Route}
-use Rattle.ch_query.specs.declared.side.Side.TheVariants.{Up, Down}
 use Rattle.ch_query.specs.Routes.{AreDownArcs, AreUpArcs, DescentStep}
 use Rattle.ch_query.specs.Spread.{IsSpread}
 use Rattle.ch_engine.specs.declared.path_tree.Meet.{Meet}

@@ -11,11 +11,11 @@ use Rattle.std.proofs.lemmas.List.Elements.{All-contains}
 use Rattle.ch_hierarchy.specs.Hierarchy.{AreLegsUp, IsLegUp, IsLevelled, LevelsAndLegs, nodes_of}
 use Rattle.ch_hierarchy.specs.Paths.{IsLeastUpwardPath, IsUpwardPath}
 use Rattle.ch_hierarchy.specs.Rows.{row}
+use Rattle.ch_hierarchy.specs.declared.side.Side.{Side}
+use Rattle.ch_hierarchy.specs.declared.side.Side.TheVariants.{Up, Down}
+use Rattle.ch_hierarchy.specs.Side.{rows_of}
 use Rattle.ch_hierarchy.proofs.theory.NoLeg.{no_leg}
-use Rattle.ch_query.specs.declared.side.Side.{Side}
-use Rattle.ch_query.specs.declared.side.Side.TheVariants.{Up, Down}
 use Rattle.ch_query.specs.Parents.{IsChosen}
-use Rattle.ch_query.specs.Side.{rows_of}
 use Rattle.ch_query.specs.Spread.{IsSpread}
 use Rattle.ch_query.proofs.one_side.Parents.{least_same}
 use Rattle.ch_engine.specs.declared.path_tree.Step.{Step}

@@ -8,9 +8,9 @@ use Rattle.ch_graph.specs.declared.arc.InArc.{InArc}
 use Rattle.ch_graph.specs.Graph.{Network, IsWithinLimits}
 use Rattle.ch_graph.specs.Rows.{AreRowsOf}
 use Rattle.ch_graph.specs.Sorting.{with_key}
+use Rattle.ch_hierarchy.specs.declared.side.Side.{Side}
+use Rattle.ch_hierarchy.specs.declared.side.Side.TheVariants.{Up, Down}
 use Rattle.ch_graph.proofs.StableRows.{in_row, keys_below, row_has}
-use Rattle.ch_query.specs.declared.side.Side.{Side}
-use Rattle.ch_query.specs.declared.side.Side.TheVariants.{Up, Down}
 use Rattle.ch_engine.specs.Lines.{IsLineWord, IsSeen, Leads, arc_on, ended_lines, far_end, head_of, near_end, tail_of}
 use Rattle.ch_engine.proofs.FirstLines.{word_for}
 

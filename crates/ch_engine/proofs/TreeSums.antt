@@ -4,8 +4,8 @@ use Rattle.std.proofs.lemmas.Bool.{cases_order}
 use Rattle.std.proofs.lemmas.List.{get_or-append-add, get_or_append_left, length-append}
 use Rattle.ch_graph.proofs.SimpleWalks.{IsLeast-arcs}
 use Rattle.ch_hierarchy.specs.Hierarchy.{LevelsAndLegs, nodes_of}
+use Rattle.ch_hierarchy.specs.declared.side.Side.{Side}
 use Rattle.ch_query.specs.declared.routes.Route.{Route}
-use Rattle.ch_query.specs.declared.side.Side.{Side}
 use Rattle.ch_query.specs.Routes.{IsRouteBy}
 use Rattle.ch_query.proofs.routing.RouteWalks.{route_least_walk}
 use Rattle.ch_engine.specs.declared.path_tree.PathTree.{PathTree}

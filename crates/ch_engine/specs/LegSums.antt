@@ -4,10 +4,10 @@ use Rattle.ch_graph.specs.declared.arc.InArc.{InArc}
 use Rattle.ch_hierarchy.specs.declared.leg.Leg.{Leg}
 use Rattle.ch_hierarchy.specs.Rows.{row}
 use Rattle.ch_hierarchy.specs.Hierarchy.{LevelsAndLegs}
-use Rattle.ch_query.specs.declared.side.Side.{Side}
-use Rattle.ch_query.specs.declared.side.Side.TheVariants.{Up, Down}
+use Rattle.ch_hierarchy.specs.declared.side.Side.{Side}
+use Rattle.ch_hierarchy.specs.declared.side.Side.TheVariants.{Up, Down}
+use Rattle.ch_hierarchy.specs.Side.{rows_of}
 use Rattle.ch_query.specs.Routes.{IsUnpacked}
-use Rattle.ch_query.specs.Side.{rows_of}
 use Rattle.ch_engine.specs.declared.leg_sums.KeptSums.{KeptSums}
 use Rattle.ch_engine.specs.declared.leg_sums.LegSums.{LegSums}
 use Rattle.ch_engine.specs.Lines.{IsLineBy, Lines, head_of, tail_of}

@@ -7,11 +7,11 @@ use Rattle.ch_graph.specs.Cost.{IsAtMost, IsBelow, cost_sum, no_cost}
 use Rattle.ch_hierarchy.specs.declared.leg.Leg.{Leg}
 use Rattle.ch_hierarchy.specs.Rows.{row}
 use Rattle.ch_hierarchy.specs.Hierarchy.{LevelsAndLegs}
-use Rattle.ch_query.specs.declared.side.Side.{Side}
-use Rattle.ch_query.specs.declared.side.Side.TheVariants.{Up, Down}
+use Rattle.ch_hierarchy.specs.declared.side.Side.{Side}
+use Rattle.ch_hierarchy.specs.declared.side.Side.TheVariants.{Up, Down}
+use Rattle.ch_hierarchy.specs.Side.{rows_of}
 use Rattle.ch_query.specs.declared.routes.Route.{Route}
 use Rattle.ch_query.specs.Routes.{DescentStep, IsDescent, IsRoute}
-use Rattle.ch_query.specs.Side.{rows_of}
 use Rattle.ch_query.specs.Spread.{IsSpread}
 use Rattle.ch_engine.specs.declared.path_tree.Meet.{Meet}
 use Rattle.ch_engine.specs.declared.path_tree.PathTree.{PathTree}

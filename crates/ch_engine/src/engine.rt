@@ -24,9 +24,9 @@ use std::alloc::{AllocError, Global};
 use std::marker::Model;
 use std::sync::Arc;
 
-/// A network, with room for one question at a time, and with the places that the engine keeps. Several engines may
-/// share the network. Contracts see the hierarchy and what is asked of the places. So room and places always belong
-/// to the engine's own network.
+/// A network, with room for one question at a time, and with what the engine keeps: places of near rows, and sums
+/// along legs. Several engines may share the network. Contracts see the hierarchy and what is asked of the places.
+/// So room and places always belong to the engine's own network.
 #[derive(Drop)]
 pub struct Engine {
     pub(crate) network: Arc<Network, Global>,

@@ -3,15 +3,14 @@ ghost use Rattle.std.specs.Prelude.{◌≡◌, ◌≢◌, ◌+◌, ◌<◌, ℕ,
 ghost use Rattle.ch_hierarchy.specs.declared.leg.Leg.{Leg as AnyLeg};
 ghost use Rattle.ch_hierarchy.specs.Hierarchy.{nodes_of};
 ghost use Rattle.ch_hierarchy.specs.Rows.{row as the_row_of};
-ghost use Rattle.ch_query.specs.Side.{rows_of};
+ghost use Rattle.ch_hierarchy.specs.Side.{rows_of};
 ghost use Rattle.ch_engine.specs.LegSums.{AreKeptSums, AreLegSums, AreLegWords, IsLegSum, IsLegWord, IsRowLegSum, IsWordIn, leg_on, unknown};
 ghost use Rattle.ch_engine.specs.Lines.{Lines};
 
-use crate::lines::{legs_of, place_in};
+use crate::lines::place_in;
 use crate::network::Network;
 use ch_graph::Rows;
-use ch_hierarchy::{Hierarchy, Leg};
-use ch_query::Side;
+use ch_hierarchy::{Hierarchy, Leg, Side};
 use std::alloc::{AllocError, Global};
 
 /// The word for a sum that is not known, because it or a part of it is too large.
@@ -59,7 +58,7 @@ impl LegSums {
         requires node { node < nodes_of hierarchy.now }
         ensures { (lines : Lines) (values : List ℕ) → AreLegSums hierarchy.now lines values self.now → result ≢ unknown → (leg : AnyLeg) × Contains (the_row_of (rows_of hierarchy.now side) node) leg × (leg.node ≡ other) × IsRowLegSum side hierarchy.now lines values node leg result }
     {
-        match place_in(legs_of(hierarchy, side, node), other) {
+        match place_in(hierarchy.legs(side, node), other) {
             Some(place) => self.word(hierarchy, side, node, place),
             None => UNKNOWN,
         }
@@ -144,7 +143,7 @@ impl Network {
         ensures { OnOk result (AreLegWords side self.now.0 self.now.1 values.now node row.new.items) }
     {
         row.clear();
-        let legs = legs_of(self.hierarchy(), side, node);
+        let legs = self.hierarchy().legs(side, node);
         for k in 0..legs.len() {
             row.push(self.sum_leg(side, node, k, legs[k], values, sums))?;
         }

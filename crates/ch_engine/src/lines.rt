@@ -4,12 +4,11 @@ ghost use Rattle.ch_graph.specs.declared.limits.TheConstants.{MOST_ARCS};
 ghost use Rattle.ch_graph.specs.Rows.{AreRowsOf};
 ghost use Rattle.ch_hierarchy.specs.Hierarchy.{nodes_of, IsLevelled};
 ghost use Rattle.ch_hierarchy.specs.Rows.{row as the_row_of, IsRow};
-ghost use Rattle.ch_query.specs.Side.{rows_of};
+ghost use Rattle.ch_hierarchy.specs.Side.{rows_of};
 ghost use Rattle.ch_engine.specs.Lines.{AreLinesOn, IsBetter, IsLineWord, IsSeen, IsWordAt, arc_on, ended_lines, far_end as the_far_end, near_end as the_near_end, no_line, node_at};
 
 use ch_graph::{Graph, InArc, Rows};
-use ch_hierarchy::{Hierarchy, Leg};
-use ch_query::Side;
+use ch_hierarchy::{Hierarchy, Leg, Side};
 use std::alloc::{AllocError, Global};
 
 /// The word for no line. Each line is less.
@@ -32,7 +31,7 @@ pub(crate) fn lines_of(
     let mut rows = Rows::with_room(alloc, hierarchy.nodes(), 0)?;
     let mut row = Vec::new(alloc);
     for node in 0..hierarchy.nodes() {
-        let legs = legs_of(hierarchy, side, node);
+        let legs = hierarchy.legs(side, node);
         find_lines(arcs, side, legs, seen.row(node), &mut row)?;
         rows.push(&row)?;
     }
@@ -140,18 +139,6 @@ fn far_end(side: Side, arc: InArc) -> u32
     match side {
         Side::Up => arc.to,
         Side::Down => arc.from,
-    }
-}
-
-/// Returns the legs of a node in a direction.
-pub(crate) fn legs_of(hierarchy: &Hierarchy, side: Side, node: u32) -> &[Leg]
-    requires { node < nodes_of hierarchy.now }
-    ensures row { result.now ≡ the_row_of (rows_of hierarchy.now side) node }
-    ensures levelled { IsLevelled hierarchy.now }
-{
-    match side {
-        Side::Up => hierarchy.up(node),
-        Side::Down => hierarchy.down(node),
     }
 }
 

@@ -3,14 +3,13 @@ ghost use Rattle.std.specs.Prelude.{◌≡◌, ◌≢◌, ◌<◌, length, IfOk}
 ghost use Rattle.ch_hierarchy.specs.Hierarchy.{nodes_of};
 ghost use Rattle.ch_hierarchy.specs.Kept.{IsKept};
 ghost use Rattle.ch_hierarchy.specs.Rows.{row as the_row_of};
+ghost use Rattle.ch_hierarchy.specs.Side.{rows_of};
 ghost use Rattle.ch_query.specs.Distance.{IsKeptForSome};
-ghost use Rattle.ch_query.specs.Side.{rows_of};
 ghost use Rattle.ch_engine.specs.Lines.{AreLines, IsLineBy, IsOfSome, head_of, node_at, tail_of};
 
 use crate::lines::{lines_of, word_at};
 use ch_graph::{Graph, Rows};
-use ch_hierarchy::Hierarchy;
-use ch_query::Side;
+use ch_hierarchy::{Hierarchy, Side};
 use std::alloc::{AllocError, Global};
 use std::marker::Model;
 

@@ -10,6 +10,7 @@ ghost use Rattle.ch_engine.specs.Refusals.{IsLikeError, IsOpenError};
 
 use crate::fault::OpenError;
 use crate::network::Network;
+use ch_contract::{HopBound, Percent};
 use ch_graph::Graph;
 use ch_hierarchy::{CheckError, Hierarchy};
 use ch_order::{OrderError, build_alone, build_like_alone};
@@ -18,7 +19,7 @@ use ch_read::{ReadError, read_graph, read_saved};
 use std::alloc::{AllocError, Global};
 
 /// The most legs of a witness, if the hierarchy is built. The command line uses the same number by default.
-const BUILT_HOPS: u32 = 5;
+const BUILT_HOPS: HopBound = HopBound { number: 5 };
 
 /// Returns the network of the graph that the bytes `graph` name, with a hierarchy that is right for it. If `saved` is not
 /// empty, its bytes name the hierarchy. If `saved` is empty, the hierarchy is built by depth.
@@ -86,11 +87,11 @@ pub(crate) fn opened_like(
     if roads.nodes() != other.nodes() {
         return Err(OpenError::OtherNodes);
     }
-    if fresh > 100 {
+    let Some(part) = Percent::new(fresh) else {
         return Err(OpenError::FreshRange);
-    }
+    };
     let order = other.order(alloc)?;
-    let built = match build_like_alone(alloc, &roads, order.as_slice(), fresh, BUILT_HOPS) {
+    let built = match build_like_alone(alloc, &roads, order.as_slice(), part, BUILT_HOPS) {
         Ok(built) => built,
         Err(OrderError::Order) => unreachable!(),
         Err(OrderError::NoMemory) => return Err(OpenError::NoMemory),

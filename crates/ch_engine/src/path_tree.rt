@@ -2,17 +2,16 @@
 ghost use Rattle.std.specs.Prelude.{◌≡◌, ◌≢◌, ◌↔◌, ◌+◌, ◌<◌, ℕ, List, None, length, IsTrue, IfOk, MatchOption, ⊤};
 ghost use Rattle.ch_graph.specs.Cost.{IsBelow, cost_sum};
 ghost use Rattle.ch_hierarchy.specs.Hierarchy.{LevelsAndLegs, nodes_of};
-ghost use Rattle.ch_query.specs.declared.side.Side.{Side as AnySide};
-ghost use Rattle.ch_query.specs.declared.side.Side.TheVariants.{Up as UpSide, Down as DownSide};
+ghost use Rattle.ch_hierarchy.specs.declared.side.Side.{Side as AnySide};
+ghost use Rattle.ch_hierarchy.specs.declared.side.Side.TheVariants.{Up as UpSide, Down as DownSide};
 ghost use Rattle.ch_engine.specs.LegSums.{AreLegSums, unknown};
 ghost use Rattle.ch_engine.specs.Lines.{Lines};
 ghost use Rattle.ch_engine.specs.PathTrees.{AreInOrder, AreSlots, IsDescentSum, IsFirstMeet, IsFirstOf, IsRouteSum, IsTaken, IsTree, entry_at, step_at};
 
 use crate::leg_sums::{LegSums, UNKNOWN, joined};
-use crate::lines::legs_of;
 use ch_graph::Cost;
-use ch_hierarchy::{Hierarchy, Leg};
-use ch_query::{Scratch, Side, spread};
+use ch_hierarchy::{Hierarchy, Leg, Side};
+use ch_query::{Scratch, Start, spread};
 use std::alloc::{AllocError, Global};
 
 /// The last step of a path to an entry.
@@ -60,7 +59,12 @@ impl PathTree {
         ensures tree { IfOk result (λ tree. (lines : Lines) (values : List ℕ) → AreLegSums hierarchy.now lines values sums.now → IsTree side hierarchy.now lines values source tree) }
         ensures scratch { scratch.new ≡ scratch.old }
     {
-        let entries = spread(alloc, hierarchy, scratch, source, side, None)?;
+        let start = Start {
+            source,
+            side,
+            within: None,
+        };
+        let entries = spread(alloc, hierarchy, scratch, start)?;
         let mut steps = vec![in alloc; None; entries.len()]?;
         take_all(hierarchy, side, sums, &entries, steps.as_mut_slice());
         Ok(PathTree {
@@ -219,7 +223,7 @@ fn take_legs(
     ensures slots { (lines : Lines) (values : List ℕ) → AreLegSums hierarchy.now lines values sums.now → AreSlots side hierarchy.now lines values entries.now place steps.old → AreSlots side hierarchy.now lines values entries.now (place + 1) steps.new }
 {
     let node = entries[place].0;
-    let legs = legs_of(hierarchy, side, node);
+    let legs = hierarchy.legs(side, node);
     for k in 0..legs.len() {
         let word = sums.word(hierarchy, side, node, k);
         take_leg(entries, place, legs[k], word, steps);

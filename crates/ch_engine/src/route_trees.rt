@@ -10,7 +10,8 @@ ghost use Rattle.ch_engine.specs.PathTrees.{AreBothTrees, AreTrees, IsRouteSum};
 use crate::leg_sums::LegSums;
 use crate::network::Network;
 use crate::path_tree::{PathTree, route_sum};
-use ch_query::{Scratch, Side};
+use ch_hierarchy::Side;
+use ch_query::Scratch;
 use std::alloc::{AllocError, Global};
 
 /// The trees of some nodes on one side.

@@ -2,6 +2,7 @@
 pub mod Rows
 pub mod Hierarchy
 pub mod Ranked
+pub mod Side
 pub mod Paths
 pub mod Kept
 pub mod Saved

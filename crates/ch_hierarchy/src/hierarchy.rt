@@ -1,12 +1,14 @@
 //! Levels, and the legs of each node to and from higher nodes.
-ghost use Rattle.std.specs.Prelude.{◌≡◌, ◌+◌, ◌*◌, ◌<◌, ℕ, IfOk, map, reverse, slice_index};
+ghost use Rattle.std.specs.Prelude.{◌≡◌, ◌<◌, ℕ, IfOk, map, reverse, slice_index};
 ghost use Rattle.ch_hierarchy.specs.Rows.{row};
 ghost use Rattle.ch_hierarchy.specs.Hierarchy.{nodes_of, IsLevelled};
 ghost use Rattle.ch_hierarchy.specs.Ranked.{rank_of, ranked_leg};
+ghost use Rattle.ch_hierarchy.specs.Side.{rows_of};
 ghost use Rattle.ch_hierarchy.specs.Saved.{IsOrderOf, AreLevelsOf};
 
 use crate::leg::Leg;
 use crate::ranked::{RankedLeg, nodes_by_rank, ranked_rows};
+use crate::side::Side;
 use ch_graph::Rows;
 use ch_lists::Lists;
 use std::alloc::{AllocError, Global};
@@ -133,18 +135,26 @@ impl Hierarchy {
         reversed(alloc, self.nodes.as_slice())
     }
 
-    /// The legs by rank of one node in one direction, chosen by a number.
-    ///
-    /// `2 r` gives the legs from the node of rank r to higher nodes, in the order of `up`. `2 r + 1` gives
-    /// the legs from higher nodes to it, in the order of `down`.
-    #[inline]
-    pub fn ranked_legs(&self, state: u32) -> &[RankedLeg]
-        requires { state < 2 * nodes_of self.now }
-        ensures up { (v : ℕ) → v < nodes_of self.now → state ≡ 2 * rank_of self.now v → result.now ≡ map (ranked_leg self.now) (row self.now.up v) }
-        ensures down { (v : ℕ) → v < nodes_of self.now → state ≡ 2 * rank_of self.now v + 1 → result.now ≡ map (ranked_leg self.now) (row self.now.down v) }
+    /// The legs of `v` in one direction, ordered by node.
+    pub fn legs(&self, side: Side, v: u32) -> &[Leg]
+        requires { v < nodes_of self.now }
+        ensures row { result.now ≡ row (rows_of self.now side) v }
         ensures levelled { IsLevelled self.now }
     {
-        self.ranked.row(state)
+        match side {
+            Side::Up => self.up(v),
+            Side::Down => self.down(v),
+        }
+    }
+
+    /// The legs by rank of the node of this rank in one direction, in the order of `legs`.
+    #[inline]
+    pub fn ranked_legs(&self, side: Side, rank: u32) -> &[RankedLeg]
+        requires { rank < nodes_of self.now }
+        ensures row { (v : ℕ) → v < nodes_of self.now → rank_of self.now v ≡ rank → result.now ≡ map (ranked_leg self.now) (row (rows_of self.now side) v) }
+        ensures levelled { IsLevelled self.now }
+    {
+        self.ranked.row(side.state(rank))
     }
 }
 

@@ -18,6 +18,7 @@ pub mod laws;
 mod leg;
 mod placing;
 mod ranked;
+mod side;
 mod sorting;
 
 pub use assembling::{assemble, levels_of};
@@ -25,3 +26,4 @@ pub use fault::{CheckError, CheckFault};
 pub use hierarchy::Hierarchy;
 pub use leg::Leg;
 pub use ranked::RankedLeg;
+pub use side::Side;

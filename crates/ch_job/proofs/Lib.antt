@@ -1,2 +1,1 @@
--- The lemmas on jobs with other files.
-pub mod Jobs
+-- Jobs need no lemma.

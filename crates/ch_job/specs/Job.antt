@@ -1,8 +1,7 @@
 -- A job with other files, and the limits of the numbers of a job.
-use Rattle.std.specs.Prelude.{◌≤◌, ℕ, IfSome, ⊤}
+use Rattle.std.specs.Prelude.{◌≤◌, ℕ, IfSome}
 use Rattle.ch_graph.specs.declared.limits.TheConstants.{MOST_LISTED, MOST_WEIGHT}
 use Rattle.ch_work.specs.Plan.{IsWithinLimits}
-use Rattle.ch_contract.specs.Legs.{IsHopBound}
 use Rattle.ch_job.specs.declared.job.Job.{Job}
 use Rattle.ch_job.specs.declared.job.Question.{Question}
 use Rattle.ch_job.specs.declared.options.Options.{Options}
@@ -38,24 +37,16 @@ job_map f job = record {
   plan = job.plan;
 }
 
--- the per cent of an order and its bound on the legs of a witness are within their limits
-abbrev pub IsSourceAllowed : {F : Type 0} → Source F → Type 0
-IsSourceAllowed Source.Built = ⊤
-IsSourceAllowed (Source.Saved file) = ⊤
-IsSourceAllowed (Source.Like order fresh hops) = (fresh ≤ 100) × IsHopBound hops
-
 -- a near row may have this number as the most targets
 abbrev pub IsCount : ℕ → Type 0
 IsCount most = (1 ≤ most) × (most ≤ MOST_LISTED)
 
--- the numbers of the options are within the program's limits
+-- the limits that the options give to tables and near rows are within the program's own. The type of their bound on hops says its range
 pub record AreAllowed (options : Options) : Type 0 where
-  pub hops : IsHopBound options.hops
   pub limit : IfSome options.within (λ most. most ≤ MOST_WEIGHT)
   pub count : IfSome options.count IsCount
 
 -- the numbers of a job are within the program's limits
 pub record IsAllowed {F : Type 0} (job : Job F) : Type 0 where
-  pub source : IsSourceAllowed job.source
   pub options : AreAllowed job.options
   pub plan : IsWithinLimits job.plan

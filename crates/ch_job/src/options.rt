@@ -1,6 +1,6 @@
 //! The options of a run, and their limits.
 
-pub use ch_contract::OrderBy;
+pub use ch_contract::{HopBound, OrderBy};
 use ch_graph::limits;
 pub use ch_near::Direction;
 
@@ -20,8 +20,8 @@ pub struct Options {
     pub plain: bool,
     /// Whether the arcs of a shortest path follow each distance.
     pub routes: bool,
-    /// The most legs of a witness, from 1 to [`MOST_HOPS`].
-    pub hops: u32,
+    /// The most legs of a witness.
+    pub hops: HopBound,
     /// The order of contraction of a hierarchy that is saved, or that gives routes. Distances and tables
     /// are the same in each order. The hierarchy is the same for every plan, also by rounds.
     pub order: OrderBy,

@@ -1,5 +1,7 @@
 //! Where the hierarchy of a run comes from.
 
+use ch_contract::{HopBound, Percent};
+
 /// Where the hierarchy of a run comes from.
 #[derive(Debug, Drop)]
 pub enum Source<S: Drop> {
@@ -13,9 +15,8 @@ pub enum Source<S: Drop> {
     /// without. The last `fresh` per cent of the nodes are ordered afresh, by depth.
     Like {
         order: S,
-        /// From 0 to 100.
-        fresh: u32,
-        /// The most legs of a witness, from 1 to [`MOST_HOPS`](crate::MOST_HOPS).
-        hops: u32,
+        fresh: Percent,
+        /// The most legs of a witness.
+        hops: HopBound,
     },
 }

@@ -1,6 +1,5 @@
--- The lemmas on the files of a job: how opening them ends, which of them are read, and which are refused.
+-- The lemmas on the files of a job: how opening them ends, and which of them are read or refused.
 pub mod Opening
 pub mod Paired
 pub mod Read
-pub mod Refused
 pub mod Told

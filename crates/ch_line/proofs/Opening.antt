@@ -3,6 +3,7 @@ use Rattle.std.proofs.Common.{◌≡◌, ℕ, List, [], ◌∷◌, ◌++◌, Opt
 use Rattle.std.specs.Prelude.{Result, Ok, Err}
 use Rattle.ch_run.specs.declared.fault.RunFault.{RunFault}
 use Rattle.ch_run.specs.declared.fault.Which.{Which}
+use Rattle.ch_run.specs.Run.{IsWrite}
 use Rattle.ch_line.specs.declared.files.OpenFault.{OpenFault}
 use Rattle.ch_line.specs.Files.{FileState, Opens}
 use Rattle.ch_line.specs.Line.{AreOpened, AtMissing, EndsAtMissing, File, HaveBytes, IsNotOpened, IsUnopened, MayAllBeThere}
@@ -122,3 +123,14 @@ module _ {F I : Type 0} (opens : F → List ℕ → Result I OpenFault → F →
         let law = tells old file.1 (Ok later.0) later.1 later.2 in
         past (known old file.1) file.0 (Ends (known old) files fault) (Err fault) (is-there (known old file.1) later.0 law.0)
         (subst (λ (k : List ℕ → FileState). Ends k files fault) law.1 (ends-at files later.1 new fault later.3))
+
+-- a file that isn't opened is no failed write
+open_no_write : (which : Which) (refusal : OpenFault) → IsWrite (open_fault which refusal) → ⊥
+open_no_write which OpenFault.Refused write = write
+open_no_write which OpenFault.Memory write = write
+
+pub stops_no_write : {F I : Type 0} (opens : F → List ℕ → Result I OpenFault → F → Type 0) (files : List File) (old new : F)
+    (fault : RunFault) → StopsOpening opens files old new fault → IsWrite fault → ⊥
+stops_no_write opens [] old new fault stops write = stops
+stops_no_write opens (file ∷ files) old new fault (inl refused) write = open_no_write file.0 refused.0 (rw refused.2 at write)
+stops_no_write opens (file ∷ files) old new fault (inr later) write = stops_no_write opens files later.1 new fault later.3 write

@@ -1,29 +1,32 @@
 -- What the story of a run over inputs tells.
 use Rattle.std.proofs.Common.{◌≡◌, ℕ, List, inl, refl, ap, subst}
-use Rattle.std.specs.Prelude.{IfErr, Result}
+use Rattle.std.specs.Prelude.{IfErr, Result, ⊤}
 use Rattle.std.proofs.Math.Logic.{⊎_map}
+use Rattle.std.proofs.lemmas.Result.{IfErr-at_err, IfErr-weaker}
 use Rattle.ch_text.specs.Device.{CountsAtMostOne}
-use Rattle.ch_job.specs.Job.{job_map, question_map, source_map, sources_map}
+use Rattle.ch_job.specs.Job.{job_map, question_map, sources_map}
 use Rattle.ch_job.specs.declared.job.Job.{Job}
 use Rattle.ch_job.specs.declared.job.Question.{Question}
 use Rattle.ch_run.specs.declared.fault.RunFault.{RunFault}
 use Rattle.ch_run.specs.declared.fault.Which.{Which}
-use Rattle.ch_run.specs.Run.{Delivers, IsGraphRefused, Reading, ReadsOrRefuses, SourceReading, WritesAfter, WritesOnce, reading}
-use Rattle.ch_run.specs.Source.{ReadsSource, source_reading}
+use Rattle.ch_run.specs.Run.{IsGraphRefused, Reading, SourceReading, reading}
+use Rattle.ch_run.specs.Source.{source_reading}
+use Rattle.ch_run.specs.DistRun.{HasQueriesRefused}
+use Rattle.ch_run.specs.NearRun.{HasNearTargetsRefused}
+use Rattle.ch_run.specs.TableRun.{HasSourcesRefused, HasTargetsRefused}
 use Rattle.ch_run.specs.Told.{Calls}
-use Rattle.ch_run.proofs.AskStory.{ask_served, ask_tells}
-use Rattle.ch_run.proofs.Stories.{dist_delivers, dist_tells, near_delivers, near_tells, save_delivers, save_tells, table_delivers}
-use Rattle.ch_run.proofs.Stories.{table_tells}
-use Rattle.ch_run.proofs.Tells.{CountsCalls, CountsReads}
+use Rattle.ch_run.proofs.AskStory.{ask_told}
+use Rattle.ch_run.proofs.Counted.{CountsCalls, CountsReads, lines_after, listed_after, reads_once, source_after, writes_once}
+use Rattle.ch_run.proofs.Stories.{dist_told, near_told, save_told, table_told}
+use Rattle.ch_run.proofs.Tells.{Met, MetSource, Refuses, ReportsWrites, Written}
 use Rattle.ch_line.specs.Inputs.{AreRead, IsOwn, RefusesAsked, RunsFor, RunsOver, TellsOver, WritesFor, WritesText}
-use Rattle.ch_line.specs.Inputs.{question_inputs, sources_after, sources_before}
-use Rattle.ch_line.proofs.Read.{source-read, sources-read}
-use Rattle.ch_line.proofs.Refused.{list-refused, source-refused}
+use Rattle.ch_line.specs.Inputs.{question_inputs, sources_after, sources_before, sources_read}
+use Rattle.ch_line.proofs.Read.{source-told, sources-told}
 
-module _ {I J O : Type 0} (gives : Calls I) (origin failed : I → ℕ) (counts : CountsReads gives failed) (gives_requests : Calls J)
-    (failed_requests : J → ℕ) (counts_requests : CountsReads gives_requests failed_requests)
-    (takes : Calls O) (failures idle : O → ℕ) (counts_output : CountsCalls takes failures idle) (old new : Job I)
-    (requests requests' : J) (output output' : O) (r : Result Unit RunFault) (same : job_map origin new ≡ job_map origin old) where
+module _ {I J O : Type 0} {gives : Calls I} (origin : I → ℕ) {failed : I → ℕ} (counts : CountsReads gives failed) {gives_requests : Calls J}
+    {failed_requests : J → ℕ} (counts_requests : CountsReads gives_requests failed_requests) {takes : Calls O} {failures idle : O → ℕ}
+    (counts_output : CountsCalls takes failures idle) (old new : Job I) (requests requests' : J) (output output' : O)
+    (r : Result Unit RunFault) (same : job_map origin new ≡ job_map origin old) where
   -- a job with this question
   abbrev asking : Job I → Question I → Job I
   asking job question = record job { question = question }
@@ -45,78 +48,73 @@ module _ {I J O : Type 0} (gives : Calls I) (origin failed : I → ℕ) (counts 
   abbrev source : SourceReading
   source = source_reading gives old.source new.source
 
-  same_source : source_map origin new.source ≡ source_map origin old.source
-  same_source = ap (λ (job : Job ℕ). job.source) same
-
   -- what a run tells of the graph and of the source of its hierarchy, whatever its question is
   told : (asked : Question (I × I)) →
       WritesFor old.options graph source gives asked gives_requests failed_requests takes requests requests' output output' r →
-      IfErr r (IsOwn source gives asked) → ReadsOrRefuses Which.Graph r gives failed old.graph new.graph IsGraphRefused →
-      ReadsSource graph r gives failed old.source new.source → RefusesAsked graph source gives asked r →
+      IfErr r (IsOwn source gives asked) → Met r Which.Graph graph ⊥ ⊤ (Refuses Which.Graph (IsGraphRefused graph)) →
+      MetSource r graph source (new.source ≡ old.source) → RefusesAsked graph source gives asked r →
       AreRead origin failed r (question_inputs (before asked)) (question_inputs (after asked)) →
-      CountsAtMostOne (failed_requests requests) (failed_requests requests') → WritesOnce r failures idle output output' →
+      CountsAtMostOne (failed_requests requests) (failed_requests requests') → ReportsWrites takes output output' r →
       TellsOf (before asked) (after asked)
-  told asked written own on_graph on_source refused read once wrote =
-      let source_told = source-refused graph r gives failed old.source new.source on_source in
+  told asked written own met met_source refused read once wrote =
+      let on_graph = lines_after counts (λ none. absurd none) IsGraphRefused met in
+      let same_source = ap (λ (job : Job ℕ). job.source) same in
+      let on_source = source_after r counts origin graph old.source new.source same_source met_source in
+      let source_told = source-told gives origin failed r _ _ read graph old.source new.source on_source same_source in
       let same_graph = ap (λ (job : Job ℕ). job.graph) same in
-      let rest_read = source-read gives origin failed r _ _ read graph old.source new.source on_source same_source in
       record {
         asked = asked;
         paired = (refl, refl);
         written = written;
-        ends = record { own = own; graph_refused = on_graph.refused; source_refused = source_told; asked_refused = refused };
-        read = (refl, record { same = same_graph; once = on_graph.once }, rest_read);
+        ends = record { own = own; graph_refused = on_graph.reads.refused; source_refused = source_told.0; asked_refused = refused };
+        read = (refl, record { same = same_graph; once = on_graph.reads.once }, source_told.1);
         requests_once = once;
-        output_told = wrote;
+        output_told = writes_once counts_output wrote;
       }
 
   -- the run wrote its text, and left the requests alone
-  texts : (P : List ℕ → Type 0) (accepted : Type 0) → requests' ≡ requests → Delivers r takes output output' P →
-      WritesAfter accepted r failures idle output output' → WritesText P takes requests requests' output output' r
-  texts P accepted unasked delivers wrote =
-      record { unasked = unasked; delivers = delivers; unwritten = ⊎_map (λ still. still) (λ refused. refused.0) wrote.unwritten }
-
-  -- requests that were left alone counted no failed read
-  none_counted : requests' ≡ requests → CountsAtMostOne (failed_requests requests) (failed_requests requests')
-  none_counted unasked = inl (ap failed_requests unasked)
+  texts : {P : List ℕ → Type 0} {accepted : Type 0} → requests' ≡ requests → Written r takes output output' accepted P →
+      WritesText P takes requests requests' output output' r
+  texts unasked e =
+      record { unasked = unasked; delivers = e.delivers; unwritten = ⊎_map (λ still. still) (λ refused. refused.0) e.unwritten }
 
   -- the story of the run for a question tells of each of its inputs, and of the output
   asked_told : (asked : Question (I × I)) → question_map origin (after asked) ≡ question_map origin (before asked) →
       RunsFor old.options graph source (new.source ≡ old.source) gives asked gives_requests requests requests' takes output output' r →
       TellsOf (before asked) (after asked)
   asked_told (Question.Queries queries) each (went, unasked) =
-      let e = dist_tells old.options gives failed counts old.graph new.graph gives failed counts origin old.source new.source gives failed
-      counts queries.0 queries.1 takes failures idle counts_output output output' r same_source went in
-      told (Question.Queries queries) (texts _ _ unasked (dist_delivers old.options _ _ _ takes r went) e.output) e.own e.graph e.source
-      e.queries.reads.refused (refl, record { same = cc; once = e.queries.reads.once }, tt) (none_counted unasked) e.output.writes
+      let e = dist_told old.options went in
+      let read = (lines_after counts (λ at. at) (HasQueriesRefused graph source) e.later.0).reads in
+      told (Question.Queries queries) (texts unasked e.later.1) e.own e.graph e.source read.refused
+      (refl, record { same = cc; once = read.once }, tt) (inl (ap failed_requests unasked)) e.later.1.calls
   asked_told (Question.Table from to) each (went, unasked) =
-      let e = table_tells old.options gives failed counts old.graph new.graph gives failed counts origin old.source new.source gives failed
-      counts from.0 from.1 gives failed counts to.0 to.1 takes failures idle counts_output output output' r
-      same_source went in
-      told (Question.Table from to) (texts _ _ unasked (table_delivers old.options _ _ _ _ takes r went) e.output) e.own e.graph e.source
-      (record { sources_refused = e.sources.reads.refused; targets_refused = e.targets.reads.refused; cells_refused = e.cells })
-      (refl, record { same = cc; once = e.sources.reads.once }, (refl, record { same = cc; once = e.targets.reads.once }, tt))
-      (none_counted unasked) e.output.writes
+      let e = table_told old.options went in
+      let sources = (lines_after counts (λ at. at) (HasSourcesRefused graph source) e.later.0).reads in
+      let targets = (lines_after counts (λ at. at) (HasTargetsRefused graph source (reading gives from.0 from.1)) e.later.1.0).reads in
+      told (Question.Table from to) (texts unasked e.later.1.1) (IfErr-weaker r _ _ (λ fault own. own.0) e.own) e.graph e.source
+      (record {
+        sources_refused = sources.refused;
+        targets_refused = targets.refused;
+        cells_refused = λ is. (IfErr-at_err _ is e.own).1 refl;
+      })
+      (refl, record { same = cc; once = sources.once }, (refl, record { same = cc; once = targets.once }, tt))
+      (inl (ap failed_requests unasked)) e.later.1.1.calls
   asked_told (Question.Near from to) each (went, unasked) =
       let from_same : sources_map origin (sources_after from) ≡ sources_map origin (sources_before from) = cc in
-      let e = near_tells old.options gives failed counts old.graph new.graph gives failed counts origin old.source new.source gives failed
-      counts origin (sources_before from) (sources_after from) gives failed counts to.0 to.1 takes failures idle counts_output output
-      output' r same_source from_same went in
-      told (Question.Near from to) (texts _ _ unasked (near_delivers old.options _ _ _ _ takes r went) e.output) e.own e.graph e.source
-      (record { sources_refused = list-refused _ _ _ _ r _ _ _ _ e.sources; targets_refused = e.targets.reads.refused })
-      (sources-read gives origin failed r _ _ (refl, record { same = cc; once = e.targets.reads.once }, tt) _ _ _ _ _ e.sources from_same)
-      (none_counted unasked) e.output.writes
+      let e = near_told old.options _ went in
+      let targets = (lines_after counts (λ at. at) (HasNearTargetsRefused graph source (sources_read gives from)) e.later.1.0).reads in
+      let sources = listed_after r counts origin _ (HasSourcesRefused graph source) _ _ from_same e.later.0 in
+      let lists = sources-told gives origin failed r _ _ (refl, record { same = cc; once = targets.once }, tt) graph source _ _ _ _ sources
+      from_same in
+      told (Question.Near from to) (texts unasked e.later.1.1) e.own e.graph e.source
+      (record { sources_refused = lists.0; targets_refused = targets.refused }) lists.1 (inl (ap failed_requests unasked)) e.later.1.1.calls
   asked_told Question.Hierarchy each (went, unasked) =
-      let e = save_tells old.options gives failed counts old.graph new.graph gives failed counts origin old.source new.source takes
-      failures idle counts_output output output' r same_source went in
-      told Question.Hierarchy (texts _ _ unasked (save_delivers old.options _ _ takes r went) e.output) e.own e.graph e.source tt tt
-      (none_counted unasked) e.output.writes
+      let e = save_told old.options went in
+      told Question.Hierarchy (texts unasked e.later) e.own e.graph e.source tt tt (inl (ap failed_requests unasked)) e.later.calls
   asked_told Question.Requests each went =
-      let e = ask_tells old.options gives failed counts old.graph new.graph gives failed counts origin old.source new.source gives_requests
-      failed_requests counts_requests requests requests' takes failures idle counts_output output output' r
-      same_source went in
-      told Question.Requests (record { served = ask_served old.options _ _ _ takes r went; device = e.requests.device }) e.own e.graph
-      e.source tt tt e.requests.once e.output
+      let e = ask_told old.options went in
+      let read = reads_once counts_requests (λ at. at) e.later.0 in
+      told Question.Requests (record { served = e.later.2; device = read.device }) e.own e.graph e.source tt tt read.once e.later.1
 
   -- the story of the run of a job tells of each of its inputs, and of the output
   pub run_tells : RunsOver gives old new gives_requests requests requests' takes output output' r →

@@ -1,7 +1,7 @@
 //! The run of a job over its opened files.
 
 ghost use Rattle.std.specs.Prelude.{◌≡◌};
-ghost use Rattle.ch_job.specs.Job.{IsAllowed, job_map};
+ghost use Rattle.ch_job.specs.Job.{job_map};
 ghost use Rattle.ch_line.specs.Inputs.{RunsOver};
 
 use ch_job::{Job, Question};
@@ -21,7 +21,6 @@ pub fn run_job<R: Threads + Sync, I: Input + Drop, J: Input, O: Output, G: Gate>
     output: &mut O,
 ) -> Result<(), RunFault>
     requires plan { crew.now.plan ≡ job.old.plan }
-    requires allowed { IsAllowed job.old }
 
     // The story of the run, with the options of the job.
     ensures went { RunsOver I.read_gives job.old job.new J.read_gives requests.old requests.new O.write_gives output.old output.new result }

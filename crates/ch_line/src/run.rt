@@ -6,7 +6,6 @@ ghost use Rattle.ch_text.specs.Device.{CountsAtMostOne};
 ghost use Rattle.ch_job.specs.Job.{question_map, source_map};
 ghost use Rattle.ch_run.specs.NearRun.{listed_in};
 ghost use Rattle.ch_run.specs.Run.{WritesOnce};
-ghost use Rattle.ch_words.specs.Line.{IsAllowed};
 ghost use Rattle.ch_line.specs.Inputs.{input_if, inputs_in, question_inputs, source_inputs};
 ghost use Rattle.ch_line.specs.Line.{AreClosed, AreFresh, AreOpened, IsOpenedFor, IsRefused, RunsLine, StopsOpening, list_files, named_in, question_files, source_files, zero_of};
 
@@ -33,8 +32,6 @@ pub fn run_line<R: Threads + Sync, F: Files, J: Input, O: Output, G: Gate>(
     line: &Line,
     gate: &G,
 ) -> Result<(), RunFault>
-    requires allowed { IsAllowed line.now }
-
     // The run opens the files of the line, and no other. What it reads of these very files and of the requests, what it
     // writes, and how it ends, is as the line asks for. It closes all files that it opened.
     ensures went { RunsLine F.opens F.closes F.Input.read_gives F.Input.origin J.read_gives O.write_gives line.now files.old files.new requests.old requests.new output.old output.new result }

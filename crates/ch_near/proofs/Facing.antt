@@ -1,5 +1,5 @@
 -- Facts about a hierarchy that is reversed.
-use Rattle.std.proofs.Common.{◌≡◌, ℕ, List, [], ◌∷◌, Vec, sym, subst}
+use Rattle.std.proofs.Common.{◌≡◌, ℕ, List, [], ◌∷◌, Vec, Result, Ok, Err, IfOk, sym, subst}
 use Rattle.std.specs.Prelude.{Option, Some}
 use Rattle.std.specs.List.{AllZip}
 use Rattle.std.specs.declared.alloc.Global.{Global}
@@ -7,8 +7,9 @@ use Rattle.ch_graph.specs.Graph.{Network, IsWithinLimits}
 use Rattle.ch_hierarchy.specs.Hierarchy.{LevelsAndLegs, nodes_of}
 use Rattle.ch_hierarchy.specs.Kept.{IsKept}
 use Rattle.ch_hierarchy.specs.Turned.{turned_hierarchy}
+use Rattle.ch_hierarchy.specs.declared.side.Side.{Side}
+use Rattle.ch_hierarchy.specs.declared.side.Side.TheVariants.{Up, Down}
 use Rattle.ch_hierarchy.proofs.theory.KeptWalks.{meetings_are_distances}
-use Rattle.ch_query.specs.declared.side.Side.TheVariants.{Up, Down}
 use Rattle.ch_query.specs.Distance.{IsKeptForSome}
 use Rattle.ch_query.specs.Limits.{IsWithin, IsDistanceWithin}
 use Rattle.ch_query.specs.SearchSpace.{IsRankedSpace}
@@ -87,7 +88,7 @@ faced_nodes To H n is = is
 faced_nodes From H n is = is
 
 -- the spaces of targets
-pub target_spaces : (direction : Direction) (H : LevelsAndLegs) (limit : Option ℕ) (targets : List ℕ) (spaces : List (Vec (ℕ × ℕ) Global)) →
+target_spaces : (direction : Direction) (H : LevelsAndLegs) (limit : Option ℕ) (targets : List ℕ) (spaces : List (Vec (ℕ × ℕ) Global)) →
     AllZip (λ t (space : Vec (ℕ × ℕ) Global). IsRankedSpace H (target_side direction) limit t space.items) targets spaces →
     AllZip (λ t (space : Vec (ℕ × ℕ) Global). IsRankedSpace (facing direction H) Down limit t space.items) targets spaces
 target_spaces direction H limit [] [] each = tt
@@ -95,3 +96,13 @@ target_spaces direction H limit [] (space ∷ spaces) each = absurd each
 target_spaces direction H limit (t ∷ targets) [] each = absurd each
 target_spaces direction H limit (t ∷ targets) (space ∷ spaces) each =
     (target_space direction H limit t space.items each.0, target_spaces direction H limit targets spaces each.1)
+
+-- the spaces that a search on the side of targets found
+pub searched_spaces : {E : Type 0} (direction : Direction) (H : LevelsAndLegs) (limit : Option ℕ) (targets : List ℕ) (side : Side)
+    (found : Result (Vec (Vec (ℕ × ℕ) Global) Global) E) → side ≡ target_side direction →
+    IfOk found (λ spaces. AllZip (λ t space. IsRankedSpace H side limit t space.items) targets spaces.items) →
+    IfOk found (λ spaces. AllZip (λ t space. IsRankedSpace (facing direction H) Down limit t space.items) targets spaces.items)
+searched_spaces direction H limit targets side (Ok spaces) is each =
+    target_spaces direction H limit targets spaces.items
+    (subst (λ s. AllZip (λ t (space : Vec (ℕ × ℕ) Global). IsRankedSpace H s limit t space.items) targets spaces.items) is each)
+searched_spaces direction H limit targets side (Err error) is each = tt

@@ -20,10 +20,10 @@ use Rattle.ch_hierarchy.specs.Paths.{IsUpwardPath, path_cost}
 use Rattle.ch_hierarchy.specs.KeptLaws.{IsLeastMeeting}
 use Rattle.ch_hierarchy.specs.Ranked.{rank_of, ranked_leg}
 use Rattle.ch_hierarchy.specs.Rows.{row}
+use Rattle.ch_hierarchy.specs.declared.side.Side.TheVariants.{Up, Down}
 use Rattle.ch_hierarchy.proofs.code.Ranked.{rank_below, rank_one, node_of_rank}
 use Rattle.ch_hierarchy.proofs.theory.KeptWalks.{kept_has_walks, meetings_are_distances}
 use Rattle.ch_hierarchy.proofs.theory.LegPaths.{path_cost-cons}
-use Rattle.ch_query.specs.declared.side.Side.TheVariants.{Up, Down}
 use Rattle.ch_query.specs.Distance.{IsKeptForSome}
 use Rattle.ch_query.specs.Limits.{IsWithin, IsDistanceWithin}
 use Rattle.ch_query.specs.Search.{IsUpwardCost}

@@ -5,8 +5,7 @@ ghost use Rattle.ch_hierarchy.specs.Ranked.{rank_of, ranked_leg};
 ghost use Rattle.ch_hierarchy.specs.Rows.{row};
 ghost use Rattle.ch_near.specs.Direction.{facing, source_side, target_side};
 
-use ch_hierarchy::{Hierarchy, RankedLeg};
-use ch_query::Side;
+use ch_hierarchy::{Hierarchy, RankedLeg, Side};
 
 /// The direction of the distances of near rows.
 #[derive(Clone, Copy, Debug, PartialEq, Eq)]
@@ -45,11 +44,6 @@ impl Direction {
         ensures legs { (v : ℕ) → v < nodes_of hierarchy.now → rank_of hierarchy.now v ≡ rank → result.now ≡ map (ranked_leg (facing self hierarchy.now)) (row (facing self hierarchy.now).up v) }
         ensures levelled { IsLevelled hierarchy.now }
     {
-        // This call tells the proof that the hierarchy has levels.
-        let _ = hierarchy.nodes();
-        match self {
-            Direction::To => hierarchy.ranked_legs(2 * rank),
-            Direction::From => hierarchy.ranked_legs(2 * rank + 1),
-        }
+        hierarchy.ranked_legs(self.side(), rank)
     }
 }

@@ -11,7 +11,7 @@ use crate::searched::Searched;
 use crate::sums::SumsWithin;
 use ch_graph::limits::MOST_WEIGHT;
 use ch_hierarchy::Hierarchy;
-use ch_query::{Scratch, lower_by_search};
+use ch_query::{Scratch, Start, lower_by_search};
 use ch_work::ListJob;
 use std::alloc::{AllocError, Global};
 use std::marker::Model;
@@ -58,12 +58,15 @@ impl<'a> Nearest<'a> {
             row,
             ..
         } = room;
+        let start = Start {
+            source,
+            side: self.searched.direction.side(),
+            within: bound,
+        };
         lower_by_search(
             self.hierarchy,
             scratch,
-            source,
-            self.searched.direction.side(),
-            bound,
+            start,
             &SumsWithin { limit: bound },
             &self.searched.buckets,
             offers,

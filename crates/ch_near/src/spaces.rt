@@ -3,8 +3,8 @@ ghost use Rattle.std.specs.Prelude.{◌<◌, ◌≤◌, length, All, IfOk};
 ghost use Rattle.std.specs.List.{AllZip};
 ghost use Rattle.ch_graph.specs.declared.limits.TheConstants.{MOST_LISTED};
 ghost use Rattle.ch_hierarchy.specs.Hierarchy.{nodes_of};
+ghost use Rattle.ch_hierarchy.specs.declared.side.Side.TheVariants.{Down};
 ghost use Rattle.ch_near.specs.Direction.{facing};
-ghost use Rattle.ch_query.specs.declared.side.Side.TheVariants.{Down};
 ghost use Rattle.ch_query.specs.Distance.{IsKeptForSome};
 ghost use Rattle.ch_query.specs.SearchSpace.{IsRankedSpace};
 

@@ -4,7 +4,7 @@ use Rattle.ch_graph.specs.declared.limits.TheConstants.{MOST_NODES}
 use Rattle.ch_hierarchy.specs.Rows.{row}
 use Rattle.ch_order.specs.declared.construction.Construction.{Construction}
 use Rattle.ch_order.specs.Progress.{Progress}
-use Rattle.ch_contract.specs.Legs.{AreLegsWithin, IsHopBound, turned_legs}
+use Rattle.ch_contract.specs.Legs.{AreLegsWithin, turned_legs}
 use Rattle.ch_contract.specs.Contraction.{Contracts}
 use Rattle.ch_contract.specs.Measures.{AreDeepened}
 use Rattle.ch_contract.specs.Neighbours.{neighbours_in}
@@ -39,7 +39,6 @@ IsJudging h c = IsReady c.remaining.nodes h (legs_of c.remaining) c.room × All 
 
 -- v can be contracted next, where a witness has at most h legs
 pub record IsReadyFor (h : ℕ) (c : Construction) (v : ℕ) : Type 0 where
-  pub hops : IsHopBound h
   pub sizes : IsSized c
   pub limits : AreLegsWithin c.remaining.nodes (legs_of c.remaining)
   pub node : v < c.remaining.nodes

@@ -5,7 +5,6 @@ mod quick;
 
 ghost use Rattle.std.specs.Prelude.{◌≡◌, ℕ, ◌<◌, ◌≤◌, ◌^◌, ◌++◌, All, IfOk, None, OnOk, length, map, slice_set, take};
 ghost use Rattle.ch_graph.specs.Graph.{IsWithinLimits};
-ghost use Rattle.ch_contract.specs.Legs.{IsHopBound};
 ghost use Rattle.ch_contract.specs.Built.{IsHierarchy, IsHierarchyInTurn};
 ghost use Rattle.ch_contract.specs.Like.{IsHierarchyFrom};
 ghost use Rattle.ch_contract.specs.Begun.{AreDifferentNodes};
@@ -16,7 +15,7 @@ use crate::priority::PriorityJob;
 pub use alone::{build_alone, build_like_alone};
 use ch_contract::memory::ask_ahead;
 use ch_contract::order::{all_nodes, deepen, neighbours};
-use ch_contract::{BothRows, OrderBy, Remaining, Room};
+use ch_contract::{BothRows, HopBound, OrderBy, Remaining, Room};
 use ch_graph::Graph;
 use ch_hierarchy::Hierarchy;
 use ch_queue::KeyQueue;
@@ -31,10 +30,9 @@ use std::thread::Threads;
 pub fn build<R: Threads + Sync, G: Gate>(
     crew: &Crew<'_, R, G>,
     graph: &Graph,
-    hops: u32,
+    hops: HopBound,
 ) -> Result<Hierarchy, AllocError>
-    requires hops { IsHopBound hops }
-    ensures hierarchy { IfOk result (IsHierarchy graph.now hops) }
+    ensures hierarchy { IfOk result (IsHierarchy graph.now hops.number) }
     ensures kept { IfOk result (IsKept graph.now) }
     ensures limits { IsWithinLimits graph.now }
 {
@@ -57,11 +55,10 @@ pub fn build<R: Threads + Sync, G: Gate>(
 pub fn build_in_turn<R: Threads + Sync, G: Gate>(
     crew: &Crew<'_, R, G>,
     graph: &Graph,
-    hops: u32,
+    hops: HopBound,
     by: OrderBy,
 ) -> Result<Hierarchy, AllocError>
-    requires hops { IsHopBound hops }
-    ensures hierarchy { IfOk result (IsHierarchyInTurn by graph.now hops) }
+    ensures hierarchy { IfOk result (IsHierarchyInTurn by graph.now hops.number) }
     ensures kept { IfOk result (IsKept graph.now) }
     ensures limits { IsWithinLimits graph.now }
 {
@@ -77,13 +74,12 @@ fn contract_in_turn<R: Threads + Sync, G: Gate>(
     graph: &Graph,
     nodes: &[u32],
     given: usize,
-    hops: u32,
+    hops: HopBound,
     by: OrderBy,
 ) -> Result<Hierarchy, AllocError>
-    requires hops { IsHopBound hops }
     requires nodes { IsOrderOf graph.now.nodes nodes.now }
     requires given { given ≤ length nodes.now }
-    ensures { IfOk result (IsHierarchyFrom by graph.now hops (take given nodes.now)) }
+    ensures { IfOk result (IsHierarchyFrom by graph.now hops.number (take given nodes.now)) }
 {
     let (first, others) = nodes.split_at(given);
     let begun = Construction::after(crew.alloc, crew.gate, graph, first, hops)?;
@@ -169,14 +165,13 @@ impl Construction {
         gate: &G,
         graph: &Graph,
         nodes: &[u32],
-        hops: u32,
+        hops: HopBound,
     ) -> Result<Construction, AllocError>
-        requires hops { IsHopBound hops }
         requires nodes { AreDifferentNodes graph.now nodes.now }
         ensures sizes { IfOk result IsSized }
         ensures nodes { IfOk result (λ c. c.remaining.nodes ≡ graph.now.nodes) }
-        ensures after { IfOk result (λ c. IsAfterGiven graph.now hops nodes.now (progress_of c)) }
-        ensures ready { IfOk result (IsJudging hops) }
+        ensures after { IfOk result (λ c. IsAfterGiven graph.now hops.number nodes.now (progress_of c)) }
+        ensures ready { IfOk result (IsJudging hops.number) }
     {
         let mut construction = Construction::open(alloc, graph)?;
         for node in nodes {
@@ -192,17 +187,16 @@ impl Construction {
         mut self,
         crew: &Crew<'_, R, G>,
         nodes: &[u32],
-        hops: u32,
+        hops: HopBound,
         by: OrderBy,
     ) -> Result<Construction, AllocError>
-        requires hops { IsHopBound hops }
         requires sizes { IsSized self }
         requires nodes { All (λ x. x < self.remaining.nodes) nodes.now }
         requires count { length nodes.now < 2 ^ 32 }
         requires rooms { All IsIdleRoom self.rooms.items }
         ensures sizes { IfOk result IsSized }
         ensures nodes { IfOk result (λ c. c.remaining.nodes ≡ self.remaining.nodes) }
-        ensures ranked { IfOk result (λ c. IsRanked by self.remaining.nodes hops nodes.now (progress_of self) (progress_of c)) }
+        ensures ranked { IfOk result (λ c. IsRanked by self.remaining.nodes hops.number nodes.now (progress_of self) (progress_of c)) }
         ensures ready { IfOk result (λ c. (h : ℕ) → IsJudging h self → IsJudging h c) }
     {
         let job = PriorityJob {
@@ -230,14 +224,14 @@ impl Construction {
         self,
         crew: &Crew<'_, R, G>,
         node: u32,
-        hops: u32,
+        hops: HopBound,
         by: OrderBy,
     ) -> Result<Construction, AllocError>
-        requires next { IsReadyFor hops self node }
+        requires next { IsReadyFor hops.number self node }
         ensures sizes { IfOk result IsSized }
         ensures nodes { IfOk result (λ c. c.remaining.nodes ≡ self.remaining.nodes) }
-        ensures step { IfOk result (λ c. IsStep by self.remaining.nodes hops (progress_of self) node (progress_of c)) }
-        ensures ready { IfOk result (IsJudging hops) }
+        ensures step { IfOk result (λ c. IsStep by self.remaining.nodes hops.number (progress_of self) node (progress_of c)) }
+        ensures ready { IfOk result (IsJudging hops.number) }
     {
         let (mut taken, neighbours) = self.take(crew.alloc, node, hops)?;
         let job = PriorityJob {
@@ -262,11 +256,11 @@ impl Construction {
         mut self,
         alloc: Global,
         node: u32,
-        hops: u32,
+        hops: HopBound,
     ) -> Result<(Construction, Vec<u32>), AllocError>
-        requires next { IsReadyFor hops self node }
+        requires next { IsReadyFor hops.number self node }
         ensures sizes { IfOk result (λ r. IsSized r.0) }
-        ensures taken { IfOk result (λ r. IsTaken hops self node r.1.items r.0) }
+        ensures taken { IfOk result (λ r. IsTaken hops.number self node r.1.items r.0) }
     {
         let remaining = self.remaining;
         self.remaining = self.room.contract(alloc, remaining, node, hops)?;

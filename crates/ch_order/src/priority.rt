@@ -1,13 +1,12 @@
 //! Priorities of nodes, in the queue of the remaining nodes.
 ghost use Rattle.std.specs.Prelude.{◌≡◌, ◌^◌, ◌<◌, length, All, IfOk, OnOk};
 ghost use Rattle.std.specs.List.{AllZip};
-ghost use Rattle.ch_contract.specs.Legs.{IsHopBound};
 ghost use Rattle.ch_contract.specs.Measures.{IsPriorityIn};
 ghost use Rattle.ch_contract.specs.Rooms.{IsIdleRoom, IsReady};
 ghost use Rattle.ch_contract.specs.Remaining.{legs_of};
 ghost use Rattle.ch_order.specs.Priorities.{AreRefreshed};
 
-use ch_contract::{OrderBy, Remaining, Room};
+use ch_contract::{HopBound, OrderBy, Remaining, Room};
 use ch_queue::KeyQueue;
 use ch_work::{Crew, Gate, ListJob, run_list_in};
 use std::alloc::{AllocError, Global};
@@ -18,9 +17,8 @@ use std::thread::Threads;
 pub(crate) struct PriorityJob<'a> {
     pub(crate) remaining: &'a Remaining,
     pub(crate) depths: &'a [u32],
-    pub(crate) hops: u32,
+    pub(crate) hops: HopBound,
     pub(crate) by: OrderBy,
-    ghost bound: { IsHopBound hops },
     ghost size: { length depths.now ≡ remaining.now.nodes },
 }
 
@@ -33,7 +31,7 @@ impl ListJob for PriorityJob<'_> {
 
     ghost takes = { λ job x. x < job.remaining.now.nodes };
 
-    ghost meaning = { λ job x p. IsPriorityIn job.by job.remaining.now job.hops job.depths.now x p };
+    ghost meaning = { λ job x p. IsPriorityIn job.by job.remaining.now job.hops.number job.depths.now x p };
 
     ghost clean = { λ job room. IsIdleRoom room };
 
@@ -56,10 +54,10 @@ impl PriorityJob<'_> {
         node: u32,
     ) -> Result<i64, AllocError>
         requires node { node < self.now.remaining.now.nodes }
-        requires ready { IsReady self.now.remaining.now.nodes self.now.hops (legs_of self.now.remaining.now) room.old }
+        requires ready { IsReady self.now.remaining.now.nodes self.now.hops.number (legs_of self.now.remaining.now) room.old }
         ensures priority { IfOk result
-            (IsPriorityIn self.now.by self.now.remaining.now self.now.hops self.now.depths.now node) }
-        ensures ready { OnOk result (IsReady self.now.remaining.now.nodes self.now.hops
+            (IsPriorityIn self.now.by self.now.remaining.now self.now.hops.number self.now.depths.now node) }
+        ensures ready { OnOk result (IsReady self.now.remaining.now.nodes self.now.hops.number
             (legs_of self.now.remaining.now) room.new) }
     {
         let measure = room.judge(alloc, self.remaining, node, self.hops)?;
@@ -80,12 +78,12 @@ impl PriorityJob<'_> {
         requires nodes { All (λ x. x < self.now.remaining.now.nodes) nodes.now }
         requires count { length nodes.now < 2 ^ 32 }
         requires size { length waiting.old ≡ self.now.remaining.now.nodes }
-        requires ready { IsReady self.now.remaining.now.nodes self.now.hops (legs_of self.now.remaining.now) room.old }
+        requires ready { IsReady self.now.remaining.now.nodes self.now.hops.number (legs_of self.now.remaining.now) room.old }
         requires rooms { All IsIdleRoom rooms.old.items }
         ensures anew { OnOk result (AreRefreshed
-            (IsPriorityIn self.now.by self.now.remaining.now self.now.hops self.now.depths.now)
+            (IsPriorityIn self.now.by self.now.remaining.now self.now.hops.number self.now.depths.now)
             nodes.now waiting.old waiting.new) }
-        ensures ready { OnOk result (IsReady self.now.remaining.now.nodes self.now.hops
+        ensures ready { OnOk result (IsReady self.now.remaining.now.nodes self.now.hops.number
             (legs_of self.now.remaining.now) room.new) }
         ensures rooms { All IsIdleRoom rooms.new.items }
     {
@@ -122,7 +120,7 @@ impl PriorityJob<'_> {
         requires size { length waiting.old ≡ self.now.remaining.now.nodes }
         requires rooms { All IsIdleRoom rooms.old.items }
         ensures anew { OnOk result (AreRefreshed
-            (IsPriorityIn self.now.by self.now.remaining.now self.now.hops self.now.depths.now)
+            (IsPriorityIn self.now.by self.now.remaining.now self.now.hops.number self.now.depths.now)
             nodes.now waiting.old waiting.new) }
         ensures rooms { All IsIdleRoom rooms.new.items }
     {
@@ -142,7 +140,7 @@ impl PriorityJob<'_> {
         requires nodes { All (λ x. x < self.now.remaining.now.nodes) nodes.now }
         requires size { length waiting.old ≡ self.now.remaining.now.nodes }
         ensures { OnOk result (AreRefreshed
-            (IsPriorityIn self.now.by self.now.remaining.now self.now.hops self.now.depths.now)
+            (IsPriorityIn self.now.by self.now.remaining.now self.now.hops.number self.now.depths.now)
             nodes.now waiting.old waiting.new) }
     {
         let mut room = Room::new(alloc);
@@ -163,11 +161,11 @@ impl PriorityJob<'_> {
     ) -> Result<(), AllocError>
         requires nodes { All (λ x. x < self.now.remaining.now.nodes) nodes.now }
         requires size { length waiting.old ≡ self.now.remaining.now.nodes }
-        requires ready { IsReady self.now.remaining.now.nodes self.now.hops (legs_of self.now.remaining.now) room.old }
+        requires ready { IsReady self.now.remaining.now.nodes self.now.hops.number (legs_of self.now.remaining.now) room.old }
         ensures anew { OnOk result (AreRefreshed
-            (IsPriorityIn self.now.by self.now.remaining.now self.now.hops self.now.depths.now)
+            (IsPriorityIn self.now.by self.now.remaining.now self.now.hops.number self.now.depths.now)
             nodes.now waiting.old waiting.new) }
-        ensures ready { OnOk result (IsReady self.now.remaining.now.nodes self.now.hops
+        ensures ready { OnOk result (IsReady self.now.remaining.now.nodes self.now.hops.number
             (legs_of self.now.remaining.now) room.new) }
     {
         for node in nodes {
@@ -180,10 +178,10 @@ impl PriorityJob<'_> {
     /// Gives each of these nodes the priority at the same place.
     fn set_all(&self, nodes: &[u32], priorities: &[i64], waiting: &mut KeyQueue<i64>)
         requires nodes { All (λ x. x < self.now.remaining.now.nodes) nodes.now }
-        requires priorities { AllZip (IsPriorityIn self.now.by self.now.remaining.now self.now.hops self.now.depths.now)
+        requires priorities { AllZip (IsPriorityIn self.now.by self.now.remaining.now self.now.hops.number self.now.depths.now)
             nodes.now priorities.now }
         requires size { length waiting.old ≡ self.now.remaining.now.nodes }
-        ensures { AreRefreshed (IsPriorityIn self.now.by self.now.remaining.now self.now.hops self.now.depths.now)
+        ensures { AreRefreshed (IsPriorityIn self.now.by self.now.remaining.now self.now.hops.number self.now.depths.now)
             nodes.now waiting.old waiting.new }
     {
         for (node, priority) in nodes.iter().zip(priorities) {

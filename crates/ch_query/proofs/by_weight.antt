@@ -13,4 +13,5 @@ pub mod WeightStalls
 pub mod WeighingEnds
 pub mod NamedSpaces
 pub mod SearchSpaces
+pub mod MoreEntries
 pub mod LoweredWords

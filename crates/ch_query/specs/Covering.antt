@@ -6,13 +6,13 @@ use Rattle.ch_hierarchy.specs.Hierarchy.{LevelsAndLegs, nodes_of}
 use Rattle.ch_hierarchy.specs.Kept.{MeetsWithin, IsCovered}
 use Rattle.ch_hierarchy.specs.declared.leg.Leg.{Leg}
 use Rattle.ch_hierarchy.specs.Rows.{row}
+use Rattle.ch_hierarchy.specs.Side.{rows_of}
 use Rattle.ch_query.specs.declared.sides.search.Search.{Search}
 use Rattle.ch_query.specs.declared.checking.covering.Shown.{Shown}
 use Rattle.ch_query.specs.declared.checking.covering.Shown.TheVariants.{Connected, Settled, Past}
 use Rattle.ch_query.specs.Limits.{IsMost}
 use Rattle.ch_query.specs.Search.{IsSettled, IsUpwardCost}
 use Rattle.ch_query.specs.ByNode.{costs_of, keys_of}
-use Rattle.ch_query.specs.Side.{rows_of}
 use Rattle.ch_query.specs.Underway.{IsUnderway}
 
 abbrev pub is_connected : Shown → Bool

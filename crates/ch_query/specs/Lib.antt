@@ -5,7 +5,6 @@ pub mod Limits
 pub mod Labels
 pub mod Search
 pub mod Parents
-pub mod Side
 pub mod ByNode
 pub mod Weighed
 pub mod Weights

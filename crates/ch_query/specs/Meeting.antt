@@ -4,12 +4,12 @@ use Rattle.ch_graph.specs.declared.limits.TheConstants.{MOST_WEIGHT}
 use Rattle.ch_graph.specs.declared.cost.Cost.{Cost}
 use Rattle.ch_graph.specs.Cost.{cost_sum}
 use Rattle.ch_hierarchy.specs.Hierarchy.{LevelsAndLegs}
+use Rattle.ch_hierarchy.specs.Side.{rows_of}
 use Rattle.ch_query.specs.declared.sides.search.Search.{Search}
 use Rattle.ch_query.specs.Search.{IsSettled, IsUpwardCost}
 use Rattle.ch_query.specs.TwoSided.{MeetsFirst, IsSeen}
 use Rattle.ch_query.specs.Underway.{IsUnderway}
 use Rattle.ch_query.specs.ByNode.{costs_of, keys_of}
-use Rattle.ch_query.specs.Side.{rows_of}
 
 -- the first of the two, by cost and then by node
 pub record IsFirst (least : Option (Cost × ℕ)) (new : Cost × ℕ) (result : Option (Cost × ℕ)) : Type 0 where

@@ -1,7 +1,7 @@
 -- The room of both sides between queries.
 use Rattle.std.specs.Prelude.{◌≡◌, ℕ}
+use Rattle.ch_hierarchy.specs.declared.side.Side.TheVariants.{Up, Down}
 use Rattle.ch_query.specs.declared.sides.search.Search.{Search}
-use Rattle.ch_query.specs.declared.side.Side.TheVariants.{Up, Down}
 use Rattle.ch_query.specs.Underway.{IsClean}
 
 -- two clean searches for n nodes, one for each side

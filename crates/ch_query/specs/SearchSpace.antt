@@ -6,11 +6,11 @@ use Rattle.ch_hierarchy.specs.Hierarchy.{LevelsAndLegs, nodes_of}
 use Rattle.ch_hierarchy.specs.Ranked.{rank_of}
 use Rattle.ch_hierarchy.specs.Paths.{IsUp, IsDown}
 use Rattle.ch_hierarchy.specs.KeptLaws.{IsLeastMeeting}
-use Rattle.ch_query.specs.declared.side.Side.{Side}
-use Rattle.ch_query.specs.declared.side.Side.TheVariants.{Up, Down}
+use Rattle.ch_hierarchy.specs.declared.side.Side.{Side}
+use Rattle.ch_hierarchy.specs.declared.side.Side.TheVariants.{Up, Down}
+use Rattle.ch_hierarchy.specs.Side.{rows_of}
 use Rattle.ch_query.specs.Limits.{IsWithin}
 use Rattle.ch_query.specs.Search.{IsUpwardCost}
-use Rattle.ch_query.specs.Side.{rows_of}
 
 -- some upward path from s to v weighs x
 abbrev pub IsPathWeight : List (List Leg) → ℕ → ℕ → ℕ → Type 0

@@ -7,11 +7,11 @@ use Rattle.ch_graph.specs.declared.limits.TheConstants.{MOST_WEIGHT}
 use Rattle.ch_graph.specs.declared.cost.Cost.{Cost}
 use Rattle.ch_hierarchy.specs.declared.leg.Leg.{Leg}
 use Rattle.ch_hierarchy.specs.Hierarchy.{LevelsAndLegs, nodes_of, IsLevelled}
-use Rattle.ch_query.specs.declared.side.Side.{Side}
 use Rattle.ch_query.specs.declared.sides.search.Search.{Search}
 use Rattle.ch_hierarchy.specs.declared.ranked.RankedLeg.{RankedLeg}
+use Rattle.ch_hierarchy.specs.declared.side.Side.{Side}
+use Rattle.ch_hierarchy.specs.Side.{rows_of, other}
 use Rattle.ch_query.specs.ByNode.{costs_of, keys_of, parents_of}
-use Rattle.ch_query.specs.Side.{rows_of, other}
 use Rattle.ch_query.specs.Parents.{AreParents, IsNoEarlier}
 use Rattle.ch_graph.specs.Cost.{cost_at}
 use Rattle.ch_query.specs.Search.{IsSettled, IsSearch, IsExpanding, OrNode, IsStalled, IsEmpty, IsRelaxedFrom, Relaxes, count_unsettled}

@@ -7,12 +7,12 @@ use Rattle.ch_graph.specs.declared.cost.Cost.{Cost}
 use Rattle.ch_hierarchy.specs.declared.leg.Leg.{Leg}
 use Rattle.ch_hierarchy.specs.Hierarchy.{LevelsAndLegs, nodes_of, IsLevelled}
 use Rattle.ch_hierarchy.specs.Ranked.{rank_of}
-use Rattle.ch_query.specs.declared.side.Side.{Side}
-use Rattle.ch_query.specs.declared.side.Side.TheVariants.{Up, Down}
+use Rattle.ch_hierarchy.specs.declared.side.Side.{Side}
+use Rattle.ch_hierarchy.specs.declared.side.Side.TheVariants.{Up, Down}
+use Rattle.ch_hierarchy.specs.Side.{rows_of, other, state_of}
 use Rattle.ch_query.specs.declared.weights.search.TheConstants.{UNREACHED}
 use Rattle.ch_query.specs.declared.weights.search.WeightSearch.{WeightSearch}
 use Rattle.ch_query.specs.Search.{IsSettled, IsRelaxedFrom, IsUpwardCost, IsExpanding, OrNode, IsStalled, IsEmpty, count_unsettled}
-use Rattle.ch_query.specs.Side.{rows_of, other, state_of}
 use Rattle.ch_query.specs.Underway.{IsTouched}
 use Rattle.ch_query.specs.Weighed.{weighed, IsWeightSearchTo}
 

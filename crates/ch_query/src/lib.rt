@@ -26,8 +26,8 @@ mod costs;
 pub mod laws;
 mod routes;
 mod scratch;
-mod side;
 mod sides;
+mod start;
 mod weights;
 
 pub use answer::{Answer, answer_all, answer_all_in};
@@ -35,8 +35,8 @@ pub use checking::{check, check_alone, check_watched};
 pub use routes::Route;
 pub use routes::query::route;
 pub use scratch::Scratch;
-pub use side::Side;
 pub use sides::spread;
+pub use start::Start;
 pub use weights::{
     Lowering, distance, lower_by_search, ranked_space, ranked_spaces, ranked_spaces_alone,
     search_space,

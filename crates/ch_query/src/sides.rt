@@ -7,7 +7,7 @@ mod spreading;
 
 ghost use Rattle.std.specs.Prelude.{◌≡◌, IfOk};
 
-use crate::side::Side;
+use ch_hierarchy::Side;
 use search::Search;
 pub use spreading::spread;
 use std::alloc::{AllocError, Global};

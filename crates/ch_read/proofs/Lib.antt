@@ -7,6 +7,7 @@ pub mod Judging
 pub mod Reading
 pub mod Limits
 pub mod WrittenLines
+pub mod PlainLines
 pub mod WrittenSaved
 pub mod SavedReadBack
 pub mod RequestNumbers

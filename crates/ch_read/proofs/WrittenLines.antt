@@ -81,14 +81,20 @@ line_of l = spaced l.0 l.1
 abbrev pub text_of : List Line → List ℕ
 text_of ls = flat_map (λ l. fed l.0 l.1) ls
 
+-- words and a line feed are the first line
+pub words_first : (w : List ℕ) (ws : List (List ℕ)) (rest : List ℕ) → IsPlain w → ArePlain ws →
+    lines (spaced w ws ++ 10 ∷ rest) ≡ spaced w ws ∷ lines rest
+words_first w ws rest plain more =
+    let some : 0 < length (slice_split is_feed rest) = omega (arith, length-slice_split is_feed rest) in
+    ap without_empty_last (split_front is_feed (spaced w ws) rest 10 (no_feeds w ws plain more) refl)
+    ∙ line_before (spaced w ws) (slice_split is_feed rest) some
+
 -- the first line is the one that was written
 first_line : (l : Line) (rest : List ℕ) → IsPlainLine l → lines (fed l.0 l.1 ++ rest) ≡ line_of l ∷ lines rest
 first_line l rest plain =
     let whole : fed l.0 l.1 ++ rest ≡ line_of l ++ 10 ∷ rest =
     ap (λ t. t ++ rest) (fed_is l.0 l.1) ∙ append_assoc (line_of l) (10 ∷ []) rest in
-    let some : 0 < length (slice_split is_feed rest) = omega (arith, length-slice_split is_feed rest) in
-    ap lines whole ∙ ap without_empty_last (split_front is_feed (line_of l) rest 10 (no_feeds l.0 l.1 plain.0 plain.1) refl)
-    ∙ line_before (line_of l) (slice_split is_feed rest) some
+    ap lines whole ∙ words_first l.0 l.1 rest plain.0 plain.1
 
 -- all lines are those that were written
 pub lines_text : (ls : List Line) → ((l : Line) → Contains ls l → IsPlainLine l) → lines (text_of ls) ≡ map line_of ls
@@ -98,7 +104,7 @@ lines_text (l ∷ ls) plain =
     ∙ ap (λ (t : List (List ℕ)). line_of l ∷ t) (lines_text ls (λ k c. plain k (contains_tail k l ls c)))
 
 -- digits are no blanks
-digits_plain : (ds : List ℕ) → all_ascii_digits ds ≡ true → All (λ b. is_blank b ≡ false) ds
+pub digits_plain : (ds : List ℕ) → all_ascii_digits ds ≡ true → All (λ b. is_blank b ≡ false) ds
 digits_plain [] e = λ k d lt. absurd (omega arith)
 digits_plain (c ∷ ds) e =
     let parts = tells_all_ascii_digits.parts c ds e in

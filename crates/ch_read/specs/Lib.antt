@@ -6,6 +6,7 @@ pub mod Names
 pub mod Answers
 pub mod Text
 pub mod Reading
+pub mod FirstLine
 pub mod Sections
 pub mod RequestLists
 pub mod Requests

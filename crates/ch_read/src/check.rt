@@ -1,5 +1,5 @@
 //! The checks of one line.
-ghost use Rattle.std.specs.Prelude.{◌≡◌, ◌<◌, ◌^◌, [], ◌∷◌, Some, None, take, slice_index, true, false, MatchOption, MatchResult, codes};
+ghost use Rattle.std.specs.Prelude.{◌≡◌, ◌<◌, ◌^◌, ℕ, List, [], ◌∷◌, Some, None, take, slice_index, true, false, MatchOption, MatchResult, codes};
 ghost use Rattle.std.specs.List.{list_all};
 ghost use Rattle.std.specs.Str.{bytes_eq};
 ghost use Rattle.ch_read.specs.Words.{words};
@@ -179,16 +179,33 @@ pub(crate) fn check_item(
     let Some(values) = numbers_of(rest, form.item_size(part)) else {
         return Err(FaultKind::BadLine);
     };
+    check_values(form, part, heading, count, &values)
+}
+
+/// Judges an item with as many numbers as its form has, after this heading. `count` is the number of items of its part
+/// before it.
+pub(crate) fn check_values(
+    form: Form,
+    part: Part,
+    heading: Heading,
+    count: u64,
+    values: &[u64; MOST_NUMBERS],
+) -> Result<Item, FaultKind>
+    requires { (ws : List (List ℕ)) × AreCapped (numbers_after [] (item_size form part) ws) values.now }
+    ensures { (ws : List (List ℕ)) → let numbers = numbers_after [] (item_size form part) ws in
+        AreCapped numbers values.now → MatchResult result (IsItem form part (Some heading) count numbers)
+        (Fails (item_checks form part (Some heading) count numbers)) }
+{
     if count >= heading.items.of(part) {
         return Err(FaultKind::TooMany);
     }
-    if !are_in_range(form, part, heading.nodes, &values) {
+    if !are_in_range(form, part, heading.nodes, values) {
         return Err(FaultKind::NodeRange);
     }
-    if !is_light(form, part, heading.nodes, &values) {
+    if !is_light(form, part, heading.nodes, values) {
         return Err(FaultKind::Sum);
     }
-    Ok(item_of(&values))
+    Ok(item_of(values))
 }
 
 /// Whether each node of an item is from 1 to the number of nodes. A middle may be 0 too.

@@ -63,6 +63,7 @@
 mod begun;
 mod check;
 mod fault;
+mod first_line;
 mod form;
 mod graph;
 mod laws;
@@ -70,6 +71,7 @@ mod lines;
 mod nodes;
 mod number;
 mod pending;
+mod plain_line;
 mod queries;
 mod reader;
 mod request;

@@ -6,10 +6,10 @@ ghost use Rattle.ch_read.specs.Words.{lines};
 ghost use Rattle.ch_read.specs.Reading.{IsFile, IsErrorOf, IsWithin, values_in};
 ghost use Rattle.ch_read.specs.Sections.{AreLines, IsErrorAfter};
 
-use crate::check::{Line, check_end, check_line};
+use crate::check::{Line, check_end};
 use crate::fault::{ReadError, ReadFault};
+use crate::first_line::check_first_line;
 use crate::form::{Counts, Form, Heading, Item};
-use crate::lines::split_line;
 use std::alloc::Global;
 
 /// A value that an item line names.
@@ -56,14 +56,17 @@ pub(crate) fn read_lines<A: FromItem, B: FromItem>(
     let mut line = 0u64;
     let mut rest = bytes;
     while !rest.is_empty() {
-        let (text, after) = split_line(rest);
         line += 1;
-        match check_line(form, seen, Counts::new(first.len(), second.len()), text) {
-            Ok(Line::Skipped) => {}
-            Ok(Line::Problem(heading)) => seen = Some(heading),
-            Ok(Line::First(item)) => first.push(A::from_item(item))?,
-            Ok(Line::Second(item)) => second.push(B::from_item(item))?,
+        let counts = Counts::new(first.len(), second.len());
+        let (content, after) = match check_first_line(form, seen, counts, rest) {
+            Ok(judged) => judged,
             Err(kind) => return Err(ReadError::Fault(ReadFault { line, kind })),
+        };
+        match content {
+            Line::Skipped => {}
+            Line::Problem(heading) => seen = Some(heading),
+            Line::First(item) => first.push(A::from_item(item))?,
+            Line::Second(item) => second.push(B::from_item(item))?,
         }
         rest = after;
     }

@@ -2,14 +2,13 @@
 ghost use Rattle.std.specs.Prelude.{◌<◌};
 ghost use Rattle.ch_graph.specs.declared.limits.TheConstants.{MOST_WEIGHT};
 ghost use Rattle.ch_hierarchy.specs.Rows.{row};
-ghost use Rattle.ch_contract.specs.Legs.{IsHopBound};
 ghost use Rattle.ch_contract.specs.Remaining.{legs_of};
 ghost use Rattle.ch_contract.specs.Rooms.{IsIdleRoom};
 ghost use Rattle.ch_rounds.specs.RoundProgress.{IsCount};
 ghost use Rattle.ch_contract.specs.Rounds.{AreShortcutsAmong};
 ghost use Rattle.ch_contract.specs.ShortcutLists.{legs_touching, AreTouching};
 
-use ch_contract::{Remaining, Room, Shortcut};
+use ch_contract::{HopBound, Remaining, Room, Shortcut};
 use ch_work::ListJob;
 use std::alloc::{AllocError, Global};
 
@@ -18,8 +17,7 @@ use std::alloc::{AllocError, Global};
 #[derive(Drop)]
 pub(crate) struct CountJob<'a> {
     pub(crate) remaining: &'a Remaining,
-    pub(crate) hops: u32,
-    ghost bound: { IsHopBound hops },
+    pub(crate) hops: HopBound,
 }
 
 impl ListJob for CountJob<'_> {
@@ -31,7 +29,7 @@ impl ListJob for CountJob<'_> {
 
     ghost takes = { λ job x. x < job.remaining.now.nodes };
 
-    ghost meaning = { λ job x c. IsCount job.remaining.now.nodes job.hops (legs_of job.remaining.now) x c };
+    ghost meaning = { λ job x c. IsCount job.remaining.now.nodes job.hops.number (legs_of job.remaining.now) x c };
 
     ghost clean = { λ job room. IsIdleRoom room };
 
@@ -51,8 +49,7 @@ impl ListJob for CountJob<'_> {
 #[derive(Drop)]
 pub(crate) struct ShortcutJob<'a> {
     pub(crate) remaining: &'a Remaining,
-    pub(crate) hops: u32,
-    ghost bound: { IsHopBound hops },
+    pub(crate) hops: HopBound,
 }
 
 impl ListJob for ShortcutJob<'_> {
@@ -65,7 +62,7 @@ impl ListJob for ShortcutJob<'_> {
     ghost takes = { λ job v. (v < job.remaining.now.nodes)
         × AreTouching job.remaining.now.nodes MOST_WEIGHT v (row job.remaining.now.ups v) (row job.remaining.now.downs v) };
 
-    ghost meaning = { λ job v list. AreShortcutsAmong job.remaining.now.nodes job.hops
+    ghost meaning = { λ job v list. AreShortcutsAmong job.remaining.now.nodes job.hops.number
         (legs_touching v (row job.remaining.now.ups v) (row job.remaining.now.downs v)) (legs_of job.remaining.now) v list.items };
 
     ghost clean = { λ job room. IsIdleRoom room };

@@ -3,7 +3,7 @@ ghost use Rattle.std.specs.Prelude.{◌≡◌, ℕ, ◌+◌, ◌*◌, ◌<◌, n
 ghost use Rattle.std.specs.List.{list_any, range_with_len};
 ghost use Rattle.ch_graph.specs.Graph.{IsWithinLimits};
 ghost use Rattle.ch_hierarchy.specs.Kept.{IsKept};
-ghost use Rattle.ch_contract.specs.Legs.{AreLegsWithin, IsHopBound, turned_legs};
+ghost use Rattle.ch_contract.specs.Legs.{AreLegsWithin, turned_legs};
 ghost use Rattle.ch_contract.specs.Order.{are_neighbours};
 ghost use Rattle.ch_contract.specs.Rounds.{AreApart, ContractsRound, depth_after_round};
 ghost use Rattle.ch_contract.specs.RoundOrder.{IsHierarchyByRounds};
@@ -23,7 +23,7 @@ use crate::round_jobs::{CountJob, ShortcutJob};
 use crate::set_each::{rank, set_each};
 use ch_contract::memory::ask_ahead;
 use ch_contract::order::{all_nodes, deepen, push_neighbours};
-use ch_contract::{BothRows, Remaining, Room};
+use ch_contract::{BothRows, HopBound, Remaining, Room};
 use ch_graph::Graph;
 use ch_hierarchy::Hierarchy;
 use ch_work::{Crew, Gate, Stage, run_list_in};
@@ -48,10 +48,9 @@ use std::thread::Threads;
 pub fn build_by_rounds<R: Threads + Sync, G: Gate>(
     crew: &Crew<'_, R, G>,
     graph: &Graph,
-    hops: u32,
+    hops: HopBound,
 ) -> Result<Hierarchy, AllocError>
-    requires hops { IsHopBound hops }
-    ensures hierarchy { IfOk result (IsHierarchyByRounds graph.now hops) }
+    ensures hierarchy { IfOk result (IsHierarchyByRounds graph.now hops.number) }
     ensures kept { IfOk result (IsKept graph.now) }
     ensures limits { IsWithinLimits graph.now }
 {
@@ -106,12 +105,11 @@ impl ConstructionByRounds {
     fn open<R: Threads + Sync, G: Gate>(
         crew: &Crew<'_, R, G>,
         graph: &Graph,
-        hops: u32,
+        hops: HopBound,
     ) -> Result<ConstructionByRounds, AllocError>
-        requires { IsHopBound hops }
         ensures sizes { IfOk result IsSizedByRounds }
         ensures nodes { IfOk result (λ c. c.remaining.nodes ≡ graph.now.nodes) }
-        ensures begun { IfOk result (λ c. IsRoundsOpen graph.now hops (round_progress_of c)) }
+        ensures begun { IfOk result (λ c. IsRoundsOpen graph.now hops.number (round_progress_of c)) }
         ensures keys { IfOk result AreKeysNow }
         ensures rooms { IfOk result (λ c. All IsIdleRoom c.rooms.items) }
     {
@@ -141,9 +139,8 @@ impl ConstructionByRounds {
     fn contract<R: Threads + Sync, G: Gate>(
         mut self,
         crew: &Crew<'_, R, G>,
-        hops: u32,
+        hops: HopBound,
     ) -> Result<ConstructionByRounds, AllocError>
-        requires hops { IsHopBound hops }
         requires sizes { IsSizedByRounds self }
         requires limits { AreLegsWithin self.remaining.nodes (legs_of self.remaining) }
         requires near { (v x : ℕ) → are_neighbours (legs_of self.remaining) v x ≡ true → Contains self.left.items x }
@@ -154,7 +151,7 @@ impl ConstructionByRounds {
         ensures sizes { IfOk result IsSizedByRounds }
         ensures nodes { IfOk result (λ c. c.remaining.nodes ≡ self.remaining.nodes) }
         ensures keys { IfOk result AreKeysNow }
-        ensures step { IfOk result (λ c. (nodes : List ℕ) × IsRoundStep self.remaining.nodes hops (round_progress_of self) nodes (round_progress_of c)) }
+        ensures step { IfOk result (λ c. (nodes : List ℕ) × IsRoundStep self.remaining.nodes hops.number (round_progress_of self) nodes (round_progress_of c)) }
         ensures rooms { IfOk result (λ c. All IsIdleRoom c.rooms.items) }
     {
         let Split { round, rest } = self.choose(crew)?;
@@ -177,18 +174,17 @@ impl ConstructionByRounds {
     fn renew<R: Threads + Sync, G: Gate>(
         &mut self,
         crew: &Crew<'_, R, G>,
-        hops: u32,
+        hops: HopBound,
         before: u32,
         near: &[u32],
         waiting: &[u32],
     ) -> Result<(), AllocError>
-        requires hops { IsHopBound hops }
         requires sizes { (length self.old.counts.items ≡ self.old.remaining.nodes) × (length self.old.depths.items ≡ self.old.remaining.nodes) × (length self.old.keys.items ≡ self.old.remaining.nodes) }
         requires near { AreSmall self.old.remaining.nodes self.old.counts.items near.now }
         requires waiting { AreSmall self.old.remaining.nodes self.old.counts.items waiting.now }
         requires few { (length near.now < 2 ^ 32) × (length waiting.now < 2 ^ 32) }
         requires rooms { All IsIdleRoom self.old.rooms.items }
-        ensures renewed { OnOk result (IsRenewed hops before near.now waiting.now self.old self.new) }
+        ensures renewed { OnOk result (IsRenewed hops.number before near.now waiting.now self.old self.new) }
         ensures rooms { OnOk result (All IsIdleRoom self.new.rooms.items) }
     {
         let now = self.contracted;
@@ -271,12 +267,11 @@ impl Opening {
         crew: &Crew<'_, R, G>,
         remaining: &Remaining,
         nodes: &[u32],
-        hops: u32,
+        hops: HopBound,
     ) -> Result<Opening, AllocError>
-        requires hops { IsHopBound hops }
         requires nodes { nodes.now ≡ range_with_len 0 remaining.now.nodes }
         ensures rooms { IfOk result (λ o. All IsIdleRoom o.rooms.items) }
-        ensures counts { IfOk result (λ o. AreCounted remaining.now.nodes hops (legs_of remaining.now) nodes.now (replicate remaining.now.nodes 0) o.counts.items) }
+        ensures counts { IfOk result (λ o. AreCounted remaining.now.nodes hops.number (legs_of remaining.now) nodes.now (replicate remaining.now.nodes 0) o.counts.items) }
         ensures depths { IfOk result (λ o. o.depths.items ≡ replicate remaining.now.nodes 0) }
         ensures keys { IfOk result (λ o. AreKeyed remaining.now o.counts.items o.depths.items nodes.now (replicate remaining.now.nodes (pos 0)) o.keys.items) }
     {
@@ -303,13 +298,12 @@ fn opening_counts<R: Threads + Sync, G: Gate>(
     crew: &Crew<'_, R, G>,
     remaining: &Remaining,
     nodes: &[u32],
-    hops: u32,
+    hops: HopBound,
     rooms: &mut Vec<Room>,
 ) -> Result<Vec<u64>, AllocError>
-    requires hops { IsHopBound hops }
     requires nodes { nodes.now ≡ range_with_len 0 remaining.now.nodes }
     requires rooms { All IsIdleRoom rooms.old.items }
-    ensures counts { IfOk result (λ c. AreCounted remaining.now.nodes hops (legs_of remaining.now) nodes.now (replicate remaining.now.nodes 0) c.items) }
+    ensures counts { IfOk result (λ c. AreCounted remaining.now.nodes hops.number (legs_of remaining.now) nodes.now (replicate remaining.now.nodes 0) c.items) }
     ensures rooms { All IsIdleRoom rooms.new.items }
 {
     let all = remaining.nodes();
@@ -387,10 +381,9 @@ fn contract_round<R: Threads + Sync, G: Gate>(
     remaining: Remaining,
     nodes: &[u32],
     around: &Around,
-    hops: u32,
+    hops: HopBound,
     rooms: &mut Vec<Room>,
 ) -> Result<Remaining, AllocError>
-    requires hops { IsHopBound hops }
     requires nodes { All (λ v. v < remaining.nodes) nodes.now }
     requires count { length nodes.now < 2 ^ 32 }
     requires limits { AreLegsWithin remaining.nodes (legs_of remaining) }
@@ -398,7 +391,7 @@ fn contract_round<R: Threads + Sync, G: Gate>(
     requires around { AreNeighboursOf (legs_of remaining) nodes.now around.now.near.items around.now.owners.items }
     requires rooms { All IsIdleRoom rooms.old.items }
     ensures nodes { IfOk result (λ r. r.nodes ≡ remaining.nodes) }
-    ensures legs { IfOk result (λ r. ContractsRound remaining.nodes hops (legs_of remaining) nodes.now (legs_of r)) }
+    ensures legs { IfOk result (λ r. ContractsRound remaining.nodes hops.number (legs_of remaining) nodes.now (legs_of r)) }
     ensures up { IfOk result (λ r. AreSetAside (legs_of remaining) nodes.now remaining.ups r.ups) }
     ensures down { IfOk result (λ r. AreSetAside (turned_legs (legs_of remaining)) nodes.now remaining.downs r.downs) }
     ensures rooms { All IsIdleRoom rooms.new.items }
@@ -454,16 +447,15 @@ fn count<R: Threads + Sync, G: Gate>(
     crew: &Crew<'_, R, G>,
     remaining: &Remaining,
     nodes: &[u32],
-    hops: u32,
+    hops: HopBound,
     rooms: &mut Vec<Room>,
     counts: &mut [u64],
 ) -> Result<(), AllocError>
-    requires hops { IsHopBound hops }
     requires nodes { All (λ x. x < remaining.now.nodes) nodes.now }
     requires count { length nodes.now < 2 ^ 32 }
     requires size { length counts.old ≡ remaining.now.nodes }
     requires rooms { All IsIdleRoom rooms.old.items }
-    ensures counts { OnOk result (AreCounted remaining.now.nodes hops (legs_of remaining.now) nodes.now counts.old counts.new) }
+    ensures counts { OnOk result (AreCounted remaining.now.nodes hops.number (legs_of remaining.now) nodes.now counts.old counts.new) }
     ensures rooms { All IsIdleRoom rooms.new.items }
 {
     let job = CountJob { remaining, hops };

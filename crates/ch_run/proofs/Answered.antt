@@ -1,225 +1,208 @@
 -- Requests that are answered one after the other.
-use Rattle.std.proofs.Common.{◌≡◌, ℕ, ◌+◌, ◌^◌, ◌<◌, ◌||◌, Bool, true, false, List, [], ◌∷◌, ◌++◌, length, map, Option, Result, Ok, Err}
-use Rattle.std.proofs.Common.{inl, inr, refl, sym, ap, ◌∙◌, subst, arith, append_assoc}
-use Rattle.std.proofs.lemmas.List.{append-nil, length-append}
-use Rattle.std.specs.List.{AllZip, flat_map, zip}
+use Rattle.std.proofs.Common.{◌≡◌, ℕ, ◌+◌, ◌||◌, Bool, true, false, List, [], ◌∷◌, ◌++◌, length, map, take, drop, Result, Ok, Err}
+use Rattle.std.proofs.Common.{Option, Some, None, refl, sym, ap, ◌∙◌, subst, arith, append_assoc}
+use Rattle.std.specs.Prelude.{MatchResult, is_ok, is_err, if◌then◌else◌}
+use Rattle.std.proofs.lemmas.List.{append-nil, length-append, take-append-drop}
+use Rattle.std.specs.List.{AllZip, flat_map}
 use Rattle.ch_graph.specs.Graph.{Network}
 use Rattle.ch_hierarchy.specs.Hierarchy.{LevelsAndLegs}
 use Rattle.ch_query.specs.declared.answer.Answer.{Answer}
 use Rattle.ch_read.specs.declared.request.Request.{Request}
-use Rattle.ch_read.specs.Reading.{capped_number}
+use Rattle.ch_read.specs.declared.request_fault.RequestError.{RequestError}
+use Rattle.ch_read.specs.declared.request_fault.RequestError.TheVariants.{Fault, NoMemory}
+use Rattle.ch_read.specs.declared.request_fault.RequestFault.{RequestFault}
+use Rattle.ch_read.specs.declared.request_fault.RequestFault.TheVariants.{Line, Cells}
+use Rattle.ch_read.specs.RequestLists.{PlaceList}
+use Rattle.ch_read.specs.Requests.{Gives, HasGiven, IsErrorAhead, IsUsedUp, MayCome, Standing, after_these, ahead, fed, starting}
+use Rattle.ch_read.specs.Requests.{stopping, told, told_by}
+use Rattle.ch_read.specs.Words.{lines}
+use Rattle.ch_read.proofs.Requests.{gives_more}
 use Rattle.ch_run.specs.declared.fault.RunFault.{RunFault}
 use Rattle.ch_job.specs.declared.options.Options.{Options}
 use Rattle.ch_text.specs.declared.device.DeviceFault.{DeviceFault}
-use Rattle.ch_text.specs.Moves.{Took}
 use Rattle.ch_text.proofs.Moves.{took-fault-then, took-none, took-then}
-use Rattle.ch_near.specs.Near.{IsNearestRow}
-use Rattle.ch_text.specs.NearText.{near_row_text}
 use Rattle.ch_text.specs.Distances.{AnswersShortly, HasText, distance_text}
 use Rattle.ch_text.specs.Routes.{AnswersWithRoute, answer_text}
 use Rattle.ch_run.specs.Text.{IsTextBy, writes_routes}
-use Rattle.ch_run.specs.Ask.{AreAnswered, IsRequestText, TextOf, TookAnswers, limit_of, places_after, places_then}
-use Rattle.ch_run.specs.declared.run.batch.Then.{Then}
-use Rattle.ch_run.specs.declared.run.batch.Then.TheVariants.{More, Nothing, Stop}
-use Rattle.ch_run.specs.Serving.{AnswersInTurn, InTurn, IsAfter, IsOfAnswering, WritesMore, asked_for, end_of, near_row_of}
-use Rattle.ch_run.specs.Lists.{AreLists}
-use Rattle.ch_read.specs.RequestLists.{PlaceList, TwoLists}
-use Rattle.ch_read.specs.Requests.{AreTwoLists}
-use Rattle.ch_run.proofs.Texts.{each_weaker}
+use Rattle.ch_run.specs.Ask.{AreAnswered, IsRequestText, TextOf, TookAnswers, no_places, places_after, places_then}
+use Rattle.ch_run.specs.Serving.{AnswersFirst, Ends, HasAnswered, IsStop, WritesMore, asked_for, request_refusal}
 
--- queries that are answered together are answered one by one
-
--- the joined texts of the answers answer the queries one by one
-module _ (written : Answer → List ℕ) (IsTextOf : TextOf) (from : ℕ × ℕ → Request) (Of : ℕ × ℕ → List ℕ → Type 0)
-    (so : (places : PlaceList) (query : ℕ × ℕ) (text : List ℕ) → Of query text → IsTextOf places (from query) text)
-    (stay : (places : PlaceList) (query : ℕ × ℕ) → places_then places (from query) ≡ places) where
-  each_answered : (places : PlaceList) (queries : List (ℕ × ℕ)) (answers : List Answer) →
-      AllZip (λ query answer. Of query (written answer)) queries answers →
-      AreAnswered IsTextOf places (map from queries) (flat_map written answers)
-  each_answered places [] [] h = refl
-  each_answered places (q ∷ queries) (a ∷ answers) h = (
-    written a,
-    flat_map written answers,
-    refl,
-    so places q (written a) h.0,
-    subst (λ (p : PlaceList). AreAnswered IsTextOf p (map from queries) (flat_map written answers)) (sym (stay places q))
-        (each_answered places queries answers h.1),
+-- if no request of these values gives places, the lines of their answers, joined, answer the requests one by one
+module _ {A B : Type 0} (IsTextOf : TextOf) (from : A → Request) (places : PlaceList)
+    (stay : (x : A) → places_then places (from x) ≡ places) (P : A → B → Type 0) (line : A → B → List ℕ)
+    (so : (x : A) (y : B) → P x y → IsTextOf places (from x) (line x y)) (joined : List A → List B → List ℕ) (none : joined [] [] ≡ [])
+    (more : (x : A) (y : B) (xs : List A) (ys : List B) → joined (x ∷ xs) (y ∷ ys) ≡ line x y ++ joined xs ys) where
+  pub each_answered : (xs : List A) (ys : List B) → AllZip P xs ys → AreAnswered IsTextOf places (map from xs) (joined xs ys)
+  each_answered [] [] h = none
+  each_answered (x ∷ xs) (y ∷ ys) h = (
+    line x y,
+    joined xs ys,
+    more x y xs ys,
+    so x y h.0,
+    subst (λ (p : PlaceList). AreAnswered IsTextOf p (map from xs) (joined xs ys)) (sym (stay x)) (each_answered xs ys h.1),
   )
-  each_answered places _ _ h = absurd h
-
--- the text of one answer is a text of its query
-one_text : (written : Answer → List ℕ) (P : ℕ × ℕ → Answer → Type 0) (query : ℕ × ℕ) (a : Answer) → P query a →
-    HasText written P (query ∷ []) (written a)
-one_text written P query a is = (a ∷ [], (is, tt), sym (append-nil (written a)))
-
--- a text that answers queries answers them one by one
-split_by : (IsTextOf : TextOf) (from : ℕ × ℕ → Request) (routes : Bool) (g : Network) (From : LevelsAndLegs → Type 0) →
-    ((places : PlaceList) (query : ℕ × ℕ) (text : List ℕ) → IsTextBy routes g From (query ∷ []) text → IsTextOf places (from query) text) →
-    ((places : PlaceList) (query : ℕ × ℕ) → places_then places (from query) ≡ places) →
-    (places : PlaceList) (queries : List (ℕ × ℕ)) (text : List ℕ) → IsTextBy routes g From queries text →
-    AreAnswered IsTextOf places (map from queries) text
-split_by IsTextOf from false g From so stay places queries text h =
-    subst (AreAnswered IsTextOf places (map from queries)) (sym h.2)
-    (each_answered distance_text IsTextOf from (λ query one. IsTextBy false g From (query ∷ []) one) so stay places queries h.0
-    (each_weaker (AnswersShortly g) (λ query a. IsTextBy false g From (query ∷ []) (distance_text a))
-    (λ query a is. one_text distance_text (AnswersShortly g) query a is) queries h.0 h.1))
-split_by IsTextOf from true g From so stay places queries text h =
-    let H = h.0 in
-    subst (AreAnswered IsTextOf places (map from queries)) (sym h.2.2)
-    (each_answered answer_text IsTextOf from (λ query one. IsTextBy true g From (query ∷ []) one) so stay places queries h.2.0
-    (each_weaker (AnswersWithRoute g H) (λ query a. IsTextBy true g From (query ∷ []) (answer_text a))
-    (λ query a is. (H, h.1, one_text answer_text (AnswersWithRoute g H) query a is)) queries h.2.0 h.2.1))
+  each_answered _ _ h = absurd h
 
 -- no query gives places
-stays : (routed : Bool) (places : PlaceList) (query : ℕ × ℕ) → places_then places (asked_for routed query) ≡ places
-stays true places query = refl
-stays false places query = refl
+pub asked_stay : (routed : Bool) (places : PlaceList) (query : ℕ × ℕ) → places_then places (asked_for routed query) ≡ places
+asked_stay true places query = refl
+asked_stay false places query = refl
+
+-- a text that answers queries answers them one by one
+module _ (IsTextOf : TextOf) (routed : Bool) (places : PlaceList) (g : Network) (From : LevelsAndLegs → Type 0) (queries : List (ℕ × ℕ))
+    (text : List ℕ) where
+  split : (P : ℕ × ℕ → Answer → Type 0) (written : Answer → List ℕ) →
+      ((query : ℕ × ℕ) (a : Answer) → P query a → IsTextOf places (asked_for routed query) (written a)) → HasText written P queries text →
+      AreAnswered IsTextOf places (map (asked_for routed) queries) text
+  split P written so h = subst (AreAnswered IsTextOf places (map (asked_for routed) queries)) (sym h.2)
+      (each_answered IsTextOf (asked_for routed) places (asked_stay routed places) P (λ query a. written a) so
+      (λ queries answers. flat_map written answers) refl (λ query a queries answers. refl) queries h.0 h.1)
+
+  split_by : (routes : Bool) →
+      ((query : ℕ × ℕ) (one : List ℕ) → IsTextBy routes g From (query ∷ []) one → IsTextOf places (asked_for routed query) one) →
+      IsTextBy routes g From queries text → AreAnswered IsTextOf places (map (asked_for routed) queries) text
+  split_by false so h = split (AnswersShortly g) distance_text
+      (λ query a is. so query (distance_text a) (a ∷ [], (is, tt), sym (append-nil (distance_text a)))) h
+  split_by true so h = split (AnswersWithRoute g h.0) answer_text
+      (λ query a is. so query (answer_text a) (h.0, h.1, (a ∷ [], (is, tt), sym (append-nil (answer_text a))))) h.2
 
 pub split_answers : (options : Options) (routed : Bool) (g : Network) (From : LevelsAndLegs → Type 0) (places : PlaceList)
     (queries : List (ℕ × ℕ)) (text : List ℕ) → IsTextBy (routed || writes_routes options) g From queries text →
     AreAnswered (IsRequestText options g From) places (map (asked_for routed) queries) text
-split_answers options true g From places queries text h = split_by (IsRequestText options g From) (asked_for true) true g From
-    (λ places query one is. is) (stays true) places queries text h
-split_answers options false g From places queries text h = split_by (IsRequestText options g From) (asked_for false)
-    (writes_routes options) g From (λ places query one is. is) (stays false) places queries text h
+split_answers options true g From places queries text h =
+    split_by (IsRequestText options g From) true places g From queries text true (λ query one is. is) h
+split_answers options false g From places queries text h =
+    split_by (IsRequestText options g From) false places g From queries text (writes_routes options) (λ query one is. is) h
 
--- near rows that are made together answer the requests one by one
-pub rows_answered : (options : Options) (g : Network) (From : LevelsAndLegs → Type 0) (within : Option ℕ) (places : PlaceList)
-    (sources : List ℕ) (rows : List (List (ℕ × ℕ))) →
-    AllZip (IsNearestRow g options.direction (limit_of options within) places.count places.nodes) sources rows →
-    AreAnswered (IsRequestText options g From) places (map (near_row_of within) sources)
-    (flat_map (near_row_text places.nodes) (zip sources rows))
-rows_answered options g From within places [] [] h = refl
-rows_answered options g From within places (s ∷ sources) (row ∷ rows) h = (
-  near_row_text places.nodes (s, row),
-  flat_map (near_row_text places.nodes) (zip sources rows),
-  refl,
-  (row ∷ [], (h.0, tt), sym (append-nil (near_row_text places.nodes (s, row)))),
-  rows_answered options g From within places sources rows h.1,
+-- requests and then more requests, with the places that were given last
+answered_append : (IsTextOf : TextOf) (places : PlaceList) (xs ys : List Request) (text more : List ℕ) →
+    AreAnswered IsTextOf places xs text → AreAnswered IsTextOf (places_after places xs) ys more →
+    AreAnswered IsTextOf places (xs ++ ys) (text ++ more)
+answered_append IsTextOf places [] ys text more h k = rw h k
+answered_append IsTextOf places (x ∷ xs) ys text more h k = (
+  h.0,
+  h.1 ++ more,
+  ap (λ t. t ++ more) h.2 ∙ append_assoc h.0 h.1 more,
+  h.3,
+  answered_append IsTextOf (places_then places x) xs ys h.1 more h.4 k,
 )
-rows_answered options g From within places _ _ h = absurd h
 
--- capping a count early does not change the capped sum
-pub capped_on : (a b c : ℕ) → capped_number (capped_number (a + b) + c) ≡ capped_number (a + (b + c))
-capped_on a b c = omega arith
-
-module _ (IsTextOf : TextOf) where
-  pub answered_none : (places : PlaceList) → AreAnswered IsTextOf places [] []
-  answered_none places = refl
-
-  pub answered_append : (places : PlaceList) (xs ys : List Request) (text more : List ℕ) → AreAnswered IsTextOf places xs text →
-      AreAnswered IsTextOf (places_after places xs) ys more →
-      AreAnswered IsTextOf places (xs ++ ys) (text ++ more)
-  answered_append places [] ys text more h k = rw h k
-  answered_append places (x ∷ xs) ys text more h k = (
-    h.0,
-    h.1 ++ more,
-    ap (λ t. t ++ more) h.2 ∙ append_assoc h.0 h.1 more,
-    h.3,
-    answered_append (places_then places x) xs ys h.1 more h.4 k,
-  )
-
--- the places after requests, and after more requests
-pub places_append : (places : PlaceList) (xs ys : List Request) → places_after places (xs ++ ys) ≡ places_after (places_after places xs) ys
+places_append : (places : PlaceList) (xs ys : List Request) → places_after places (xs ++ ys) ≡ places_after (places_after places xs) ys
 places_append places [] ys = refl
 places_append places (x ∷ xs) ys = places_append (places_then places x) xs ys
 
-module _ {IsTextOf : TextOf} {S : Type 0} {gives : S → List ℕ → Result ℕ DeviceFault → S → Type 0} {places held : PlaceList} {old new : S}
-    {before after : ℕ} where
-  -- a text that was written answers its requests
-  pub written_answers : {T : Type 0} {requests : List Request} (r : Result T RunFault) (text : List ℕ) →
-      AreAnswered IsTextOf places requests text → held ≡ places_after places requests → WritesMore gives old new before after text r →
-      InTurn IsTextOf gives places held old new before after requests r
-  written_answers (Ok x) text is so h = record { turn = (text, is, h.0, h.1, so) }
-  written_answers {requests = requests} (Err (RunFault.Write count)) text is so h =
-      record { turn = (requests, [], text, h.0, sym (append-nil requests), is, h.1, h.2) }
-  written_answers {requests = requests} (Err RunFault.Memory) text is so h =
-      record { turn = rw h ([], requests, refl, ([], answered_none IsTextOf places, took-none gives old)) }
-  written_answers (Err _) text is so h = absurd h
+-- at the start nothing was read and nothing is answered
+pub answered_none : (IsTextOf : TextOf) {S : Type 0} (gives : S → List ℕ → Result ℕ DeviceFault → S → Type 0) (n : ℕ) (output : S) →
+    HasAnswered IsTextOf gives n false [] (starting n) [] output output no_places 0
+answered_none IsTextOf gives n output = record {
+  answered = [];
+  told = λ more may. refl;
+  output = record { took = ([], refl, took-none gives output); places = refl; count = omega arith };
+}
 
-  -- if answering ends in a lack of memory or a failed write, there may have been more requests
-  pub answers_front : {T : Type 0} {xs : List Request} (ys : List Request) (e : RunFault) → IsOfAnswering e →
-      InTurn {T = T} IsTextOf gives places held old new before after xs (Err e) →
-      InTurn {T = T} IsTextOf gives places held old new before after (xs ++ ys) (Err e)
-  answers_front ys RunFault.Memory own h = let k = h.turn in
-      record { turn = (k.0, k.1 ++ ys, ap (λ zs. zs ++ ys) k.2 ∙ append_assoc k.0 k.1 ys, k.3) }
-  answers_front ys (RunFault.Write count) own h = let k = h.turn in
-      record { turn = (k.0, k.1 ++ ys, k.2, k.3, ap (λ zs. zs ++ ys) k.4 ∙ append_assoc k.0 k.1 ys, k.5, k.6, k.7) }
-  answers_front ys _ (inl write) h = absurd write
-  answers_front ys _ (inr memory) h = absurd (let none : ⊥ = cc in none)
+module _ {IsTextOf : TextOf} {S : Type 0} {gives : S → List ℕ → Result ℕ DeviceFault → S → Type 0} {n : ℕ} {ended : Bool} {read : List ℕ}
+    {reader : Standing} {old output : S} {held : PlaceList} {written : ℕ} where
+  module _ {waiting : List Request} (h : HasAnswered IsTextOf gives n ended read reader waiting old output held written) where
+    -- the run may end for want of memory
+    pub ends_memory : Ends IsTextOf gives n ended read old output (Err RunFault.Memory)
+    ends_memory = record {
+      over = λ left may. (
+        h.answered,
+        waiting ++ (ahead reader left).given,
+        ap (λ t. t.given) (h.told left may) ∙ append_assoc h.answered waiting (ahead reader left).given,
+        h.output.took,
+      );
+    }
 
-  -- a batch was answered, with any end
-  pub answers_end : {requests : List Request} (ends : Then) → IsAfter ends →
-      InTurn {T = Unit} IsTextOf gives places held old new before after requests (Ok tt) →
-      InTurn IsTextOf gives places held old new before after requests (end_of ends)
-  answers_end More is h = h
-  answers_end Nothing is h = h
-  answers_end {requests = requests} (Stop RunFault.Memory) is h = let k = h.turn in
-      record { turn = (requests, [], sym (append-nil requests), (k.0, k.1, k.2)) }
-  answers_end (Stop (RunFault.CellsAt line)) is h = let k = h.turn in record { turn = (k.0, k.1, k.2) }
-  answers_end (Stop (RunFault.Read which f)) is h = let k = h.turn in record { turn = (is, (k.0, k.1, k.2)) }
-  answers_end (Stop _) is h = absurd is
+    module _ {held' : PlaceList} {count : ℕ} {text : List ℕ} (first : AnswersFirst IsTextOf held held' waiting text count) where
+      abbrev now : List Request
+      now = h.answered ++ take count waiting
 
--- a failed write or a lack of memory is a fault of answering
-pub more_own : (T : Type 0) {S : Type 0} (gives : S → List ℕ → Result ℕ DeviceFault → S → Type 0) (old new : S) (before after : ℕ)
-    (text : List ℕ) (e : RunFault) → WritesMore {T = T} gives old new before after text (Err e) → IsOfAnswering e
-more_own T gives old new before after text (RunFault.Write count) h = inl tt
-more_own T gives old new before after text RunFault.Memory h = inr refl
-more_own T gives old new before after text _ h = absurd h
+      parts : h.answered ++ waiting ≡ now ++ drop count waiting
+      parts = ap (λ l. h.answered ++ l) (sym (take-append-drop count waiting))
+          ∙ sym (append_assoc h.answered (take count waiting) (drop count waiting))
 
--- requests were answered, and then more, by the places that were given last
-pub answers_more : {T : Type 0} {IsTextOf : TextOf} {S : Type 0} {gives : S → List ℕ → Result ℕ DeviceFault → S → Type 0}
-    {places held last : PlaceList} {old mid new : S} {before between after : ℕ} {xs ys : List Request} {r : Result T RunFault} →
-    InTurn {T = Unit} IsTextOf gives places held old mid before between xs (Ok tt) →
-    InTurn IsTextOf gives held last mid new between after ys r → InTurn IsTextOf gives places last old new before after (xs ++ ys) r
-answers_more {T} {IsTextOf} {S} {gives} {places} {held} {last} {old} {mid} {new} {before} {between} {after} {xs} {ys} {r} first next =
-    record { turn = at r (subst (λ (p : PlaceList). AnswersInTurn IsTextOf gives p last mid new between after ys r) h.4 next.turn) }
-  where
-    h : (text : List ℕ) × AreAnswered IsTextOf places xs text × Took gives old text mid × (between ≡ capped_number (before + length text))
-        × (held ≡ places_after places xs)
-    h = first.turn
+      both : AreAnswered IsTextOf no_places now (h.output.took.0 ++ text)
+      both = answered_append IsTextOf no_places h.answered (take count waiting) h.output.took.0 text h.output.took.1
+          (subst (λ (p : PlaceList). AreAnswered IsTextOf p (take count waiting) text) h.output.places first.answers)
 
-    both : (zs : List Request) → TookAnswers IsTextOf gives (places_after places xs) mid new zs →
-        TookAnswers IsTextOf gives places old new (xs ++ zs)
-    both zs k = (h.0 ++ k.0, answered_append IsTextOf places xs zs h.0 k.0 h.1 k.1, took-then gives old mid new h.0 k.0 [] h.2 k.2)
+      -- the text of the first requests that wait was written, or the run ends in a fault
+      pub first_written : (output' : S) (written' : ℕ) (r : Result Unit RunFault) →
+          WritesMore gives output output' written written' text r → MatchResult r
+          (λ _. HasAnswered IsTextOf gives n ended read reader (drop count waiting) old output' held' written')
+          (λ fault. Ends IsTextOf gives n ended read old output' (Err fault))
+      first_written output' written' (Ok x) wrote = record {
+        answered = now;
+        told = subst (HasGiven ended n read reader) parts h.told;
+        output = record {
+          took = (h.output.took.0 ++ text, both, took-then gives old output output' h.output.took.0 text [] h.output.took.2 wrote.0);
+          places = first.places ∙ ap (λ (p : PlaceList). places_after p (take count waiting)) h.output.places
+              ∙ sym (places_append no_places h.answered (take count waiting));
+          count = (let k = wrote.1 in let before = h.output.count in omega (arith, length-append h.output.took.0 text));
+        };
+      }
+      first_written output' written' (Err (RunFault.Write total)) wrote = record {
+        over = λ left may. (
+          now,
+          drop count waiting ++ (ahead reader left).given,
+          h.output.took.0 ++ text,
+          length h.output.took.0 + wrote.0,
+          ap (λ t. t.given) (h.told left may) ∙ ap (λ l. l ++ (ahead reader left).given) parts
+              ∙ append_assoc now (drop count waiting) (ahead reader left).given,
+          both,
+          took-fault-then gives old output output' h.output.took.0 text wrote.0 h.output.took.2 wrote.1,
+          (let k = wrote.2 in let before = h.output.count in omega arith),
+        );
+      }
+      first_written output' written' (Err RunFault.Memory) wrote = rw wrote ends_memory
+      first_written output' written' (Err _) wrote = absurd wrote
 
-    at : (r : Result T RunFault) → AnswersInTurn IsTextOf gives (places_after places xs) last mid new between after ys r →
-        AnswersInTurn IsTextOf gives places last old new before after (xs ++ ys) r
-    at (Ok x) k =
-        let all = both ys (k.0, k.1, k.2) in
-        let count : capped_number (capped_number (before + length h.0) + length k.0)
-        ≡ capped_number (before + (length h.0 + length k.0)) = capped_on before (length h.0) (length k.0) in
-        let long : length (h.0 ++ k.0) ≡ length h.0 + length k.0 = length-append h.0 k.0 in
-        let one = h.3 in
-        let two = k.3 in
-        (h.0 ++ k.0, all.1, all.2, cc, k.4 ∙ sym (places_append places xs ys))
-    at (Err RunFault.Memory) k = (xs ++ k.0, k.1, ap (λ zs. xs ++ zs) k.2 ∙ sym (append_assoc xs k.0 k.1), both k.0 k.3)
-    at (Err (RunFault.Write count)) k =
-        let total : capped_number (capped_number (before + length h.0) + k.3) ≡ capped_number (before + (length h.0 + k.3)) =
-        capped_on before (length h.0) k.3 in
-        let one = h.3 in
-        let two = k.7 in (
-          xs ++ k.0,
-          k.1,
-          h.0 ++ k.2,
-          length h.0 + k.3,
-          ap (λ zs. xs ++ zs) k.4 ∙ sym (append_assoc xs k.0 k.1),
-          answered_append IsTextOf places xs k.0 h.0 k.2 h.1 k.5,
-          took-fault-then gives old mid new h.0 k.2 k.3 h.2 k.6,
-          (cc),
-        )
-    at (Err (RunFault.CellsAt line)) k = both ys k
-    at (Err (RunFault.Read which f)) k = (k.0, both ys k.1)
-    at (Err _) k = absurd k
+  module _ (h : HasAnswered IsTextOf gives n ended read reader [] old output held written) where
+    -- a batch of requests that the reader gave waits
+    pub batch_waits : {gave : Standing} {batch : List Request} → Gives ended reader gave batch →
+        HasAnswered IsTextOf gives n ended read gave batch old output held written
+    batch_waits {gave} {batch} given = record {
+      answered = h.answered;
+      told = subst (λ (l : List Request). HasGiven ended n read gave (l ++ batch)) (append-nil h.answered)
+          (gives_more ended (fed (starting n) read) reader gave (h.answered ++ []) batch h.told given);
+      output = h.output;
+    }
 
--- no requests were asked for
-pub answers_none : {IsTextOf : TextOf} {S : Type 0} {gives : S → List ℕ → Result ℕ DeviceFault → S → Type 0} {places : PlaceList} {old : S}
-    {written : ℕ} → written < 2 ^ 64 → InTurn {T = Unit} IsTextOf gives places places old old written written [] (Ok tt)
-answers_none {IsTextOf} {S} {gives} {places} {old} fits =
-    record { turn = ([], answered_none IsTextOf places, took-none gives old, omega arith, refl) }
+    -- if this fault or none is ahead, it follows the requests that are answered
+    told_end : (left : List ℕ) (fault : Option RequestFault) → MayCome ended left → ahead reader left ≡ stopping fault →
+        ((told_by n (read ++ left)).fault ≡ fault) × TookAnswers IsTextOf gives no_places old output (told_by n (read ++ left)).given
+    told_end left fault may is =
+        let whole = h.told left may ∙ ap (after_these (h.answered ++ [])) is in
+        let given = ap (λ t. t.given) whole ∙ append-nil (h.answered ++ []) ∙ append-nil h.answered in
+        (ap (λ t. t.fault) whole, subst (TookAnswers IsTextOf gives no_places old output) (sym given) h.output.took)
 
--- the lists of a request are lists of a table
-pub lists_of : (n nodes : ℕ) (lists : TwoLists) (sources targets : List ℕ) → AreTwoLists n lists → nodes ≡ n →
-    sources ≡ lists.sources → targets ≡ lists.targets → AreLists nodes sources targets
-lists_of n nodes lists sources targets are same from to =
-    rw (same, from, to) (record { sources = are.sources; targets = are.targets; sizes = are.sizes; cells = are.cells })
+    -- the run ends in the fault that is ahead
+    pub ends_stopped : (fault : RunFault) → IsStop ended reader fault → Ends IsTextOf gives n ended read old output (Err fault)
+    ends_stopped (RunFault.Read which fault) stop = record {
+      over = λ left may.
+          let end = told_end left (Some (Line fault)) may (stop.1 left may) in (stop.0, end.0, end.1);
+    }
+    ends_stopped (RunFault.CellsAt line) stop =
+        record { over = λ left may. told_end left (Some (Cells line)) may (stop left may) }
+    ends_stopped RunFault.Memory stop = ends_memory h
+    ends_stopped _ stop = absurd stop
+
+    -- at the end, no request is left
+    pub ends_well : ended ≡ true → IsUsedUp true reader → Ends IsTextOf gives n ended read old output (Ok tt)
+    ends_well is up = record {
+      over = λ left may. told_end left None may (ap (ahead reader) (may is)
+          ∙ ap (λ xs. told reader.nodes reader.line reader.begun (lines (xs ++ []))) up.0 ∙ ap stopping up.1);
+    }
+
+-- the error that a reader returns stops it
+pub refused : (ended : Bool) (reader : Standing) (error : RequestError) → IsErrorAhead ended reader error →
+    IsStop ended reader (request_refusal error)
+refused ended reader (Fault (Line fault)) h = (refl, h)
+refused ended reader (Fault (Cells line)) h = h
+refused ended reader NoMemory h = tt
+
+-- if memory was refused, nothing was pushed
+pub not_pushed : {T E A : Type 0} (r : Result T E) (xs more all : List A) → is_err r ≡ true → all ≡ (if is_ok r then more else xs) →
+    all ≡ xs
+not_pushed (Ok x) xs more all e h = cc
+not_pushed (Err y) xs more all e h = h

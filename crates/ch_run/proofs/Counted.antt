@@ -1,29 +1,113 @@
--- The counts of failed reads and writes.
-use Rattle.std.proofs.Common.{◌≡◌, ℕ, ◌+◌, ◌<◌, inl, inr, arith}
-use Rattle.std.specs.Prelude.{◌⊎◌, Result, Err, IsErrAnd}
+-- What is told of inputs and of the output, by the counts of their failed calls.
+use Rattle.std.proofs.Common.{◌≡◌, ℕ, ◌+◌, List, [], inl, inr, refl, ap, arith}
+use Rattle.std.specs.Prelude.{◌⊎◌, Result}
+use Rattle.std.proofs.Math.Logic.{⊎_map}
+use Rattle.ch_read.specs.declared.fault.ReadFault.{ReadFault}
+use Rattle.ch_text.specs.Device.{failures_in, idle_writes}
+use Rattle.ch_text.specs.Moves.{Took}
+use Rattle.ch_text.specs.declared.device.DeviceFault.{DeviceFault}
+use Rattle.ch_text.proofs.Moves.{all-counts, fault-counts, gave-counts, took-counts, until-counts}
+use Rattle.ch_job.specs.Job.{source_map, sources_map}
+use Rattle.ch_job.specs.declared.source.Source.{Source}
+use Rattle.ch_job.specs.declared.sources.Sources.{Sources}
 use Rattle.ch_run.specs.declared.fault.RunFault.{RunFault}
 use Rattle.ch_run.specs.declared.fault.Which.{Which}
-use Rattle.ch_run.specs.Run.{IsWrite, ReadsOnce, WritesOnce}
+use Rattle.ch_run.specs.NearRun.{ReadsSources, sources_reading}
+use Rattle.ch_run.specs.Run.{Reading, ReadsAfter, ReadsOnce, WritesAfter, WritesOnce, reading}
+use Rattle.ch_run.specs.Source.{ReadsSource, source_reading}
+use Rattle.ch_run.specs.Told.{Calls}
+use Rattle.ch_run.proofs.Tells.{Met, MetIf, MetSource, Refuses, ReportsReads, ReportsWrites, Written, read_before, step_of}
 
--- a failed read is reported exactly if it was counted, and once
-pub counted_once : {T I : Type 0} (r : Result T RunFault) (which : Which) (failed : I → ℕ) (old new : I) →
-    ((r ≡ Err (RunFault.Device which)) × (failed new ≡ failed old + 1))
-    ⊎ ((r ≡ Err (RunFault.Device which) → ⊥) × (failed new ≡ failed old)) → ReadsOnce which r failed old new
-counted_once r which failed old new (inl (is, more)) = record { device = (λ stopped. omega arith, λ less. is); once = inr more }
-counted_once r which failed old new (inr (other, same)) =
-    record { device = (λ is. absurd (other is), λ less. absurd (omega arith)); once = inl same }
+-- the law of an input that ties its calls to its count of failures
+abbrev pub CountsReads : {I : Type 0} → Calls I → (I → ℕ) → Type 0
+CountsReads {I} gives failed = (old : I) → (buffer : List ℕ) → (answer : Result ℕ DeviceFault) → (new : I) →
+    gives old buffer answer new → failed new ≡ failed old + failures_in answer
 
-module _ {T O : Type 0} (r : Result T RunFault) (failed idle : O → ℕ) (old new : O) where
-  -- a run without a failed write counted none
-  pub unfailed_once : (IsErrAnd r IsWrite → ⊥) → (failed new ≡ failed old) × (idle new ≡ idle old) → WritesOnce r failed idle old new
-  unfailed_once other (same, still) = record { device = (λ is. absurd (other is), λ any. absurd (none any)); once = inl (inl same, still) }
+-- the law of an output that ties its calls to its counts
+abbrev pub CountsCalls : {O : Type 0} → Calls O → (failed idle : O → ℕ) → Type 0
+CountsCalls {O} takes failed idle =
+    (old : O) → (bytes : List ℕ) → (answer : Result ℕ DeviceFault) → (new : O) → takes old bytes answer new →
+    (failed new ≡ failed old + failures_in answer) × (idle new ≡ idle old + idle_writes answer bytes)
+
+module _ {T O : Type 0} {takes : Calls O} {failed idle : O → ℕ} (counts : CountsCalls takes failed idle) {old new : O}
+    {r : Result T RunFault} where
+  -- a failed write is reported exactly if there was one
+  pub writes_once : ReportsWrites takes old new r → WritesOnce r failed idle old new
+  writes_once (inl (is, (text, count, took))) = elim (fault-counts takes failed idle counts old text count new took) [
+    | inl more ↦ record { device = (λ met. inl (omega arith), λ any. is); once = inl (inr more.0, more.1) }
+    | inr more ↦ record { device = (λ met. inr (omega arith), λ any. is); once = inr (more.0, inr more.1) }
+  ]
+  writes_once (inr (none, kept)) =
+      let still = same kept in
+      record {
+        device = (λ is. absurd (none is), λ any. elim any [ inl less ↦ absurd (omega arith) | inr less ↦ absurd (omega arith) ]);
+        once = inl (inl still.0, still.1);
+      }
     where
-      none : (failed old < failed new) ⊎ (idle old < idle new) → ⊥
-      none (inl less) = omega arith
-      none (inr less) = omega arith
+      same : (new ≡ old) ⊎ ((text : List ℕ) × Took takes old text new) → (failed new ≡ failed old) × (idle new ≡ idle old)
+      same (inl at) = (ap failed at, ap idle at)
+      same (inr (text, took)) = took-counts takes failed idle counts old text [] new took
 
-  -- and a failed write was counted, once
-  pub failed_once : IsErrAnd r IsWrite → ((failed new ≡ failed old + 1) × (idle new ≡ idle old))
-      ⊎ ((failed new ≡ failed old) × (idle new ≡ idle old + 1)) → WritesOnce r failed idle old new
-  failed_once is (inl (more, same)) = record { device = (λ met. inl (omega arith), λ any. is); once = inl (inr more, same) }
-  failed_once is (inr (same, more)) = record { device = (λ met. inr (omega arith), λ any. is); once = inr (same, inr more) }
+  -- the promise on the output
+  pub writes_after : {accepted : Type 0} {P : List ℕ → Type 0} → Written r takes old new accepted P →
+      WritesAfter accepted r failed idle old new
+  writes_after told = record { writes = writes_once told.calls; unwritten = told.unwritten }
+
+module _ {T I : Type 0} {gives : Calls I} {failed : I → ℕ} (counts : CountsReads gives failed) {old new : I} {same : Type 0}
+    (still : same → new ≡ old) {r : Result T RunFault} {which : Which} where
+  -- a failed read is reported exactly if there was one
+  pub reads_once : ReportsReads which (reading gives old new) same r → ReadsOnce which r failed old new
+  reads_once (inl (is, (bytes, until))) =
+      let more = until-counts gives failed counts old bytes new until in
+      record { device = (λ stopped. omega arith, λ less. is); once = inr more }
+  reads_once (inr (other, read)) =
+      let none = kept read in
+      record { device = (λ is. absurd (other is), λ less. absurd (omega arith)); once = inl none }
+    where
+      kept : same ⊎ ((bytes : List ℕ) × ((reading gives old new).some bytes ⊎ (reading gives old new).all bytes)) → failed new ≡ failed old
+      kept (inl at) = ap failed (still at)
+      kept (inr (bytes, inl some)) = gave-counts gives failed counts old bytes new some
+      kept (inr (bytes, inr all)) = all-counts gives failed counts old bytes new all
+
+  -- the promise on an input
+  pub reads_after : {accepted : Type 0} {Why : RunFault → Type 0} (P : Reading → ReadFault → Type 0) →
+      ((fault : ReadFault) → Why (RunFault.Read which fault) → P (reading gives old new) fault) →
+      Met r which (reading gives old new) same accepted Why →
+      ReadsAfter (read_before (step_of which)) accepted which r gives failed old new P
+  reads_after P so met = record {
+    reads = record { refused = λ fault is. so fault (met.why _ (refl, λ is. cc) is); once = reads_once met.calls };
+    unread = ⊎_map still (λ accepted. accepted) met.unread;
+  }
+
+-- the promise on an input whose lines alone can be refused
+pub lines_after : {T I : Type 0} {gives : Calls I} {failed : I → ℕ} (counts : CountsReads gives failed) {old new : I} {same : Type 0}
+    (still : same → new ≡ old) {r : Result T RunFault} {which : Which} {accepted : Type 0} (P : Reading → ReadFault → Type 0) →
+    Met r which (reading gives old new) same accepted (Refuses which (P (reading gives old new))) →
+    ReadsAfter (read_before (step_of which)) accepted which r gives failed old new P
+lines_after counts still P = reads_after counts still P (λ fault why. why fault refl)
+
+module _ {T I : Type 0} (r : Result T RunFault) {gives : Calls I} {failed : I → ℕ} (counts : CountsReads gives failed)
+    (origin : I → ℕ) where
+  -- the promise on the source of the hierarchy
+  pub source_after : (graph : Reading) (old new : Source I) → source_map origin new ≡ source_map origin old →
+      MetSource r graph (source_reading gives old new) (new ≡ old) → ReadsSource graph r gives failed old new
+  source_after graph Source.Built Source.Built same met = refl
+  source_after graph (Source.Saved old) (Source.Saved new) same met = record {
+    lines = reads_after counts (λ is. cc) _ (λ fault at. (at.0, at.1, (at.2.0, at.2.1, at.2.2.1))) met;
+    check = λ fault is. let at = met.why (RunFault.Check fault) (refl, λ is. cc) is in
+        (at.0, at.2.2.0, at.1, (at.2.0, at.2.1, at.2.2.1), at.2.2.2);
+  }
+  source_after graph (Source.Like old fresh hops) (Source.Like new fresh' hops') same met = record {
+    lines = reads_after counts (λ is. cc) _ (λ fault at. (at.0, at.1, (at.2.0, at.2.1, at.2.2.1))) met;
+    order = λ is. let at = met.why RunFault.Order (refl, λ is. cc) is in
+        (at.0, at.2.2.0, at.1, (at.2.0, at.2.1, at.2.2.1), at.2.2.2);
+  }
+  source_after graph _ _ same met = absurd (let none : ⊥ = cc in none)
+
+  -- the promise on the list of sources
+  pub listed_after : (accepted : Type 0) (P : Reading → ReadFault → Type 0) (old new : Sources I) →
+      sources_map origin new ≡ sources_map origin old → MetIf r (sources_reading gives old new) (new ≡ old) accepted P →
+      ReadsSources (read_before 2) accepted r gives failed old new P
+  listed_after accepted P Sources.All Sources.All same met = refl
+  listed_after accepted P (Sources.Listed old) (Sources.Listed new) same met = lines_after counts (λ is. cc) P met
+  listed_after accepted P _ _ same met = absurd (let none : ⊥ = cc in none)

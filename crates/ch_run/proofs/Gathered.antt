@@ -2,6 +2,7 @@
 use Rattle.std.proofs.Common.{◌≡◌, ℕ, ◌<◌, Bool, true, false, List, [], ◌∷◌, length, take, drop, map, get_or}
 use Rattle.std.proofs.Common.{Option, Some, None, refl, sym, ap, ◌∙◌, subst, arith}
 use Rattle.std.specs.Prelude.{All}
+use Rattle.std.specs.List.{flat_map, zip}
 use Rattle.std.proofs.Math.ListN.{get_or-map}
 use Rattle.std.proofs.lemmas.List.{length-map, append-nil}
 use Rattle.std.proofs.lemmas.List.Elements.{All-take}
@@ -20,8 +21,7 @@ use Rattle.ch_run.specs.Ask.{AreAnswered, IsRequestText, IsTextOfRequest, TextOf
 use Rattle.ch_run.specs.NearRows.{HasNearRows}
 use Rattle.ch_text.specs.NearText.{near_row_text}
 use Rattle.ch_run.specs.Serving.{AnswersFirst, AreFirstOf, asked_for, near_row_of, places_of}
-use Rattle.ch_run.proofs.Answered.{rows_answered}
-use Rattle.ch_run.proofs.Texts.{each_weaker}
+use Rattle.ch_run.proofs.Answered.{each_answered}
 
 -- requests are their first one and the rest
 pub front : (requests : List Request) (d r : Request) → 0 < length requests → get_or requests 0 d ≡ r → requests ≡ r ∷ drop 1 requests
@@ -57,11 +57,7 @@ module _ {A : Type 0} {from : A → Request} {requests : List Request} {values :
         places = same ∙ sym (places_stay stay before values) ∙ ap (places_after before) these;
       }
 
--- neither queries nor near rows change the places
-pub asked_stay : (routed : Bool) (places : PlaceList) (pair : ℕ × ℕ) → places_then places (asked_for routed pair) ≡ places
-asked_stay true places pair = refl
-asked_stay false places pair = refl
-
+-- a query asks for nodes of the graph
 pub asked_within : (n : ℕ) (routed : Bool) (pair : ℕ × ℕ) → IsRequest n (asked_for routed pair) → (pair.0 < n) × (pair.1 < n)
 asked_within n true pair is = is
 asked_within n false pair is = is
@@ -101,10 +97,18 @@ pub near_answered : (options : Options) (g : Network) (H : LevelsAndLegs) → Is
     HasNearRows (wanted_within near (limit_of options within)) sources text →
     AreAnswered (IsTextOfRequest options g H) (places_of (Some near)) (map (near_row_of within) sources) text
 near_answered options g H limits kept within near same sources text h =
-    let direction = options.direction in
     let limit = limit_of options within in
+    let nodes = near.targets in
     subst (AreAnswered (IsTextOfRequest options g H) (places_of (Some near)) (map (near_row_of within) sources)) (sym h.2)
-    (rows_answered options g (λ K. K ≡ H) within (places_of (Some near)) sources h.0
-    (each_weaker (IsNearRow near.hierarchy limit near.count near.targets) (IsNearestRow g direction limit near.count near.targets)
-    (λ s row is. row_of_graph g H direction limit near.count near.targets s row limits kept
-    (subst (λ (K : LevelsAndLegs). IsNearRow K limit near.count near.targets s row) same is)) sources h.0 h.1))
+    (each_answered (IsTextOfRequest options g H) (near_row_of within) (places_of (Some near)) (λ s. refl)
+    (IsNearRow near.hierarchy limit near.count nodes) (λ s row. near_row_text nodes (s, row))
+    (λ s row is. (
+      row ∷ [],
+      (
+        row_of_graph g H options.direction limit near.count nodes s row limits kept
+            (subst (λ (K : LevelsAndLegs). IsNearRow K limit near.count nodes s row) same is),
+        tt,
+      ),
+      sym (append-nil (near_row_text nodes (s, row))),
+    ))
+    (λ sources rows. flat_map (near_row_text nodes) (zip sources rows)) refl (λ s row sources rows. refl) sources h.0 h.1)

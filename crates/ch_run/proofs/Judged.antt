@@ -1,55 +1,44 @@
 -- What a run makes of an input that it read to its end: the value that the bytes name, or the end at their first fault.
-use Rattle.std.proofs.Common.{◌≡◌, ℕ, List, inr, refl}
-use Rattle.std.specs.Prelude.{Err, IfErr, IfOk, IsErrAnd, Ok, Result, Vec}
+use Rattle.std.proofs.Common.{◌≡◌, ℕ, List, ap, inl, inr, refl}
+use Rattle.std.specs.Prelude.{Err, IsErrAnd, MatchResult, Ok, Result, Vec}
 use Rattle.std.specs.declared.alloc.Global.{Global}
 use Rattle.ch_read.specs.Answers.{AnswersWhere, seen_by_items}
-use Rattle.ch_read.specs.Checks.{IsFault}
 use Rattle.ch_read.specs.declared.fault.ReadError.{ReadError}
 use Rattle.ch_read.specs.declared.fault.ReadError.TheVariants.{Fault, NoMemory}
 use Rattle.ch_read.specs.declared.fault.ReadFault.{ReadFault}
-use Rattle.ch_read.specs.declared.form.Form.{Form}
 use Rattle.ch_run.specs.Fault.{judged}
 use Rattle.ch_run.specs.Run.{IsUnread, Reading, ReadsAll}
-use Rattle.ch_run.specs.Story.{EndsAt, IsRefused}
+use Rattle.ch_run.specs.Story.{EndsAt}
 use Rattle.ch_run.specs.declared.fault.RunFault.{RunFault}
 use Rattle.ch_run.specs.declared.fault.Which.{Which}
-use Rattle.ch_run.proofs.Owed.{own_as}
-use Rattle.ch_run.proofs.Story.{unread_ends}
 
-module _ (which : Which) (input : Reading) (form : Form) where
-  -- an input that was not read to its end ends the run
-  pub unread_judged : {T : Type 0} (r : Result T RunFault) (e : RunFault) → IsErrAnd r (λ other. other ≡ e) → IsUnread which input e →
-      IfErr r (EndsAt which input (IsRefused which form))
-  unread_judged r e is unread =
-      own_as r e (EndsAt which input (IsRefused which form)) is (unread_ends which input (IsRefused which form) e unread)
+-- an input that was not read to its end ends the run
+unread_ends : (which : Which) (input : Reading) (refuses : List ℕ → RunFault → Type 0) (fault : RunFault) →
+    IsUnread which input fault → EndsAt which input refuses fault
+unread_ends which input refuses (RunFault.Device other) unread = unread
+unread_ends which input refuses RunFault.Memory unread = (unread.0, inl unread.1)
+unread_ends which input refuses _ unread = absurd unread
 
-module _ (which : Which) (input : Reading) (form : Form) (bytes : List ℕ) (all : input.all bytes) where
-  -- a value that the reader made is named by the bytes
+pub unread_judged : {V : Type 0} (which : Which) (input : Reading) (refuses : List ℕ → RunFault → Type 0) (Q : V → Type 0)
+    (r : Result V RunFault) (e : RunFault) → IsErrAnd r (λ other. other ≡ e) → IsUnread which input e →
+    MatchResult r Q (EndsAt which input refuses)
+unread_judged which input refuses Q (Ok value) e is unread = absurd is
+unread_judged which input refuses Q (Err fault) e is unread = unread_ends which input refuses fault (rw is unread)
+
+module _ (which : Which) (input : Reading) (refuses : List ℕ → RunFault → Type 0) (bytes : List ℕ) (all : input.all bytes) where
+  -- a value that the reader made is named by the bytes, and they are refused for a fault that it found
   pub value_judged : {V : Type 0} (names : List ℕ → V → Type 0) (read : Result V ReadError) →
-      ((value : V) → AnswersWhere read (Ok value) (names bytes value)) →
-      IfOk (judged which read) (λ value. ReadsAll input (λ given. names given value))
-  value_judged names (Ok value) so = (bytes, all, (so value).0 refl)
-  value_judged names (Err error) so = tt
+      ((value : V) → read ≡ Ok value → names bytes value) →
+      ((fault : ReadFault) → read ≡ Err (Fault fault) → refuses bytes (RunFault.Read which fault)) →
+      MatchResult (judged which read) (λ value. ReadsAll input (λ given. names given value)) (EndsAt which input refuses)
+  value_judged names (Ok value) named refused = (bytes, all, named value refl)
+  value_judged names (Err (Fault fault)) named refused = (bytes, all, refused fault refl)
+  value_judged names (Err NoMemory) named refused = (bytes, inr all)
 
   -- the same of a list
   pub list_judged : {A : Type 0} (names : List ℕ → List A → Type 0) (read : Result (Vec A Global) ReadError) →
       ((items : List A) → AnswersWhere (seen_by_items read) (Ok items) (names bytes items)) →
-      IfOk (judged which read) (λ list. ReadsAll input (λ given. names given list.items))
-  list_judged names (Ok list) so = (bytes, all, (so list.items).0 refl)
-  list_judged names (Err error) so = tt
-
-  -- a fault that the reader found is one of the bytes
-  pub fault_judged : {V : Type 0} (read : Result V ReadError) →
-      ((fault : ReadFault) → AnswersWhere read (Err (Fault fault)) (IsFault form bytes fault.line fault.kind)) →
-      IfErr (judged which read) (EndsAt which input (IsRefused which form))
-  fault_judged (Ok value) so = tt
-  fault_judged (Err (Fault fault)) so = (bytes, all, (refl, (so fault).0 refl))
-  fault_judged (Err NoMemory) so = (bytes, inr all)
-
-  -- the same of a list
-  pub list_fault_judged : {A : Type 0} (read : Result (Vec A Global) ReadError) →
-      ((fault : ReadFault) → AnswersWhere (seen_by_items read) (Err (Fault fault)) (IsFault form bytes fault.line fault.kind)) →
-      IfErr (judged which read) (EndsAt which input (IsRefused which form))
-  list_fault_judged (Ok list) so = tt
-  list_fault_judged (Err (Fault fault)) so = (bytes, all, (refl, (so fault).0 refl))
-  list_fault_judged (Err NoMemory) so = (bytes, inr all)
+      ((fault : ReadFault) → seen_by_items read ≡ Err (Fault fault) → refuses bytes (RunFault.Read which fault)) →
+      MatchResult (judged which read) (λ list. ReadsAll input (λ given. names given list.items)) (EndsAt which input refuses)
+  list_judged {A} names read named refused = value_judged (λ given (list : Vec A Global). names given list.items) read
+      (λ list is. (named list.items).0 (ap seen_by_items is)) (λ fault is. refused fault (ap seen_by_items is))

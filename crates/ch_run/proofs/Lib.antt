@@ -1,12 +1,9 @@
 -- The lemmas on runs: how inputs are read and texts written, what the story of each run says, and that texts are unique.
 pub mod Texts
 pub mod Ranges
-pub mod TableTexts
-pub mod Inputs
+pub mod RowTexts
 pub mod OneText
-pub mod Tables
 pub mod OneRun
-pub mod Writes
 pub mod Judged
 pub mod Owed
 pub mod Parts

@@ -1,6 +1,6 @@
 -- The graph that was loaded, and the hierarchy that was saved or built like an order, if there is one.
 use Rattle.std.proofs.Common.{◌≡◌, ℕ, Bool, true, false, List, Some, refl, sym, ap, subst, inl, inr}
-use Rattle.std.specs.Prelude.{Result, Ok, Err, IfOk, ⊤}
+use Rattle.std.specs.Prelude.{Result, Ok, Err, IfOk}
 use Rattle.ch_hierarchy.specs.Kept.{IsKept}
 use Rattle.ch_hierarchy.specs.Saved.{IsOrderOf}
 use Rattle.ch_contract.specs.declared.measure.OrderBy.TheVariants.{Depth}
@@ -12,8 +12,7 @@ use Rattle.ch_order.specs.declared.construction.like.OrderError.{OrderError}
 use Rattle.ch_graph.specs.Graph.{Network, IsWithinLimits}
 use Rattle.ch_hierarchy.specs.Hierarchy.{LevelsAndLegs}
 use Rattle.ch_run.specs.declared.fault.RunFault.{RunFault}
-use Rattle.ch_run.specs.declared.fault.Which.{Which}
-use Rattle.ch_run.specs.Run.{IsOf, IsWrite, SourceReading, NoFile, SavedFile, OrderFile}
+use Rattle.ch_run.specs.Run.{SourceReading, NoFile, SavedFile, OrderFile}
 use Rattle.ch_run.specs.Source.{IsInPlaceOf, IsOfLoading}
 
 -- a hierarchy that is right for the graph serves in its own place
@@ -38,31 +37,15 @@ module _ (g : Network) (hops : ℕ) (given : List ℕ) (fresh : ℕ) where
       (H.0, H.1, from_kept Depth g hops _ H.0 limits bound H.1, subst (λ b. IsInPlaceOf b g (Some H.0) (Some K)) (sym unnamed) (refl, kept))
   built_in_its_place named (Err e) unnamed bound limits each kept = tt
 
--- the inputs that loading reads
-abbrev pub IsEarly : Which → Type 0
-IsEarly Which.Graph = ⊤
-IsEarly Which.Saved = ⊤
-IsEarly Which.Order = ⊤
-IsEarly _ = ⊥
+-- loading does not end in too many cells
+pub loading_no_cells : (source : SourceReading) → IsOfLoading source RunFault.Cells → ⊥
+loading_no_cells NoFile own = own
+loading_no_cells (SavedFile saved) (inl own) = own
+loading_no_cells (SavedFile saved) (inr own) = own
+loading_no_cells (OrderFile order fresh hops) (inl own) = own
+loading_no_cells (OrderFile order fresh hops) (inr own) = own
 
--- a fault of loading belongs to the graph, to the saved hierarchy or to the order
-pub loading_of : (source : SourceReading) (e : RunFault) → IsOfLoading source e → (which : Which) × IsEarly which × IsOf which e
-loading_of NoFile e own = (Which.Graph, tt, own)
-loading_of (SavedFile saved) e (inl own) = (Which.Graph, tt, own)
-loading_of (SavedFile saved) e (inr own) = (Which.Saved, tt, own)
-loading_of (OrderFile order fresh hops) e (inl own) = (Which.Graph, tt, own)
-loading_of (OrderFile order fresh hops) e (inr own) = (Which.Order, tt, own)
-
--- a fault of an input is no failed write
-pub of_no_write : (which : Which) (e : RunFault) → IsOf which e → IsWrite e → ⊥
-of_no_write which (RunFault.Write count) own write = own
-of_no_write which _ own write = write
-
--- nor is a fault of loading
-pub loading_no_write : (source : SourceReading) (e : RunFault) → IsOfLoading source e → IsWrite e → ⊥
-loading_no_write source e own = let of = loading_of source e own in of_no_write of.0 e of.2
-
--- loading can end in a lack of memory
+-- it can end in a lack of memory
 pub loading_memory : (source : SourceReading) → IsOfLoading source RunFault.Memory
 loading_memory NoFile = tt
 loading_memory (SavedFile saved) = inl tt

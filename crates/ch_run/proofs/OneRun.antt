@@ -44,18 +44,13 @@ abbrev HasKnownIf : ReadingIf → Type 0
 HasKnownIf NoInput = ⊤
 HasKnownIf (OneInput input) = (bytes : List ℕ) × GivesOnly input bytes
 
--- a run that builds the hierarchy has a bound on the legs of a witness
-abbrev IsBoundFor : SourceReading → ℕ → Type 0
-IsBoundFor NoFile hops = IsHopBound hops
-IsBoundFor _ hops = ⊤
-
 -- there is one hierarchy that serves, and it is right for the graph
 one_serving : (by : OrderBy) (hops : ℕ) (g : Network) (h : Option LevelsAndLegs) (H K : LevelsAndLegs) → IsServing by hops g h H →
     IsServing by hops g h K → H ≡ K
 one_serving by hops g None H K a b = one_hierarchy by g hops H K a b
 one_serving by hops g (Some L) H K a b = a ∙ sym b
 
-serving_kept : (graph : Reading) (source : SourceReading) (by : OrderBy) (hops : ℕ) → IsBoundFor source hops → (g : Network)
+serving_kept : (graph : Reading) (source : SourceReading) (by : OrderBy) (hops : ℕ) → IsHopBound hops → (g : Network)
     (h : Option LevelsAndLegs) → AreLoaded graph source g h → (H : LevelsAndLegs) → IsServing by hops g h H → IsKept g H
 serving_kept graph NoFile by hops bound g None loaded H is = hierarchies_kept by g hops H loaded.0 bound is
 serving_kept graph NoFile by hops bound g (Some K) (limits, read, same) H is = absurd (let none : ⊥ = cc in none)
@@ -74,28 +69,25 @@ module _ (graph : Reading) (graph_bytes : List ℕ) (told : GivesOnly graph grap
   one_graph : (g k : Network) → ReadsGraph graph g → ReadsGraph graph k → g ≡ k
   one_graph = reads_one graph graph_bytes told NamesGraph (graph_answer graph_bytes).one_value
 
-  -- one order and its legs are read for the hierarchy
-  one_order : (input : Reading) (bytes : List ℕ) → GivesOnly input bytes → (g k : Network) (s t : OrderAndLegs) → g ≡ k →
-      ReadsSaved input g.nodes s → ReadsSaved input k.nodes t → s ≡ t
-  one_order input bytes known g k s t same a b =
-      reads_one input bytes known (λ xs s. NamesSaved xs g.nodes s) (saved_answer bytes g.nodes).one_value s t a
-      (subst (λ (n : Network). ReadsSaved input n.nodes t) (sym same) b)
+  -- one graph was read, and one order and its legs for the hierarchy
+  one_order : (input : Reading) (bytes : List ℕ) → GivesOnly input bytes → (g k : Network) (s t : OrderAndLegs) → ReadsGraph graph g →
+      ReadsGraph graph k → ReadsSaved input g.nodes s → ReadsSaved input k.nodes t → (g ≡ k) × (s ≡ t)
+  one_order input bytes known g k s t read other a b =
+      let same = one_graph g k read other in
+      (same, reads_one input bytes known (λ xs s. NamesSaved xs g.nodes s) (saved_answer bytes g.nodes).one_value s t a (rw same b))
 
   -- one graph was loaded, and one hierarchy
   one_loaded : (source : SourceReading) → HasKnown source → (g k : Network) (h l : Option LevelsAndLegs) →
       AreLoaded graph source g h → AreLoaded graph source k l → (g ≡ k) × (h ≡ l)
   one_loaded NoFile known g k h l a b = (one_graph g k a.1 b.1, a.2 ∙ sym b.2)
   one_loaded (SavedFile saved) known g k (Some H) (Some K) (s, a) (t, b) =
-      let same = one_graph g k a.reads_graph b.reads_graph in
-      let read : s ≡ t = one_order saved known.0 known.1 g k s t same a.reads_saved b.reads_saved in
-      (same, ap (λ (L : LevelsAndLegs). Some L) (one_saved s H K a.names.0 (rw read b.names.0)))
+      let same = one_order saved known.0 known.1 g k s t a.reads_graph b.reads_graph a.reads_saved b.reads_saved in
+      (same.0, ap (λ (L : LevelsAndLegs). Some L) (one_saved s H K a.names.0 (rw same.1 b.names.0)))
   one_loaded (OrderFile order fresh hops) known g k (Some H) (Some K) (s, a) (t, b) =
-      let same = one_graph g k a.reads_graph b.reads_graph in
-      let read : s ≡ t = one_order order known.0 known.1 g k s t same a.reads_order b.reads_order in (
-        same,
-        ap (λ (L : LevelsAndLegs). Some L)
-            (one_hierarchy_from Depth g hops (take (given_count g.nodes fresh) s.order) H K a.like (rw (same, read) b.like)),
-      )
+      let same = one_order order known.0 known.1 g k s t a.reads_graph b.reads_graph a.reads_order b.reads_order in
+      let first = take (given_count g.nodes fresh) s.order in
+      let one = one_hierarchy_from Depth g hops first H K a.like (rw (same.0, same.1) b.like) in
+      (same.0, ap (λ (L : LevelsAndLegs). Some L) one)
   one_loaded _ known g k None l a b = absurd a
   one_loaded _ known g k h None a b = absurd b
 
@@ -107,14 +99,14 @@ module _ (graph : Reading) (graph_bytes : List ℕ) (told : GivesOnly graph grap
       so g h a p (subst (λ (n : Network). Q n h) (sym same.0) (subst (Q k) (sym same.1) q))
 
   -- so runs have one text of answers
-  pub answers_one : (source : SourceReading) (queries : Reading) (options : Options) → IsBoundFor source options.hops → HasKnown source →
+  pub answers_one : (source : SourceReading) (queries : Reading) (options : Options) → HasKnown source →
       (query_bytes : List ℕ) → GivesOnly queries query_bytes → (text other : List ℕ) → IsAnsweredBy options graph source queries text →
       IsAnsweredBy options graph source queries other → text ≡ other
-  answers_one source queries options bound known query_bytes told_queries text other t u = both source known _ _ t u (λ g h loaded p q.
+  answers_one source queries options known query_bytes told_queries text other t u = both source known _ _ t u (λ g h loaded p q.
       let pairs : q.0 ≡ p.0 = reads_one queries query_bytes told_queries (λ xs ps. NamesQueries xs g.nodes ps)
       (queries_answer query_bytes g.nodes).one_value q.0 p.0 q.1 p.1 in
-      one_text_by (writes_routes options) g (IsOfRoutes options g h) (one_serving options.order options.hops g h)
-      (serving_kept graph source options.order options.hops bound g h loaded) p.0 text other p.2
+      one_text_by (writes_routes options) g (IsOfRoutes options g h) (one_serving options.order options.hops.number g h)
+      (serving_kept graph source options.order options.hops.number options.hops.in_range g h loaded) p.0 text other p.2
       (subst (λ ps. IsTextBy (writes_routes options) g (IsOfRoutes options g h) ps other) pairs q.2))
 
   -- one table
@@ -139,7 +131,7 @@ module _ (graph : Reading) (graph_bytes : List ℕ) (told : GivesOnly graph grap
   pub saves_one : (source : SourceReading) (options : Options) → HasKnown source → (text other : List ℕ) →
       IsSavedBy options graph source text → IsSavedBy options graph source other → text ≡ other
   saves_one source options known text other t u = both source known _ _ t u (λ g h loaded p q.
-      let same : q.0 ≡ p.0 = one_serving options.order options.hops g h q.0 p.0 q.1 p.1 in
+      let same : q.0 ≡ p.0 = one_serving options.order options.hops.number g h q.0 p.0 q.1 p.1 in
       one_hierarchy_text p.0 text other p.2 (subst (λ (H : LevelsAndLegs). IsHierarchyText H other) same q.2))
 
 -- near rows by a saved hierarchy are those of the graph

@@ -1,6 +1,6 @@
 -- The definitions name one text.
-use Rattle.std.proofs.Common.{◌≡◌, ℕ, Bool, true, false, List, [], ◌∷◌, Option, Some, None, sym, ap, ap₂, ◌∙◌, refl, subst, arith, inl, inr}
-use Rattle.std.specs.List.{AllZip, zip, flat_map}
+use Rattle.std.proofs.Common.{◌≡◌, ℕ, Bool, true, false, List, Option, Some, None, sym, ap, ◌∙◌, refl, subst, arith, inl, inr}
+use Rattle.std.specs.List.{flat_map}
 use Rattle.std.proofs.lemmas.Bool.{cases_lt}
 use Rattle.ch_graph.specs.declared.arc.InArc.{InArc}
 use Rattle.ch_graph.specs.Graph.{Network}
@@ -22,16 +22,8 @@ use Rattle.ch_text.specs.NearText.{near_row_text}
 use Rattle.ch_text.specs.SaveText.{IsHierarchyText, saved_text}
 use Rattle.ch_run.specs.Text.{IsNearTextFor, IsTextBy}
 use Rattle.ch_query.specs.Limits.{IsCut}
+use Rattle.ch_run.proofs.RowTexts.{one_list, one_rows}
 use Rattle.ch_text.specs.TableText.{IsCell, IsTableRow, IsTableText, row_text}
-
--- two lists that answer the same items are equal, if each item has only one answer
-pub one_list : {A B : Type 0} (P : A → B → Type 0) → ((x : A) (y z : B) → P x y → P x z → y ≡ z) → (xs : List A) (ys zs : List B) →
-    AllZip P xs ys → AllZip P xs zs → ys ≡ zs
-one_list P one [] [] [] h k = refl
-one_list P one [] (y ∷ ys) zs h k = absurd h
-one_list P one (x ∷ xs) [] zs h k = absurd h
-one_list P one (x ∷ xs) (y ∷ ys) (z ∷ zs) h k = ap₂ ◌∷◌ (one x y z h.0 k.0) (one_list P one xs ys zs h.1 k.1)
-one_list P one _ _ _ h k = absurd k
 
 -- two nodes have only one distance
 one_distance : (g : Network) (s t x y : ℕ) → IsDistance g s t x → IsDistance g s t y → x ≡ y
@@ -110,26 +102,18 @@ one_text_by true g From one kept queries text other t u =
     one_answers_text answer_text (AnswersWithRoute g t.0) (one_routed g t.0 (kept t.0 t.1)) queries text other t.2
     (subst (λ (H : LevelsAndLegs). HasText answer_text (AnswersWithRoute g H) queries other) same u.2)
 
--- a row has only one list of cells
-one_row : (g : Network) (limit : Option ℕ) (targets : List ℕ) (s : ℕ) (xs ys : List (Option ℕ)) → IsTableRow g limit targets s xs →
-    IsTableRow g limit targets s ys → xs ≡ ys
-one_row g limit targets s xs ys h k = one_list (IsCell g limit s) (one_cell_within g limit s) targets xs ys h k
-
 -- a table has only one text
 pub one_table_text : (g : Network) (limit : Option ℕ) (sources targets text other : List ℕ) → IsTableText g limit sources targets text →
     IsTableText g limit sources targets other → text ≡ other
-one_table_text g limit sources targets text other h k =
-    h.2 ∙ ap (λ rows. flat_map row_text (zip sources rows))
-    (one_list (IsTableRow g limit targets) (one_row g limit targets) sources h.0 k.0 h.1 k.1) ∙ sym k.2
+one_table_text g limit sources targets = one_rows (IsTableRow g limit targets) row_text
+    (λ s. one_list (IsCell g limit s) (one_cell_within g limit s) targets) sources
 
 -- near rows have only one text
 pub one_rows_text : (options : Options) (g : Network) (sources targets text other : List ℕ) → IsNearTextFor options g sources targets text →
     IsNearTextFor options g sources targets other → text ≡ other
-one_rows_text options g sources targets text other h k =
-    let IsRow = IsNearestRow g options.direction options.within options.count targets in
-    h.2 ∙ ap (λ rows. flat_map (near_row_text targets) (zip sources rows))
-    (one_list IsRow (λ s a b. one_first options.count (IsWalkTo g options.direction options.within targets s) a b) sources h.0 k.0 h.1 k.1)
-    ∙ sym k.2
+one_rows_text options g sources targets =
+    one_rows (IsNearestRow g options.direction options.within options.count targets) (near_row_text targets)
+    (λ s. one_first options.count (IsWalkTo g options.direction options.within targets s)) sources
 
 -- a hierarchy has one text
 pub one_hierarchy_text : (H : LevelsAndLegs) (text other : List ℕ) → IsHierarchyText H text → IsHierarchyText H other → text ≡ other

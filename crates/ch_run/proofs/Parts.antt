@@ -1,5 +1,5 @@
 -- A text that is written in parts.
-use Rattle.std.proofs.Common.{◌≡◌, ℕ, ◌+◌, ◌<◌, ◌^◌, ◌-◌, min, vec_len, List, [], ◌∷◌, ◌++◌, length, take, drop, get_or, Vec, Ok}
+use Rattle.std.proofs.Common.{◌≡◌, ℕ, ◌+◌, ◌<◌, ◌^◌, ◌-◌, min, vec_len, List, [], ◌++◌, length, take, drop, get_or, Vec, Ok}
 use Rattle.std.proofs.Common.{Err, refl, sym, ◌∙◌, ap, subst, append_assoc, arith, inl, inr}
 use Rattle.std.specs.Prelude.{Result, IsErrAnd}
 use Rattle.std.specs.List.{flat_map, sum_by}
@@ -7,7 +7,6 @@ use Rattle.std.specs.declared.alloc.Global.{Global}
 use Rattle.std.proofs.lemmas.Grind.{flat_map-append}
 use Rattle.std.proofs.lemmas.List.Concat.{length-flat_map}
 use Rattle.std.proofs.lemmas.List.Folds.{length-flat_map-take}
-use Rattle.std.proofs.lemmas.List.Sums.{sum_by-cons}
 use Rattle.std.proofs.lemmas.Bool.{cases_lt}
 use Rattle.ch_read.specs.Reading.{capped_number}
 use Rattle.std.proofs.lemmas.List.{length-append, take-append-drop, flat_map_more, take_more}
@@ -23,22 +22,13 @@ use Rattle.ch_run.specs.Story.{Writes}
 abbrev pub bytes_of : List (Vec ℕ Global) → List ℕ
 bytes_of parts = flat_map (λ (part : Vec ℕ Global). part.items) parts
 
--- the lengths of parts are those of their bytes
-lengths : (parts : List (Vec ℕ Global)) → sum_by vec_len parts ≡ sum_by (λ (part : Vec ℕ Global). length part.items) parts
-lengths [] = refl
-lengths (part ∷ parts) =
-    let first = sum_by-cons vec_len part parts in
-    let second = sum_by-cons (λ (list : Vec ℕ Global). length list.items) part parts in
-    let rest = lengths parts in
-    let here = part.ok.0 in
-    omega arith
-
 -- parts whose number of bytes can be told have fewer than 2^64
 pub fewer : (parts : List (Vec ℕ Global)) (count : ℕ) → count ≡ min (sum_by vec_len parts) (2 ^ 64 - 1) → (count ≡ 2 ^ 64 - 1 → ⊥) →
     length (bytes_of parts) < 2 ^ 64
 fewer parts count is other =
     let long = length-flat_map (λ (part : Vec ℕ Global). part.items) parts in
-    let same = lengths parts in
+    let same : sum_by vec_len parts ≡ sum_by (λ (part : Vec ℕ Global). length part.items) parts =
+    λ i. sum_by (λ (part : Vec ℕ Global). part.ok.0 i) parts in
     let few = cases_lt (sum_by vec_len parts) (2 ^ 64 - 1) in
     elim few [ inl low ↦ omega arith | inr high ↦ absurd (other (omega arith)) ]
 

@@ -24,8 +24,7 @@ module _ {X : Type 0} (f : X → List ℕ) (items : List X) (p : ℕ) where
   texts_from k (text ∷ texts) le h =
       let next : (k + 1) * p ≡ k * p + p = omega arith in
       let after = texts_from (k + 1) texts (omega (arith, le)) h.1 in
-      let rest : all_texts texts ≡ flat_map f (drop (k * p + p) items) =
-      subst (λ i. all_texts texts ≡ flat_map f (drop i items)) next after in
+      let rest : all_texts texts ≡ flat_map f (drop (k * p + p) items) = rw next at after in
       let piece = slice_range items (k * p) (min (k * p + p) (length items)) in
       let both : text.items ++ all_texts texts ≡ flat_map f piece ++ flat_map f (drop (k * p + p) items) = rw (h.0, rest) refl in
       both ∙ sym (flat_map-append f piece (drop (k * p + p) items)) ∙ ap (flat_map f) (piece_split items (k * p) p)
@@ -37,7 +36,6 @@ pub joined_texts : {X : Type 0} (f : X → List ℕ) (items : List X) (n p : ℕ
 joined_texts f items n p texts count positive h =
     let start : 0 * p ≡ 0 = omega arith in
     let all : length items ≤ (0 + length texts) * p = rw (h.0, sym count) (covers n p positive) in
-    let each : MeanEach (IsTextOfRange f items p) (length items) p 0 texts =
-    subst (λ i. MeanEach (IsTextOfRange f items p) i p 0 texts) count h.1 in
+    let each : MeanEach (IsTextOfRange f items p) (length items) p 0 texts = rw count at h.1 in
     subst (λ i. flat_map (λ (text : Vec ℕ Global). text.items) texts ≡ flat_map f (drop i items)) start
     (texts_from f items p 0 texts all each)

@@ -1,14 +1,17 @@
 -- The text of a hierarchy that is right for a graph names this hierarchy again.
-use Rattle.std.proofs.Common.{◌≡◌, ℕ, ◌+◌, ◌*◌, ◌<◌, ◌≤◌, List, [], ◌∷◌, ◌++◌, length, map, take, get_or, Contains, Option, Some}
-use Rattle.std.proofs.Common.{None, refl, sym, ◌∙◌, ap, subst, arith, append_assoc, inl, inr}
-use Rattle.std.specs.Prelude.{◌≢◌, AllPairs, All, codes, decimal}
-use Rattle.std.specs.List.{flat_map}
-use Rattle.std.proofs.lemmas.Bool.{cases_lt}
+use Rattle.std.proofs.Common.{◌≡◌, ℕ, ◌+◌, ◌*◌, ◌<◌, ◌≤◌, List, [], ◌∷◌, ◌++◌, length, map, get_or, Contains, Option, Some}
+use Rattle.std.proofs.Common.{None, true, refl, sym, ◌∙◌, ap, subst, arith, append_assoc, inl, inr}
+use Rattle.std.specs.Prelude.{◌≢◌, AllPairs, codes, decimal, eqb}
+use Rattle.std.specs.List.{flat_map, list_any}
+use Rattle.std.proofs.lemmas.Map.Made.{IsDistinct-from_AllPairs}
+use Rattle.std.proofs.lemmas.Map.Steps.{length-le_from_distinct_below}
+use Rattle.std.proofs.lemmas.Map.Views.{Contains-from_any}
+use Rattle.std.proofs.lemmas.Bool.{eqb-true}
+use Rattle.std.proofs.lemmas.Bool.Decides.{Decides-eqb}
 use Rattle.std.proofs.lemmas.Nat.{mul-add-lt, mul-le, same_from_place}
-use Rattle.std.proofs.lemmas.List.{get_or_default, get_or-take, length-map, length-take-le}
+use Rattle.std.proofs.lemmas.List.{get_or_default, length-map}
 use Rattle.std.proofs.lemmas.List.Concat.{flat_map-append}
-use Rattle.std.proofs.lemmas.Option.{none-some, same_Some}
-use Rattle.std.proofs.lemmas.List.Elements.{All-contains, Contains-get_or}
+use Rattle.std.proofs.lemmas.List.Elements.{Contains-get_or}
 use Rattle.std.proofs.lemmas.List.Folds.{flat_map-map}
 use Rattle.ch_graph.specs.declared.limits.TheConstants.{MOST_NODES, MOST_WEIGHT}
 use Rattle.ch_graph.specs.declared.cost.Cost.{Cost}
@@ -20,13 +23,11 @@ use Rattle.ch_read.specs.Names.{NamesSaved}
 use Rattle.ch_read.proofs.WrittenLines.{fed, text_of}
 use Rattle.ch_read.proofs.WrittenSaved.{middle_word, order_line, leg_line, saved_lines, IsLegWithin, AreWithin}
 use Rattle.ch_read.proofs.SavedReadBack.{reads_back}
-use Rattle.ch_hierarchy.specs.declared.leg.Leg.{Leg}
-use Rattle.ch_hierarchy.specs.Hierarchy.{LevelsAndLegs, nodes_of, IsLegUp}
-use Rattle.ch_hierarchy.specs.Rows.{row}
+use Rattle.ch_hierarchy.specs.Hierarchy.{LevelsAndLegs, nodes_of}
 use Rattle.ch_hierarchy.specs.Kept.{IsLeg, IsFounded, IsKept}
 use Rattle.ch_hierarchy.specs.Saved.{NamesHierarchy, IsSamePair}
 use Rattle.ch_hierarchy.specs.Written.{IsByLevel, written}
-use Rattle.ch_hierarchy.proofs.theory.Ordered.{every_number}
+use Rattle.ch_hierarchy.proofs.theory.LegPaths.{down_leg, up_leg}
 use Rattle.ch_hierarchy.proofs.theory.SavedLevels.{in_row_below}
 use Rattle.ch_hierarchy.proofs.theory.WrittenLegs.{written_names, written_kept}
 use Rattle.ch_contract.proofs.theory.BuiltKept.{hierarchies_kept}
@@ -63,22 +64,6 @@ same_text s =
     heading_words (decimal (length s.order)) (decimal (length s.legs)) (flat_map order_text s.order) (flat_map leg_text s.legs)
     ∙ ap (λ t. fed (codes "p") (codes "ch" ∷ decimal (length s.order) ∷ decimal (length s.legs) ∷ []) ++ t) parts
 
--- a list of different numbers below n has at most n of them
-distinct_few : (xs : List ℕ) (n : ℕ) → AllPairs ◌≢◌ xs → All (λ x. x < n) xs → length xs ≤ n
-distinct_few xs n distinct below = elim (cases_lt n (length xs)) [ inr few ↦ few | inl many ↦ absurd (again many) ]
-  where
-    again : n < length xs → ⊥
-    again many =
-        let d = get_or xs n 0 in
-        let size : length (take n xs) ≡ n = length-take-le n xs (omega arith) in
-        let found = every_number (take n xs) n d size
-        (λ k e lt. subst (λ q. q < n) (sym (get_or-take n xs k e (omega arith))) (below k e (omega arith)))
-        (λ i j e less lt same. distinct i j e less (omega arith)
-        (sym (get_or-take n xs i e (omega arith)) ∙ same ∙ get_or-take n xs j e (omega arith)))
-        (below n 0 many) in
-        let lt = found.1 in
-        distinct found.0 n d (omega arith) many (sym (get_or-take n xs found.0 d (omega arith)) ∙ found.2 ∙ get_or_default xs n 0 d many)
-
 -- a pair of nodes, as one number
 abbrev pair_of : ℕ → SavedLeg → ℕ
 pair_of n l = l.from * n + l.to
@@ -86,64 +71,50 @@ pair_of n l = l.from * n + l.to
 -- there are at most as many legs between different pairs of nodes as there are pairs
 few_pairs : (n : ℕ) (legs : List SavedLeg) → ((l : SavedLeg) → Contains legs l → (l.from < n) × (l.to < n)) →
     AllPairs (λ k l. IsSamePair k l → ⊥) legs → length legs ≤ n * n
-few_pairs n legs ends once =
-    let size = length-map legs (pair_of n) in
-    let few = distinct_few (map (pair_of n) legs) (n * n) (pairs_map (pair_of n) ◌≢◌ legs apart) below in
-    subst (λ q. q ≤ n * n) size few
+few_pairs n legs ends once = subst (λ q. q ≤ n * n) (length-map legs (pair_of n))
+    (length-le_from_distinct_below (map (pair_of n) legs) (n * n)
+    (IsDistinct-from_AllPairs Decides-eqb (map (pair_of n) legs) (pairs_map (pair_of n) ◌≢◌ legs apart)) below)
   where
     apart : AllPairs (λ k l. pair_of n k ≢ pair_of n l) legs
     apart i j d less lt same =
         let k = get_or legs i d in
         let l = get_or legs j d in
-        let a = (ends k (Contains-get_or legs i d (omega arith))).1 in
-        let b = (ends l (Contains-get_or legs j d lt)).1 in
-        once i j d less lt (same_from_place k.from k.to l.from l.to n a b same)
+        let a = ends k (Contains-get_or legs i d (omega arith)) in
+        let b = ends l (Contains-get_or legs j d lt) in
+        once i j d less lt (same_from_place k.from k.to l.from l.to n a.1 b.1 same)
 
-    within : (l : SavedLeg) → Contains legs l → pair_of n l < n * n
-    within l has = let e = ends l has in mul-add-lt l.from n l.to n e.0 e.1
-
-    below : All (λ x. x < n * n) (map (pair_of n) legs)
-    below k d lt = let r = contains_map_of (pair_of n) legs (get_or (map (pair_of n) legs) k d)
-        (Contains-get_or (map (pair_of n) legs) k d lt) in subst (λ q. q < n * n) r.2 (within r.0 r.1)
+    below : (q : ℕ) → list_any (eqb q) (map (pair_of n) legs) ≡ true → q < n * n
+    below q found =
+        let r = contains_map_of (pair_of n) legs q (Contains-from_any eqb-true q (map (pair_of n) legs) found) in
+        let e = ends r.0 r.1 in
+        subst (λ q. q < n * n) r.2 (mul-add-lt r.0.from n r.0.to n e.0 e.1)
 
 module _ (g : Network) (H : LevelsAndLegs) (order : List ℕ) (kept : IsKept g H) (by : IsByLevel H order) where
   names : NamesHierarchy (written H order) H
   names = written_names H order kept.levelled by
 
+  -- the ends of a leg are nodes, and its cost is within the limits
+  leg_bounds : (u w : ℕ) (c : Cost) (m : Option ℕ) → IsLeg H u w c m →
+      (u < nodes_of H) × (w < nodes_of H) × (c.weight ≤ MOST_WEIGHT) × (c.arcs < nodes_of H)
+  leg_bounds u w c m (x, cost, middle, inl (has, node)) = let up = up_leg g H kept u x has in
+      (in_row_below H.up (nodes_of H) u x kept.levelled.up.0 has, rw (← node) up.node, rw (← cost) up.weight, rw (← cost) up.arcs)
+  leg_bounds u w c m (x, cost, middle, inr (has, node)) = let up = down_leg g H kept w x has in
+      (rw (← node) up.node, in_row_below H.down (nodes_of H) w x kept.levelled.down.0 has, rw (← cost) up.weight, rw (← cost) up.arcs)
+
   -- a leg is within the limits
   leg_within : (l : SavedLeg) → IsLeg H l.from l.to l.cost l.middle → IsLegWithin g.nodes l
-  leg_within l leg = at leg (kept.founded l.from l.to l.cost l.middle leg)
-    where
-      middle_within : (m : Option ℕ) → IsFounded g H l.from l.to l.cost m → (v : ℕ) → m ≡ Some v → v < g.nodes
-      middle_within None founded v e = absurd (none-some v e)
-      middle_within (Some w) founded v e =
-          let inside = in_row_below H.down (nodes_of H) w founded.0 kept.levelled.down.0 founded.2 in
-          let same : w ≡ v = same_Some w v e in
-          let size = kept.nodes in
-          omega arith
-
-      ends : (x : Leg) → x.cost ≡ l.cost → x.cost.weight ≤ MOST_WEIGHT → x.cost.arcs < nodes_of H → l.from < nodes_of H →
-          l.to < nodes_of H → IsFounded g H l.from l.to l.cost l.middle → IsLegWithin g.nodes l
-      ends x cost weight arcs from to founded =
-          let size = kept.nodes in
-          let most = kept.levelled.count in
-          record {
-            from = omega arith;
-            to = omega arith;
-            weight = subst (λ (q : Cost). q.weight ≤ MOST_WEIGHT) cost weight;
-            arcs = (let few = subst (λ (q : Cost). q.arcs < nodes_of H) cost arcs in omega arith);
-            middle = middle_within l.middle founded;
-          }
-
-      at : IsLeg H l.from l.to l.cost l.middle → IsFounded g H l.from l.to l.cost l.middle → IsLegWithin g.nodes l
-      at (x, cost, middle, inl (has, node)) founded =
-          let up = All-contains (IsLegUp H l.from) (row H.up l.from) x (kept.levelled.up.1 l.from).1 has in
-          ends x cost up.weight up.arcs (in_row_below H.up (nodes_of H) l.from x kept.levelled.up.0 has)
-          (subst (λ q. q < nodes_of H) node up.node) founded
-      at (x, cost, middle, inr (has, node)) founded =
-          let up = All-contains (IsLegUp H l.to) (row H.down l.to) x (kept.levelled.down.1 l.to).1 has in
-          ends x cost up.weight up.arcs (subst (λ q. q < nodes_of H) node up.node)
-          (in_row_below H.down (nodes_of H) l.to x kept.levelled.down.0 has) founded
+  leg_within l leg =
+      let ends = leg_bounds l.from l.to l.cost l.middle leg in
+      let size = kept.nodes in
+      let most = kept.levelled.count in
+      record {
+        from = omega arith;
+        to = omega arith;
+        weight = ends.2;
+        arcs = omega arith;
+        middle = λ v is. (let founded = subst (IsFounded g H l.from l.to l.cost) is (kept.founded l.from l.to l.cost l.middle leg) in
+            let inside = in_row_below H.down (nodes_of H) v founded.0 kept.levelled.down.0 founded.2 in omega arith);
+      }
 
   legs_within : (l : SavedLeg) → Contains (written H order).legs l → IsLegWithin g.nodes l
   legs_within l h = leg_within l ((names.legs l.from l.to l.cost l.middle).1 h)

@@ -1,58 +1,72 @@
--- What the steps of a story tell.
-use Rattle.std.proofs.Common.{◌≡◌, ◌⊎◌, ℕ, ◌+◌, List, [], ◌∷◌, Option, Some, None, Result, Ok, Err, inl, inr, refl, sym, ap}
-use Rattle.std.proofs.Common.{subst}
-use Rattle.std.specs.Prelude.{IfErr, IsErrAnd}
+-- What a story tells of each input and of the output, from its last step back to its first.
+use Rattle.std.proofs.Common.{◌≡◌, ◌⊎◌, ℕ, zero, suc, ◌<◌, ◌≤◌, List, [], ◌∷◌, Option, Some, None, Result, Ok, Err, inl, inr, refl, sym}
+use Rattle.std.proofs.Common.{ap, subst, arith}
+use Rattle.std.specs.Prelude.{IfErr, IsErrAnd, ⊤}
 use Rattle.std.proofs.lemmas.Result.{IfErr-weaker}
 use Rattle.ch_graph.specs.Graph.{IsWithinLimits, Network}
 use Rattle.ch_hierarchy.specs.Hierarchy.{LevelsAndLegs}
 use Rattle.ch_read.specs.declared.fault.ReadFault.{ReadFault}
-use Rattle.ch_read.specs.declared.form.Form.{Form}
+use Rattle.ch_read.specs.declared.form.Form.{Form as AnyForm}
+use Rattle.ch_read.specs.declared.form.Form.TheVariants as Form
 use Rattle.ch_read.specs.Checks.{IsFault}
-use Rattle.ch_read.specs.Names.{NamesGraph}
-use Rattle.ch_text.specs.Device.{failures_in, idle_writes}
-use Rattle.ch_text.specs.Moves.{TookUntilFault}
-use Rattle.ch_text.specs.declared.device.DeviceFault.{DeviceFault}
-use Rattle.ch_text.proofs.Moves.{all-counts, fault-counts, gave-counts, took-counts, until-counts}
-use Rattle.ch_job.specs.Job.{source_map}
+use Rattle.ch_read.specs.Names.{NamesGraph, NamesNodes}
+use Rattle.ch_text.specs.Moves.{Took, TookUntilFault}
 use Rattle.ch_run.specs.declared.fault.RunFault.{RunFault}
 use Rattle.ch_run.specs.declared.fault.Which.{Which}
-use Rattle.ch_job.specs.declared.source.Source.{Source}
-use Rattle.ch_run.specs.Run.{AcceptsGraph, Delivers, GoesPast, GoesPastAll, IsGraphRefused, IsOf, IsWrite, NoFile, OrderFile}
-use Rattle.ch_run.specs.Run.{Reading, ReadsAfter, ReadsAll, ReadsGraph, ReadsOnce, ReadsOrRefuses, SavedFile, SourceReading, StopsAt}
-use Rattle.ch_run.specs.Run.{WritesAfter, reading}
-use Rattle.ch_run.specs.Source.{AreLoaded, HasSavedRefused, IsOfLoading, ReadsSource, source_reading}
-use Rattle.ch_run.specs.Story.{EndsAt, IsOrderRefusedOn, IsRefused, IsSavedRefusedOn, Loads, LoadsSource, Reads, Writes}
+use Rattle.ch_run.specs.Lists.{HasTooManyCells}
+use Rattle.ch_run.specs.NearRun.{AreSources, IsOfSources, sources_among}
+use Rattle.ch_run.specs.Run.{AcceptsGraph, Delivers, GoesPast, GoesPastAll, IsGraphRefused, IsListRefused, IsOf, IsWrite, NoFile}
+use Rattle.ch_run.specs.Run.{NoInput, OneInput}
+use Rattle.ch_run.specs.Run.{OrderFile, Reading, ReadingIf, ReadsAll, ReadsGraph, SavedFile, SourceReading, StopsAt}
+use Rattle.ch_run.specs.Source.{AreLoaded, IsOfLoading}
+use Rattle.ch_run.specs.Story.{Cells, EndsAt, IsOrderRefusedOn, IsRefused, IsSavedRefusedOn, Loads, Reads, ReadsIf, Writes}
 use Rattle.ch_run.specs.Told.{Calls}
-use Rattle.ch_run.proofs.Counted.{counted_once, failed_once, unfailed_once}
-use Rattle.ch_run.proofs.Inputs.{of_one}
-use Rattle.ch_run.proofs.Loading.{IsEarly, loading_of}
-use Rattle.ch_run.proofs.Owed.{no_end, stops_check, stops_device, stops_order, stops_read, undelivered, untouched_after, unwritten}
+use Rattle.ch_run.proofs.Owed.{err_is, err_own, err_weaker, no_end, of_no_write, of_one}
 
--- the law of an input that ties its calls to its count of failures
-abbrev pub CountsReads : {I : Type 0} → Calls I → (I → ℕ) → Type 0
-CountsReads {I} gives failed = (old : I) → (buffer : List ℕ) → (answer : Result ℕ DeviceFault) → (new : I) →
-    gives old buffer answer new → failed new ≡ failed old + failures_in answer
+-- the step in which a run reads an input: the graph first, then the file for its hierarchy, and the targets last
+abbrev pub step_of : Which → ℕ
+step_of Which.Graph = 0
+step_of Which.Saved = 1
+step_of Which.Order = 1
+step_of Which.Targets = 3
+step_of _ = 2
 
--- the law of an output that ties its calls to its counts
-abbrev pub CountsCalls : {O : Type 0} → Calls O → (failed idle : O → ℕ) → Type 0
-CountsCalls {O} takes failed idle =
-    (old : O) → (bytes : List ℕ) → (answer : Result ℕ DeviceFault) → (new : O) → takes old bytes answer new →
-    (failed new ≡ failed old + failures_in answer) × (idle new ≡ idle old + idle_writes answer bytes)
+-- the inputs that are read before this step
+abbrev pub read_before : ℕ → List Which
+read_before zero = []
+read_before (suc zero) = Which.Graph ∷ []
+read_before (suc (suc zero)) = Which.Graph ∷ Which.Saved ∷ Which.Order ∷ []
+read_before _ = Which.Graph ∷ Which.Saved ∷ Which.Order ∷ Which.Sources ∷ []
+
+-- a fault is no failed write, and stops no run at this step or a later one
+abbrev pub IsBefore : ℕ → RunFault → Type 0
+IsBefore k e = (IsWrite e → ⊥) × ((which : Which) → StopsAt which e → step_of which < k)
+
+-- a fault stops no run at an earlier step
+abbrev pub IsFrom : ℕ → RunFault → Type 0
+IsFrom k e = (which : Which) → StopsAt which e → k ≤ step_of which
+
+-- a fault of an input is one of its step
+of_before : (which : Which) (k : ℕ) → step_of which < k → (e : RunFault) → IsOf which e → IsBefore k e
+of_before which k less e is = (of_no_write which e is, λ other stops. rw (of_one which other e is stops) less)
+
+pub of_from : (which : Which) (e : RunFault) → IsOf which e → IsFrom (step_of which) e
+of_from which e is = λ other stops. rw (of_one which other e is stops) (omega arith)
 
 -- the faults that the bytes of an input are refused for belong to it
-abbrev pub AreOf : Which → (List ℕ → RunFault → Type 0) → Type 0
+abbrev AreOf : Which → (List ℕ → RunFault → Type 0) → Type 0
 AreOf which refuses = (bytes : List ℕ) → (fault : RunFault) → refuses bytes fault → IsOf which fault
 
-pub refused_of : (which : Which) (form : Form) → AreOf which (IsRefused which form)
+pub refused_of : (which : Which) (form : AnyForm) → AreOf which (IsRefused which form)
 refused_of which form bytes (RunFault.Read input f) is = is.0
 refused_of which form bytes _ is = absurd is
 
-pub saved_refused_of : (g : Network) → AreOf Which.Saved (IsSavedRefusedOn g)
+saved_refused_of : (g : Network) → AreOf Which.Saved (IsSavedRefusedOn g)
 saved_refused_of g bytes (RunFault.Read input f) is = is.0
 saved_refused_of g bytes (RunFault.Check f) is = refl
 saved_refused_of g bytes _ is = absurd is
 
-pub order_refused_of : (g : Network) → AreOf Which.Order (IsOrderRefusedOn g)
+order_refused_of : (g : Network) → AreOf Which.Order (IsOrderRefusedOn g)
 order_refused_of g bytes (RunFault.Read input f) is = is.0
 order_refused_of g bytes RunFault.Order is = refl
 order_refused_of g bytes _ is = absurd is
@@ -64,289 +78,268 @@ ends_of which input refuses of (RunFault.Device other) is = is.0
 ends_of which input refuses of RunFault.Memory is = tt
 ends_of which input refuses of fault is = of is.0 fault is.2
 
--- the fault of a run that ends in one
-pub err_of : {T : Type 0} (r : Result T RunFault) (P : RunFault → Type 0) → IsErrAnd r P → (e : RunFault) × (r ≡ Err e) × P e
-err_of (Ok x) P is = absurd is
-err_of (Err e) P is = (e, refl, is)
+-- the run reports a failed read of this input, which came after these bytes. Or it reports none, and no read of it failed
+abbrev pub ReportsReads : {T : Type 0} → Which → Reading → (same : Type 0) → Result T RunFault → Type 0
+ReportsReads which input same r = ((r ≡ Err (RunFault.Device which)) × ((bytes : List ℕ) × input.failed bytes))
+    ⊎ ((r ≡ Err (RunFault.Device which) → ⊥) × (same ⊎ ((bytes : List ℕ) × (input.some bytes ⊎ input.all bytes))))
 
-pub err_weaker : {T : Type 0} (r : Result T RunFault) (P Q : RunFault → Type 0) → IsErrAnd r P → ((e : RunFault) → P e → Q e) → IsErrAnd r Q
-err_weaker (Ok x) P Q is so = absurd is
-err_weaker (Err e) P Q is so = so e is
+-- the run reports a failed write, up to which this text was taken. Or it reports none, and no write failed
+abbrev pub ReportsWrites : {T O : Type 0} → Calls O → (old new : O) → Result T RunFault → Type 0
+ReportsWrites takes old new r = (IsErrAnd r IsWrite × ((text : List ℕ) × (count : ℕ) × TookUntilFault takes old text count new))
+    ⊎ ((IsErrAnd r IsWrite → ⊥) × ((new ≡ old) ⊎ ((text : List ℕ) × Took takes old text new)))
 
-pub err_is : {T : Type 0} (r : Result T RunFault) (P : RunFault → Type 0) (fault : RunFault) → IsErrAnd r P → r ≡ Err fault → P fault
-err_is {T} r P fault is same = subst (λ (s : Result T RunFault). IsErrAnd s P) same is
+-- want of memory stops a run at no input
+pub memory_before : IsBefore 0 RunFault.Memory
+memory_before = (λ write. write, λ which stops. absurd (stops.1 refl))
 
-pub is_err : {T : Type 0} (r : Result T RunFault) (e : RunFault) → r ≡ Err e → IsErrAnd r (λ y. y ≡ e)
-is_err {T} r e same = subst (λ (s : Result T RunFault). IsErrAnd s (λ y. y ≡ e)) (sym same) refl
+-- what is told of an input: the fault of a run that stops at it has Why, and it is as it was unless the earlier ones were accepted
+pub record Met {T : Type 0} (r : Result T RunFault) (which : Which) (input : Reading) (same accepted : Type 0)
+    (Why : RunFault → Type 0) : Type 0 where
+  pub why : (fault : RunFault) → StopsAt which fault → r ≡ Err fault → Why fault
+  pub calls : ReportsReads which input same r
+  pub unread : same ⊎ (GoesPastAll (read_before (step_of which)) r × accepted)
 
--- a run that ends in a fault with P ends only in faults with Q, if P implies Q
-pub err_own : {T : Type 0} (r : Result T RunFault) (P Q : RunFault → Type 0) → IsErrAnd r P → ((e : RunFault) → P e → Q e) → IfErr r Q
-err_own (Ok x) P Q is so = absurd is
-err_own (Err e) P Q is so = so e is
+-- a fault of the lines of an input has P
+abbrev pub Refuses : Which → (ReadFault → Type 0) → RunFault → Type 0
+Refuses which P e = (fault : ReadFault) → e ≡ RunFault.Read which fault → P fault
 
--- a run stops at none of the inputs but these
-abbrev pub StopsIn : {T : Type 0} → (Which → Type 0) → Result T RunFault → Type 0
-StopsIn Among r = IfErr r (λ e. (which : Which) → StopsAt which e → Among which)
+-- what is told of the file for the hierarchy, if there is one
+abbrev pub MetSource : {T : Type 0} → Result T RunFault → Reading → SourceReading → (same : Type 0) → Type 0
+MetSource r graph NoFile same = ⊤
+MetSource r graph (SavedFile saved) same = Met r Which.Saved saved same (AcceptsGraph graph)
+    (λ e. (g : Network) × ReadsGraph graph g × EndsAt Which.Saved saved (IsSavedRefusedOn g) e)
+MetSource r graph (OrderFile order fresh hops) same = Met r Which.Order order same (AcceptsGraph graph)
+    (λ e. (g : Network) × ReadsGraph graph g × EndsAt Which.Order order (IsOrderRefusedOn g) e)
 
--- the inputs that are read after those of loading
-abbrev pub IsLater : Which → Type 0
-IsLater which = IsEarly which → ⊥
+-- what is told of the list of sources, if there is one
+abbrev pub MetIf : {T : Type 0} → Result T RunFault → ReadingIf → (same accepted : Type 0) → (Reading → ReadFault → Type 0) → Type 0
+MetIf r NoInput same accepted P = ⊤
+MetIf r (OneInput list) same accepted P = Met r Which.Sources list same accepted (Refuses Which.Sources (P list))
 
--- a run that ends in a fault of an input stops there
-pub err_in : {T : Type 0} (r : Result T RunFault) (Among : Which → Type 0) (which : Which) → Among which → IsErrAnd r (IsOf which) →
-    StopsIn Among r
-err_in r Among which among own =
-    err_own r (IsOf which) _ own (λ e is other stops. subst Among (sym (of_one which other e is stops)) among)
+-- what is told of the output: it takes a text with P or its beginning, and is as it was unless all inputs were accepted
+pub record Written {T O : Type 0} (r : Result T RunFault) (takes : Calls O) (old new : O) (accepted : Type 0) (P : List ℕ → Type 0) :
+    Type 0 where
+  pub calls : ReportsWrites takes old new r
+  pub unwritten : (new ≡ old) ⊎ (IfErr r IsWrite × accepted)
+  pub delivers : Delivers r takes old new P
 
--- it goes past the others
-pub past_in : {T : Type 0} (r : Result T RunFault) (Among : Which → Type 0) (which : Which) → (Among which → ⊥) → StopsIn Among r →
-    GoesPast which r
-past_in (Ok x) Among which not stops = tt
-past_in (Err e) Among which not stops = λ at. not (stops which at)
+-- the faults that the lines of an input are refused for
+lines_told : (which : Which) (input : Reading) (form : AnyForm) (P : ReadFault → Type 0) →
+    ((fault : ReadFault) → ReadsAll input (λ bytes. IsFault form bytes fault.line fault.kind) → P fault) → (e : RunFault) →
+    EndsAt which input (IsRefused which form) e → Refuses which P e
+lines_told which input form P so e ends fault same =
+    let told = subst (EndsAt which input (IsRefused which form)) same ends in so fault (told.0, told.1, told.2.1)
 
-pub past_early : {T : Type 0} (r : Result T RunFault) → StopsIn IsLater r → GoesPastAll (Which.Graph ∷ Which.Saved ∷ Which.Order ∷ []) r
-past_early r stops = (
-  past_in r IsLater Which.Graph (λ k. k tt) stops,
-  (past_in r IsLater Which.Saved (λ k. k tt) stops, (past_in r IsLater Which.Order (λ k. k tt) stops, tt)),
-)
+-- a run that stopped at an input reports a failed read of it, or had none
+ends_report : (which : Which) (input : Reading) (refuses : List ℕ → RunFault → Type 0) {same : Type 0} {T : Type 0}
+    (r : Result T RunFault) → IsErrAnd r (EndsAt which input refuses) → ReportsReads which input same r
+ends_report which input refuses (Ok done) is = absurd is
+ends_report which input refuses (Err (RunFault.Device other)) is =
+    inl (ap (λ (w : Which). Err (RunFault.Device w)) (sym is.0), is.1)
+ends_report which input refuses (Err RunFault.Memory) (bytes, read) = inr (λ same. cc, inr (bytes, read))
+ends_report which input refuses (Err fault) is = inr (λ same. cc, inr (is.0, inr is.1))
 
--- a run that ends while it loads goes past what is read later
-pub loading_past : {T : Type 0} (r : Result T RunFault) (saved : SourceReading) (which : Which) → IsLater which →
-    IsErrAnd r (IsOfLoading saved) → GoesPast which r
-loading_past r saved which later own =
-    err_own r _ (λ e. StopsAt which e → ⊥) own
-    (λ e is stops. let of = loading_of saved e is in later (subst IsEarly (sym (of_one of.0 which e of.2 stops)) of.1))
+module _ {T : Type 0} (r : Result T RunFault) where
+  past_from : (k : ℕ) (which : Which) → IfErr r (IsFrom k) → step_of which < k → GoesPast which r
+  past_from k which from less = IfErr-weaker r _ _ (λ e late stops. let least = late which stops in omega arith) from
 
--- it has written nothing, if P is no failed write
-pub undelivered_at : {T O : Type 0} (r : Result T RunFault) (P : RunFault → Type 0) (takes : Calls O) (old new : O)
-    (IsText : List ℕ → Type 0) →
-    IsErrAnd r P → ((e : RunFault) → P e → IsWrite e → ⊥) → Delivers r takes old new IsText
-undelivered_at r P takes old new IsText is other =
-    let met = err_of r P is in
-    undelivered r met.0 takes old new IsText (is_err r met.0 met.1) (other met.0 met.2)
+  past_all : (k : ℕ) → IfErr r (IsFrom k) → GoesPastAll (read_before k) r
+  past_all zero from = tt
+  past_all (suc zero) from = (past_from 1 Which.Graph from (omega arith), tt)
+  past_all (suc (suc zero)) from = let past = λ (which : Which). past_from 2 which from in
+      (past Which.Graph (omega arith), (past Which.Saved (omega arith), (past Which.Order (omega arith), tt)))
+  past_all (suc (suc (suc k))) from = let past = λ (which : Which). past_from (suc (suc (suc k))) which from in (
+    past Which.Graph (omega arith),
+    (past Which.Saved (omega arith), (past Which.Order (omega arith), (past Which.Sources (omega arith), tt))),
+  )
 
-pub unwritten_at : {T O : Type 0} {r : Result T RunFault} {accepted : Type 0} {failed idle : O → ℕ} {old new : O} (P : RunFault → Type 0) →
-    new ≡ old → IsErrAnd r P → ((e : RunFault) → P e → IsWrite e → ⊥) → WritesAfter accepted r failed idle old new
-unwritten_at {r = r} P same is other =
-    let met = err_of r P is in rw same (unwritten r met.0 (is_err r met.0 met.1) (other met.0 met.2) _ _ _ _)
+  later_before : IsErrAnd r (IsBefore 1) → IsErrAnd r (IsBefore 2)
+  later_before before = err_weaker r _ _ before (λ e early. (early.0, λ which stops. let less = early.1 which stops in omega arith))
 
--- a run that goes past an input, and leaves it as it was, keeps the promise on it
-pub unread_at : {T I : Type 0} {which : Which} {r : Result T RunFault} {gives : Calls I} {failed : I → ℕ} {old new : I}
-    {earlier : List Which} {accepted : Type 0} {P : Reading → ReadFault → Type 0} → new ≡ old → GoesPast which r →
-    ReadsAfter earlier accepted which r gives failed old new P
-unread_at same past = rw same (untouched_after _ _ _ _ past _ _ _ _)
+  -- a run that stopped before reads nothing of an input, and writes nothing
+  pub untouched : (k : ℕ) {which : Which} {input : Reading} {same accepted : Type 0} {Why : RunFault → Type 0} →
+      IsErrAnd r (IsBefore k) → k ≤ step_of which → same → Met r which input same accepted Why
+  untouched k {which} before least same =
+      let past = err_own r _ (λ e. StopsAt which e → ⊥) before (λ e early stops. let less = early.1 which stops in omega arith) in
+      record {
+        why = λ fault stops is. absurd (no_end which r fault past stops is);
+        calls = inr (no_end which r (RunFault.Device which) past (refl, λ is. cc), inl same);
+        unread = inl same;
+      }
 
-module _ {T V : Type 0} (r : Result T RunFault) (which : Which) (input : Reading) (names : List ℕ → V → Type 0)
-    (refuses : List ℕ → RunFault → Type 0) (later : Type 0) (next : V → Type 0) (of : AreOf which refuses) where
+-- the same of the list of sources, if there is one
+pub untouched_if : {T : Type 0} (r : Result T RunFault) {same : Type 0} (accepted : Type 0) (P : Reading → ReadFault → Type 0)
+    (sources : ReadingIf) → IsErrAnd r (IsBefore 2) → same → MetIf r sources same accepted P
+untouched_if r accepted P NoInput before same = tt
+untouched_if r accepted P (OneInput list) before same = untouched r 2 before (omega arith) same
+
+pub unwritten : {T O : Type 0} (r : Result T RunFault) (k : ℕ) {takes : Calls O} {old new : O} {accepted : Type 0} {P : List ℕ → Type 0} →
+    IsErrAnd r (IsBefore k) → new ≡ old → Written r takes old new accepted P
+unwritten (Ok done) k before same = absurd before
+unwritten (Err e) k before same = record {
+  calls = inr (before.0, inl same);
+  unwritten = inl same;
+  delivers = λ count is. absurd (before.0 (subst IsWrite (sym is) tt));
+}
+
+-- what a story tells from this step on: the run ends only in faults with Own, and none of them is of an earlier step
+pub record Tells {T : Type 0} (r : Result T RunFault) (Own : RunFault → Type 0) (k : ℕ) (L : Type 0) : Type 0 where
+  pub own : IfErr r Own
+  pub from : IfErr r (IsFrom k)
+  pub told : L
+
+-- what a story that loads tells: of the graph, of the file for the hierarchy, and of what comes later
+pub record Loaded {T : Type 0} (r : Result T RunFault) (Own : RunFault → Type 0) (input : Reading) (file : SourceReading)
+    (unread L : Type 0) : Type 0 where
+  pub own : IfErr r Own
+  pub graph : Met r Which.Graph input ⊥ ⊤ (Refuses Which.Graph (IsGraphRefused input))
+  pub source : MetSource r input file unread
+  pub later : L
+
+module _ {T : Type 0} (r : Result T RunFault) (Own : RunFault → Type 0) where
   -- a run stopped at an input, or went on with the value of its bytes
-  pub reads_elim : (Q : Type 0) → Reads which input names refuses r later next → (IsErrAnd r (IsOf which) → later → Q) →
-      ((value : V) → ReadsAll input (λ bytes. names bytes value) → next value → Q) → Q
-  reads_elim Q (inl (ends, at)) stop go =
-      stop (err_weaker r (EndsAt which input refuses) (IsOf which) ends (ends_of which input refuses of)) at
-  reads_elim Q (inr (bytes, value, all, named, rest)) stop go = go value (bytes, all, named) rest
+  pub reads_told : {V L same accepted later : Type 0} {names : List ℕ → V → Type 0} {next : V → Type 0} {Why : RunFault → Type 0}
+      (which : Which) (input : Reading) (refuses : List ℕ → RunFault → Type 0) (k : ℕ) → step_of which < k →
+      AreOf which refuses → ((e : RunFault) → IsOf which e → Own e) → accepted → ((e : RunFault) → EndsAt which input refuses e → Why e) →
+      Reads which input names refuses r later next → (IsErrAnd r (IsOf which) → IsErrAnd r (IsBefore k) → later → L) →
+      ((value : V) → ReadsAll input (λ bytes. names bytes value) → next value → Tells r Own k L) →
+      Tells r Own (step_of which) (Met r which input same accepted Why × L)
+  reads_told which input refuses k less of own met so (inl (ends, at)) stop go =
+      let is = err_weaker r _ _ ends (ends_of which input refuses of) in
+      let from = err_own r _ _ is (of_from which) in
+      record {
+        own = err_own r _ _ is own;
+        from = from;
+        told = (
+          record {
+            why = λ fault stops same. so fault (err_is r _ fault ends same);
+            calls = ends_report which input refuses r ends;
+            unread = inr (past_all r (step_of which) from, met);
+          },
+          stop is (err_weaker r _ _ is (of_before which k less)) at,
+        );
+      }
+  reads_told which input refuses k less of own met so (inr (bytes, value, all, named, rest)) stop go =
+      let tail = go value (bytes, all, named) rest in
+      let past = past_from r k which tail.from less in
+      let from = IfErr-weaker r _ (IsFrom (step_of which)) (λ e late other stops. let least = late other stops in omega arith) tail.from in
+      record {
+        own = tail.own;
+        from = from;
+        told = (
+          record {
+            why = λ fault stops same. absurd (no_end which r fault past stops same);
+            calls = inr (no_end which r (RunFault.Device which) past (refl, λ is. cc), inr (bytes, inr all));
+            unread = inr (past_all r (step_of which) from, met);
+          },
+          tail.told,
+        );
+      }
 
-  -- it stops there, or where the rest stops
-  pub reads_in : (Among : Which → Type 0) → Among which → Reads which input names refuses r later next →
-      ((value : V) → next value → StopsIn Among r) → StopsIn Among r
-  reads_in Among among reads on =
-      reads_elim (StopsIn Among r) reads (λ own at. err_in r Among which among own) (λ value read rest. on value rest)
+  -- the same of an input whose lines alone can be refused
+  pub form_told : {V L same accepted later : Type 0} {names : List ℕ → V → Type 0} {next : V → Type 0} (which : Which)
+      (input : Reading) (form : AnyForm) (P : ReadFault → Type 0) (k : ℕ) → step_of which < k →
+      ((e : RunFault) → IsOf which e → Own e) → accepted →
+      ((fault : ReadFault) → ReadsAll input (λ bytes. IsFault form bytes fault.line fault.kind) → P fault) →
+      Reads which input names (IsRefused which form) r later next → (IsErrAnd r (IsOf which) → IsErrAnd r (IsBefore k) → later → L) →
+      ((value : V) → ReadsAll input (λ bytes. names bytes value) → next value → Tells r Own k L) →
+      Tells r Own (step_of which) (Met r which input same accepted (Refuses which P) × L)
+  form_told which input form P k less own met so =
+      reads_told which input (IsRefused which form) k less (refused_of which form) own met (lines_told which input form P so)
 
-module _ {T V I : Type 0} (r : Result T RunFault) (which : Which) (gives : Calls I) (failed : I → ℕ)
-    (counts : CountsReads gives failed) (old new : I) (names : List ℕ → V → Type 0) (refuses : List ℕ → RunFault → Type 0)
-    (later : Type 0) (next : V → Type 0) where
-  -- an input counted a failed read exactly where the run reports one
-  counted : (r : Result T RunFault) → IsErrAnd r (EndsAt which (reading gives old new) refuses) →
-      ((r ≡ Err (RunFault.Device which)) × (failed new ≡ failed old + 1))
-      ⊎ ((r ≡ Err (RunFault.Device which) → ⊥) × (failed new ≡ failed old))
-  counted (Ok done) is = absurd is
-  counted (Err (RunFault.Device other)) is =
-      inl (ap (λ (w : Which). Err (RunFault.Device w)) (sym is.0), until-counts gives failed counts old is.1.0 new is.1.1)
-  counted (Err RunFault.Memory) (bytes, inl some) = inr (λ same. cc, gave-counts gives failed counts old bytes new some)
-  counted (Err RunFault.Memory) (bytes, inr all) = inr (λ same. cc, all-counts gives failed counts old bytes new all)
-  counted (Err fault) is = inr (λ same. cc, all-counts gives failed counts old is.0 new is.1)
+  -- the graph
+  graph_told : {L later : Type 0} {next : Network → Type 0} (graph : Reading) (k : ℕ) → 0 < k →
+      ((e : RunFault) → IsOf Which.Graph e → Own e) →
+      Reads Which.Graph graph (λ bytes g. NamesGraph bytes g × IsWithinLimits g) (IsRefused Which.Graph Form.Graph) r later next →
+      (IsErrAnd r (IsOf Which.Graph) → IsErrAnd r (IsBefore k) → later → L) →
+      ((g : Network) → IsWithinLimits g → ReadsGraph graph g → next g → Tells r Own k L) →
+      Tells r Own 0 (Met r Which.Graph graph ⊥ ⊤ (Refuses Which.Graph (IsGraphRefused graph)) × L)
+  graph_told graph k some own went stop go =
+      form_told Which.Graph graph Form.Graph (IsGraphRefused graph) k some own tt (λ fault told. told) went stop
+      (λ g read. go g read.2.1 (read.0, read.1, read.2.0))
 
-  -- a failed read of the input is reported exactly if there was one, and it was not tried again
-  reads_once : Reads which (reading gives old new) names refuses r later next → ((value : V) → next value → GoesPast which r) →
-      ReadsOnce which r failed old new
-  reads_once (inl (ends, at)) on = counted_once r which failed old new (counted r ends)
-  reads_once (inr (bytes, value, all, named, rest)) on =
-      counted_once r which failed old new
-      (inr (no_end which r (RunFault.Device which) (on value rest) (stops_device which), all-counts gives failed counts old bytes new all))
-
-  -- the input is refused only for a fault that it has
-  pub reads_told : {P : Reading → ReadFault → Type 0} →
-      ((fault : ReadFault) → ReadsAll (reading gives old new) (λ bytes. refuses bytes (RunFault.Read which fault)) →
-      P (reading gives old new) fault) →
-      Reads which (reading gives old new) names refuses r later next → ((value : V) → next value → GoesPast which r) →
-      ReadsOrRefuses which r gives failed old new P
-  reads_told so reads on = record {
-    refused = λ fault same. elim reads [
-      | inl ends ↦ so fault (err_is r (EndsAt which (reading gives old new) refuses) (RunFault.Read which fault) ends.0 same)
-      | inr went ↦ absurd (no_end which r (RunFault.Read which fault) (on went.1 went.4) (stops_read which fault) same)
-    ];
-    once = reads_once reads on;
-  }
-
-  -- and it was read after the earlier ones were accepted
-  pub reads_after : {earlier : List Which} {accepted : Type 0} {P : Reading → ReadFault → Type 0} → GoesPastAll earlier r → accepted →
-      ((fault : ReadFault) → ReadsAll (reading gives old new) (λ bytes. refuses bytes (RunFault.Read which fault)) →
-      P (reading gives old new) fault) →
-      Reads which (reading gives old new) names refuses r later next → ((value : V) → next value → GoesPast which r) →
-      ReadsAfter earlier accepted which r gives failed old new P
-  reads_after before met so reads on = record { reads = reads_told so reads on; unread = inr (before, met) }
-
-module _ {T : Type 0} (r : Result T RunFault) (graph : Reading) (unread later : Type 0)
-    (next : Network → Option LevelsAndLegs → Type 0) where
   -- a run stopped while it loaded, or went on with what it had loaded
-  pub loads_elim : (saved : SourceReading) (Q : Type 0) → Loads graph saved unread r later next →
-      (IsErrAnd r (IsOfLoading saved) → later → Q) → ((g : Network) (h : Option LevelsAndLegs) → AreLoaded graph saved g h → next g h → Q) →
-      Q
-  loads_elim NoFile Q went stop go = reads_elim r Which.Graph graph _ _ _ _ (refused_of Which.Graph Form.Graph) Q went
-      (λ own at. stop own at.1) (λ g read rest. go g None (read.2.1, (read.0, read.1, read.2.0), refl) rest)
-  loads_elim (SavedFile saved) Q went stop go = reads_elim r Which.Graph graph _ _ _ _ (refused_of Which.Graph Form.Graph) Q went
-      (λ own at. stop (err_weaker r _ _ own (λ e is. inl is)) at.1)
-      (λ g read rest. reads_elim r Which.Saved saved _ _ _ _ (saved_refused_of g) Q rest
-      (λ own at. stop (err_weaker r _ _ own (λ e is. inr is)) at)
-      (λ H is goes. go g (Some H) (
+  pub loads_told : {unread later L : Type 0} {next : Network → Option LevelsAndLegs → Type 0} (graph : Reading)
+      (saved : SourceReading) → ((e : RunFault) → IsOfLoading saved e → Own e) → Loads graph saved unread r later next →
+      (IsErrAnd r (IsOfLoading saved) → IsErrAnd r (IsBefore 2) → later → L) →
+      ((g : Network) (h : Option LevelsAndLegs) → AreLoaded graph saved g h → next g h → Tells r Own 2 L) →
+      Loaded r Own graph saved unread L
+  loads_told graph NoFile own went stop go =
+      let e = graph_told graph 2 (omega arith) own went (λ is before at. stop is before at.1)
+      (λ g limits read rest. go g None (limits, read, refl) rest) in
+      record { own = e.own; graph = e.told.0; source = tt; later = e.told.1 }
+  loads_told graph (SavedFile saved) own went stop go =
+      let e = graph_told graph 1 (omega arith) (λ e is. own e (inl is)) went
+      (λ is before at. (untouched r 1 before (omega arith) at.0, stop (err_weaker r _ _ is (λ e is. inl is)) (later_before r before) at.1))
+      (λ g limits read rest. reads_told Which.Saved saved (IsSavedRefusedOn g) 2 (omega arith) (saved_refused_of g)
+      (λ e is. own e (inr is)) (g, read) (λ e ends. (g, read, ends)) rest (λ is. stop (err_weaker r _ _ is (λ e is. inr is)))
+      (λ H is. go g (Some H)
+      (is.2.0, record { reads_graph = read; limits = limits; reads_saved = (is.0, is.1, is.2.1); names = is.2.2 }))) in
+      record { own = e.own; graph = e.told.0; source = e.told.1.0; later = e.told.1.1 }
+  loads_told graph (OrderFile order fresh hops) own went stop go =
+      let e = graph_told graph 1 (omega arith) (λ e is. own e (inl is)) went
+      (λ is before at. (untouched r 1 before (omega arith) at.0, stop (err_weaker r _ _ is (λ e is. inl is)) (later_before r before) at.1))
+      (λ g limits read rest. reads_told Which.Order order (IsOrderRefusedOn g) 2 (omega arith) (order_refused_of g)
+      (λ e is. own e (inr is)) (g, read) (λ e ends. (g, read, ends)) rest (λ is. stop (err_weaker r _ _ is (λ e is. inr is)))
+      (λ H is. go g (Some H) (
         is.2.0,
-        record {
-          reads_graph = (read.0, read.1, read.2.0);
-          limits = read.2.1;
-          reads_saved = (is.0, is.1, is.2.1);
-          names = is.2.2;
-        },
-      ) goes))
-  loads_elim (OrderFile order fresh hops) Q went stop go =
-      reads_elim r Which.Graph graph _ _ _ _ (refused_of Which.Graph Form.Graph) Q went
-      (λ own at. stop (err_weaker r _ _ own (λ e is. inl is)) at.1)
-      (λ g read rest. reads_elim r Which.Order order _ _ _ _ (order_refused_of g) Q rest
-      (λ own at. stop (err_weaker r _ _ own (λ e is. inr is)) at)
-      (λ H is goes. go g (Some H) (
-        is.2.0,
-        record {
-          reads_graph = (read.0, read.1, read.2.0);
-          limits = read.2.1;
-          reads_order = (is.0, is.1, is.2.1);
-          each = is.2.2;
-          like = is.2.3;
-          kept = is.2.4;
-        },
-      ) goes))
+        record { reads_graph = read; limits = limits; reads_order = (is.0, is.1, is.2.1); each = is.2.2; like = is.2.3; kept = is.2.4 },
+      ))) in
+      record { own = e.own; graph = e.told.0; source = e.told.1.0; later = e.told.1.1 }
 
--- a run that stops at inputs that are read later goes past the graph
-not_graph : {T : Type 0} (r : Result T RunFault) → StopsIn IsLater r → StopsIn (λ which. which ≡ Which.Graph → ⊥) r
-not_graph r stops = IfErr-weaker r _ _ (λ e stops which at is. stops which at (subst IsEarly (sym is) tt)) stops
+  -- a run stopped at the list of sources, or went on with the sources
+  pub sources_told : (same : Type 0) {later accepted L : Type 0} {next : Option (List ℕ) → Type 0} (n : ℕ)
+      (P : Reading → ReadFault → Type 0) (sources : ReadingIf) → ((e : RunFault) → IsOfSources sources e → Own e) → accepted →
+      ((list : Reading) (fault : ReadFault) → IsListRefused list n fault → P list fault) →
+      ReadsIf Which.Sources sources (λ bytes listed. NamesNodes bytes n listed) (IsRefused Which.Sources (Form.Nodes n)) r later next →
+      (IsErrAnd r (IsOf Which.Sources) → IsErrAnd r (IsBefore 3) → later → L) →
+      ((listed : Option (List ℕ)) → AreSources sources n (sources_among n listed) → next listed → Tells r Own 3 L) →
+      Tells r Own 2 (MetIf r sources same accepted P × L)
+  sources_told same n P NoInput own met so reads stop go =
+      let e = go None refl reads in
+      record {
+        own = e.own;
+        from = IfErr-weaker r _ _ (λ e late other stops. let least = late other stops in omega arith) e.from;
+        told = (tt, e.told);
+      }
+  sources_told same n P (OneInput list) own met so reads stop go =
+      form_told Which.Sources list (Form.Nodes n) (P list) 3 (omega arith) own met (so list) reads stop
+      (λ listed. go (Some listed))
 
-source_in : {T : Type 0} (r : Result T RunFault) (later : Type 0) (next : Option LevelsAndLegs → Type 0) (saved : SourceReading)
-    (g : Network) → LoadsSource g saved r later next → ((h : Option LevelsAndLegs) → next h → StopsIn IsLater r) →
-    StopsIn (λ which. which ≡ Which.Graph → ⊥) r
-source_in r later next NoFile g rest on = not_graph r (on None rest)
-source_in r later next (SavedFile saved) g rest on =
-    reads_in r Which.Saved saved _ _ _ _ (saved_refused_of g) _ (λ is. cc) rest (λ H goes. not_graph r (on (Some H) goes))
-source_in r later next (OrderFile order fresh hops) g rest on =
-    reads_in r Which.Order order _ _ _ _ (order_refused_of g) _ (λ is. cc) rest (λ H goes. not_graph r (on (Some H) goes))
-
--- the promise on a graph that is loaded
-pub loads_graph : {T I : Type 0} (r : Result T RunFault) (gives : Calls I) (failed : I → ℕ) (counts : CountsReads gives failed)
-    (old new : I) (saved : SourceReading) (unread later : Type 0) (next : Network → Option LevelsAndLegs → Type 0) →
-    Loads (reading gives old new) saved unread r later next →
-    ((g : Network) (h : Option LevelsAndLegs) → next g h → StopsIn IsLater r) →
-    ReadsOrRefuses Which.Graph r gives failed old new IsGraphRefused
-loads_graph r gives failed counts old new saved unread later next went on =
-    reads_told r Which.Graph gives failed counts old new _ (IsRefused Which.Graph Form.Graph) _ _
-    (λ fault told. (told.0, told.1, told.2.1)) went
-    (λ g rest. past_in r (λ which. which ≡ Which.Graph → ⊥) Which.Graph (λ k. k refl) (source_in r later _ saved g rest (on g)))
-
--- the promise on the file for the hierarchy, which is read after the graph, and what it is refused for
-file_told : {T S : Type 0} (r : Result T RunFault) (graph : Reading) (gives : Calls S) (failed : S → ℕ)
-    (counts : CountsReads gives failed) (old new : S) (which : Which) → (which ≡ Which.Graph → ⊥) → IsEarly which →
-    (names : Network → List ℕ → LevelsAndLegs → Type 0) (refuses : Network → List ℕ → RunFault → Type 0) →
-    ((g : Network) → AreOf which (refuses g)) →
-    ((g : Network) (bytes : List ℕ) (fault : ReadFault) → refuses g bytes (RunFault.Read which fault) →
-    IsFault (Form.Saved g.nodes) bytes fault.line fault.kind) → (unread later : Type 0) → (unread → new ≡ old) →
-    (next : Network → LevelsAndLegs → Type 0) → ((g : Network) (H : LevelsAndLegs) → next g H → StopsIn IsLater r) →
-    Reads Which.Graph graph (λ bytes g. NamesGraph bytes g × IsWithinLimits g) (IsRefused Which.Graph Form.Graph) r (unread × later)
-    (λ g. Reads which (reading gives old new) (names g) (refuses g) r later (next g)) →
-    ReadsAfter (Which.Graph ∷ []) (AcceptsGraph graph) which r gives failed old new (HasSavedRefused graph)
-    × ((fault : RunFault) → StopsAt which fault → r ≡ Err fault → (g : Network) × ReadsGraph graph g
-    × EndsAt which (reading gives old new) (refuses g) fault)
-file_told r graph gives failed counts old new which other early names refuses of lines unread later still next on went =
-    let past = λ (g : Network) (H : LevelsAndLegs) (goes : next g H). past_in r IsLater which (λ k. k early) (on g H goes) in (
-      reads_elim r Which.Graph graph _ _ _ _ (refused_of Which.Graph Form.Graph) _ went
-          (λ own at. unread_at (still at.0)
-          (past_in r (λ w. w ≡ Which.Graph) which other (err_in r (λ w. w ≡ Which.Graph) Which.Graph refl own)))
-          (λ g read rest. reads_after r which gives failed counts old new (names g) (refuses g) _ _ (
-            past_in r (λ w. w ≡ Which.Graph → ⊥) Which.Graph (λ k. k refl)
-                (reads_in r which _ _ _ _ _ (of g) _ other rest (λ H goes. not_graph r (on g H goes))),
-            tt,
-          )
-          (g, (read.0, read.1, read.2.0))
-          (λ fault told. (g, (read.0, read.1, read.2.0), (told.0, told.1, lines g told.0 fault told.2))) rest (past g)),
-      λ fault stops is. reads_elim r Which.Graph graph _ _ _ _ (refused_of Which.Graph Form.Graph) _ went
-          (λ own at. absurd (other (of_one Which.Graph which fault (err_is r _ fault own is) stops)))
-          (λ g read rest. elim rest [
-            | inl ends ↦ (g, (read.0, read.1, read.2.0), err_is r _ fault ends.0 is)
-            | inr goes ↦ absurd (no_end which r fault (past g goes.1 goes.4) stops is)
-          ]),
-    )
-
--- the promise on the source of the hierarchy
-pub loads_source : {T S : Type 0} (r : Result T RunFault) (graph : Reading) (gives : Calls S) (failed : S → ℕ)
-    (counts : CountsReads gives failed) (later : Type 0) (next : Network → Option LevelsAndLegs → Type 0) →
-    ((g : Network) (h : Option LevelsAndLegs) → next g h → StopsIn IsLater r) →
-    (origin : S → ℕ) (old new : Source S) → source_map origin new ≡ source_map origin old →
-    Loads graph (source_reading gives old new) (new ≡ old) r later next → ReadsSource graph r gives failed old new
-loads_source r graph gives failed counts later next on origin Source.Built Source.Built same went = refl
-loads_source r graph gives failed counts later next on origin (Source.Saved old) (Source.Saved new) same went =
-    let told = file_told r graph gives failed counts old new Which.Saved (λ is. cc) tt _ IsSavedRefusedOn saved_refused_of
-    (λ g bytes fault is. is.1) _ _ (λ is. cc) _ (λ g H. on g (Some H)) went in
-    record {
-      lines = told.0;
-      check = λ fault is. let at = told.1 (RunFault.Check fault) (stops_check fault) is in
-          (at.0, at.2.2.0, at.1, (at.2.0, at.2.1, at.2.2.1), at.2.2.2);
-    }
-loads_source r graph gives failed counts later next on origin (Source.Like old fresh hops) (Source.Like new fresh' hops') same went =
-    let told = file_told r graph gives failed counts old new Which.Order (λ is. cc) tt _ IsOrderRefusedOn order_refused_of
-    (λ g bytes fault is. is.1) _ _ (λ is. cc) _ (λ g H. on g (Some H)) went in
-    record {
-      lines = told.0;
-      order = λ is. let at = told.1 RunFault.Order stops_order is in (at.0, at.2.2.0, at.1, (at.2.0, at.2.1, at.2.2.1), at.2.2.2);
-    }
-loads_source r graph gives failed counts later next on origin _ _ same went = absurd (let none : ⊥ = cc in none)
-
-module _ {T O : Type 0} (takes : Calls O) (old new : O) (answers : List ℕ → Type 0) where
-  -- a run that wrote its answer ends only in a failed write, or for want of memory
-  pub writes_own : (Own : RunFault → Type 0) (r : Result T RunFault) → Writes takes old new answers r →
-      ((count : ℕ) → Own (RunFault.Write count)) → Own RunFault.Memory → IfErr r Own
-  writes_own Own (Ok done) wrote write memory = tt
-  writes_own Own (Err (RunFault.Write count)) wrote write memory = write count
-  writes_own Own (Err RunFault.Memory) wrote write memory = memory
-  writes_own Own (Err _) wrote write memory = absurd wrote
-
-  -- so it stops at no input
-  pub writes_in : (r : Result T RunFault) (Among : Which → Type 0) → Writes takes old new answers r → StopsIn Among r
-  writes_in r Among wrote = writes_own _ r wrote (λ count which stops. absurd stops.0) (λ which stops. absurd (stops.1 refl))
-
-  -- the text of the answer was delivered
-  pub writes_delivers : (P : List ℕ → Type 0) → ((text : List ℕ) → answers text → P text) → (r : Result T RunFault) →
-      Writes takes old new answers r → Delivers r takes old new P
-  writes_delivers P so (Ok done) (text, is, took) = (text, so text is, took)
-  writes_delivers P so (Err (RunFault.Write count)) (text, is, took) =
-      λ n same. (text, so text is, subst (λ k. TookUntilFault takes old text k new) (let one : count ≡ n = cc in one) took)
-  writes_delivers P so (Err RunFault.Memory) same = λ n is. absurd (let none : ⊥ = cc in none)
-  writes_delivers P so (Err _) wrote = absurd wrote
-
-  -- the promise on the output
-  pub writes_told : (failed idle : O → ℕ) (counts : CountsCalls takes failed idle) {accepted : Type 0} → accepted →
-      (r : Result T RunFault) → Writes takes old new answers r → WritesAfter accepted r failed idle old new
-  writes_told failed idle counts met (Ok done) (text, is, took) = record {
-    writes = unfailed_once (Ok done) failed idle old new (λ is. is) (took-counts takes failed idle counts old text [] new took);
-    unwritten = inr (tt, met);
+  -- lists with too many cells ended the run, or it went on
+  pub cells_told : {later next L : Type 0} (from to : List ℕ) → (HasTooManyCells from to → Own RunFault.Cells) →
+      Cells from to r later next → (IsErrAnd r (IsBefore 0) → later → L) → ((HasTooManyCells from to → ⊥) → next → Tells r Own 4 L) →
+      Tells r Own 4 L
+  cells_told from to own (inl (many, is, at)) stop go = record {
+    own = rw is (own many);
+    from = rw is (λ which stops. absurd stops.0);
+    told = stop (rw is (λ write. write, λ which stops. absurd stops.0)) at;
   }
-  writes_told failed idle counts met (Err (RunFault.Write n)) (text, is, took) = record {
-    writes = failed_once (Err (RunFault.Write n)) failed idle old new tt (fault-counts takes failed idle counts old text n new took);
+  cells_told from to own (inr (few, goes)) stop go = go few goes
+
+-- a run that wrote its answer ends only in a failed write, or for want of memory
+pub writes_told : {T O : Type 0} (r : Result T RunFault) (Own : RunFault → Type 0) (k : ℕ) {takes : Calls O} {old new : O}
+    {answers : List ℕ → Type 0} {accepted : Type 0} {P : List ℕ → Type 0} → Own RunFault.Memory →
+    ((count : ℕ) → Own (RunFault.Write count)) → accepted → ((text : List ℕ) → answers text → P text) →
+    Writes takes old new answers r → Tells r Own k (Written r takes old new accepted P)
+writes_told (Ok done) Own k memory write met so (text, is, took) = record {
+  own = tt;
+  from = tt;
+  told = record { calls = inr (λ is. is, inr (text, took)); unwritten = inr (tt, met); delivers = (text, so text is, took) };
+}
+writes_told (Err (RunFault.Write count)) Own k {takes} {old} {new} memory write met so (text, is, took) = record {
+  own = write count;
+  from = λ which stops. absurd stops.0;
+  told = record {
+    calls = inl (tt, (text, count, took));
     unwritten = inr (tt, met);
-  }
-  writes_told failed idle counts met (Err RunFault.Memory) same =
-      rw same (unwritten (Err RunFault.Memory) RunFault.Memory refl (λ write. write) _ failed idle old)
-  writes_told failed idle counts met (Err _) wrote = absurd wrote
+    delivers = λ n same.
+        (text, so text is, subst (λ k. TookUntilFault takes old text k new) (let one : count ≡ n = cc in one) took);
+  };
+}
+writes_told (Err RunFault.Memory) Own k memory write met so same = record {
+  own = memory;
+  from = λ which stops. absurd (stops.1 refl);
+  told = unwritten (Err RunFault.Memory) 0 memory_before same;
+}
+writes_told (Err _) Own k memory write met so wrote = absurd wrote

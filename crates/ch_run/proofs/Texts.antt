@@ -1,8 +1,7 @@
 -- The texts of answers.
-use Rattle.std.proofs.Common.{◌≡◌, ℕ, ◌+◌, ◌<◌, Bool, true, false, List, [], ◌∷◌, ◌++◌, length, take, get_or, Option, Some, None}
+use Rattle.std.proofs.Common.{◌≡◌, ℕ, Bool, true, false, List, [], ◌∷◌, ◌++◌, Option, Some, None}
 use Rattle.std.proofs.Common.{refl, sym, ap, ap₂, ◌∙◌, subst}
-use Rattle.std.proofs.lemmas.List.{append-nil, take_more}
-use Rattle.std.proofs.lemmas.Slice.Zip.{all_zipped_more}
+use Rattle.std.proofs.lemmas.List.{append-nil}
 use Rattle.std.specs.List.{AllZip, flat_map}
 use Rattle.ch_graph.specs.declared.arc.InArc.{InArc}
 use Rattle.ch_graph.specs.Graph.{Network, IsWithinLimits}
@@ -20,38 +19,21 @@ use Rattle.ch_text.specs.Distances.{Answers, AnswersShortly, IsDistanceText, dis
 use Rattle.ch_text.specs.Routes.{AnswersWithRoute, answer_text, route_text}
 use Rattle.ch_run.specs.Source.{IsInPlaceOf, IsServing}
 use Rattle.ch_run.specs.Text.{IsTextBy}
-use Rattle.ch_text.specs.TableText.{IsCell, IsTableRow, IsTableText}
+use Rattle.ch_text.specs.TableText.{IsCell, IsTableRow, IsTableText, row_text}
 use Rattle.ch_run.specs.TableText.{IsTableTextBy}
+use Rattle.ch_run.proofs.RowTexts.{each_weaker, rows_weaker}
 
--- one more query is answered with its distance
-pub answered : (g : Network) (queries : List (ℕ × ℕ)) (i : ℕ) (d : ℕ × ℕ) (answers : List Answer) (a : Answer) → i < length queries →
-    AllZip (AnswersShortly g) (take i queries) answers → AnswersShortly g (get_or queries i d) a →
-    AllZip (AnswersShortly g) (take (i + 1) queries) (answers ++ a ∷ [])
-answered g queries i d answers a within so_far is =
-    subst (λ qs. AllZip (AnswersShortly g) qs (answers ++ a ∷ [])) (sym (take_more queries i d within))
-    (all_zipped_more (AnswersShortly g) (take i queries) answers (get_or queries i d) a so_far is)
-
--- an answer without arcs is written as its distance alone
-short_line : (g : Network) (query : ℕ × ℕ) (a : Answer) → AnswersShortly g query a → answer_text a ≡ distance_text a
-short_line g query a is = ap (λ arcs. distance_text a ++ route_text arcs) is.1 ∙ append-nil (distance_text a)
-
-short_lines : (g : Network) (queries : List (ℕ × ℕ)) (answers : List Answer) → AllZip (AnswersShortly g) queries answers →
-    flat_map answer_text answers ≡ flat_map distance_text answers
-short_lines g [] [] h = refl
-short_lines g (q ∷ queries) (a ∷ answers) h = ap₂ ◌++◌ (short_line g q a h.0) (short_lines g queries answers h.1)
-short_lines g _ _ h = absurd h
-
--- the lines of answers without arcs are a text of distances
+-- answers without arcs are written as their distances alone
 pub short_text : (g : Network) (queries : List (ℕ × ℕ)) (answers : List Answer) (text : List ℕ) →
     AllZip (AnswersShortly g) queries answers → text ≡ flat_map answer_text answers → IsDistanceText g queries text
-short_text g queries answers text short is = (answers, short, is ∙ short_lines g queries answers short)
-
--- if P implies Q, lists whose elements have P place by place also have Q place by place
-pub each_weaker : {A B : Type 0} (P Q : A → B → Type 0) → ((x : A) (y : B) → P x y → Q x y) → (xs : List A) (ys : List B) →
-    AllZip P xs ys → AllZip Q xs ys
-each_weaker P Q so [] [] h = tt
-each_weaker P Q so (x ∷ xs) (y ∷ ys) h = (so x y h.0, each_weaker P Q so xs ys h.1)
-each_weaker P Q so _ _ h = absurd h
+short_text g queries answers text short is = (answers, short, is ∙ lines queries answers short)
+  where
+    lines : (queries : List (ℕ × ℕ)) (answers : List Answer) → AllZip (AnswersShortly g) queries answers →
+        flat_map answer_text answers ≡ flat_map distance_text answers
+    lines [] [] h = refl
+    lines (q ∷ queries) (a ∷ answers) h = ap₂ ◌++◌
+        (ap (λ arcs. distance_text a ++ route_text arcs) h.0.1 ∙ append-nil (distance_text a)) (lines queries answers h.1)
+    lines _ _ h = absurd h
 
 -- an answer of a hierarchy that is right for a graph is an answer on the graph
 reply_answers : (g : Network) (H : LevelsAndLegs) → IsWithinLimits g → IsKept g H → (routes : Bool) (query : ℕ × ℕ) (a : Answer) →
@@ -103,10 +85,6 @@ text_in_place false wanted hops g h serving place queries text t = t
 -- the table of a hierarchy that is right for a graph is the table of the graph
 pub cells_text : (g : Network) (H : LevelsAndLegs) → IsWithinLimits g → IsKept g H → (limit : Option ℕ)
     (sources targets text : List ℕ) → IsTableTextBy H limit sources targets text → IsTableText g limit sources targets text
-cells_text g H limits kept limit sources targets text by = (
-  by.0,
-  each_weaker (IsRowBy H limit targets) (IsTableRow g limit targets)
-      (λ s cells row. each_weaker (IsDistanceWithin H limit s) (IsCell g limit s)
-      (λ t cell is. (is.whole, is.distance g limits kept, is.cut)) targets cells row) sources by.0 by.1,
-  by.2,
-)
+cells_text g H limits kept limit sources targets text by = rows_weaker (IsRowBy H limit targets) row_text (IsTableRow g limit targets)
+    (λ s cells row. each_weaker (IsDistanceWithin H limit s) (IsCell g limit s)
+    (λ t cell is. (is.whole, is.distance g limits kept, is.cut)) targets cells row) sources text by

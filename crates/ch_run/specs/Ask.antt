@@ -122,7 +122,7 @@ Serves IsTextOf gives n requests old new (Err _) = ⊥
 abbrev pub ServesBy : {T S : Type 0} → Options → Reading → SourceReading → Reading →
     (gives : S → List ℕ → Result ℕ DeviceFault → S → Type 0) → (old new : S) → Result T RunFault → Type 0
 ServesBy options graph source requests gives old new result =
-    WithLoaded graph source (λ g h. Serves (IsRequestText options g (IsServing (order_built options) options.hops g h)) gives
+    WithLoaded graph source (λ g h. Serves (IsRequestText options g (IsServing (order_built options) options.hops.number g h)) gives
     g.nodes requests old new result)
 
 -- the faults that answering requests can end in: they are refused or can't be read, there is no memory, or a write failed

@@ -1,7 +1,6 @@
 -- The promises of the parts of a run over requests.
-use Rattle.std.specs.Prelude.{◌≡◌, ℕ, ◌+◌, ◌<◌, ◌≤◌, ◌⊎◌, Bool, if◌then◌else◌, List, [], length, take, map, All}
-use Rattle.std.specs.Prelude.{Option, Some, None, Result, Ok, Err, OnOk, ⊤}
-use Rattle.ch_graph.specs.declared.limits.TheConstants.{MOST_LISTED}
+use Rattle.std.specs.Prelude.{◌≡◌, ℕ, ◌+◌, ◌<◌, ◌≤◌, Bool, if◌then◌else◌, List, ◌++◌, length, take, map, All}
+use Rattle.std.specs.Prelude.{Option, Some, None, Result, Ok, Err, MatchResult, ⊤}
 use Rattle.ch_hierarchy.specs.Hierarchy.{nodes_of}
 use Rattle.ch_near.specs.declared.direction.Direction.{Direction}
 use Rattle.ch_near.specs.Direction.{facing}
@@ -13,7 +12,7 @@ use Rattle.ch_read.specs.declared.request_fault.RequestFault.TheVariants.{Line, 
 use Rattle.ch_read.specs.declared.request_fault.RequestError.{RequestError}
 use Rattle.ch_read.specs.declared.request_fault.RequestError.TheVariants.{Fault, NoMemory}
 use Rattle.ch_read.specs.Reading.{capped_number}
-use Rattle.ch_read.specs.Requests.{IsRequest, MayCome, Standing, Told, after_these, ahead, query_from, route_from}
+use Rattle.ch_read.specs.Requests.{HasGiven, IsStopped, IsUsedUp, MayCome, Standing, Told, query_from, route_from, told_by}
 use Rattle.ch_run.specs.declared.fault.RunFault.{RunFault}
 use Rattle.ch_run.specs.declared.run.batch.Then.{Then}
 use Rattle.ch_run.specs.declared.run.batch.Then.TheVariants.{More, Nothing, Stop}
@@ -23,29 +22,47 @@ use Rattle.ch_run.specs.Loaded.{GraphAndHierarchy, IsRight}
 use Rattle.ch_run.specs.Ask.{AreAnswered, TextOf, TookAnswers, TookFirstAnswers, TookBeginning, no_places, places_after}
 use Rattle.ch_text.specs.Moves.{Took, TookUntilFault}
 use Rattle.ch_text.specs.declared.device.DeviceFault.{DeviceFault}
-use Rattle.ch_run.specs.Run.{IsWrite}
 
--- how a call that answers these requests ended, by the places that were given last before them. It answered all of them, and `held`
--- are the places that were given last. Or it answered the first of them, each whole, or a write failed.
--- The output had taken `before` bytes before the call, and `after` bytes after it
-abbrev pub AnswersInTurn : {T S : Type 0} → TextOf → (gives : S → List ℕ → Result ℕ DeviceFault → S → Type 0) →
-    (places held : PlaceList) → (old new : S) → (before after : ℕ) → List Request → Result T RunFault → Type 0
-AnswersInTurn IsTextOf gives places held old new before after requests (Ok _) = (text : List ℕ) × AreAnswered IsTextOf places requests text
-    × Took gives old text new × (after ≡ capped_number (before + length text)) × (held ≡ places_after places requests)
-AnswersInTurn IsTextOf gives places held old new before after requests (Err RunFault.Memory) =
-    TookFirstAnswers IsTextOf gives places old new requests
-AnswersInTurn IsTextOf gives places held old new before after requests (Err (RunFault.Write count)) =
-    TookBeginning IsTextOf gives places old new before count requests
-AnswersInTurn IsTextOf gives places held old new before after requests (Err (RunFault.Read which fault)) = (which ≡ Which.Requests)
-    × TookAnswers IsTextOf gives places old new requests
-AnswersInTurn IsTextOf gives places held old new before after requests (Err (RunFault.CellsAt line)) =
-    TookAnswers IsTextOf gives places old new requests
-AnswersInTurn IsTextOf gives places held old new before after requests (Err _) = ⊥
+-- how a run that was told this ends, and what the output took. At a fault of the requests, all requests before it are answered
+abbrev pub EndsOver : {S : Type 0} → TextOf → (gives : S → List ℕ → Result ℕ DeviceFault → S → Type 0) → (old new : S) →
+    Result Unit RunFault → Told → Type 0
+EndsOver IsTextOf gives old new (Ok _) told = (told.fault ≡ None) × TookAnswers IsTextOf gives no_places old new told.given
+EndsOver IsTextOf gives old new (Err (RunFault.Read which fault)) told =
+    (which ≡ Which.Requests) × (told.fault ≡ Some (Line fault)) × TookAnswers IsTextOf gives no_places old new told.given
+EndsOver IsTextOf gives old new (Err (RunFault.CellsAt line)) told =
+    (told.fault ≡ Some (Cells line)) × TookAnswers IsTextOf gives no_places old new told.given
+EndsOver IsTextOf gives old new (Err RunFault.Memory) told = TookFirstAnswers IsTextOf gives no_places old new told.given
+EndsOver IsTextOf gives old new (Err (RunFault.Write count)) told = TookBeginning IsTextOf gives no_places old new 0 count told.given
+EndsOver IsTextOf gives old new (Err _) told = ⊥
 
--- the same, under a name
-pub record InTurn {T S : Type 0} (IsTextOf : TextOf) (gives : S → List ℕ → Result ℕ DeviceFault → S → Type 0)
-    (places held : PlaceList) (old new : S) (before after : ℕ) (requests : List Request) (result : Result T RunFault) : Type 0 where
-  pub turn : AnswersInTurn IsTextOf gives places held old new before after requests result
+-- these bytes were read, and the run ends so whatever bytes may be left
+pub record Ends {S : Type 0} (IsTextOf : TextOf) (gives : S → List ℕ → Result ℕ DeviceFault → S → Type 0) (n : ℕ) (ended : Bool)
+    (read : List ℕ) (old new : S) (result : Result Unit RunFault) : Type 0 where
+  pub over : (left : List ℕ) → MayCome ended left → EndsOver IsTextOf gives old new result (told_by n (read ++ left))
+
+-- the output took the answers to these requests, `written` bytes, and `held` are the places that were given last
+pub record IsAnswered {S : Type 0} (IsTextOf : TextOf) (gives : S → List ℕ → Result ℕ DeviceFault → S → Type 0) (old new : S)
+    (requests : List Request) (held : PlaceList) (written : ℕ) : Type 0 where
+  pub took : TookAnswers IsTextOf gives no_places old new requests
+  pub places : held ≡ places_after no_places requests
+  pub count : written ≡ capped_number (length took.0)
+
+-- a reader gave requests of these bytes, and is in this standing. All but those that wait are answered
+pub record HasAnswered {S : Type 0} (IsTextOf : TextOf) (gives : S → List ℕ → Result ℕ DeviceFault → S → Type 0) (n : ℕ)
+    (ended : Bool) (read : List ℕ) (reader : Standing) (waiting : List Request) (old new : S) (held : PlaceList) (written : ℕ) :
+    Type 0 where
+  pub answered : List Request
+  pub told : HasGiven ended n read reader (answered ++ waiting)
+  pub output : IsAnswered IsTextOf gives old new answered held written
+
+-- a call answers requests: whatever was answered before it, these wait before it and those after it. Or the run ends in its fault
+abbrev pub GoesOn : {S : Type 0} → TextOf → (gives : S → List ℕ → Result ℕ DeviceFault → S → Type 0) → ℕ → (ended : Bool) →
+    (reader reader' : Standing) → (waiting waiting' : List Request) → (output output' : S) → (held held' : PlaceList) →
+    (written written' : ℕ) → Result Unit RunFault → Type 0
+GoesOn {S} IsTextOf gives n ended reader reader' waiting waiting' output output' held held' written written' result =
+    (read : List ℕ) (old : S) → HasAnswered IsTextOf gives n ended read reader waiting old output held written →
+    MatchResult result (λ _. HasAnswered IsTextOf gives n ended read reader' waiting' old output' held' written')
+    (λ fault. Ends IsTextOf gives n ended read old output' (Err fault))
 
 -- the output took this text after `before` bytes, or the beginning of the text, up to a write that failed. Or it took nothing, for want
 -- of memory
@@ -57,71 +74,24 @@ WritesMore gives old new before after text (Err (RunFault.Write count)) = (bytes
 WritesMore gives old new before after text (Err RunFault.Memory) = new ≡ old
 WritesMore gives old new before after text (Err _) = ⊥
 
--- the faults that answering can end in
-abbrev pub IsOfAnswering : RunFault → Type 0
-IsOfAnswering fault = IsWrite fault ⊎ (fault ≡ RunFault.Memory)
-
 -- the fault of a run whose reader of requests returns this error
 abbrev pub request_refusal : RequestError → RunFault
 request_refusal (Fault (Line fault)) = RunFault.Read Which.Requests fault
 request_refusal (Fault (Cells line)) = RunFault.CellsAt line
 request_refusal NoMemory = RunFault.Memory
 
--- what follows the requests that a call gave. If the call ended well, it is what is ahead of the reader. If the call ended in a
--- fault of the requests, it is this fault. If not, it may be anything
-abbrev pub IsToldAfter : {T : Type 0} → Result T RunFault → (next rest : Told) → Type 0
-IsToldAfter (Ok _) next rest = rest ≡ next
-IsToldAfter (Err (RunFault.Read which fault)) next rest = (which ≡ Which.Requests)
-    × (rest ≡ record { given = []; fault = Some (Line fault) })
-IsToldAfter (Err (RunFault.CellsAt line)) next rest = rest ≡ record { given = []; fault = Some (Cells line) }
-IsToldAfter (Err RunFault.Memory) next rest = ⊤
-IsToldAfter (Err (RunFault.Write count)) next rest = ⊤
-IsToldAfter (Err _) next rest = ⊥
+-- the reader stopped for this fault: it is the fault of the next request, or a lack of memory
+abbrev pub IsStop : (ended : Bool) → Standing → RunFault → Type 0
+IsStop ended reader (RunFault.Read which fault) = (which ≡ Which.Requests) × IsStopped ended reader (Line fault)
+IsStop ended reader (RunFault.CellsAt line) = IsStopped ended reader (Cells line)
+IsStop ended reader RunFault.Memory = ⊤
+IsStop ended reader _ = ⊥
 
--- a reader in the standing `old` gave these requests. It is in the standing `new` if the call ended well
-abbrev pub GivesUntil : {T : Type 0} → Bool → (old new : Standing) → List Request → Result T RunFault → Type 0
-GivesUntil ended old new given result =
-    (more : List ℕ) → MayCome ended more →
-    (rest : Told) × (ahead old more ≡ after_these given rest) × IsToldAfter result (ahead new more) rest
-
--- a call gave these requests, and answered them
-pub record Turns {T S : Type 0} (IsTextOf : TextOf) (gives : S → List ℕ → Result ℕ DeviceFault → S → Type 0) (ended : Bool)
-    (from to : Standing) (places held : PlaceList) (old new : S) (before after : ℕ) (given : List Request)
-    (result : Result T RunFault) : Type 0 where
-  pub reader : GivesUntil ended from to given result
-  pub answers : InTurn IsTextOf gives places held old new before after given result
-
--- the result that a batch ends in
-abbrev pub end_of : Then → Result Unit RunFault
-end_of More = Ok tt
-end_of Nothing = Ok tt
-end_of (Stop fault) = Err fault
-
--- the reader of requests stopped for this fault
-abbrev pub IsStop : RunFault → Type 0
-IsStop (RunFault.Read which fault) = which ≡ Which.Requests
-IsStop (RunFault.CellsAt line) = ⊤
-IsStop RunFault.Memory = ⊤
-IsStop _ = ⊥
-
--- the run goes on after a batch, or it ends with this result
-abbrev pub GoesOn : Then → Type 0
-GoesOn after = end_of after ≡ Ok tt
-
-abbrev pub EndsSo : Then → Result Unit RunFault → Type 0
-EndsSo after end = (end ≡ end_of after) × OnOk end (after ≡ Nothing)
-
--- the fault after a batch, if there is one, is one of the reader
-abbrev pub IsAfter : Then → Type 0
-IsAfter More = ⊤
-IsAfter Nothing = ⊤
-IsAfter (Stop fault) = IsStop fault
-
--- a batch of requests on a graph of n nodes, within the limits
-pub record IsBatch (n : ℕ) (asked : List Request) (next : Then) : Type 0 where
-  pub each : All (IsRequest n) asked
-  pub few : length asked ≤ MOST_LISTED
-  pub after : IsAfter next
+-- what comes after a batch of requests, where `gave` is the standing after these and `new` that of the reader
+abbrev pub IsAfter : (ended : Bool) → (gave new : Standing) → Then → Type 0
+IsAfter ended gave new More = gave ≡ new
+IsAfter ended gave new Nothing = (gave ≡ new) × IsUsedUp ended new
+IsAfter ended gave new (Stop fault) = IsStop ended gave fault
 
 -- a query of these nodes: with its route, or as the run answers queries
 abbrev pub asked_for : Bool → ℕ × ℕ → Request

@@ -30,7 +30,7 @@ use Rattle.ch_run.specs.Text.{writes_routes}
 abbrev pub source_reading : {S : Type 0} → (gives : S → List ℕ → Result ℕ DeviceFault → S → Type 0) → Source S → Source S → SourceReading
 source_reading gives Built new = NoFile
 source_reading gives (Saved old) (Saved new) = SavedFile (reading gives old new)
-source_reading gives (Like old fresh hops) (Like new fresh' hops') = OrderFile (reading gives old new) fresh hops
+source_reading gives (Like old fresh hops) (Like new fresh' hops') = OrderFile (reading gives old new) fresh.number hops.number
 source_reading gives _ _ = NoFile
 
 -- the input was read to its end and names this order and these legs, on a graph with this many nodes
@@ -109,7 +109,7 @@ order_for_queries options workers nodes = if writes_routes options then options.
 
 -- the hierarchy that routes go by, with these options
 abbrev pub IsOfRoutes : Options → Network → Option LevelsAndLegs → LevelsAndLegs → Type 0
-IsOfRoutes options g h = IsServing options.order options.hops g h
+IsOfRoutes options g h = IsServing options.order options.hops.number g h
 
 -- the input was read to its end and has this fault as a saved hierarchy on a graph with this many nodes
 abbrev pub IsSavedRefused : Reading → ℕ → ReadFault → Type 0

@@ -63,4 +63,4 @@ abbrev pub RunsAsk : {T O : Type 0} → Options → (graph : Reading) → (sourc
 RunsAsk options graph source requests same_source same_requests takes old new result =
     Loads graph source same_source result (same_requests × (new ≡ old)) (λ g h.
     ((result ≡ Err RunFault.Memory) × same_requests × (new ≡ old))
-    ⊎ Serves (IsRequestText options g (IsServing (order_built options) options.hops g h)) takes g.nodes requests old new result)
+    ⊎ Serves (IsRequestText options g (IsServing (order_built options) options.hops.number g h)) takes g.nodes requests old new result)

@@ -5,13 +5,12 @@ ghost use Rattle.ch_hierarchy.specs.Hierarchy.{LevelsAndLegs};
 ghost use Rattle.ch_hierarchy.specs.Kept.{IsKept};
 ghost use Rattle.ch_hierarchy.specs.Saved.{IsOrderOf};
 ghost use Rattle.ch_contract.specs.Built.{IsHierarchyBy};
-ghost use Rattle.ch_contract.specs.Legs.{IsHopBound};
 ghost use Rattle.ch_contract.specs.Like.{IsHierarchyLike};
 ghost use Rattle.ch_order.specs.declared.construction.like.OrderError.TheVariants as OrderErrorOf;
 ghost use Rattle.ch_run.specs.Source.{IsInPlaceOf};
 
 use crate::plan::{Crew, Gate};
-use ch_contract::{Hierarchy, OrderBy};
+use ch_contract::{Hierarchy, HopBound, OrderBy, Percent};
 use ch_graph::Graph;
 use ch_order::{OrderError, build_in_turn, build_like, build_like_quickly};
 use ch_rounds::build_by_rounds;
@@ -26,11 +25,10 @@ use std::thread::Threads;
 pub(crate) fn build_by<R: Threads + Sync, G: Gate>(
     crew: &Crew<'_, R, G>,
     graph: &Graph,
-    hops: u32,
+    hops: HopBound,
     by: OrderBy,
 ) -> Result<Hierarchy, AllocError>
-    requires hops { IsHopBound hops }
-    ensures hierarchy { IfOk result (IsHierarchyBy by graph.now hops) }
+    ensures hierarchy { IfOk result (IsHierarchyBy by graph.now hops.number) }
     ensures kept { IfOk result (IsKept graph.now) }
     ensures limits { IsWithinLimits graph.now }
 {
@@ -52,13 +50,11 @@ pub(crate) fn build_in_order<R: Threads + Sync, G: Gate>(
     crew: &Crew<'_, R, G>,
     graph: &Graph,
     given: &[u32],
-    fresh: u32,
-    hops: u32,
+    fresh: Percent,
+    hops: HopBound,
     named: bool,
 ) -> Result<Hierarchy, OrderError>
-    requires hops { IsHopBound hops }
-    requires fresh { fresh ≤ 100 }
-    ensures hierarchy { IfOk result (λ K. (H : LevelsAndLegs) × IsHierarchyLike graph.now hops given.now fresh H × IsKept graph.now H × IsInPlaceOf named graph.now (Some H) (Some K)) }
+    ensures hierarchy { IfOk result (λ K. (H : LevelsAndLegs) × IsHierarchyLike graph.now hops.number given.now fresh.number H × IsKept graph.now H × IsInPlaceOf named graph.now (Some H) (Some K)) }
     ensures kept { IfOk result (IsKept graph.now) }
     ensures order { IfOk result (λ _. IsOrderOf graph.now.nodes given.now) }
     ensures refused { result ≡ Err OrderErrorOf.Order → IsOrderOf graph.now.nodes given.now → ⊥ }

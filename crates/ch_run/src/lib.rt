@@ -29,7 +29,8 @@ mod routes;
 mod run;
 
 pub use ch_job::{
-    Direction, MOST_COUNT, MOST_HOPS, MOST_WITHIN, Options, OrderBy, Source, Sources,
+    Direction, HopBound, MOST_COUNT, MOST_HOPS, MOST_WITHIN, Options, OrderBy, Percent, Source,
+    Sources,
 };
 pub use ch_text::{
     DeviceFault, Input, MemoryInput, MemoryOutput, Output, ReadAllFault, ReadOnce, ReaderInput,

@@ -7,6 +7,7 @@ ghost use Rattle.ch_read.specs.declared.form.Form.TheVariants as Form;
 ghost use Rattle.ch_read.specs.Checks.{IsFault};
 ghost use Rattle.ch_read.specs.Names.{NamesGraph};
 
+use ch_contract::HopBound;
 use ch_order::build;
 use ch_query::{Scratch, distance};
 use ch_read::{ReadError, ReadFault, read_graph};
@@ -56,7 +57,7 @@ fn distance_in<R: Threads + Sync>(
         plan: Plan::new(2, 64, 64),
         gate: &Open,
     };
-    let Ok(hierarchy) = build(&crew, &graph, 5) else {
+    let Ok(hierarchy) = build(&crew, &graph, HopBound { number: 5 }) else {
         return Err(Refused::Memory);
     };
     let Ok(mut scratch) = Scratch::new(alloc, graph.nodes()) else {

@@ -1,5 +1,4 @@
 //! The files of a run, the task of a run, and runs over devices in memory.
-ghost use Rattle.ch_contract.specs.Legs.{IsHopBound};
 
 use ch_run::{
     Crew, MemoryInput, MemoryOutput, Open, Options, Plan, RunFault, Source, Sources, run_ask,
@@ -40,9 +39,7 @@ pub(crate) fn run<R: Threads + Sync>(
     files: &Files,
     options: &Options,
     plan: &Plan,
-) -> Result<Ended, AllocError>
-    requires { IsHopBound options.now.hops }
-{
+) -> Result<Ended, AllocError> {
     let mut output = MemoryOutput::new(alloc, MOST, MOST)?;
     let crew = Crew {
         rt,

@@ -1,14 +1,14 @@
 //! Each kind of run: with every plan, and with each request for memory refused.
 
 use crate::files::{Asked, Files, run};
-use ch_run::{Direction, Options, OrderBy, Plan, RunFault};
+use ch_run::{Direction, HopBound, Options, OrderBy, Plan, RunFault};
 use std::alloc::AllocError;
 use std::test::Fail;
 
 pub const BY_HIERARCHY: Options = Options {
     plain: false,
     routes: false,
-    hops: 5,
+    hops: HopBound { number: 5 },
     order: OrderBy::Difference,
     within: None,
     count: None,

@@ -1,5 +1,4 @@
 //! Workers: two pieces of a run are under way at once, and each layer passes the gate with its pieces.
-ghost use Rattle.ch_contract.specs.Legs.{IsHopBound};
 
 use crate::runs::{ACROSS, BY_HIERARCHY, LINE, LINE_SAVED, PLAIN, SOURCES, STAR, TARGETS};
 use ch_run::{Crew, MemoryInput, MemoryOutput, Options, Plan, Source, run_dist, run_table};
@@ -66,9 +65,7 @@ fn expect_passes<R: Threads + Abort + Sync>(
     alloc: Global,
     options: &Options,
     expected: [u64; 5],
-) -> Result<(), Fail>
-    requires { IsHopBound options.now.hops }
-{
+) -> Result<(), Fail> {
     let gate = CountingGate::new(alloc, 5)?;
     let mut output = MemoryOutput::new(alloc, MOST, MOST)?;
     let result = run_dist(

@@ -14,12 +14,12 @@ use Rattle.ch_graph.specs.Rows.{AreRowsOf, values_of}
 use Rattle.ch_hierarchy.specs.declared.leg.Leg.{Leg}
 use Rattle.ch_hierarchy.specs.Hierarchy.{LevelsAndLegs, nodes_of, AreLegsUp, IsLegUp, IsLevelled}
 use Rattle.ch_hierarchy.specs.Paths.{IsUpwardPath, IsLeastUpwardPath}
+use Rattle.ch_hierarchy.specs.declared.side.Side.{Side}
+use Rattle.ch_hierarchy.specs.declared.side.Side.TheVariants.{Up, Down}
+use Rattle.ch_hierarchy.specs.Side.{rows_of}
 use Rattle.ch_graph.proofs.Lists.{contains_none}
-use Rattle.ch_query.specs.declared.side.Side.{Side}
-use Rattle.ch_query.specs.declared.side.Side.TheVariants.{Up, Down}
 use Rattle.ch_query.specs.Limits.{IsWithin}
 use Rattle.ch_query.specs.Spread.{IsSpread}
-use Rattle.ch_query.specs.Side.{rows_of}
 use Rattle.ch_table.specs.Buckets.{IsBucket, AreBuckets}
 use Rattle.ch_table.specs.Entries.{entry_at, AreEntries}
 use Rattle.ch_graph.proofs.Lists.{contains_map, contains_map_of, contains_filter, contains_filter_of, pairs_map, pairs_append}

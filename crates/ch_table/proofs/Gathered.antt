@@ -6,7 +6,7 @@ use Rattle.std.specs.List.{AllZip}
 use Rattle.ch_graph.proofs.Lists.{zipped_length, zipped_map}
 use Rattle.ch_graph.specs.declared.limits.TheConstants.{MOST_LISTED}
 use Rattle.ch_hierarchy.specs.Hierarchy.{LevelsAndLegs, nodes_of, IsLevelled}
-use Rattle.ch_query.specs.declared.side.Side.{Side}
+use Rattle.ch_hierarchy.specs.declared.side.Side.{Side}
 use Rattle.ch_query.specs.SearchSpace.{IsRankedSpace}
 use Rattle.ch_table.specs.Buckets.{HoldLists, HoldSearchSpaces}
 use Rattle.ch_table.proofs.Tables.{spaces_within}

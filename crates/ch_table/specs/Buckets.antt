@@ -5,7 +5,7 @@ use Rattle.ch_graph.specs.declared.cost.Cost.{Cost}
 use Rattle.ch_hierarchy.specs.declared.leg.Leg.{Leg}
 use Rattle.ch_hierarchy.specs.Hierarchy.{LevelsAndLegs, nodes_of}
 use Rattle.ch_hierarchy.specs.Paths.{IsLeastUpwardPath}
-use Rattle.ch_query.specs.declared.side.Side.{Side}
+use Rattle.ch_hierarchy.specs.declared.side.Side.{Side}
 use Rattle.ch_query.specs.Limits.{IsWithin}
 use Rattle.ch_query.specs.SearchSpace.{IsRankedSpace}
 

@@ -33,6 +33,10 @@ item_at d turn = min ((turn.0 + 1) * d.piece) d.nodes - 1 - turn.1
 abbrev pub item_of : Deal → ℕ → ℕ
 item_of d rank = item_at d (turn_of d rank)
 
+-- a rank and a weight, with the rank's item in place of the rank
+abbrev pub dealt : (ℕ → ℕ) → ℕ × ℕ → ℕ × ℕ
+dealt item entry = (item entry.0, entry.1)
+
 -- the nodes of a hierarchy, dealt over pieces of `piece` items
 abbrev pub deal_of : LevelsAndLegs → ℕ → Deal
 deal_of H piece = record { nodes = nodes_of H; piece = piece }

@@ -3,7 +3,7 @@
 use Rattle.std.specs.Prelude.{◌≡◌, ℕ, ◌+◌, ◌*◌, ◌<◌, ◌≤◌, List, [], length, slice_index_or, Contains, All, Option}
 use Rattle.ch_graph.specs.declared.limits.TheConstants.{MOST_WEIGHT}
 use Rattle.ch_hierarchy.specs.Hierarchy.{LevelsAndLegs}
-use Rattle.ch_query.specs.declared.side.Side.TheVariants.{Up, Down}
+use Rattle.ch_hierarchy.specs.declared.side.Side.TheVariants.{Up, Down}
 use Rattle.ch_query.specs.Limits.{IsWithin}
 use Rattle.ch_work.specs.declared.limits.TheConstants.{MOST_CELLS}
 use Rattle.ch_table.specs.Buckets.{HoldSearchSpaces}

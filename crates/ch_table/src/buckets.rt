@@ -2,16 +2,15 @@
 ghost use Rattle.std.specs.Prelude.{◌≡◌, ◌++◌, ◌<◌, ◌≤◌, [], length, map, slice_index_or, All, IfOk, OnOk};
 ghost use Rattle.ch_graph.specs.declared.limits.TheConstants.{MOST_LISTED};
 ghost use Rattle.ch_hierarchy.specs.Hierarchy.{nodes_of};
-ghost use Rattle.ch_query.specs.Side.{rows_of};
+ghost use Rattle.ch_hierarchy.specs.Side.{rows_of};
 ghost use Rattle.ch_table.specs.Buckets.{AreBuckets, HoldLists};
-ghost use Rattle.ch_table.specs.Dealing.{item_of};
-ghost use Rattle.ch_table.specs.Entries.{AreEntries, entry_at, AreEntriesOf, entry_of};
+ghost use Rattle.ch_table.specs.Dealing.{dealt, item_of};
+ghost use Rattle.ch_table.specs.Entries.{AreEntries, entry_at};
 
 use crate::dealing::Dealing;
-use ch_graph::{Cost, Rows};
-use ch_hierarchy::Hierarchy;
-use ch_query::{Scratch, Side, spread};
-use ch_work::length_of;
+use ch_graph::{Cost, Rows, gather};
+use ch_hierarchy::{Hierarchy, Side};
+use ch_query::{Scratch, Start, spread};
 use std::alloc::{AllocError, Global};
 use std::marker::Model;
 
@@ -98,10 +97,11 @@ impl Buckets {
         requires ranks { All (λ list. All (λ entry. entry.0 < dealing.now.nodes) list.items) lists.items }
         ensures { IfOk result (HoldLists dealing.now.nodes (item_of dealing.now) (map (λ list. list.items) lists.items)) }
     {
-        let entries = entries_of(alloc, dealing, &lists)?;
-        // This frees their memory for the rows.
-        drop(lists);
-        let rows = Rows::build(alloc, dealing.nodes(), &entries)?;
+        let mut lists = lists;
+        for list in lists.iter_mut() {
+            deal_list(dealing, list);
+        }
+        let rows = gather(alloc, dealing.nodes(), &lists)?;
         Ok(Buckets { rows })
     }
 
@@ -132,7 +132,12 @@ fn entries(
     let mut scratch = Scratch::new(alloc, hierarchy.nodes())?;
     let mut entries = Vec::new(alloc);
     for (place, node) in nodes.iter().enumerate() {
-        let reached = spread(alloc, hierarchy, &mut scratch, *node, side, within)?;
+        let start = Start {
+            source: *node,
+            side,
+            within,
+        };
+        let reached = spread(alloc, hierarchy, &mut scratch, start)?;
         push_entries(&mut entries, place as u32, &reached)?;
     }
     Ok(entries)
@@ -152,37 +157,12 @@ fn push_entries(
     Ok(())
 }
 
-/// Returns the entries of all lists, place after place, each at the item of its rank.
-fn entries_of(
-    alloc: Global,
-    dealing: &Dealing,
-    lists: &[Vec<(u32, u64)>],
-) -> Result<Vec<Entry>, AllocError>
-    requires count { length lists.now ≤ MOST_LISTED }
-    requires ranks { All (λ list. All (λ entry. entry.0 < dealing.now.nodes) list.items) lists.now }
-    ensures { IfOk result (λ entries. AreEntriesOf (item_of dealing.now) (map (λ list. list.items) lists.now) (length lists.now) entries.items) }
+/// Puts the item of each rank in its place.
+fn deal_list(dealing: &Dealing, list: &mut Vec<(u32, u64)>)
+    requires ranks { All (λ entry. entry.0 < dealing.now.nodes) list.old.items }
+    ensures { list.new.items ≡ map (dealt (item_of dealing.now)) list.old.items }
 {
-    let mut entries = Vec::with_capacity(alloc, length_of(lists))?;
-    for (place, list) in lists.iter().enumerate() {
-        push_list(&mut entries, dealing, place as u32, list)?;
+    for entry in list.iter_mut() {
+        entry.0 = dealing.item(entry.0);
     }
-    Ok(entries)
-}
-
-/// Adds an entry for this place to the bucket of the item of each rank of the list.
-fn push_list(
-    entries: &mut Vec<Entry>,
-    dealing: &Dealing,
-    place: u32,
-    list: &[(u32, u64)],
-) -> Result<(), AllocError>
-    requires ranks { All (λ entry. entry.0 < dealing.now.nodes) list.now }
-    ensures { OnOk result (entries.new.items ≡ entries.old.items ++ map (entry_of (item_of dealing.now) place) list.now) }
-{
-    entries.reserve(list.len())?;
-    for (rank, weight) in list {
-        let item = dealing.item(*rank);
-        entries.push_reserved((item, (place, *weight)));
-    }
-    Ok(())
 }

@@ -3,7 +3,7 @@ ghost use Rattle.std.specs.Prelude.{◌≡◌, ◌<◌, ◌≤◌, length, All, 
 ghost use Rattle.std.specs.List.{AllZip};
 ghost use Rattle.ch_graph.specs.declared.limits.TheConstants.{MOST_LISTED};
 ghost use Rattle.ch_hierarchy.specs.Hierarchy.{nodes_of};
-ghost use Rattle.ch_query.specs.declared.side.Side.TheVariants.{Down};
+ghost use Rattle.ch_hierarchy.specs.declared.side.Side.TheVariants.{Down};
 ghost use Rattle.ch_query.specs.Distance.{IsKeptForSome};
 ghost use Rattle.ch_query.specs.SearchSpace.{IsRankedSpace};
 ghost use Rattle.ch_table.specs.Table.{AreGathered, IsRowBy};
@@ -12,8 +12,8 @@ use crate::cells::Table;
 use crate::row::{RowRoom, UNREACHED, Words, write_cells};
 use crate::row_job::RowJob;
 use ch_graph::{Rows, gather};
-use ch_hierarchy::Hierarchy;
-use ch_query::{Scratch, Side, lower_by_search, ranked_spaces, ranked_spaces_alone};
+use ch_hierarchy::{Hierarchy, Side};
+use ch_query::{Scratch, Start, lower_by_search, ranked_spaces, ranked_spaces_alone};
 use ch_work::{Crew, Gate, RoomJob, Stage, run_pieces_in};
 use std::alloc::{AllocError, Global};
 use std::marker::Model;
@@ -161,16 +161,12 @@ impl<'a> SourceRows<'a> {
         let RowRoom { words, cells } = room;
         words.clear();
         words.resize(self.targets.len(), UNREACHED)?;
-        lower_by_search(
-            self.hierarchy,
-            scratch,
+        let start = Start {
             source,
-            Side::Up,
-            self.within,
-            &Words,
-            &self.buckets,
-            words,
-        )?;
+            side: Side::Up,
+            within: self.within,
+        };
+        lower_by_search(self.hierarchy, scratch, start, &Words, &self.buckets, words)?;
         write_cells(words, self.within, cells)
     }
 }

@@ -12,8 +12,8 @@ ghost use Rattle.ch_work.specs.Passes.{view_of, size_of, IsPassOf};
 
 use crate::buckets::Buckets;
 use crate::dealing::Dealing;
-use ch_hierarchy::Hierarchy;
-use ch_query::{Side, ranked_spaces};
+use ch_hierarchy::{Hierarchy, Side};
+use ch_query::ranked_spaces;
 use ch_work::{Board, CellJob, Crew, Gate, Pass, pay};
 use std::alloc::{AllocError, Global};
 use std::marker::Model;

@@ -231,7 +231,7 @@ abbrev pub IsSourceIn : List Row → Options → Source (String Global) → Type
 IsSourceIn given options Source.Built = (saved_in given options.plain ≡ None) × (like_in given options.plain ≡ None)
 IsSourceIn given options (Source.Saved saved) = Some (string_bytes saved) ≡ saved_in given options.plain
 IsSourceIn given options (Source.Like order fresh hops) = (saved_in given options.plain ≡ None)
-    × (Some (string_bytes order) ≡ like_in given options.plain) × (fresh ≡ fresh_in given) × (hops ≡ options.hops)
+    × (Some (string_bytes order) ≡ like_in given options.plain) × (fresh.number ≡ fresh_in given) × (hops ≡ options.hops)
 
 -- whether a value is given for this name
 abbrev pub is_given : List Row → Text → Bool
@@ -281,7 +281,7 @@ pub record IsGivenBy (given : List Row) (line : Line) : Type 0 where
   pub files : AreFilesIn given line.job.question
   pub source : IsSourceIn given line.job.options line.job.source
   pub flags : AreFlagsIn given line.job.question line.job.options
-  pub hops : Some line.job.options.hops ≡ number_in given (codes "hops")
+  pub hops : Some line.job.options.hops.number ≡ number_in given (codes "hops")
   pub limit : line.job.options.within ≡ number_in given (codes "within")
   pub count : line.job.options.count ≡ number_in given (codes "count")
   pub plan : IsPlanIn given line.job.plan

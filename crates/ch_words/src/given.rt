@@ -6,15 +6,14 @@ ghost use Rattle.clap.specs.Words.{first_of, found_of, kind_of, rows_of};
 ghost use Rattle.clap.specs.declared.error.kind.ErrorKind.TheVariants.{ArgumentConflict, WrongNumberOfValues};
 ghost use Rattle.ch_graph.specs.declared.limits.TheConstants.{MOST_WEIGHT};
 ghost use Rattle.ch_work.specs.Plan.{IsWithinLimits};
-ghost use Rattle.ch_contract.specs.Legs.{IsHopBound};
-ghost use Rattle.ch_job.specs.Job.{AreAllowed, IsCount, IsSourceAllowed};
+ghost use Rattle.ch_job.specs.Job.{AreAllowed, IsCount};
 ghost use Rattle.ch_words.specs.Line.{AreFilesIn, AreFlagsIn, AreRefusedLists, AreRefusedOrders, IsAllowed, IsDirectionIn, IsFlagIn, IsGivenBy, IsMixed, IsOrderIn, IsPlanIn, IsRefusedMix, IsSourceIn, IsToldOf, IsUnmixed, fresh_in, is_given, name_of, number_in};
 
 use crate::fault::{LineFault, fault_of};
 use crate::form::{near_command, tool_command};
 use crate::line::Line;
 use ch_graph::limits::{MOST_HOPS, MOST_LISTED, MOST_WEIGHT};
-use ch_job::{Direction, Job, Options, OrderBy, Question, Source, Sources};
+use ch_job::{Direction, HopBound, Job, Options, OrderBy, Percent, Question, Source, Sources};
 use ch_work::Plan;
 use ch_work::limits::{MOST_PIECE, MOST_WORKERS};
 use clap::ArgMatches;
@@ -164,13 +163,14 @@ fn count_given(matches: &ArgMatches<'_>) -> Result<Option<u32>, AllocError>
 
 /// Returns the per cent of the nodes that are ordered afresh: the given number, or 5. Clap has refused numbers above
 /// 100.
-fn fresh_given(matches: &ArgMatches<'_>) -> Result<u32, AllocError>
-    ensures range { IfOk result (λ fresh. fresh ≤ 100) }
-    ensures given { IfOk result (λ fresh. fresh ≡ fresh_in (rows_of (found_of matches.now))) }
+fn fresh_given(matches: &ArgMatches<'_>) -> Result<Percent, AllocError>
+    ensures { IfOk result (λ fresh. fresh.number ≡ fresh_in (rows_of (found_of matches.now))) }
 {
     match limit_given(matches, "fresh", 100)? {
-        None => Ok(5),
-        Some(fresh) => Ok(fresh as u32),
+        None => Ok(Percent { number: 5 }),
+        Some(fresh) => Ok(Percent {
+            number: fresh as u32,
+        }),
     }
 }
 
@@ -297,7 +297,7 @@ fn options_of(
     matches: &ArgMatches<'_>,
 ) -> Result<Options, LineFault>
     ensures allowed { IfOk result AreAllowed }
-    ensures hops { IfOk result (λ options. Some options.hops ≡ number_in (rows_of (found_of matches.now)) (codes "hops")) }
+    ensures hops { IfOk result (λ options. Some options.hops.number ≡ number_in (rows_of (found_of matches.now)) (codes "hops")) }
     ensures flags { IfOk result (AreFlagsIn (rows_of (found_of matches.now)) question.now) }
     ensures limit { IfOk result (λ options. options.within ≡ number_in (rows_of (found_of matches.now)) (codes "within")) }
     ensures count { IfOk result (λ options. options.count ≡ number_in (rows_of (found_of matches.now)) (codes "count")) }
@@ -328,7 +328,9 @@ fn options_of(
     Ok(Options {
         plain,
         routes,
-        hops: number_of(matches, "hops", MOST_HOPS)?,
+        hops: HopBound {
+            number: number_of(matches, "hops", MOST_HOPS)?,
+        },
         order,
         within: limit_given(matches, "within", MOST_WEIGHT)?,
         count: count_given(matches)?,
@@ -346,8 +348,6 @@ fn source_of(
     options: &Options,
     matches: &ArgMatches<'_>,
 ) -> Result<Source<String>, LineFault>
-    requires hops { IsHopBound options.now.hops }
-    ensures allowed { IfOk result IsSourceAllowed }
     ensures given { IfOk result (IsSourceIn (rows_of (found_of matches.now)) options.now) }
     ensures unmixed { IfOk result (λ _. IsUnmixed (rows_of (found_of matches.now))) }
     ensures refused { IfErr result (IsRefusedMix (rows_of (found_of matches.now))) }

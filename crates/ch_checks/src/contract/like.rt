@@ -1,9 +1,9 @@
 //! Hierarchies in an order like a given one.
-ghost use Rattle.std.specs.Prelude.{◌≤◌};
-
+use super::HOPS;
 use crate::again::{again, again_after};
 use crate::crew::crew;
 use crate::examples::RING_ARCS;
+use ch_contract::Percent;
 use ch_graph::Graph;
 use ch_hierarchy::Hierarchy;
 use ch_order::{OrderError, build_like, build_like_quickly};
@@ -18,42 +18,46 @@ use std::thread::Threads;
 /// An order of the nodes of the ring.
 const GIVEN: [u32; 5] = [4, 1, 3, 0, 2];
 
+/// No node afresh.
+const NONE: Percent = Percent { number: 0 };
+
 /// Builds the hierarchy of a graph in an order like a given one, or the one that takes less time.
 fn build<R: Threads + Sync>(
     rt: &R,
     alloc: Global,
     graph: &Graph,
     given: &[u32],
-    fresh: u32,
+    fresh: Percent,
     quickly: bool,
-) -> Result<Hierarchy, OrderError>
-    requires { fresh ≤ 100 }
-{
+) -> Result<Hierarchy, OrderError> {
     let plan = Plan::new(2, 1, 1);
     let crew = crew(rt, alloc, &plan, &Open);
     if quickly {
-        return build_like_quickly(&crew, graph, given, fresh, 5);
+        return build_like_quickly(&crew, graph, given, fresh, HOPS);
     }
-    build_like(&crew, graph, given, fresh, 5)
+    build_like(&crew, graph, given, fresh, HOPS)
 }
 
 /// Builds the hierarchy of the ring, and expects this text. Each call that is refused memory is made a second time.
 fn expect<R: Threads + Abort + Sync>(
     rt: &R,
     alloc: Global,
-    fresh: u32,
+    fresh: Percent,
     quickly: bool,
     text: &[u8],
-) -> Result<(), Fail>
-    requires { fresh ≤ 100 }
-{
+) -> Result<(), Fail> {
     let ring = again_after!(ReadError::NoMemory, read_graph(alloc, RING_ARCS));
     let hierarchy = again_after!(
         OrderError::NoMemory,
         build(rt, alloc, &ring, &GIVEN, fresh, quickly)
     );
     let written = again!(save_text(alloc, &hierarchy));
-    assert_eq!(rt; written.as_slice(), text, "{fresh} per cent afresh");
+    assert_eq!(rt;
+        written.as_slice(),
+        text,
+        "{} per cent afresh",
+        fresh.number
+    );
     Ok(())
 }
 
@@ -75,10 +79,16 @@ const AFRESH: &[u8] =
 /// It holds if any one request for memory is refused. With no node afresh both hierarchies have the given order.
 #[test]
 fn built_like_refused_in_turn(rt: HostRuntime) -> Result<(), Fail> {
-    expect(&rt, rt.alloc(), 0, false, AS_GIVEN)?;
-    expect(&rt, rt.alloc(), 0, true, AS_GIVEN)?;
-    expect(&rt, rt.alloc(), 60, false, BEGUN_AS_GIVEN)?;
-    expect(&rt, rt.alloc(), 100, true, AFRESH)
+    expect(&rt, rt.alloc(), NONE, false, AS_GIVEN)?;
+    expect(&rt, rt.alloc(), NONE, true, AS_GIVEN)?;
+    expect(
+        &rt,
+        rt.alloc(),
+        Percent { number: 60 },
+        false,
+        BEGUN_AS_GIVEN,
+    )?;
+    expect(&rt, rt.alloc(), Percent { number: 100 }, true, AFRESH)
 }
 
 /// A list that lacks a node is refused as an order, with enough memory or without.
@@ -86,7 +96,7 @@ fn built_like_refused_in_turn(rt: HostRuntime) -> Result<(), Fail> {
 fn other_lists_refused_as_orders(rt: HostRuntime) -> Result<(), Fail> {
     let ring = read_graph(rt.alloc(), RING_ARCS)?;
     for quickly in [false, true] {
-        let refused = build(&rt, rt.alloc(), &ring, &GIVEN[1..], 5, quickly);
+        let refused = build(&rt, rt.alloc(), &ring, &GIVEN[1..], NONE, quickly);
         assert_eq!(rt; refused.err(), Some(OrderError::Order));
     }
     Ok(())

@@ -2,6 +2,7 @@
 //! from 0.
 ghost use Rattle.std.specs.Prelude.{◌≡◌};
 
+use super::HOPS;
 use crate::again::again;
 use crate::examples::{STAR, read};
 use ch_contract::Remaining;
@@ -16,10 +17,10 @@ fn asked(alloc: Global, star: &Graph) -> Result<(bool, usize, i64, usize), Alloc
 {
     let legs = Remaining::open(alloc, star)?;
     let cost = Cost { weight: 2, arcs: 2 };
-    let has_witness = legs.has_witness(0, 1, 2, cost, 5)?;
-    let shortcuts = legs.shortcuts(0, 5)?.len();
-    let priority = legs.priority(0, 5)?;
-    let (_, removed) = legs.contract(0, 5)?;
+    let has_witness = legs.has_witness(0, 1, 2, cost, HOPS)?;
+    let shortcuts = legs.shortcuts(0, HOPS)?.len();
+    let priority = legs.priority(0, HOPS)?;
+    let (_, removed) = legs.contract(0, HOPS)?;
     Ok((has_witness, shortcuts, priority, removed.up.len()))
 }
 

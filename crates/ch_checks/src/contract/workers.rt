@@ -1,5 +1,5 @@
 //! How workers share the work of building: the pieces that pass the gate, and two pieces at once.
-use super::build_by;
+use super::{HOPS, build_by};
 use crate::crew::crew;
 use crate::examples::STAR;
 use ch_contract::OrderBy;
@@ -20,7 +20,7 @@ fn expect_passes<R: Threads + Abort + Sync>(
 ) -> Result<(), Fail> {
     let graph = read_graph(alloc, STAR.0)?;
     let gate = CountingGate::new(alloc, 4)?;
-    build_by(&crew(rt, alloc, plan, &gate), &graph, 5, by)?;
+    build_by(&crew(rt, alloc, plan, &gate), &graph, HOPS, by)?;
     for (piece, count) in expected.iter().enumerate() {
         assert_eq!(rt; gate.passes(piece as u32), Some(*count), "piece {piece}");
     }
@@ -59,7 +59,7 @@ fn two_pieces_at_once(rt: HostRuntime) -> Result<(), Fail> {
     build_by(
         &crew(&rt, rt.alloc(), &plan, &gate),
         &graph,
-        5,
+        HOPS,
         OrderBy::Difference,
     )?;
     assert!(rt; gate.has_met());

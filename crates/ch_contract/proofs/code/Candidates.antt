@@ -87,12 +87,11 @@ module _ (n : ℕ) (outs ins : List (List Leg)) (within : IsWithinLimits n outs 
       ((λ m. turned.0 (met.0 m)), λ x. met.1 (turned.1 x))
 
   -- after a search the costs of chains of at most `hops` - 2 legs are known
-  pub known_after : (ups downs : List (List Leg)) (s : Wanted) (hops k : ℕ) (h : Known) (o : Result (Unit {0}) AllocError) → k ≡ hops - 2 →
-      OnOk o (length h.costs ≡ length outs) → OnOk o (AreLeastCosts (legs_into outs) s k h) →
+  pub known_after : (ups downs : List (List Leg)) (s : Wanted) (hops : ℕ) (h : Known) (o : Result (Unit {0}) AllocError) →
+      OnOk o (length h.costs ≡ length outs) → OnOk o (AreLeastCosts (legs_into outs) s (hops - 2) h) →
       OnOk o (IsKnown (record { nodes = n; rows = outs; ups = ups; downs = downs }) s hops h)
-  known_after ups downs s hops k h (Ok x) e size least =
-      record { size = size ∙ within.sizes.0; least = subst (λ j. AreLeastCosts (legs_into outs) s j h) e least }
-  known_after ups downs s hops k h (Err x) e size least = least
+  known_after ups downs s hops h (Ok x) size least = record { size = size ∙ within.sizes.0; least = least }
+  known_after ups downs s hops h (Err x) size least = least
 
 -- a candidate of a list is also one of a longer list
 more_candidate : (n : ℕ) (first l : Leg) (up : List Leg) (most : Cost) →

@@ -1,10 +1,11 @@
 //! The contraction of one node.
 ghost use Rattle.std.specs.Prelude.{◌≡◌, ℕ, ◌<◌, [], All, AllPairs, IfOk};
-ghost use Rattle.ch_contract.specs.Legs.{AreLegsWithin, SameLegs, IsHopBound, IsLegWithin, turned_legs};
+ghost use Rattle.ch_contract.specs.Legs.{AreLegsWithin, SameLegs, IsLegWithin, turned_legs};
 ghost use Rattle.ch_contract.specs.Contraction.{AreShortcuts, Contracts, IsPairBefore, leg_after_shortcuts, legs_after_contraction, shortcut_label};
 ghost use Rattle.ch_contract.specs.LegRows.{AreLegsFrom, AreLegsTo};
 ghost use Rattle.ch_contract.specs.Remaining.{legs_of, IsSetAside};
 
+use crate::hop_bound::HopBound;
 use crate::leg_lists::put_shortcuts;
 use crate::remaining::Remaining;
 use crate::remaining::light::are_light;
@@ -28,11 +29,10 @@ impl Remaining {
     /// # Errors
     /// `AllocError` if there is no memory for the search, for the shortcuts, or for the legs that the call
     /// returns. All legs are dropped, because they may be half contracted. The graph can be opened again.
-    pub fn contract(self, v: u32, hops: u32) -> Result<(Remaining, Removed), AllocError>
+    pub fn contract(self, v: u32, hops: HopBound) -> Result<(Remaining, Removed), AllocError>
         requires node { v < self.nodes }
-        requires hops { IsHopBound hops }
         ensures nodes { IfOk result (λ r. r.0.nodes ≡ self.nodes) }
-        ensures legs { IfOk result (λ r. Contracts self.nodes hops (legs_of self) v (legs_of r.0)) }
+        ensures legs { IfOk result (λ r. Contracts self.nodes hops.number (legs_of self) v (legs_of r.0)) }
         ensures up { IfOk result (λ r. AreLegsFrom (legs_of self) v r.1.up.items) }
         ensures down { IfOk result (λ r. AreLegsTo (legs_of self) v r.1.down.items) }
     {

@@ -1,12 +1,12 @@
 //! The search for the shortcuts of one node.
 ghost use Rattle.std.specs.Prelude.{◌≤◌, All, IsTrue};
 ghost use Rattle.ch_contract.specs.declared.held_cost.TheConstants.{MOST_LIGHT};
-ghost use Rattle.ch_contract.specs.Legs.{IsHopBound};
 ghost use Rattle.ch_contract.specs.ShortcutLists.{AreTouching};
 ghost use Rattle.ch_contract.specs.KnownCosts.{AreLegsUpTo};
 ghost use Rattle.ch_contract.specs.Remaining.{legs_of};
 
 use crate::held_cost::HeldCost;
+use crate::hop_bound::HopBound;
 use crate::remaining::Remaining;
 use crate::remaining::candidates::{candidate_cost, most_cost};
 use crate::remaining::light::are_light_legs;
@@ -42,9 +42,8 @@ impl Touching<'_> {
 pub(crate) struct Judging<'a, K: HeldCost> {
     pub(crate) remaining: &'a Remaining,
     pub(crate) touching: Touching<'a>,
-    pub(crate) hops: u32,
+    pub(crate) hops: HopBound,
     pub(crate) form: PhantomData<K>,
-    ghost bound: { IsHopBound hops },
     ghost light: { AreLegsUpTo K.limit (legs_of remaining.now) },
     ghost touches: { AreTouching remaining.now.nodes K.limit touching.node touching.up.now touching.down.now },
 }
@@ -67,7 +66,7 @@ impl<'a, K: HeldCost> Judging<'a, K> {
         list: &mut Vec<Shortcut>,
     ) -> Result<(), AllocError>
         requires clean { IsClean self.now.remaining.now.nodes (known_of K.cost search.old.known) }
-        ensures list { OnOk result (AreShortcutsAmong self.now.remaining.now.nodes self.now.hops
+        ensures list { OnOk result (AreShortcutsAmong self.now.remaining.now.nodes self.now.hops.number
             (legs_touching self.now.touching.node self.now.touching.up.now self.now.touching.down.now) (legs_of self.now.remaining.now) self.now.touching.node list.new.items) }
         ensures clean { OnOk result (IsClean self.now.remaining.now.nodes (known_of K.cost search.new.known)) }
     {
@@ -87,10 +86,10 @@ impl<'a, K: HeldCost> Judging<'a, K> {
     ) -> Result<(), AllocError>
         requires first { legs_touching self.now.touching.node self.now.touching.up.now self.now.touching.down.now first.node self.now.touching.node ≡ Some (label_of first) }
         requires clean { IsClean self.now.remaining.now.nodes (known_of K.cost search.old.known) }
-        requires list { AreShortcutsBefore self.now.remaining.now.nodes self.now.hops (legs_touching self.now.touching.node self.now.touching.up.now self.now.touching.down.now)
+        requires list { AreShortcutsBefore self.now.remaining.now.nodes self.now.hops.number (legs_touching self.now.touching.node self.now.touching.up.now self.now.touching.down.now)
             (legs_of self.now.remaining.now) self.now.touching.node first.node 0 list.old.items }
         ensures list { OnOk result
-            (AreShortcutsBefore self.now.remaining.now.nodes self.now.hops (legs_touching self.now.touching.node self.now.touching.up.now self.now.touching.down.now)
+            (AreShortcutsBefore self.now.remaining.now.nodes self.now.hops.number (legs_touching self.now.touching.node self.now.touching.up.now self.now.touching.down.now)
             (legs_of self.now.remaining.now) self.now.touching.node (first.node + 1) 0 list.new.items) }
         ensures clean { OnOk result (IsClean self.now.remaining.now.nodes (known_of K.cost search.new.known)) }
     {
@@ -125,11 +124,11 @@ impl<'a, K: HeldCost> Judging<'a, K> {
         requires end { wanted.end ≡ first.node }
         requires first { IsLegWithin self.now.remaining.now.nodes first.node wanted.avoided (label_of first) × (first.cost.weight ≤ K.limit) }
         requires second { IsLegWithin self.now.remaining.now.nodes wanted.avoided second.node (label_of second) × (second.cost.weight ≤ K.limit) }
-        requires known { IsKnown self.now.remaining.now wanted self.now.hops (known_of K.cost search.now.known) }
+        requires known { IsKnown self.now.remaining.now wanted self.now.hops.number (known_of K.cost search.now.known) }
         requires held { IsHeld K.limit wanted.most }
         requires most { IsMostFor self.now.remaining.now.nodes first wanted.most second }
         ensures { (L : Legs) → L first.node wanted.avoided ≡ Some (label_of first) → L wanted.avoided second.node ≡ Some (label_of second) →
-            IsShortcutBetween self.now.remaining.now.nodes self.now.hops L (legs_of self.now.remaining.now) wanted.avoided first.node second.node result }
+            IsShortcutBetween self.now.remaining.now.nodes self.now.hops.number L (legs_of self.now.remaining.now) wanted.avoided first.node second.node result }
     {
         let nodes = self.remaining.nodes();
         let cost = candidate_cost(nodes, first, second)?;

@@ -2,7 +2,7 @@
 ghost use Rattle.std.specs.Prelude.{◌≡◌, ◌<◌, ◌≤◌, ◌^◌, IfOk, OnOk};
 ghost use Rattle.ch_graph.specs.declared.limits.TheConstants.{MOST_NODES};
 ghost use Rattle.ch_hierarchy.specs.Rows.{row};
-ghost use Rattle.ch_contract.specs.Legs.{AreLegsWithin, IsHopBound};
+ghost use Rattle.ch_contract.specs.Legs.{AreLegsWithin};
 ghost use Rattle.ch_contract.specs.Contraction.{AreShortcuts, IsPriority, count_touching};
 ghost use Rattle.ch_contract.specs.LegRows.{AreLegsFrom, AreLegsTo};
 ghost use Rattle.ch_contract.specs.Measures.{IsMeasure};
@@ -10,6 +10,7 @@ ghost use Rattle.ch_contract.specs.KnownCosts.{known_of, IsClean, AreLegsUpTo};
 ghost use Rattle.ch_contract.specs.Remaining.{legs_of};
 
 use crate::held_cost::HeldCost;
+use crate::hop_bound::HopBound;
 use crate::measure::{Measure, OrderBy};
 use crate::remaining::Remaining;
 use crate::remaining::judging::{Judging, Touching};
@@ -26,10 +27,9 @@ impl Remaining {
     ///
     /// # Errors
     /// `AllocError` if there is no memory for the search or for the list. The legs are as before.
-    pub fn shortcuts(&self, v: u32, hops: u32) -> Result<Vec<Shortcut>, AllocError>
+    pub fn shortcuts(&self, v: u32, hops: HopBound) -> Result<Vec<Shortcut>, AllocError>
         requires node { v < self.now.nodes }
-        requires hops { IsHopBound hops }
-        ensures { IfOk result (λ list. AreShortcuts self.now.nodes hops (legs_of self.now) v list.items) }
+        ensures { IfOk result (λ list. AreShortcuts self.now.nodes hops.number (legs_of self.now) v list.items) }
     {
         let mut search: WitnessSearch<Cost> = WitnessSearch::new(self.alloc, self.nodes())?;
         let mut list = Vec::new(self.alloc);
@@ -48,10 +48,9 @@ impl Remaining {
     ///
     /// # Errors
     /// `AllocError` if there is no memory for the search or for the list of shortcuts. The legs are as before.
-    pub fn priority(&self, v: u32, hops: u32) -> Result<i64, AllocError>
+    pub fn priority(&self, v: u32, hops: HopBound) -> Result<i64, AllocError>
         requires node { v < self.now.nodes }
-        requires hops { IsHopBound hops }
-        ensures { IfOk result (λ p. IsPriority self.now.nodes hops (legs_of self.now) v p) }
+        ensures { IfOk result (λ p. IsPriority self.now.nodes hops.number (legs_of self.now) v p) }
     {
         let mut search: WitnessSearch<Cost> = WitnessSearch::new(self.alloc, self.nodes())?;
         let mut list = Vec::new(self.alloc);
@@ -66,14 +65,13 @@ impl Remaining {
         search: &mut WitnessSearch<K>,
         list: &mut Vec<Shortcut>,
         v: u32,
-        hops: u32,
+        hops: HopBound,
     ) -> Result<Measure, AllocError>
         requires node { v < self.now.nodes }
-        requires hops { IsHopBound hops }
         requires light { AreLegsUpTo K.limit (legs_of self.now) }
         requires clean { IsClean self.now.nodes (known_of K.cost search.old.known) }
-        ensures measure { IfOk result (IsMeasure self.now.nodes hops (legs_of self.now) v) }
-        ensures list { OnOk result (AreShortcuts self.now.nodes hops (legs_of self.now) v list.new.items) }
+        ensures measure { IfOk result (IsMeasure self.now.nodes hops.number (legs_of self.now) v) }
+        ensures list { OnOk result (AreShortcuts self.now.nodes hops.number (legs_of self.now) v list.new.items) }
         ensures clean { OnOk result (IsClean self.now.nodes (known_of K.cost search.new.known)) }
     {
         let touching = self.touching(v);

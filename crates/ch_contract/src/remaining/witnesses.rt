@@ -2,13 +2,14 @@
 ghost use Rattle.std.specs.Prelude.{◌≢◌, ◌<◌, ◌≤◌, ◌↔◌, IfOk, OnOk, IsTrue};
 ghost use Rattle.ch_graph.specs.declared.limits.TheConstants.{MOST_WEIGHT};
 ghost use Rattle.ch_graph.specs.Cost.{IsAtMost};
-ghost use Rattle.ch_contract.specs.Legs.{HasWitness, IsHopBound};
+ghost use Rattle.ch_contract.specs.Legs.{HasWitness};
 ghost use Rattle.ch_contract.specs.HeldCosts.{IsHeld};
 ghost use Rattle.ch_contract.specs.KnownCosts.{known_of, IsClean, AreTouched, AreLegsUpTo};
 ghost use Rattle.ch_contract.specs.Candidates.{IsKnown};
 ghost use Rattle.ch_contract.specs.Remaining.{legs_of};
 
 use crate::held_cost::{HeldCost, MOST_CHAIN_ARCS};
+use crate::hop_bound::HopBound;
 use crate::remaining::Remaining;
 use crate::witness_search::{Wanted, WitnessSearch};
 use ch_graph::Cost;
@@ -26,13 +27,12 @@ impl Remaining {
         u: u32,
         w: u32,
         cost: Cost,
-        hops: u32,
+        hops: HopBound,
     ) -> Result<bool, AllocError>
         requires nodes { (v < self.now.nodes) × (u < self.now.nodes) × (w < self.now.nodes) }
         requires apart { (v ≢ u) × (v ≢ w) × (u ≢ w) }
         requires cost { cost.weight ≤ MOST_WEIGHT }
-        requires hops { IsHopBound hops }
-        ensures { IfOk result (λ found. IsTrue found ↔ HasWitness (legs_of self.now) v u w cost hops) }
+        ensures { IfOk result (λ found. IsTrue found ↔ HasWitness (legs_of self.now) v u w cost hops.number) }
     {
         let nodes = self.nodes();
         let most = Cost {
@@ -59,17 +59,16 @@ impl Remaining {
         &self,
         search: &mut WitnessSearch<K>,
         wanted: Wanted,
-        hops: u32,
+        hops: HopBound,
     ) -> Result<(), AllocError>
-        requires hops { IsHopBound hops }
         requires light { AreLegsUpTo K.limit (legs_of self.now) }
         requires clean { IsClean self.now.nodes (known_of K.cost search.old.known) }
         requires end { (wanted.end < self.now.nodes) × (wanted.end ≢ wanted.avoided) }
         requires most { IsHeld K.limit wanted.most }
-        ensures known { OnOk result (IsKnown self.now wanted hops (known_of K.cost search.new.known)) }
+        ensures known { OnOk result (IsKnown self.now wanted hops.number (known_of K.cost search.new.known)) }
         ensures touched { OnOk result (AreTouched (known_of K.cost search.new.known)) }
     {
-        search.reach(&self.outs, wanted, hops.saturating_sub(2))
+        search.reach(&self.outs, wanted, hops)
     }
 
     /// Whether there is a witness from the wanted end to `w`, of at most `hops` legs and at most this
@@ -81,18 +80,17 @@ impl Remaining {
         wanted: Wanted,
         w: u32,
         cost: Cost,
-        hops: u32,
+        hops: HopBound,
     ) -> bool
-        requires hops { IsHopBound hops }
         requires light { AreLegsUpTo K.limit (legs_of self.now) }
-        requires known { IsKnown self.now wanted hops (known_of K.cost search.now.known) }
+        requires known { IsKnown self.now wanted hops.number (known_of K.cost search.now.known) }
         requires node { w < self.now.nodes }
         requires end { wanted.end < self.now.nodes }
         requires apart { (w ≢ wanted.avoided) × (w ≢ wanted.end) }
         requires cost { IsHeld K.limit cost × IsAtMost cost wanted.most }
         requires most { IsHeld K.limit wanted.most }
-        ensures { IsTrue result ↔ HasWitness (legs_of self.now) wanted.avoided wanted.end w cost hops }
+        ensures { IsTrue result ↔ HasWitness (legs_of self.now) wanted.avoided wanted.end w cost hops.number }
     {
-        search.meets(&self.ins, wanted.avoided, w, cost, hops)
+        search.meets(&self.ins, wanted.avoided, w, cost, hops.number)
     }
 }

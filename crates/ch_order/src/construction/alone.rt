@@ -1,7 +1,6 @@
 //! The construction of a hierarchy by the caller alone.
 ghost use Rattle.std.specs.Prelude.{◌≡◌, ◌<◌, ◌≤◌, All, Err, IfOk, length, take};
 ghost use Rattle.ch_graph.specs.Graph.{IsWithinLimits};
-ghost use Rattle.ch_contract.specs.Legs.{IsHopBound};
 ghost use Rattle.ch_contract.specs.Built.{IsHierarchyBy};
 ghost use Rattle.ch_contract.specs.Like.{IsHierarchyFrom, IsHierarchyLike};
 ghost use Rattle.ch_order.specs.declared.construction.like.OrderError.TheVariants as OrderError;
@@ -11,9 +10,9 @@ ghost use Rattle.ch_hierarchy.specs.Saved.{IsOrderOf};
 use super::Construction;
 use super::like::{OrderError, given_count};
 use crate::priority::PriorityJob;
-use ch_contract::OrderBy;
 use ch_contract::memory::ask_ahead;
 use ch_contract::order::all_nodes;
+use ch_contract::{HopBound, OrderBy, Percent};
 use ch_graph::Graph;
 use ch_hierarchy::Hierarchy;
 use ch_work::Open;
@@ -25,9 +24,8 @@ use std::alloc::{AllocError, Global};
 ///
 /// # Errors
 /// `AllocError` if there is no memory. What was made is dropped, and the graph is as it was.
-pub fn build_alone(alloc: Global, graph: &Graph, hops: u32) -> Result<Hierarchy, AllocError>
-    requires hops { IsHopBound hops }
-    ensures hierarchy { IfOk result (IsHierarchyBy OrderBy.Depth graph.now hops) }
+pub fn build_alone(alloc: Global, graph: &Graph, hops: HopBound) -> Result<Hierarchy, AllocError>
+    ensures hierarchy { IfOk result (IsHierarchyBy OrderBy.Depth graph.now hops.number) }
     ensures kept { IfOk result (IsKept graph.now) }
     ensures limits { IsWithinLimits graph.now }
 {
@@ -46,12 +44,10 @@ pub fn build_like_alone(
     alloc: Global,
     graph: &Graph,
     given: &[u32],
-    fresh: u32,
-    hops: u32,
+    fresh: Percent,
+    hops: HopBound,
 ) -> Result<Hierarchy, OrderError>
-    requires hops { IsHopBound hops }
-    requires fresh { fresh ≤ 100 }
-    ensures hierarchy { IfOk result (IsHierarchyLike graph.now hops given.now fresh) }
+    ensures hierarchy { IfOk result (IsHierarchyLike graph.now hops.number given.now fresh.number) }
     ensures kept { IfOk result (IsKept graph.now) }
     ensures order { IfOk result (λ _. IsOrderOf graph.now.nodes given.now) }
     ensures refused { result ≡ Err OrderError.Order → IsOrderOf graph.now.nodes given.now → ⊥ }
@@ -69,12 +65,11 @@ fn contract_in_turn(
     graph: &Graph,
     nodes: &[u32],
     given: usize,
-    hops: u32,
+    hops: HopBound,
 ) -> Result<Hierarchy, AllocError>
-    requires hops { IsHopBound hops }
     requires nodes { IsOrderOf graph.now.nodes nodes.now }
     requires given { given ≤ length nodes.now }
-    ensures { IfOk result (IsHierarchyFrom OrderBy.Depth graph.now hops (take given nodes.now)) }
+    ensures { IfOk result (IsHierarchyFrom OrderBy.Depth graph.now hops.number (take given nodes.now)) }
 {
     let (first, others) = nodes.split_at(given);
     let begun = Construction::after(alloc, &Open, graph, first, hops)?;
@@ -98,16 +93,15 @@ impl Construction {
         mut self,
         alloc: Global,
         nodes: &[u32],
-        hops: u32,
+        hops: HopBound,
     ) -> Result<Construction, AllocError>
-        requires hops { IsHopBound hops }
         requires sizes { IsSized self }
         requires nodes { All (λ x. x < self.remaining.nodes) nodes.now }
-        requires ready { IsJudging hops self }
+        requires ready { IsJudging hops.number self }
         ensures sizes { IfOk result IsSized }
         ensures nodes { IfOk result (λ c. c.remaining.nodes ≡ self.remaining.nodes) }
-        ensures ranked { IfOk result (λ c. IsRanked OrderBy.Depth self.remaining.nodes hops nodes.now (progress_of self) (progress_of c)) }
-        ensures ready { IfOk result (IsJudging hops) }
+        ensures ranked { IfOk result (λ c. IsRanked OrderBy.Depth self.remaining.nodes hops.number nodes.now (progress_of self) (progress_of c)) }
+        ensures ready { IfOk result (IsJudging hops.number) }
     {
         let by = OrderBy::Depth;
         let job = PriorityJob {
@@ -121,12 +115,17 @@ impl Construction {
     }
 
     /// Contracts a node in the order by depth, and keeps its level and its legs.
-    fn contract_alone(self, alloc: Global, node: u32, hops: u32) -> Result<Construction, AllocError>
-        requires next { IsReadyFor hops self node }
+    fn contract_alone(
+        self,
+        alloc: Global,
+        node: u32,
+        hops: HopBound,
+    ) -> Result<Construction, AllocError>
+        requires next { IsReadyFor hops.number self node }
         ensures sizes { IfOk result IsSized }
         ensures nodes { IfOk result (λ c. c.remaining.nodes ≡ self.remaining.nodes) }
-        ensures step { IfOk result (λ c. IsStep OrderBy.Depth self.remaining.nodes hops (progress_of self) node (progress_of c)) }
-        ensures ready { IfOk result (IsJudging hops) }
+        ensures step { IfOk result (λ c. IsStep OrderBy.Depth self.remaining.nodes hops.number (progress_of self) node (progress_of c)) }
+        ensures ready { IfOk result (IsJudging hops.number) }
     {
         let (mut taken, neighbours) = self.take(alloc, node, hops)?;
         let job = PriorityJob {

@@ -5,12 +5,11 @@ ghost use Rattle.ch_hierarchy.specs.Kept.{IsKept};
 ghost use Rattle.ch_hierarchy.specs.Saved.{IsOrderOf};
 ghost use Rattle.ch_order.specs.declared.construction.like.OrderError.TheVariants as OrderError;
 ghost use Rattle.ch_order.specs.OrderText.{order_text};
-ghost use Rattle.ch_contract.specs.Legs.{IsHopBound};
 ghost use Rattle.ch_contract.specs.Like.{IsHierarchyLike, given_count as count_of};
 
 use super::contract_in_turn;
-use ch_contract::OrderBy;
 use ch_contract::memory::ask_ahead;
+use ch_contract::{HopBound, OrderBy, Percent};
 use ch_graph::Graph;
 use ch_hierarchy::{Hierarchy, levels_of};
 use ch_work::{Crew, Gate};
@@ -65,12 +64,10 @@ pub fn build_like<R: Threads + Sync, G: Gate>(
     crew: &Crew<'_, R, G>,
     graph: &Graph,
     given: &[u32],
-    fresh: u32,
-    hops: u32,
+    fresh: Percent,
+    hops: HopBound,
 ) -> Result<Hierarchy, OrderError>
-    requires hops { IsHopBound hops }
-    requires fresh { fresh ≤ 100 }
-    ensures hierarchy { IfOk result (IsHierarchyLike graph.now hops given.now fresh) }
+    ensures hierarchy { IfOk result (IsHierarchyLike graph.now hops.number given.now fresh.number) }
     ensures kept { IfOk result (IsKept graph.now) }
     ensures order { IfOk result (λ _. IsOrderOf graph.now.nodes given.now) }
     ensures refused { result ≡ Err OrderError.Order → IsOrderOf graph.now.nodes given.now → ⊥ }
@@ -88,11 +85,10 @@ pub(super) fn given_count(
     alloc: Global,
     graph: &Graph,
     given: &[u32],
-    fresh: u32,
+    fresh: Percent,
 ) -> Result<usize, OrderError>
-    requires fresh { fresh ≤ 100 }
     ensures order { IfOk result (λ _. IsOrderOf graph.now.nodes given.now) }
-    ensures count { IfOk result (λ k. k ≡ count_of graph.now.nodes fresh) }
+    ensures count { IfOk result (λ k. k ≡ count_of graph.now.nodes fresh.number) }
     ensures refused { result ≡ Err OrderError.Order → IsOrderOf graph.now.nodes given.now → ⊥ }
 {
     let nodes = graph.nodes();
@@ -100,6 +96,6 @@ pub(super) fn given_count(
         return Err(OrderError::Order);
     };
     drop(levels);
-    let afresh = u64::from(nodes) * u64::from(fresh) / 100;
+    let afresh = u64::from(nodes) * u64::from(fresh.number) / 100;
     Ok(given.len() - afresh as usize)
 }

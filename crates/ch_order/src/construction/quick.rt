@@ -2,7 +2,6 @@
 //! time to find.
 ghost use Rattle.std.specs.Prelude.{◌≡◌, ℕ, ◌^◌, ◌<◌, ◌≤◌, All, Err, IfOk, OnOk, length, take};
 ghost use Rattle.ch_graph.specs.Graph.{IsWithinLimits};
-ghost use Rattle.ch_contract.specs.Legs.{IsHopBound};
 ghost use Rattle.ch_contract.specs.Like.{given_count as count_of};
 ghost use Rattle.ch_order.specs.Quick.{IsHierarchyAfter, HaveKeys};
 ghost use Rattle.ch_order.specs.declared.construction.like.OrderError.TheVariants as OrderError;
@@ -12,8 +11,8 @@ ghost use Rattle.ch_hierarchy.specs.Saved.{IsOrderOf};
 use super::Construction;
 use super::like::{OrderError, given_count};
 use crate::priority::PriorityJob;
-use ch_contract::OrderBy;
 use ch_contract::memory::ask_ahead;
+use ch_contract::{HopBound, OrderBy, Percent};
 use ch_graph::Graph;
 use ch_hierarchy::Hierarchy;
 use ch_queue::KeyQueue;
@@ -61,12 +60,10 @@ pub fn build_like_quickly<R: Threads + Sync, G: Gate>(
     crew: &Crew<'_, R, G>,
     graph: &Graph,
     given: &[u32],
-    fresh: u32,
-    hops: u32,
+    fresh: Percent,
+    hops: HopBound,
 ) -> Result<Hierarchy, OrderError>
-    requires hops { IsHopBound hops }
-    requires fresh { fresh ≤ 100 }
-    ensures hierarchy { IfOk result (IsHierarchyAfter graph.now hops (take (count_of graph.now.nodes fresh) given.now)) }
+    ensures hierarchy { IfOk result (IsHierarchyAfter graph.now hops.number (take (count_of graph.now.nodes fresh.number) given.now)) }
     ensures kept { IfOk result (IsKept graph.now) }
     ensures order { IfOk result (λ _. IsOrderOf graph.now.nodes given.now) }
     ensures refused { result ≡ Err OrderError.Order → IsOrderOf graph.now.nodes given.now → ⊥ }
@@ -84,12 +81,11 @@ fn contract_quickly<R: Threads + Sync, G: Gate>(
     graph: &Graph,
     nodes: &[u32],
     given: usize,
-    hops: u32,
+    hops: HopBound,
 ) -> Result<Hierarchy, AllocError>
-    requires hops { IsHopBound hops }
     requires nodes { IsOrderOf graph.now.nodes nodes.now }
     requires given { given ≤ length nodes.now }
-    ensures { IfOk result (IsHierarchyAfter graph.now hops (take given nodes.now)) }
+    ensures { IfOk result (IsHierarchyAfter graph.now hops.number (take given nodes.now)) }
 {
     let (first, others) = nodes.split_at(given);
     let begun = Construction::after(crew.alloc, crew.gate, graph, first, hops)?;
@@ -137,11 +133,10 @@ fn next_count(remaining: usize) -> usize
 }
 
 /// Returns the most legs of a witness while nodes are judged together: one less than otherwise, if that is not none.
-fn hops_together(hops: u32) -> u32
-    requires { IsHopBound hops }
-    ensures { IsHopBound result }
-{
-    (hops - 1).max(1)
+fn hops_together(hops: HopBound) -> HopBound {
+    HopBound {
+        number: (hops.number - 1).max(1),
+    }
 }
 
 impl Construction {
@@ -171,17 +166,16 @@ impl Construction {
         mut self,
         alloc: Global,
         first: u32,
-        hops: u32,
+        hops: HopBound,
     ) -> Result<(Construction, u32), AllocError>
-        requires hops { IsHopBound hops }
         requires sizes { IsSized self }
         requires first { HasKey self.waiting first }
-        requires ready { IsJudging hops self }
+        requires ready { IsJudging hops.number self }
         ensures sizes { IfOk result (λ r. IsSized r.0) }
         ensures nodes { IfOk result (λ r. r.0.remaining.nodes ≡ self.remaining.nodes) }
         ensures rekeyed { IfOk result (λ r. IsRekeyed (progress_of self) (progress_of r.0)) }
         ensures node { IfOk result (λ r. HasKey r.0.waiting r.1) }
-        ensures ready { IfOk result (λ r. IsJudging hops r.0) }
+        ensures ready { IfOk result (λ r. IsJudging hops.number r.0) }
     {
         let mut node = first;
         for _ in 0..MOST_JUDGED {
@@ -195,16 +189,15 @@ impl Construction {
 
     /// Gives a node of the queue a key that is [`PREFERENCE`] less than the priority by depth that it has now. Returns the
     /// node that is then the first.
-    fn judge(&mut self, alloc: Global, node: u32, hops: u32) -> Result<u32, AllocError>
-        requires hops { IsHopBound hops }
+    fn judge(&mut self, alloc: Global, node: u32, hops: HopBound) -> Result<u32, AllocError>
         requires sizes { IsSized self.old }
         requires node { HasKey self.old.waiting node }
-        requires ready { IsJudging hops self.old }
+        requires ready { IsJudging hops.number self.old }
         ensures sizes { OnOk result (IsSized self.new) }
         ensures nodes { OnOk result (self.new.remaining.nodes ≡ self.old.remaining.nodes) }
         ensures rekeyed { OnOk result (IsRekeyed (progress_of self.old) (progress_of self.new)) }
         ensures first { IfOk result (HasKey self.new.waiting) }
-        ensures ready { OnOk result (IsJudging hops self.new) }
+        ensures ready { OnOk result (IsJudging hops.number self.new) }
     {
         let job = PriorityJob {
             remaining: &self.remaining,
@@ -227,17 +220,16 @@ impl Construction {
         crew: &Crew<'_, R, G>,
         nodes: &[u32],
         due: usize,
-        hops: u32,
+        hops: HopBound,
     ) -> Result<Construction, AllocError>
-        requires hops { IsHopBound hops }
         requires sizes { IsSized self }
         requires nodes { All (λ x. x < self.remaining.nodes) nodes.now }
         requires count { length nodes.now < 2 ^ 32 }
-        requires ready { IsJudging hops self }
+        requires ready { IsJudging hops.number self }
         ensures sizes { IfOk result IsSized }
         ensures nodes { IfOk result (λ c. c.remaining.nodes ≡ self.remaining.nodes) }
         ensures rekeyed { IfOk result (λ c. IsRekeyed (progress_of self) (progress_of c)) }
-        ensures ready { IfOk result (IsJudging hops) }
+        ensures ready { IfOk result (IsJudging hops.number) }
     {
         if self.waiting.len() > due {
             return Ok(self);

@@ -11,10 +11,10 @@ use Rattle.ch_graph.specs.Cost.{cost_at}
 use Rattle.ch_hierarchy.specs.Hierarchy.{LevelsAndLegs, nodes_of, IsLevelled}
 use Rattle.ch_hierarchy.proofs.code.Ranked.{rank_below}
 use Rattle.ch_hierarchy.specs.Ranked.{rank_of}
-use Rattle.ch_query.specs.declared.side.Side.{Side}
+use Rattle.ch_hierarchy.specs.declared.side.Side.{Side}
+use Rattle.ch_hierarchy.specs.Side.{state_of}
 use Rattle.ch_query.specs.declared.weights.search.TheConstants.{UNREACHED}
 use Rattle.ch_query.specs.declared.weights.search.WeightSearch.{WeightSearch}
-use Rattle.ch_query.specs.Side.{state_of}
 use Rattle.ch_query.specs.Weights.{known_cost, weight_cost, side_costs, side_keys, IsSizedFor, IsCleanFor}
 use Rattle.ch_query.specs.Underway.{IsTouched}
 use Rattle.ch_query.proofs.one_side.Touched.{untouched, touched_less}

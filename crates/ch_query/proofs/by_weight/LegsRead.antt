@@ -9,10 +9,10 @@ use Rattle.ch_hierarchy.specs.declared.ranked.RankedLeg.{RankedLeg}
 use Rattle.ch_hierarchy.specs.Rows.{row}
 use Rattle.ch_hierarchy.specs.Hierarchy.{LevelsAndLegs, nodes_of, IsLevelled}
 use Rattle.ch_hierarchy.specs.Ranked.{rank_of, ranked_leg}
+use Rattle.ch_hierarchy.specs.declared.side.Side.{Side}
+use Rattle.ch_hierarchy.specs.Side.{rows_of, state_of}
 use Rattle.ch_hierarchy.proofs.code.Ranked.{rank_below}
 use Rattle.ch_hierarchy.proofs.theory.NoLeg.{no_leg}
-use Rattle.ch_query.specs.declared.side.Side.{Side}
-use Rattle.ch_query.specs.Side.{rows_of, state_of}
 use Rattle.ch_query.specs.Weighed.{weighed, weighed_leg}
 use Rattle.ch_query.proofs.one_side.Expanding.{leg_up}
 use Rattle.ch_query.proofs.one_side.WeighedPaths.{weighed_row}

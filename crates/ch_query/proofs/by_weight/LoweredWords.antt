@@ -3,14 +3,15 @@ use Rattle.std.proofs.Common.{◌≡◌, ℕ, ◌+◌, ◌<◌, ◌≤◌, ◌�
 use Rattle.std.proofs.Common.{◌∙◌, ap, subst, arith, inl, inr, length-set, get_or-set_same, get_or-set_other}
 use Rattle.std.specs.Prelude.{All, slice_index_or}
 use Rattle.std.proofs.lemmas.Bool.{cases_eq, cases_lt}
-use Rattle.std.proofs.lemmas.List.Elements.{Contains-append_left, Contains-get_or, Contains-push, Contains-push_cases}
+use Rattle.std.proofs.lemmas.List.Elements.{Contains-get_or}
 use Rattle.ch_graph.specs.declared.limits.TheConstants.{MOST_WEIGHT}
 use Rattle.ch_graph.proofs.Lists.{contains_none}
 use Rattle.ch_hierarchy.specs.Hierarchy.{LevelsAndLegs, nodes_of, IsLevelled}
+use Rattle.ch_hierarchy.specs.declared.side.Side.{Side}
 use Rattle.ch_hierarchy.proofs.code.Ranked.{rank_below}
-use Rattle.ch_query.specs.declared.side.Side.{Side}
 use Rattle.ch_query.specs.Lowered.{AreLowered, IsSumOver}
 use Rattle.ch_query.specs.SearchSpace.{IsRankedSpace}
+use Rattle.ch_query.proofs.by_weight.MoreEntries.{some_cases, some_old, some_new}
 
 -- without sums nothing is lowered
 pub lowered_none : (P : ℕ → ℕ → Type 0) (row : List ℕ) → ((j x : ℕ) → P j x → ⊥) → AreLowered P row row
@@ -89,20 +90,12 @@ module _ {E : Type 0} (P : ℕ → List E → ℕ → ℕ → Type 0) (buckets :
       AreLowered (IsSumOver P (take i space) buckets) a b → AreLowered (P entry.1 (slice_index_or buckets entry.0 [])) b c →
       AreLowered (IsSumOver P (take (i + 1) space) buckets) a c
   space_more i space entry is a b c =
+      let Q : ℕ → ℕ → ℕ → ℕ → Type 0 = λ j x rank weight. P weight (slice_index_or buckets rank []) j x in
       lowered_then (IsSumOver P (take i space) buckets) (P entry.1 (slice_index_or buckets entry.0 []))
       (IsSumOver P (take (i + 1) space) buckets) a b c
-      (λ j x sum. (
-        sum.0,
-        sum.1,
-        subst (λ l. Contains l (sum.0, sum.1)) (sym is)
-            (Contains-append_left (take i space) (entry ∷ []) (sum.0, sum.1) sum.2),
-        sum.3,
-      ))
-      (λ j x sum. (entry.0, entry.1, subst (λ l. Contains l entry) (sym is) (Contains-push (take i space) entry), sum))
-      (λ j x sum. elim (Contains-push_cases (take i space) entry (sum.0, sum.1) (subst (λ l. Contains l (sum.0, sum.1)) is sum.2)) [
-        | inl before ↦ inl (sum.0, sum.1, before, sum.3)
-        | inr here ↦ inr (subst (λ (e : ℕ × ℕ). P e.1 (slice_index_or buckets e.0 []) j x) (sym here) sum.3)
-      ])
+      (λ j x. some_old (Q j x) (take (i + 1) space) (take i space) entry is)
+      (λ j x. some_new (Q j x) (take (i + 1) space) (take i space) entry is)
+      (λ j x. some_cases (Q j x) (take (i + 1) space) (take i space) entry is)
 
 -- the entries of a search space have ranks of nodes and weights of paths
 pub space_among : (H : LevelsAndLegs) → IsLevelled H → (side : Side) (limit : Option ℕ) (s : ℕ) (space : List (ℕ × ℕ)) →

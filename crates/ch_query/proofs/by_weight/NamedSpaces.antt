@@ -13,8 +13,8 @@ use Rattle.std.proofs.lemmas.Map.Keys.{IsDistinct-from_apart, apart_from_distinc
 use Rattle.ch_graph.proofs.Numbers.{not_eqb, eqb_flips}
 use Rattle.ch_hierarchy.specs.Hierarchy.{LevelsAndLegs, nodes_of, IsLevelled}
 use Rattle.ch_hierarchy.specs.Ranked.{rank_of}
+use Rattle.ch_hierarchy.specs.declared.side.Side.{Side}
 use Rattle.ch_hierarchy.proofs.code.Ranked.{rank_one, rank_below}
-use Rattle.ch_query.specs.declared.side.Side.{Side}
 use Rattle.ch_query.specs.SearchSpace.{IsSearchSpace, IsRankedSpace}
 use Rattle.ch_query.proofs.two_sides.SharedSums.{IsSaidOf, said_sound}
 

@@ -17,17 +17,17 @@ use Rattle.ch_graph.proofs.CostOrder.{IsAtMost_refl}
 use Rattle.ch_graph.proofs.CostSums.{cost_sum-no_cost}
 use Rattle.ch_hierarchy.specs.Hierarchy.{LevelsAndLegs, nodes_of}
 use Rattle.ch_hierarchy.specs.Ranked.{rank_of}
+use Rattle.ch_hierarchy.specs.declared.side.Side.{Side}
+use Rattle.ch_hierarchy.specs.declared.side.Side.TheVariants.{Up, Down}
+use Rattle.ch_hierarchy.specs.Side.{rows_of, other, state_of}
 use Rattle.ch_hierarchy.proofs.code.Ranked.{rank_one, node_of_rank}
 use Rattle.ch_queue.specs.Queue.{HasNone, IsLeastEntry}
-use Rattle.ch_query.specs.declared.side.Side.{Side}
-use Rattle.ch_query.specs.declared.side.Side.TheVariants.{Up, Down}
 use Rattle.ch_query.specs.declared.weights.search.TheConstants.{UNREACHED}
 use Rattle.ch_query.specs.declared.weights.search.WeightSearch.{WeightSearch}
 use Rattle.ch_query.specs.Distance.{IsKeptForSome}
 use Rattle.ch_query.specs.Limits.{IsWithin, IsMost}
 use Rattle.ch_query.specs.Search.{IsSettled, IsEmpty}
 use Rattle.ch_query.specs.SearchSpace.{IsPathWeight, IsTight, IsRankedSpace}
-use Rattle.ch_query.specs.Side.{rows_of, other, state_of}
 use Rattle.ch_query.specs.Weighed.{weighed_cost}
 use Rattle.ch_query.specs.Weights.{known_cost, weight_cost, by_state, side_costs, side_keys, source_of, is_idle_on}
 use Rattle.ch_query.specs.Weights.{IsWeighingOn, IsSameWeighing, HasGoneOn, IsLeastState, AreUnstalledOn, count_unsettled_on, without_state}

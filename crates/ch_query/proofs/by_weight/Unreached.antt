@@ -5,11 +5,11 @@ use Rattle.std.proofs.lemmas.List.{get_or_default}
 use Rattle.std.proofs.lemmas.Option.{none-some}
 use Rattle.ch_hierarchy.specs.Hierarchy.{LevelsAndLegs, nodes_of}
 use Rattle.ch_hierarchy.specs.Ranked.{rank_of}
+use Rattle.ch_hierarchy.specs.declared.side.Side.{Side}
+use Rattle.ch_hierarchy.specs.Side.{state_of}
 use Rattle.ch_hierarchy.proofs.code.Ranked.{rank_below}
-use Rattle.ch_query.specs.declared.side.Side.{Side}
 use Rattle.ch_query.specs.declared.weights.search.TheConstants.{UNREACHED}
 use Rattle.ch_query.specs.declared.weights.search.WeightSearch.{WeightSearch}
-use Rattle.ch_query.specs.Side.{state_of}
 use Rattle.ch_query.specs.Weights.{known_cost, weight_cost, IsCleanFor, IsWeighingAt, UnreachedStateIsUnkeyed}
 use Rattle.ch_query.proofs.one_side.Touched.{none_unless}
 use Rattle.ch_query.proofs.by_weight.Known.{no_cost_known}

@@ -6,12 +6,12 @@ use Rattle.ch_graph.specs.declared.cost.Cost.{Cost}
 use Rattle.ch_graph.specs.Cost.{cost_at}
 use Rattle.ch_hierarchy.specs.Hierarchy.{LevelsAndLegs}
 use Rattle.ch_hierarchy.specs.Ranked.{rank_of}
-use Rattle.ch_query.specs.declared.side.Side.{Side}
-use Rattle.ch_query.specs.declared.side.Side.TheVariants.{Up, Down}
+use Rattle.ch_hierarchy.specs.declared.side.Side.{Side}
+use Rattle.ch_hierarchy.specs.declared.side.Side.TheVariants.{Up, Down}
+use Rattle.ch_hierarchy.specs.Side.{state_of}
 use Rattle.ch_query.specs.declared.weights.search.TheConstants.{UNREACHED}
 use Rattle.ch_query.specs.declared.weights.search.WeightSearch.{WeightSearch}
 use Rattle.ch_query.specs.Distance.{IsKeptForSome, IsLeastWeight}
-use Rattle.ch_query.specs.Side.{state_of}
 use Rattle.ch_query.specs.Weighed.{IsWeightSearchTo, IsWeightSearch, IsWeightSeen, IsWeightFound, IsPastWeight}
 use Rattle.ch_query.specs.Weights.{weight_cost, side_costs, side_keys, source_of, IsLeastSoFar, AreKeysFrom}
 use Rattle.ch_query.proofs.two_sides.WeighedSearches.{weighed_least}

@@ -16,10 +16,10 @@ use Rattle.ch_hierarchy.specs.Hierarchy.{LevelsAndLegs, nodes_of}
 use Rattle.ch_hierarchy.specs.Kept.{IsFounded, HasLegWithin, IsCovered, IsKept}
 use Rattle.ch_hierarchy.specs.Assembling.{IsFirstFailing}
 use Rattle.ch_hierarchy.specs.Saved.{NamesFor, HasFault, IsFaultless, IsFirstFault, NamesKept}
+use Rattle.ch_hierarchy.specs.declared.side.Side.TheVariants.{Down}
 use Rattle.ch_hierarchy.proofs.theory.OneSaved.{one_saved}
 use Rattle.ch_hierarchy.proofs.theory.SavedFaults.{HasNoneBelow, none_more, first_at, none_early, no_fault, Checks, checks_value}
 use Rattle.ch_hierarchy.proofs.theory.SavedFaults.{checks_fault, checks_no_memory}
-use Rattle.ch_query.specs.declared.side.Side.TheVariants.{Down}
 use Rattle.ch_query.specs.Checking.{IsOkWhere, IsArcIfBase, IsIfFault, IsSumIfShortcut, IsServed, NamesFounded}
 use Rattle.ch_query.specs.Covering.{IsFirstUncovered}
 use Rattle.ch_query.proofs.faults.FirstFailing.{held_at}

@@ -10,11 +10,11 @@ use Rattle.ch_hierarchy.specs.Hierarchy.{LevelsAndLegs, IsLevelled, IsLegUp}
 use Rattle.ch_hierarchy.specs.Rows.{row}
 use Rattle.ch_hierarchy.specs.Turned.{turned_hierarchy}
 use Rattle.ch_hierarchy.proofs.theory.Turned.{turned_levelled, turned_meeting}
-use Rattle.ch_query.specs.declared.side.Side.{Side}
-use Rattle.ch_query.specs.declared.side.Side.TheVariants.{Up}
 use Rattle.ch_query.specs.Search.{IsUpwardCost}
-use Rattle.ch_query.specs.Side.{rows_of}
 use Rattle.ch_hierarchy.specs.Kept.{MeetsWithin, IsCovered}
+use Rattle.ch_hierarchy.specs.declared.side.Side.{Side}
+use Rattle.ch_hierarchy.specs.declared.side.Side.TheVariants.{Up}
+use Rattle.ch_hierarchy.specs.Side.{rows_of}
 use Rattle.ch_query.specs.Checking.{HasLeg}
 use Rattle.ch_query.specs.Covering.{IsCoveredFrom}
 use Rattle.ch_query.proofs.one_side.Expanding.{leg_up, reached_by_leg}

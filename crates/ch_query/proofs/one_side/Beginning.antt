@@ -8,8 +8,8 @@ use Rattle.ch_query.specs.declared.sides.search.Search.{Search}
 use Rattle.ch_query.specs.Search.{IsSearch}
 use Rattle.ch_query.specs.Meeting.{IsFresh}
 use Rattle.ch_hierarchy.specs.Ranked.{rank_of}
+use Rattle.ch_hierarchy.specs.Side.{rows_of}
 use Rattle.ch_query.specs.ByNode.{by_node, costs_of, keys_of}
-use Rattle.ch_query.specs.Side.{rows_of}
 use Rattle.ch_query.specs.Underway.{idle_of, IsTouched, IsUnderway, IsClean}
 use Rattle.ch_query.proofs.one_side.ByNode.{by_node-size, by_node-set, by_node-some}
 use Rattle.ch_query.proofs.one_side.Expanding.{rows_size}

@@ -14,15 +14,15 @@ use Rattle.ch_hierarchy.specs.declared.leg.Leg.{Leg}
 use Rattle.ch_hierarchy.specs.Rows.{row}
 use Rattle.ch_hierarchy.specs.Hierarchy.{LevelsAndLegs, nodes_of, IsLevelled, IsLegUp}
 use Rattle.ch_hierarchy.specs.Paths.{path_cost}
+use Rattle.ch_hierarchy.specs.declared.side.Side.{Side}
+use Rattle.ch_hierarchy.specs.declared.side.Side.TheVariants.{Up, Down}
+use Rattle.ch_hierarchy.specs.Side.{rows_of}
 use Rattle.ch_hierarchy.proofs.theory.LegPaths.{path_cost-cons}
 use Rattle.ch_query.specs.ByNode.{costs_of, keys_of, parents_of}
-use Rattle.ch_query.specs.declared.side.Side.{Side}
-use Rattle.ch_query.specs.declared.side.Side.TheVariants.{Up, Down}
 use Rattle.ch_query.specs.declared.sides.search.Search.{Search}
 use Rattle.ch_query.specs.Search.{IsRelaxedFrom, IsUpwardCost, IsExpanding, OrNode, IsStalled, count_unsettled}
 use Rattle.ch_query.specs.Underway.{back_of, IsSized, IsTouched, RelaxesIn, IsSameSearch, idle_of, IsUnderway}
 use Rattle.ch_query.specs.Underway.{IsPartlyExpanded}
-use Rattle.ch_query.specs.Side.{rows_of}
 use Rattle.ch_query.specs.Parents.{AreParents, IsNoEarlier}
 use Rattle.ch_query.proofs.one_side.Parents.{lowered_parents, lowered_no_earlier, lowered_itself, equal_parents, equal_falls}
 use Rattle.ch_query.proofs.one_side.Parents.{equal_here, finish_parents}

@@ -13,13 +13,13 @@ use Rattle.ch_graph.proofs.CostOrder.{IsAtMost_refl, IsAtMost_trans, IsAtMost_or
 use Rattle.ch_hierarchy.specs.Hierarchy.{LevelsAndLegs, nodes_of}
 use Rattle.ch_queue.specs.Queue.{IsLeastEntry}
 use Rattle.ch_hierarchy.specs.Ranked.{rank_of}
+use Rattle.ch_hierarchy.specs.Side.{rows_of}
 use Rattle.ch_query.specs.ByNode.{by_node, costs_of, keys_of, parents_of}
 use Rattle.ch_query.specs.declared.sides.search.Search.{Search}
 use Rattle.ch_query.specs.Search.{IsLeastKey, IsExpanding, OrNode, count_unsettled}
 use Rattle.ch_query.specs.Parents.{AreParents}
 use Rattle.ch_query.specs.TwoSided.{LeadsKeys}
 use Rattle.ch_query.specs.Underway.{idle_of, count_unsettled_in, IsUnderway, IsExpandingAt}
-use Rattle.ch_query.specs.Side.{rows_of}
 use Rattle.ch_query.proofs.one_side.ByNode.{by_node-size, by_node-at, by_node-set, by_node-some}
 use Rattle.ch_query.proofs.one_side.Steps.{popped, popped_falls}
 use Rattle.ch_query.proofs.one_side.Parents.{popped_parents}

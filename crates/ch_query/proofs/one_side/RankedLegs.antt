@@ -16,8 +16,8 @@ use Rattle.ch_hierarchy.specs.declared.ranked.RankedLeg.{RankedLeg}
 use Rattle.ch_hierarchy.proofs.code.Ranked.{rank_below}
 use Rattle.ch_query.specs.declared.sides.search.Search.{Search}
 use Rattle.ch_hierarchy.specs.Ranked.{rank_of, ranked_leg}
+use Rattle.ch_hierarchy.specs.Side.{rows_of}
 use Rattle.ch_query.specs.ByNode.{by_node, costs_of, parents_of}
-use Rattle.ch_query.specs.Side.{rows_of}
 use Rattle.ch_query.specs.Underway.{IsSized, IsTouched, UnreachedIsUnkeyed, RelaxesByRank, RelaxesIn, IsSameSearch, IsPartlyExpanded}
 use Rattle.ch_query.proofs.one_side.ByNode.{by_node-size, by_node-at, by_node-set}
 use Rattle.ch_query.proofs.one_side.Touched.{none_unless}

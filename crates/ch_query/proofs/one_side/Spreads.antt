@@ -20,13 +20,13 @@ use Rattle.ch_hierarchy.specs.Hierarchy.{LevelsAndLegs, nodes_of, IsLevelled}
 use Rattle.ch_hierarchy.specs.Rows.{row}
 use Rattle.ch_hierarchy.proofs.code.Ranked.{rank_one}
 use Rattle.ch_query.specs.ByNode.{costs_of, keys_of}
-use Rattle.ch_query.specs.declared.side.Side.{Side}
 use Rattle.ch_query.specs.declared.sides.search.Search.{Search}
 use Rattle.ch_query.specs.Limits.{IsMost}
 use Rattle.ch_query.specs.Search.{IsEmpty}
 use Rattle.ch_hierarchy.specs.Ranked.{rank_of}
+use Rattle.ch_hierarchy.specs.declared.side.Side.{Side}
+use Rattle.ch_hierarchy.specs.Side.{rows_of}
 use Rattle.ch_query.specs.Underway.{back_of, IsSized, IsTouched, IsRoom, idle_of, IsUnderway}
-use Rattle.ch_query.specs.Side.{rows_of}
 use Rattle.ch_query.specs.Spread.{IsSpread, AreReached, entry}
 use Rattle.ch_query.proofs.one_side.ByNode.{by_node-at, by_node-some}
 use Rattle.ch_query.proofs.one_side.Touched.{some_within}

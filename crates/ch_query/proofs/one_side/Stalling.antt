@@ -13,10 +13,10 @@ use Rattle.ch_hierarchy.proofs.code.Ranked.{rank_below}
 use Rattle.ch_query.specs.ByNode.{costs_of}
 use Rattle.ch_hierarchy.specs.declared.ranked.RankedLeg.{RankedLeg}
 use Rattle.ch_hierarchy.specs.Ranked.{ranked_leg}
-use Rattle.ch_query.specs.declared.side.Side.{Side}
+use Rattle.ch_hierarchy.specs.declared.side.Side.{Side}
+use Rattle.ch_hierarchy.specs.Side.{rows_of, other}
 use Rattle.ch_query.specs.declared.sides.search.Search.{Search}
 use Rattle.ch_query.specs.Underway.{back_of, idle_of, IsExpandingAt}
-use Rattle.ch_query.specs.Side.{rows_of, other}
 use Rattle.ch_query.proofs.one_side.ByNode.{by_node-size, by_node-at}
 use Rattle.std.proofs.lemmas.List.Elements.{Contains-get_or}
 use Rattle.ch_query.proofs.one_side.Expanding.{leg_up, rows_size, reached_arcs}

@@ -12,18 +12,18 @@ use Rattle.ch_hierarchy.specs.Hierarchy.{LevelsAndLegs}
 use Rattle.ch_hierarchy.specs.Paths.{path_cost, IsLeastUpwardPath}
 use Rattle.ch_hierarchy.specs.KeptLaws.{IsLeastMeeting}
 use Rattle.ch_hierarchy.specs.Turned.{turned_graph, turned_hierarchy}
+use Rattle.ch_hierarchy.specs.declared.side.Side.{Side}
+use Rattle.ch_hierarchy.specs.declared.side.Side.TheVariants.{Up, Down}
+use Rattle.ch_hierarchy.specs.Side.{rows_of, other}
 use Rattle.ch_hierarchy.proofs.theory.KeptWalks.{kept_has_walks, meetings_are_distances}
 use Rattle.ch_hierarchy.proofs.theory.Turned.{walk_turned, turned_limits, turned_meeting, turned_kept}
 use Rattle.ch_query.specs.ByNode.{costs_of, keys_of}
-use Rattle.ch_query.specs.declared.side.Side.{Side}
-use Rattle.ch_query.specs.declared.side.Side.TheVariants.{Up, Down}
 use Rattle.ch_query.specs.declared.sides.search.Search.{Search}
 use Rattle.ch_query.specs.Covering.{IsPastCost}
 use Rattle.ch_query.specs.Descents.{HasReached}
 use Rattle.ch_query.specs.Distance.{IsKeptForSome}
 use Rattle.ch_query.specs.Search.{IsSettled, IsUpwardCost, IsStalled, AvoidsIdle}
 use Rattle.ch_query.specs.SearchSpace.{IsTight}
-use Rattle.ch_query.specs.Side.{rows_of, other}
 use Rattle.ch_query.specs.Underway.{back_of, idle_of, IsUnderway}
 use Rattle.ch_query.proofs.one_side.End.{settled_least}
 use Rattle.ch_query.proofs.one_side.Expanding.{reached_by_leg}

@@ -12,14 +12,14 @@ use Rattle.ch_hierarchy.specs.Hierarchy.{LevelsAndLegs, IsLegUp, AreLegsUp, IsLe
 use Rattle.ch_hierarchy.specs.Paths.{IsUpwardPath, path_cost}
 use Rattle.ch_hierarchy.specs.Rows.{row, IsRow}
 use Rattle.ch_hierarchy.specs.Turned.{turned_hierarchy}
+use Rattle.ch_hierarchy.specs.declared.side.Side.{Side}
+use Rattle.ch_hierarchy.specs.declared.side.Side.TheVariants.{Up, Down}
+use Rattle.ch_hierarchy.specs.Side.{rows_of, other}
 use Rattle.ch_hierarchy.proofs.theory.KeptWalks.{kept_has_walks, meetings_are_distances}
 use Rattle.ch_hierarchy.proofs.theory.LegPaths.{path_cost-cons}
-use Rattle.ch_query.specs.declared.side.Side.{Side}
-use Rattle.ch_query.specs.declared.side.Side.TheVariants.{Up, Down}
 use Rattle.ch_query.specs.Distance.{IsKeptForSome}
 use Rattle.ch_query.specs.Search.{IsUpwardCost, IsStalled, AvoidsIdle}
 use Rattle.ch_query.specs.SearchSpace.{IsTight}
-use Rattle.ch_query.specs.Side.{rows_of, other}
 use Rattle.ch_query.specs.Weighed.{weighed_cost, weighed_leg, weighed}
 use Rattle.ch_query.proofs.one_side.Expanding.{reached_by_leg}
 use Rattle.ch_query.proofs.one_side.TightNodes.{kept_turned, least_meeting_turned, sum_walk}

@@ -14,13 +14,13 @@ use Rattle.ch_hierarchy.specs.Hierarchy.{LevelsAndLegs, nodes_of}
 use Rattle.ch_hierarchy.specs.Paths.{IsUpwardPath, path_cost, IsLeastUpwardPath}
 use Rattle.ch_hierarchy.proofs.theory.LegPaths.{path_cost-cons}
 use Rattle.ch_hierarchy.specs.Ranked.{rank_of}
+use Rattle.ch_hierarchy.specs.declared.side.Side.{Side}
+use Rattle.ch_hierarchy.specs.declared.side.Side.TheVariants.{Up, Down}
+use Rattle.ch_hierarchy.specs.Side.{rows_of}
 use Rattle.ch_query.specs.ByNode.{costs_of, keys_of, parents_of}
-use Rattle.ch_query.specs.declared.side.Side.{Side}
-use Rattle.ch_query.specs.declared.side.Side.TheVariants.{Up, Down}
 use Rattle.ch_query.specs.declared.sides.search.Search.{Search}
 use Rattle.ch_query.specs.declared.routes.unpacking.PendingLeg.{PendingLeg}
 use Rattle.ch_query.specs.Distance.{IsKeptForSome}
-use Rattle.ch_query.specs.Side.{rows_of}
 use Rattle.ch_query.specs.Parents.{IsParent, IsChosen}
 use Rattle.ch_query.specs.Routes.{DescentStep, IsDescent}
 use Rattle.ch_query.specs.Unpacking.{IsPending}

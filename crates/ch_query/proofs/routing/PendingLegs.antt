@@ -12,7 +12,7 @@ use Rattle.ch_hierarchy.specs.declared.leg.Leg.{Leg}
 use Rattle.ch_hierarchy.specs.Rows.{row}
 use Rattle.ch_hierarchy.specs.Hierarchy.{LevelsAndLegs, nodes_of}
 use Rattle.ch_hierarchy.specs.Kept.{IsFounded}
-use Rattle.ch_query.specs.declared.side.Side.TheVariants.{Down}
+use Rattle.ch_hierarchy.specs.declared.side.Side.TheVariants.{Down}
 use Rattle.ch_query.specs.declared.routes.unpacking.PendingLeg.{PendingLeg}
 use Rattle.ch_query.specs.Distance.{IsKeptForSome}
 use Rattle.ch_query.specs.Routes.{IsUnpacked, shortcut}

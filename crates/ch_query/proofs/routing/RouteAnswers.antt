@@ -10,8 +10,8 @@ use Rattle.ch_graph.specs.declared.cost.Cost.{Cost}
 use Rattle.ch_graph.proofs.SimpleWalks.{IsLeast-arcs}
 use Rattle.ch_hierarchy.specs.Hierarchy.{LevelsAndLegs, nodes_of}
 use Rattle.ch_hierarchy.specs.Paths.{IsMeet, NeverMeets}
+use Rattle.ch_hierarchy.specs.declared.side.Side.TheVariants.{Up, Down}
 use Rattle.ch_hierarchy.proofs.theory.KeptWalks.{meetings_are_distances}
-use Rattle.ch_query.specs.declared.side.Side.TheVariants.{Up, Down}
 use Rattle.ch_query.specs.declared.sides.search.Search.{Search}
 use Rattle.ch_query.specs.declared.routes.Route.{Route}
 use Rattle.ch_query.specs.declared.routes.unpacking.PendingLeg.{PendingLeg}

@@ -11,8 +11,8 @@ use Rattle.ch_graph.proofs.WalkLemmas.{walk_append}
 use Rattle.ch_graph.proofs.WalkCosts.{cost_of-append}
 use Rattle.ch_hierarchy.specs.Hierarchy.{LevelsAndLegs, IsLevelled}
 use Rattle.ch_hierarchy.specs.Kept.{IsKept}
+use Rattle.ch_hierarchy.specs.declared.side.Side.TheVariants.{Up, Down}
 use Rattle.ch_hierarchy.proofs.theory.KeptWalks.{meetings_are_distances}
-use Rattle.ch_query.specs.declared.side.Side.TheVariants.{Up, Down}
 use Rattle.ch_query.specs.declared.routes.Route.{Route}
 use Rattle.ch_query.specs.Routes.{DescentStep, IsDescent, AreUpArcs, AreDownArcs, IsRoute, IsLeastWalk}
 use Rattle.ch_query.proofs.routing.Rows.{rows_ordered}

@@ -18,17 +18,17 @@ use Rattle.ch_hierarchy.specs.Paths.{IsUpwardPath, path_cost, IsLeastUpwardPath}
 use Rattle.ch_hierarchy.specs.Ranked.{rank_of, ranked_leg}
 use Rattle.ch_query.specs.ByNode.{IsSomeRank, costs_of, keys_of}
 use Rattle.ch_hierarchy.specs.declared.ranked.RankedLeg.{RankedLeg}
-use Rattle.ch_query.specs.declared.side.Side.{Side}
-use Rattle.ch_query.specs.declared.side.Side.TheVariants.{Up, Down}
 use Rattle.ch_query.specs.declared.sides.search.Search.{Search}
 use Rattle.ch_query.specs.declared.checking.covering.Shown.{Shown}
 use Rattle.ch_query.specs.declared.checking.covering.Shown.TheVariants.{Connected, Settled, Past}
 use Rattle.ch_query.specs.Limits.{IsMost}
 use Rattle.ch_query.specs.Search.{IsSettled, IsUpwardCost, IsLeastKey}
-use Rattle.ch_query.specs.Side.{rows_of}
 use Rattle.ch_query.specs.TwoSided.{LeadsKeys}
 use Rattle.ch_query.specs.Underway.{IsUnderway, IsSameSearch, KeepsSettled}
 use Rattle.ch_hierarchy.specs.Kept.{MeetsWithin}
+use Rattle.ch_hierarchy.specs.declared.side.Side.{Side}
+use Rattle.ch_hierarchy.specs.declared.side.Side.TheVariants.{Up, Down}
+use Rattle.ch_hierarchy.specs.Side.{rows_of}
 use Rattle.ch_query.specs.Covering.{is_connected, is_settled, IsPastCost, AreConnected, AreApart}
 use Rattle.ch_query.proofs.one_side.End.{settled_least}
 use Rattle.ch_query.proofs.one_side.ByNode.{by_node-some}

@@ -13,9 +13,10 @@ use Rattle.ch_graph.proofs.WalkCosts.{IsLeast-IsAtMost}
 use Rattle.ch_hierarchy.specs.Hierarchy.{LevelsAndLegs}
 use Rattle.ch_hierarchy.specs.Paths.{IsMeeting, IsMeet, NeverMeets}
 use Rattle.ch_hierarchy.specs.KeptLaws.{IsLeastMeeting, MeetingsAreDistances}
+use Rattle.ch_hierarchy.specs.declared.side.Side.TheVariants.{Up, Down}
+use Rattle.ch_hierarchy.specs.Side.{rows_of}
 use Rattle.ch_hierarchy.proofs.theory.KeptWalks.{meetings_are_distances}
 use Rattle.ch_query.specs.ByNode.{costs_of, keys_of}
-use Rattle.ch_query.specs.declared.side.Side.TheVariants.{Up, Down}
 use Rattle.ch_query.specs.declared.sides.search.Search.{Search}
 use Rattle.ch_query.specs.Covering.{IsPastCost}
 use Rattle.ch_query.specs.Descents.{HasReached}
@@ -23,7 +24,6 @@ use Rattle.ch_query.specs.Distance.{IsKeptForSome}
 use Rattle.ch_query.specs.Meeting.{AreMeeting}
 use Rattle.ch_query.specs.Search.{IsSettled, IsUpwardCost}
 use Rattle.ch_query.specs.SearchSpace.{IsTight}
-use Rattle.ch_query.specs.Side.{rows_of}
 use Rattle.ch_query.specs.TwoSided.{IsFound, IsPast}
 use Rattle.ch_query.proofs.one_side.End.{least_reached, settled}
 use Rattle.ch_query.proofs.one_side.PathLaws.{then_below}

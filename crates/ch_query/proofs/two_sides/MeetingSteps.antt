@@ -7,13 +7,13 @@ use Rattle.ch_graph.specs.Cost.{IsAtMost, cost_sum, cost_at}
 use Rattle.ch_hierarchy.specs.Hierarchy.{LevelsAndLegs, nodes_of}
 use Rattle.ch_graph.proofs.CostOrder.{IsAtMost_refl, IsAtMost_trans, IsAtMost_antisymm}
 use Rattle.ch_hierarchy.specs.Ranked.{rank_of}
+use Rattle.ch_hierarchy.specs.Side.{rows_of}
 use Rattle.ch_hierarchy.proofs.code.Ranked.{rank_below}
 use Rattle.ch_query.specs.ByNode.{IsSomeRank, costs_of, keys_of}
 use Rattle.ch_query.specs.declared.sides.search.Search.{Search}
 use Rattle.ch_query.specs.Search.{IsSettled, IsLeastKey, IsUpwardCost}
 use Rattle.ch_query.specs.TwoSided.{MeetsFirst, IsSeen, LeadsKeys, IsPast}
 use Rattle.ch_query.specs.Underway.{IsSameSearch, IsUnderway, KeepsSettled}
-use Rattle.ch_query.specs.Side.{rows_of}
 use Rattle.ch_query.specs.Meeting.{IsLeastAfter, IsFoundBy, AreMeeting}
 use Rattle.ch_graph.proofs.CostSums.{cost_sum_comm}
 use Rattle.ch_query.proofs.one_side.ByNode.{by_node-at, by_node-some}

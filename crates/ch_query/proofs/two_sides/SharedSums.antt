@@ -11,15 +11,15 @@ use Rattle.ch_hierarchy.specs.Hierarchy.{LevelsAndLegs, nodes_of, IsLevelled}
 use Rattle.ch_hierarchy.specs.Ranked.{rank_of}
 use Rattle.ch_hierarchy.specs.Paths.{NeverMeets}
 use Rattle.ch_hierarchy.specs.KeptLaws.{HasWalks, IsLeastMeeting, MeetingsAreDistances}
+use Rattle.ch_hierarchy.specs.declared.side.Side.{Side}
+use Rattle.ch_hierarchy.specs.declared.side.Side.TheVariants.{Up, Down}
+use Rattle.ch_hierarchy.specs.Side.{rows_of}
 use Rattle.ch_hierarchy.proofs.code.Ranked.{rank_one}
 use Rattle.ch_hierarchy.proofs.theory.KeptWalks.{kept_has_walks, meetings_are_distances}
-use Rattle.ch_query.specs.declared.side.Side.{Side}
-use Rattle.ch_query.specs.declared.side.Side.TheVariants.{Up, Down}
 use Rattle.ch_query.specs.Distance.{IsKeptForSome, IsLeastWeight}
 use Rattle.ch_query.specs.Limits.{IsWithin, IsCut, IsDistanceWithin}
 use Rattle.ch_query.specs.SearchSpace.{IsPathWeight, IsTight, IsSearchSpace, IsRankedSpace}
 use Rattle.ch_query.specs.SearchSpaceLaws.{IsSharedSum, IsLeastSharedSum}
-use Rattle.ch_query.specs.Side.{rows_of}
 use Rattle.ch_query.proofs.two_sides.Distances.{weight_is_distance}
 use Rattle.ch_query.proofs.one_side.End.{least_reached}
 use Rattle.ch_query.proofs.one_side.TightNodes.{sum_walk, tight_up, tight_down}

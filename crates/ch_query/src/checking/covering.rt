@@ -5,7 +5,7 @@ ghost use Rattle.ch_graph.specs.declared.cost.Cost.{Cost as CostOf};
 ghost use Rattle.ch_graph.specs.Cost.{IsAtMost, IsBelow, cost_at, cost_sum};
 ghost use Rattle.ch_hierarchy.specs.Hierarchy.{nodes_of};
 ghost use Rattle.ch_hierarchy.specs.Kept.{MeetsWithin};
-ghost use Rattle.ch_query.specs.declared.side.Side.TheVariants.{Up, Down};
+ghost use Rattle.ch_hierarchy.specs.declared.side.Side.TheVariants.{Up, Down};
 ghost use Rattle.ch_query.specs.declared.checking.covering.Shown.TheVariants as Shown;
 ghost use Rattle.ch_query.specs.ByNode.{IsSomeRank};
 ghost use Rattle.ch_query.specs.Underway.{count_unsettled_in, IsSameSearch, IsUnderway, IsClean};
@@ -87,7 +87,7 @@ fn connects_by_leg(
     requires rank { IsSomeRank hierarchy.now rank }
     ensures { result ≡ true → AreConnected hierarchy.now here.now there.now most }
 {
-    for leg in here.side.ranked_legs(hierarchy, rank) {
+    for leg in hierarchy.ranked_legs(here.side, rank) {
         if let Some(cost) = here.labels.get(leg.rank) {
             if connects(hierarchy, there, leg.rank, cost, most) {
                 return true;

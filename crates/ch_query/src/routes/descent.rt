@@ -5,9 +5,8 @@ ghost use Rattle.ch_query.specs.Descents.{HasReachedWithRoom, pending_of, IsTrac
 
 use super::legs::leg_at;
 use super::unpacking::PendingLeg;
-use crate::side::Side;
 use crate::sides::search::Search;
-use ch_hierarchy::{Hierarchy, Leg};
+use ch_hierarchy::{Hierarchy, Leg, Side};
 
 /// Returns the leg of a step up from `low` on this side, in the direction of the walk.
 fn directed(side: Side, low: u32, leg: Leg) -> PendingLeg
@@ -35,7 +34,7 @@ pub(crate) fn descend(
     let mut node = meet;
     while node != search.source {
         let parent = search.labels.parent(hierarchy.rank(node));
-        let leg = leg_at(search.side.legs(hierarchy, parent), node);
+        let leg = leg_at(hierarchy.legs(search.side, parent), node);
         pending.push_reserved(directed(search.side, parent, leg));
         node = parent;
     }

@@ -2,7 +2,7 @@
 ghost use Rattle.std.specs.Prelude.{◌≡◌, ◌<◌, length, IfOk, MatchOption, Some, ⊤};
 ghost use Rattle.ch_hierarchy.specs.Hierarchy.{nodes_of};
 ghost use Rattle.ch_hierarchy.specs.Paths.{IsMeet, NeverMeets};
-ghost use Rattle.ch_query.specs.declared.side.Side.TheVariants.{Up, Down};
+ghost use Rattle.ch_hierarchy.specs.declared.side.Side.TheVariants.{Up, Down};
 ghost use Rattle.ch_query.specs.declared.routes.Route.{Route as FoundRoute};
 ghost use Rattle.ch_query.specs.TwoSided.{IsPast};
 ghost use Rattle.ch_query.specs.Underway.{IsRoom, IsClean};

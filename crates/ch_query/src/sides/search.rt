@@ -9,10 +9,9 @@ ghost use Rattle.ch_query.specs.Meeting.{IsFresh};
 
 use super::labels::Labels;
 use crate::costs::is_below;
-use crate::side::Side;
 use ch_graph::Cost;
 use ch_graph::limits::MOST_WEIGHT;
-use ch_hierarchy::{Hierarchy, RankedLeg};
+use ch_hierarchy::{Hierarchy, RankedLeg, Side};
 use ch_queue::KeyQueue;
 use std::alloc::{AllocError, Global};
 
@@ -159,7 +158,7 @@ impl Search {
         ensures settled { KeepsSettled hierarchy.now self.old self.new }
         ensures measure { count_unsettled_in hierarchy.now self.new ≡ count_unsettled_in hierarchy.now self.old }
     {
-        for leg in self.side.ranked_legs(hierarchy, rank) {
+        for leg in hierarchy.ranked_legs(self.side, rank) {
             self.relax(node, cost, *leg);
         }
     }
@@ -171,7 +170,7 @@ impl Search {
         requires stalls { self.now.stalls ≡ true }
         ensures { result ≡ true → idle_of hierarchy.now self.now node cost }
     {
-        for leg in self.side.other().ranked_legs(hierarchy, rank) {
+        for leg in hierarchy.ranked_legs(self.side.other(), rank) {
             if let Some(known) = self.labels.get(leg.rank) {
                 if is_below(known.plus(leg.cost()), cost) {
                     return true;

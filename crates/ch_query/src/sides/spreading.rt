@@ -1,18 +1,18 @@
 //! Searches without a target.
 ghost use Rattle.std.specs.Prelude.{◌≡◌, ◌<◌, ℕ, List, IfOk, OnOk, map};
 ghost use Rattle.ch_hierarchy.specs.Hierarchy.{nodes_of, IsLevelled};
+ghost use Rattle.ch_hierarchy.specs.Side.{rows_of};
 ghost use Rattle.ch_query.specs.Search.{IsEmpty};
 ghost use Rattle.ch_query.specs.ByNode.{costs_of};
 ghost use Rattle.ch_query.specs.Underway.{IsSameSearch, IsUnderway, IsClean};
-ghost use Rattle.ch_query.specs.Side.{rows_of};
 ghost use Rattle.ch_query.specs.Spread.{IsSpread, AreReached, entry};
 
 use super::search::Search;
 use crate::costs::most_within;
 use crate::scratch::Scratch;
-use crate::side::Side;
+use crate::start::Start;
 use ch_graph::Cost;
-use ch_hierarchy::Hierarchy;
+use ch_hierarchy::{Hierarchy, Side};
 use std::alloc::{AllocError, Global};
 
 impl Search {
@@ -80,8 +80,8 @@ impl Search {
     }
 }
 
-/// Returns the nodes that `source` reaches by legs to higher nodes in this direction, with the least costs
-/// of the paths, in order of node.
+/// Returns the nodes that the source reaches by legs to higher nodes in the direction of the start, with the
+/// least costs of the paths, in order of node.
 ///
 /// With a limit `within`, these are the nodes whose least path weighs at most that. The search then takes
 /// no leg that makes a path heavier.
@@ -92,18 +92,17 @@ pub fn spread(
     alloc: Global,
     hierarchy: &Hierarchy,
     scratch: &mut Scratch,
-    source: u32,
-    side: Side,
-    within: Option<u64>,
+    start: Start,
 ) -> Result<Vec<(u32, Cost)>, AllocError>
     requires scratch { scratch.old ≡ nodes_of hierarchy.now }
-    requires source { source < nodes_of hierarchy.now }
-    ensures spread { IfOk result (λ list. IsSpread (rows_of hierarchy.now side) within source list.items) }
+    requires source { start.source < nodes_of hierarchy.now }
+    ensures spread { IfOk result (λ list. IsSpread (rows_of hierarchy.now start.side) start.within start.source list.items) }
     ensures scratch { scratch.new ≡ scratch.old }
     ensures levelled { OnOk result (IsLevelled hierarchy.now) }
 {
+    let (source, within) = (start.source, start.within);
     let mut sides = scratch.take_sides(alloc)?;
-    let list = match side {
+    let list = match start.side {
         Side::Up => sides.up.spread(alloc, hierarchy, source, within),
         Side::Down => sides.down.spread(alloc, hierarchy, source, within),
     };

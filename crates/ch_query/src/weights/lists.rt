@@ -9,8 +9,8 @@ ghost use Rattle.ch_query.specs.SearchSpace.{IsRankedSpace};
 
 use super::spaces::ranked_space;
 use crate::scratch::Scratch;
-use crate::side::Side;
-use ch_hierarchy::Hierarchy;
+use crate::start::Start;
+use ch_hierarchy::{Hierarchy, Side};
 use ch_work::{Crew, Gate, ListJob, Stage, run_list_in};
 use std::alloc::{AllocError, Global};
 use std::marker::Model;
@@ -68,7 +68,12 @@ pub fn ranked_spaces_alone(
 {
     let mut spaces = Vec::with_capacity(alloc, nodes.len())?;
     for node in nodes {
-        let space = ranked_space(alloc, hierarchy, scratch, *node, side, within)?;
+        let start = Start {
+            source: *node,
+            side,
+            within,
+        };
+        let space = ranked_space(alloc, hierarchy, scratch, start)?;
         spaces.push_reserved(space);
     }
     Ok(spaces)
@@ -85,7 +90,7 @@ struct Searches<'a> {
 impl<'a> Model for Searches<'a> {
     ghost use Rattle.std.specs.Prelude.{ℕ, Option};
     ghost use Rattle.ch_hierarchy.specs.Hierarchy.{LevelsAndLegs};
-    ghost use Rattle.ch_query.specs.declared.side.Side.{Side};
+    ghost use Rattle.ch_hierarchy.specs.declared.side.Side.{Side};
     ghost use Rattle.ch_query.specs.Distance.{IsKeptForSome};
 
     ghost Value = { LevelsAndLegs × Side × Option ℕ };
@@ -122,6 +127,11 @@ impl<'a> ListJob for Searches<'a> {
         room: &mut Scratch,
         item: &u32,
     ) -> Result<Vec<(u32, u64)>, AllocError> {
-        ranked_space(alloc, self.hierarchy, room, *item, self.side, self.within)
+        let start = Start {
+            source: *item,
+            side: self.side,
+            within: self.within,
+        };
+        ranked_space(alloc, self.hierarchy, room, start)
     }
 }

@@ -7,7 +7,7 @@ ghost use Rattle.ch_query.specs.Lowered.{AreLowered, IsSumOver};
 ghost use Rattle.ch_query.specs.SearchSpace.{IsRankedSpace};
 
 use crate::scratch::Scratch;
-use crate::side::Side;
+use crate::start::Start;
 use ch_graph::Rows;
 use ch_hierarchy::Hierarchy;
 use std::alloc::AllocError;
@@ -44,7 +44,7 @@ pub trait Lowering {
         ensures { OnOk result (AreLowered (sums self.now weight bucket.now) (words row.old) (words row.new)) };
 }
 
-/// Lowers the words of a row by the search space of a source, as [`ranked_space`](crate::ranked_space) finds it:
+/// Lowers the words of a row by the search space of a start, as [`ranked_space`](crate::ranked_space) finds it:
 /// by the buckets of its ranks, each with the weight of the rank's node.
 ///
 /// # Errors
@@ -52,23 +52,21 @@ pub trait Lowering {
 pub fn lower_by_search<L: Lowering>(
     hierarchy: &Hierarchy,
     scratch: &mut Scratch,
-    source: u32,
-    side: Side,
-    within: Option<u64>,
+    start: Start,
     lowering: &L,
     buckets: &Rows<L::Entry>,
     row: &mut L::Row,
 ) -> Result<(), AllocError>
     requires kept { IsKeptForSome hierarchy.now }
     requires scratch { scratch.old ≡ nodes_of hierarchy.now }
-    requires source { source < nodes_of hierarchy.now }
+    requires source { start.source < nodes_of hierarchy.now }
     requires ranks { length buckets.now ≡ nodes_of hierarchy.now }
     requires buckets { (rank : ℕ) → L.fits (length (L.words row.old)) (slice_index_or buckets.now rank []) }
-    ensures lowered { OnOk result ((space : List (ℕ × ℕ)) × IsRankedSpace hierarchy.now side within source space × AreLowered (IsSumOver (L.sums lowering.now) space buckets.now) (L.words row.old) (L.words row.new)) }
+    ensures lowered { OnOk result ((space : List (ℕ × ℕ)) × IsRankedSpace hierarchy.now start.side start.within start.source space × AreLowered (IsSumOver (L.sums lowering.now) space buckets.now) (L.words row.old) (L.words row.new)) }
     ensures scratch { scratch.new ≡ scratch.old }
 {
     let Scratch { weights, found, .. } = scratch;
-    weights.gather(hierarchy, found, source, side, within)?;
+    weights.gather(hierarchy, found, start)?;
     lower_by_space(lowering, found, buckets, row)
 }
 

@@ -14,9 +14,8 @@ ghost use Rattle.ch_query.specs.Distance.{IsKeptForSome, IsLeastWeight};
 ghost use Rattle.ch_query.specs.Underway.{IsTouched};
 ghost use Rattle.ch_query.specs.Weights.{known_cost, is_idle_on, weight_cost, source_of, IsSizedFor, IsWeighingAt, IsSameWeighing, UnreachedStateIsUnkeyed, HasGoneOn, ShowsWeight, AtRank, IsCleanFor, IsLeastSoFar, IsLeastState, AreKeysFrom, count_unsettled_states, without_state};
 
-use crate::side::Side;
 use ch_graph::limits::MOST_WEIGHT;
-use ch_hierarchy::Hierarchy;
+use ch_hierarchy::{Hierarchy, Side};
 use ch_queue::KeyQueue;
 use std::alloc::{AllocError, Global};
 
@@ -108,7 +107,7 @@ impl WeightSearch {
         requires weighing { AtRank hierarchy.now rank (λ v. IsWeighingAt hierarchy.now side self.old v weight) }
         ensures { HasGoneOn hierarchy.now side self.old self.new }
     {
-        for leg in side.ranked_legs(hierarchy, rank) {
+        for leg in hierarchy.ranked_legs(side, rank) {
             self.relax(side.state(leg.rank), weight + leg.weight);
         }
     }
@@ -122,7 +121,7 @@ impl WeightSearch {
         ensures levelled { IsLevelled hierarchy.now }
         ensures idle { result ≡ true → AtRank hierarchy.now rank (λ v. is_idle_on hierarchy.now side (source_of self.now side) v (weight_cost weight)) }
     {
-        for leg in side.other().ranked_legs(hierarchy, rank) {
+        for leg in hierarchy.ranked_legs(side.other(), rank) {
             if self.known[side.state(leg.rank) as usize] + leg.weight < weight {
                 return true;
             }

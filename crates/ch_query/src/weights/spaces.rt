@@ -12,8 +12,8 @@ ghost use Rattle.ch_query.specs.Weights.{side_keys, source_of, IsSameWeighing, I
 use super::search::WeightSearch;
 use crate::costs::most_within;
 use crate::scratch::Scratch;
-use crate::side::Side;
-use ch_hierarchy::Hierarchy;
+use crate::start::Start;
+use ch_hierarchy::{Hierarchy, Side};
 use std::alloc::{AllocError, Global};
 
 impl WeightSearch {
@@ -57,24 +57,23 @@ impl WeightSearch {
         Ok(())
     }
 
-    /// Gathers the search space of a node on this side within the limit, by ranks, in `found`. The search is
-    /// clean afterwards, even if memory ran out.
+    /// Gathers the search space of this start, by ranks, in `found`. The search is clean afterwards, even if
+    /// memory ran out.
     pub(super) fn gather(
         &mut self,
         hierarchy: &Hierarchy,
         found: &mut Vec<(u32, u64)>,
-        source: u32,
-        side: Side,
-        within: Option<u64>,
+        start: Start,
     ) -> Result<(), AllocError>
         requires kept { IsKeptForSome hierarchy.now }
         requires clean { IsCleanFor (nodes_of hierarchy.now) self.old }
-        requires source { source < nodes_of hierarchy.now }
-        ensures space { OnOk result (IsRankedSpace hierarchy.now side within source found.new.items) }
+        requires source { start.source < nodes_of hierarchy.now }
+        ensures space { OnOk result (IsRankedSpace hierarchy.now start.side start.within start.source found.new.items) }
         ensures clean { IsCleanFor (nodes_of hierarchy.now) self.new }
     {
-        self.begin_on(hierarchy, side, source, most_within(within));
-        let explored = self.explore(hierarchy, side, found);
+        let most = most_within(start.within);
+        self.begin_on(hierarchy, start.side, start.source, most);
+        let explored = self.explore(hierarchy, start.side, found);
         self.clean();
         explored
     }
@@ -89,24 +88,22 @@ pub fn ranked_space(
     alloc: Global,
     hierarchy: &Hierarchy,
     scratch: &mut Scratch,
-    source: u32,
-    side: Side,
-    within: Option<u64>,
+    start: Start,
 ) -> Result<Vec<(u32, u64)>, AllocError>
     requires kept { IsKeptForSome hierarchy.now }
     requires scratch { scratch.old ≡ nodes_of hierarchy.now }
-    requires source { source < nodes_of hierarchy.now }
-    ensures space { IfOk result (λ list. IsRankedSpace hierarchy.now side within source list.items) }
+    requires source { start.source < nodes_of hierarchy.now }
+    ensures space { IfOk result (λ list. IsRankedSpace hierarchy.now start.side start.within start.source list.items) }
     ensures scratch { scratch.new ≡ scratch.old }
 {
     let Scratch { weights, found, .. } = scratch;
-    weights.gather(hierarchy, found, source, side, within)?;
+    weights.gather(hierarchy, found, start)?;
     // `found` keeps its room for the next search. The copy takes the memory of its entries alone.
     Vec::from_slice(alloc, found)
 }
 
-/// Returns nodes that `source` reaches by legs to higher nodes in this direction, with the weights of
-/// paths, in order of node. The hierarchy is right for some graph, and the scratch has room for its number
+/// Returns nodes that the source reaches by legs to higher nodes in the direction of the start, with the
+/// weights of paths, in order of node. The hierarchy is right for some graph, and the scratch has room for its number
 /// of nodes.
 ///
 /// It searches as [`distance`](crate::distance) does, but until no node is left. If a higher node shows a
@@ -123,17 +120,15 @@ pub fn search_space(
     alloc: Global,
     hierarchy: &Hierarchy,
     scratch: &mut Scratch,
-    source: u32,
-    side: Side,
-    within: Option<u64>,
+    start: Start,
 ) -> Result<Vec<(u32, u64)>, AllocError>
     requires kept { IsKeptForSome hierarchy.now }
     requires scratch { scratch.old ≡ nodes_of hierarchy.now }
-    requires source { source < nodes_of hierarchy.now }
-    ensures space { IfOk result (λ list. IsSearchSpace hierarchy.now side within source list.items) }
+    requires source { start.source < nodes_of hierarchy.now }
+    ensures space { IfOk result (λ list. IsSearchSpace hierarchy.now start.side start.within start.source list.items) }
     ensures scratch { scratch.new ≡ scratch.old }
 {
-    let ranked = ranked_space(alloc, hierarchy, scratch, source, side, within)?;
+    let ranked = ranked_space(alloc, hierarchy, scratch, start)?;
     let mut list = named(alloc, hierarchy, &ranked)?;
     list.sort_unstable();
     Ok(list)

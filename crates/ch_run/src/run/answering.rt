@@ -1,9 +1,9 @@
 //! Answers requests that came together, in order.
-ghost use Rattle.std.specs.Prelude.{◌≡◌, ◌<◌, ◌≤◌, ◌^◌, [], None, length, All, IfErr, OnOk};
+ghost use Rattle.std.specs.Prelude.{◌≡◌, ◌≤◌, Bool, [], None, length, All, OnOk};
 ghost use Rattle.ch_graph.specs.declared.limits.TheConstants.{MOST_LISTED};
-ghost use Rattle.ch_read.specs.Requests.{IsRequest};
+ghost use Rattle.ch_read.specs.Requests.{IsRequest, Standing};
 ghost use Rattle.ch_run.specs.Ask.{IsTextOfRequest};
-ghost use Rattle.ch_run.specs.Serving.{InTurn, IsOfAnswering, IsRoomFor, places_of};
+ghost use Rattle.ch_run.specs.Serving.{GoesOn, IsRoomFor, places_of};
 
 use super::first::answer_first;
 use super::loading::Checked;
@@ -60,11 +60,9 @@ pub(crate) fn answer_requests<'a, R: Threads + Sync, O: Output, G: Gate>(
     requires room { IsRoomFor by.now.options.now.direction by.now.checked.now room.old }
     requires each { All (IsRequest by.now.checked.now.graph.nodes) requests.now }
     requires few { length requests.now ≤ MOST_LISTED }
-    requires counted { written.old < 2 ^ 64 }
-    ensures answers { InTurn (IsTextOfRequest by.now.options.now by.now.checked.now.graph by.now.checked.now.hierarchy) O.write_gives (places_of room.old.near) (places_of room.new.near)
-        output.old output.new written.old written.new requests.now result }
+    ensures answers { (ended : Bool) (reader : Standing) → GoesOn (IsTextOfRequest by.now.options.now by.now.checked.now.graph by.now.checked.now.hierarchy) O.write_gives by.now.checked.now.graph.nodes ended
+        reader reader requests.now [] output.old output.new (places_of room.old.near) (places_of room.new.near) written.old written.new result }
     ensures room { OnOk result (IsRoomFor by.now.options.now.direction by.now.checked.now room.new) }
-    ensures own { IfErr result IsOfAnswering }
 {
     let mut rest = requests;
     while !rest.is_empty() {

@@ -1,8 +1,6 @@
 //! Runs that answer requests as they come.
 ghost use Rattle.std.specs.Prelude.{◌≡◌, ◌⊎◌, IsErrAnd};
-ghost use Rattle.ch_contract.specs.Legs.{IsHopBound};
-ghost use Rattle.ch_job.specs.declared.source.Source.TheVariants as SourceOf;
-ghost use Rattle.ch_job.specs.Job.{IsSourceAllowed, source_map};
+ghost use Rattle.ch_job.specs.Job.{source_map};
 ghost use Rattle.ch_run.specs.Stories.{RunsAsk};
 ghost use Rattle.ch_run.specs.Ask.{ServesBy};
 ghost use Rattle.ch_run.specs.Run.{reading};
@@ -46,9 +44,6 @@ pub fn run_ask<R: Threads + Sync, I: Input, S: Input + Drop, J: Input, O: Output
     output: &mut O,
     options: &Options,
 ) -> Result<(), RunFault>
-    requires allowed { IsSourceAllowed source.old }
-    requires hops { source.old ≡ SourceOf.Built → IsHopBound options.now.hops }
-
     // The story of the run, in the order in which it happens.
     ensures went { RunsAsk options.now (reading I.read_gives graph.old graph.new) (source_reading S.read_gives source.old source.new) (reading J.read_gives requests.old requests.new)
         (source.new ≡ source.old) (requests.new ≡ requests.old) O.write_gives output.old output.new result }

@@ -1,8 +1,8 @@
 //! Batches of requests that came together.
-ghost use Rattle.std.specs.Prelude.{◌≡◌, MatchOption};
-ghost use Rattle.ch_read.specs.Requests.{IsUsedUp};
-ghost use Rattle.ch_run.specs.declared.run.batch.Then.TheVariants as ThenOf;
-ghost use Rattle.ch_run.specs.Serving.{EndsSo, GivesUntil, GoesOn, IsBatch, IsStop, end_of, request_refusal};
+ghost use Rattle.std.specs.Prelude.{◌≡◌, ◌≤◌, length, All};
+ghost use Rattle.ch_graph.specs.declared.limits.TheConstants.{MOST_LISTED};
+ghost use Rattle.ch_read.specs.Requests.{Gives, IsRequest, Standing};
+ghost use Rattle.ch_run.specs.Serving.{IsAfter, request_refusal};
 
 use crate::fault::{RunFault, Which};
 use ch_read::{Request, RequestError, RequestFault, RequestReader};
@@ -18,15 +18,6 @@ pub(crate) struct Batch {
     pub(crate) then: Then,
 }
 
-impl Batch {
-    fn new(requests: Vec<Request>, then: Then) -> Batch
-        ensures requests { result.requests ≡ requests }
-        ensures then { result.then ≡ then }
-    {
-        Batch { requests, then }
-    }
-}
-
 /// What comes after the requests of a batch.
 #[derive(Drop)]
 pub(crate) enum Then {
@@ -38,46 +29,39 @@ pub(crate) enum Then {
     Stop(RunFault),
 }
 
-impl Then {
-    /// Returns the result of answering the requests that are whole, or `None` if there may be more of
-    /// them.
-    pub(crate) fn end(&self) -> Option<Result<(), RunFault>>
-        ensures { MatchOption result (GoesOn self.now) (EndsSo self.now) }
-    {
-        match self {
-            Then::More => None,
-            Then::Nothing => Some(Ok(())),
-            Then::Stop(fault) => Some(Err(*fault)),
-        }
-    }
-}
-
 /// Gathers the requests that are whole, or the first of them, if there are more than `TOGETHER`.
 pub(crate) fn gather(alloc: Global, reader: &mut RequestReader, ended: bool) -> Batch
     ensures nodes { reader.new.nodes ≡ reader.old.nodes }
-    ensures given { GivesUntil ended reader.old reader.new result.requests.items (end_of result.then) }
-    ensures used_up { result.then ≡ ThenOf.Nothing → IsUsedUp ended reader.new }
-    ensures batch { IsBatch reader.old.nodes result.requests.items result.then }
+    ensures given { (gave : Standing) × Gives ended reader.old gave result.requests.items × IsAfter ended gave reader.new result.then }
+    ensures each { All (IsRequest reader.old.nodes) result.requests.items }
+    ensures few { length result.requests.items ≤ MOST_LISTED }
 {
     let mut requests = Vec::new(alloc);
     for _ in 0..TOGETHER {
         match reader.next(alloc, ended) {
             Ok(Some(request)) => {
                 if requests.push(request).is_err() {
-                    return Batch::new(requests, Then::Stop(RunFault::Memory));
+                    let then = Then::Stop(RunFault::Memory);
+                    return Batch { requests, then };
                 }
             }
-            Ok(None) => return Batch::new(requests, Then::Nothing),
-            Err(error) => return Batch::new(requests, Then::Stop(refusal(error))),
+            Ok(None) => {
+                let then = Then::Nothing;
+                return Batch { requests, then };
+            }
+            Err(error) => {
+                let then = Then::Stop(refusal(error));
+                return Batch { requests, then };
+            }
         }
     }
-    Batch::new(requests, Then::More)
+    let then = Then::More;
+    Batch { requests, then }
 }
 
 /// Returns the fault of a run whose reader of requests gives this error.
 fn refusal(error: RequestError) -> RunFault
-    ensures fault { result ≡ request_refusal error }
-    ensures stop { IsStop result }
+    ensures { result ≡ request_refusal error }
 {
     match error {
         RequestError::Fault(RequestFault::Line(fault)) => RunFault::Read(Which::Requests, fault),

@@ -1,10 +1,8 @@
 //! Runs that answer queries.
-ghost use Rattle.std.specs.Prelude.{◌≡◌, ◌≤◌, length, IfOk, IsNone};
+ghost use Rattle.std.specs.Prelude.{◌≡◌, ◌≤◌, length, IfOk};
 ghost use Rattle.ch_graph.specs.declared.limits.TheConstants.{MOST_QUERIES};
-ghost use Rattle.ch_contract.specs.Legs.{IsHopBound};
 ghost use Rattle.ch_query.specs.Replies.{AreQueries};
-ghost use Rattle.ch_job.specs.declared.source.Source.TheVariants as SourceOf;
-ghost use Rattle.ch_job.specs.Job.{IsSourceAllowed, source_map};
+ghost use Rattle.ch_job.specs.Job.{source_map};
 ghost use Rattle.ch_run.specs.DistRun.{IsAnsweredBy};
 ghost use Rattle.ch_run.specs.Run.{Delivers, reading};
 ghost use Rattle.ch_run.specs.Source.{IsOfRoutes, source_reading};
@@ -48,9 +46,6 @@ pub fn run_dist<R: Threads + Sync, I: Input, S: Input + Drop, J: Input, O: Outpu
     output: &mut O,
     options: &Options,
 ) -> Result<(), RunFault>
-    requires allowed { IsSourceAllowed source.old }
-    requires hops { source.old ≡ SourceOf.Built → IsHopBound options.now.hops }
-
     // The story of the run, in the order in which it happens.
     ensures went { RunsDist options.now (reading I.read_gives graph.old graph.new) (source_reading S.read_gives source.old source.new) (reading J.read_gives queries.old queries.new)
         (source.new ≡ source.old) (queries.new ≡ queries.old) O.write_gives output.old output.new result }
@@ -75,7 +70,6 @@ fn text_of<R: Threads + Sync, G: Gate>(
     queries: &[(u32, u32)],
     options: &Options,
 ) -> Result<Vec<u8>, AllocError>
-    requires hops { IsNone loaded.saved → IsHopBound options.now.hops }
     requires queries { AreQueries loaded.graph.nodes queries.now }
     requires count { length queries.now ≤ MOST_QUERIES }
     ensures { IfOk result (λ text. IsTextBy (writes_routes options.now) loaded.graph (IsOfRoutes options.now loaded.graph loaded.saved) queries.now text.items) }

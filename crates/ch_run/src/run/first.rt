@@ -1,26 +1,23 @@
 //! Answers the first of the requests that came together.
-ghost use Rattle.std.specs.Prelude.{◌≡◌, ◌<◌, ◌≤◌, true, false, ⊤, ◌∷◌, List, None, length, map, All, IfOk, MatchOption};
-ghost use Rattle.ch_graph.specs.declared.limits.TheConstants.{MOST_LISTED, MOST_QUERIES};
-ghost use Rattle.ch_hierarchy.specs.Hierarchy.{nodes_of};
-ghost use Rattle.ch_near.specs.Near.{wanted_within};
-ghost use Rattle.ch_query.specs.Replies.{AreQueries};
+ghost use Rattle.std.specs.Prelude.{◌≡◌, ◌<◌, ◌≤◌, ◌||◌, true, false, ⊤, ◌∷◌, List, None, length, map, All, IfOk, MatchOption};
+ghost use Rattle.ch_graph.specs.declared.limits.TheConstants.{MOST_LISTED};
 ghost use Rattle.ch_read.specs.Requests.{ArePlaces, AreTwoLists, IsRequest};
 ghost use Rattle.ch_read.specs.RequestLists.{PlaceList};
 ghost use Rattle.ch_read.specs.declared.request.Request.{Request as RequestKind};
 ghost use Rattle.ch_read.specs.declared.request.Request.TheVariants as RequestOf;
-ghost use Rattle.ch_run.specs.Ask.{AreAnswered, IsTextOfRequest, limit_of};
-ghost use Rattle.ch_run.specs.NearRows.{HasNearRows};
+ghost use Rattle.ch_run.specs.Ask.{IsTextOfRequest, limit_of};
+ghost use Rattle.ch_run.specs.Text.{writes_routes};
 ghost use Rattle.ch_run.specs.Serving.{AnswersFirst, AreFirstOf, IsRoomFor, asked_for, near_row_of, places_of};
 
 use super::answering::{Answering, Room};
+use super::near_texts::push_searched;
 use super::texts::{answers_in, table_by};
 use crate::plan::{Crew, Gate};
 use crate::routes::writes_routes;
 use ch_job::Options;
 use ch_near::NearTargets;
-use ch_query::Scratch;
 use ch_read::{NearPlaces, Request, TableLists};
-use ch_text::{push_near_row, push_near_rows};
+use ch_text::push_near_row;
 use std::alloc::{AllocError, Global};
 use std::thread::Threads;
 
@@ -52,8 +49,11 @@ pub(crate) fn answer_first<'a, R: Threads + Sync, G: Gate>(
 {
     let rest = &requests[1..];
     match &requests[0] {
-        Request::Query(from, to) => first_pairs(crew, by, room, (*from, *to), rest, false),
-        Request::Route(from, to) => first_pairs(crew, by, room, (*from, *to), rest, true),
+        Request::Query(from, to) => {
+            let routes = writes_routes(by.options);
+            first_pairs(crew, by, room, (*from, *to), rest, false, routes)
+        }
+        Request::Route(from, to) => first_pairs(crew, by, room, (*from, *to), rest, true, true),
         Request::Near(source, within) => first_rows(crew, by, room, *source, *within, rest),
         Request::Table(lists) => first_table(crew, by, lists),
         Request::Places(places) => take_places(crew, by, room, places),
@@ -61,7 +61,7 @@ pub(crate) fn answer_first<'a, R: Threads + Sync, G: Gate>(
 }
 
 /// Answers a query, and with it the queries like it that come right after it. All have their routes, or
-/// all are answered as the run answers queries.
+/// all are answered as the run answers queries. Their text has routes if `routes`.
 fn first_pairs<R: Threads + Sync, G: Gate>(
     crew: &Crew<'_, R, G>,
     by: &Answering<'_>,
@@ -69,7 +69,9 @@ fn first_pairs<R: Threads + Sync, G: Gate>(
     first: (u32, u32),
     rest: &[Request],
     routed: bool,
+    routes: bool,
 ) -> Result<FirstAnswers, AllocError>
+    requires routes { routes ≡ (routed || writes_routes by.now.options.now) }
     requires room { IsRoomFor by.now.options.now.direction by.now.checked.now room.old }
     requires each { All (IsRequest by.now.checked.now.graph.nodes) (asked_for routed first ∷ rest.now) }
     requires few { length rest.now < MOST_LISTED }
@@ -78,7 +80,13 @@ fn first_pairs<R: Threads + Sync, G: Gate>(
 {
     let pairs = pairs_in_front(crew.alloc, first, rest, routed)?;
     let count = pairs.len();
-    let text = pairs_text(crew, by, &mut room.scratches, &pairs, routed)?;
+    let text = answers_in(
+        crew,
+        by.checked.hierarchy(),
+        &mut room.scratches,
+        &pairs,
+        routes,
+    )?;
     Ok(FirstAnswers { text, count })
 }
 
@@ -114,24 +122,6 @@ fn pair_of(request: &Request, routed: bool) -> Option<(u32, u32)>
     }
 }
 
-/// Returns the text of queries: all with their routes, or as the run answers queries.
-fn pairs_text<R: Threads + Sync, G: Gate>(
-    crew: &Crew<'_, R, G>,
-    by: &Answering<'_>,
-    scratches: &mut Vec<Scratch>,
-    pairs: &[(u32, u32)],
-    routed: bool,
-) -> Result<Vec<u8>, AllocError>
-    requires scratches { All (λ scratch. scratch ≡ nodes_of by.now.checked.now.hierarchy) scratches.old.items }
-    requires pairs { AreQueries by.now.checked.now.graph.nodes pairs.now }
-    requires count { length pairs.now ≤ MOST_QUERIES }
-    ensures text { (places : PlaceList) → IfOk result (λ text. AreAnswered (IsTextOfRequest by.now.options.now by.now.checked.now.graph by.now.checked.now.hierarchy) places (map (asked_for routed) pairs.now) text.items) }
-    ensures scratches { All (λ scratch. scratch ≡ nodes_of by.now.checked.now.hierarchy) scratches.new.items }
-{
-    let routes = routed || writes_routes(by.options);
-    answers_in(crew, by.checked.hierarchy(), scratches, pairs, routes)
-}
-
 /// Answers a near row, and with it those with the same limit that come right after it, at most
 /// [`ROWS_TOGETHER`] in all. If no places were given, it answers only this one, and the row is empty.
 fn first_rows<R: Threads + Sync, G: Gate>(
@@ -148,34 +138,16 @@ fn first_rows<R: Threads + Sync, G: Gate>(
     ensures first { IfOk result (λ answers. AnswersFirst (IsTextOfRequest by.now.options.now by.now.checked.now.graph by.now.checked.now.hierarchy) (places_of room.old.near) (places_of room.new.near) (near_row_of within source ∷ rest.now) answers.text.items answers.count) }
     ensures room { IfOk result (λ _. IsRoomFor by.now.options.now.direction by.now.checked.now room.new) }
 {
+    let mut text = Vec::new(crew.alloc);
     let Some(near) = &mut room.near else {
-        let mut text = Vec::new(crew.alloc);
         push_near_row(&mut text, source, &[], &[])?;
         return Ok(FirstAnswers { text, count: 1 });
     };
     let sources = sources_in_front(crew.alloc, source, within, rest)?;
     let count = sources.len();
-    let text = rows_text(crew, near, &sources, limit_of(by.options, within))?;
+    let within = limit_of(by.options, within);
+    push_searched(crew, near, &sources, within, &mut text)?;
     Ok(FirstAnswers { text, count })
-}
-
-/// Returns the text of near rows within a limit.
-fn rows_text<R: Threads + Sync, G: Gate>(
-    crew: &Crew<'_, R, G>,
-    near: &mut NearTargets<'_>,
-    sources: &[u32],
-    within: Option<u64>,
-) -> Result<Vec<u8>, AllocError>
-    requires sources { All (λ s. s < nodes_of near.old.hierarchy) sources.now }
-    requires few { length sources.now ≤ MOST_LISTED }
-    requires limit { near.old.limit ≡ None }
-    ensures text { IfOk result (λ text. HasNearRows (wanted_within near.old within) sources.now text.items) }
-    ensures same { near.new ≡ near.old }
-{
-    let rows = near.rows_within(crew, sources, within)?;
-    let mut text = Vec::new(crew.alloc);
-    push_near_rows(&mut text, sources, near.targets(), &rows)?;
-    Ok(text)
 }
 
 /// Returns the sources of the near rows in front with this limit, at most [`ROWS_TOGETHER`]. The first

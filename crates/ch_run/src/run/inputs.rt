@@ -1,7 +1,6 @@
 //! Reads inputs to their end, and judges them.
-ghost use Rattle.std.specs.Prelude.{true, ◌≡◌, ◌<◌, ◌≤◌, All, IfOk, IfErr, vec_len};
+ghost use Rattle.std.specs.Prelude.{true, ◌≡◌, ◌<◌, ◌≤◌, All, IfOk, IfErr, MatchResult, vec_len};
 ghost use Rattle.ch_graph.specs.declared.limits.TheConstants.{MOST_LISTED, MOST_QUERIES};
-ghost use Rattle.ch_graph.specs.Graph.{IsWithinLimits};
 ghost use Rattle.ch_text.specs.Device.{CanCountOneMore};
 ghost use Rattle.ch_text.specs.Moves.{GaveAll};
 ghost use Rattle.ch_run.specs.Run.{IsUnread, ReadsGraph, ReadsNodes, ReadsQueries, reading};
@@ -22,20 +21,11 @@ pub(crate) fn graph_from<R: Threads + Sync, I: Input, G: Gate>(
     crew: &Crew<'_, R, G>,
     input: &mut I,
 ) -> Result<Graph, RunFault>
-    ensures value { IfOk result (ReadsGraph (reading I.read_gives input.old input.new)) }
-    ensures limits { IfOk result IsWithinLimits }
+    ensures read { MatchResult result (ReadsGraph (reading I.read_gives input.old input.new)) (EndsAt Which.Graph (reading I.read_gives input.old input.new) (IsRefused Which.Graph FormOf.Graph)) }
     ensures same { I.origin input.new ≡ I.origin input.old }
-    ensures ends { IfErr result (EndsAt Which.Graph (reading I.read_gives input.old input.new) (IsRefused Which.Graph FormOf.Graph)) }
 {
     let bytes = bytes_from(crew.alloc, input, Which::Graph)?;
-    match Which::Graph.judged(read_graph_by(crew, &bytes)) {
-        Ok(graph) => {
-            // The contract of this call says that the graph keeps the limits.
-            let _ = graph.arcs();
-            Ok(graph)
-        }
-        Err(fault) => Err(fault),
-    }
+    Which::Graph.judged(read_graph_by(crew, &bytes))
 }
 
 /// Reads an input to its end, as queries on this graph.
@@ -44,11 +34,11 @@ pub(crate) fn queries_from<I: Input>(
     input: &mut I,
     graph: &Graph,
 ) -> Result<Vec<(u32, u32)>, RunFault>
-    ensures value { IfOk result (λ queries. ReadsQueries (reading I.read_gives input.old input.new) graph.now.nodes queries.items) }
+    ensures read { MatchResult result (λ queries. ReadsQueries (reading I.read_gives input.old input.new) graph.now.nodes queries.items)
+        (EndsAt Which.Queries (reading I.read_gives input.old input.new) (IsRefused Which.Queries (FormOf.Queries graph.now.nodes))) }
     ensures within { IfOk result (λ queries. AreQueries graph.now.nodes queries.items) }
     ensures size { IfOk result (λ queries. vec_len queries ≤ MOST_QUERIES) }
     ensures same { I.origin input.new ≡ I.origin input.old }
-    ensures ends { IfErr result (EndsAt Which.Queries (reading I.read_gives input.old input.new) (IsRefused Which.Queries (FormOf.Queries graph.now.nodes))) }
 {
     let bytes = bytes_from(alloc, input, Which::Queries)?;
     Which::Queries.judged(read_queries(alloc, &bytes, graph.nodes()))
@@ -61,11 +51,11 @@ pub(crate) fn nodes_from<I: Input>(
     graph: &Graph,
     which: Which,
 ) -> Result<Vec<u32>, RunFault>
-    ensures value { IfOk result (λ list. ReadsNodes (reading I.read_gives input.old input.new) graph.now.nodes list.items) }
+    ensures read { MatchResult result (λ list. ReadsNodes (reading I.read_gives input.old input.new) graph.now.nodes list.items)
+        (EndsAt which (reading I.read_gives input.old input.new) (IsRefused which (FormOf.Nodes graph.now.nodes))) }
     ensures within { IfOk result (λ list. All (λ node. node < graph.now.nodes) list.items) }
     ensures size { IfOk result (λ list. vec_len list ≤ MOST_LISTED) }
     ensures same { I.origin input.new ≡ I.origin input.old }
-    ensures ends { IfErr result (EndsAt which (reading I.read_gives input.old input.new) (IsRefused which (FormOf.Nodes graph.now.nodes))) }
 {
     let bytes = bytes_from(alloc, input, which)?;
     which.judged(read_nodes(alloc, &bytes, graph.nodes()))

@@ -1,12 +1,11 @@
 //! A graph, and a saved hierarchy or an order if there is one. Both are read to their end and checked.
-ghost use Rattle.std.specs.Prelude.{◌≡◌, ◌<◌, ◌≤◌, Some, IfOk, IfErr, IsNone, IsOkAnd, ⊤};
+ghost use Rattle.std.specs.Prelude.{◌≡◌, ◌<◌, ◌≤◌, Some, IfOk, IfErr, IsNone, IsOkAnd, MatchResult, ⊤};
 ghost use Rattle.ch_graph.specs.Saved.{OrderAndLegs};
 ghost use Rattle.ch_hierarchy.specs.Hierarchy.{LevelsAndLegs};
 ghost use Rattle.ch_hierarchy.specs.Kept.{IsKept};
-ghost use Rattle.ch_contract.specs.Legs.{IsHopBound};
 ghost use Rattle.ch_contract.specs.Like.{IsHierarchyLike};
 ghost use Rattle.ch_job.specs.declared.source.Source.TheVariants as SourceOf;
-ghost use Rattle.ch_job.specs.Job.{IsSourceAllowed, source_map};
+ghost use Rattle.ch_job.specs.Job.{source_map};
 ghost use Rattle.ch_run.specs.Loaded.{IsRight};
 ghost use Rattle.ch_run.specs.Run.{reading, ReadsAll};
 ghost use Rattle.ch_read.specs.declared.form.Form.TheVariants as FormOf;
@@ -20,7 +19,7 @@ use super::inputs::{bytes_from, graph_from};
 use crate::building::{build_by, build_in_order};
 use crate::fault::{RunFault, Which};
 use crate::plan::{Crew, Gate, Stage};
-use ch_contract::{CheckError, Hierarchy, OrderBy};
+use ch_contract::{CheckError, Hierarchy, HopBound, OrderBy, Percent};
 use ch_graph::{Graph, Saved};
 use ch_job::Source;
 use ch_order::OrderError;
@@ -92,7 +91,6 @@ pub(crate) fn loaded_from<R: Threads + Sync, I: Input, S: Input + Drop, G: Gate>
     source: &mut Source<S>,
     named: bool,
 ) -> Result<Loaded, RunFault>
-    requires allowed { IsSourceAllowed source.old }
     ensures went { Loads (reading I.read_gives graph.old graph.new) (source_reading S.read_gives source.old source.new) (source.new ≡ source.old) result ⊤ (λ g h.
         IsOkAnd result (λ loaded. (loaded.graph ≡ g) × IsInPlaceOf named g h loaded.saved)) }
     ensures built { IfOk result (λ loaded. IsNone loaded.saved → source.old ≡ SourceOf.Built) }
@@ -101,6 +99,8 @@ pub(crate) fn loaded_from<R: Threads + Sync, I: Input, S: Input + Drop, G: Gate>
 {
     crew.gate.watch(Stage::Reading, 0, files_of(source));
     let graph = graph_from(crew, graph)?;
+    // The contract of this call says that the graph keeps the limits.
+    let _ = graph.arcs();
     match source {
         Source::Built => Ok(Loaded { graph, saved: None }),
         Source::Saved(saved) => {
@@ -154,13 +154,11 @@ fn built_from<R: Threads + Sync, S: Input, G: Gate>(
     crew: &Crew<'_, R, G>,
     order: &mut S,
     graph: &Graph,
-    fresh: u32,
-    hops: u32,
+    fresh: Percent,
+    hops: HopBound,
     named: bool,
 ) -> Result<Hierarchy, RunFault>
-    requires fresh { fresh ≤ 100 }
-    requires hops { IsHopBound hops }
-    ensures value { IfOk result (λ K. ReadsAll (reading S.read_gives order.old order.new) (λ bytes. (H : LevelsAndLegs) × NamesLike graph.now fresh hops bytes H × IsInPlaceOf named graph.now (Some H) (Some K))) }
+    ensures value { IfOk result (λ K. ReadsAll (reading S.read_gives order.old order.new) (λ bytes. (H : LevelsAndLegs) × NamesLike graph.now fresh.number hops.number bytes H × IsInPlaceOf named graph.now (Some H) (Some K))) }
     ensures kept { IfOk result (IsKept graph.now) }
     ensures same { S.origin order.new ≡ S.origin order.old }
     ensures ends { IfErr result (EndsAt Which.Order (reading S.read_gives order.old order.new) (IsOrderRefusedOn graph.now)) }
@@ -187,12 +185,11 @@ impl Loaded {
     pub(crate) fn checked<R: Threads + Sync, G: Gate>(
         self,
         crew: &Crew<'_, R, G>,
-        hops: u32,
+        hops: HopBound,
         order: OrderBy,
     ) -> Result<Checked, AllocError>
-        requires hops { IsNone self.saved → IsHopBound hops }
         ensures graph { IfOk result (λ checked. checked.graph ≡ self.graph) }
-        ensures serving { IfOk result (λ checked. IsServing order hops self.graph self.saved checked.hierarchy) }
+        ensures serving { IfOk result (λ checked. IsServing order hops.number self.graph self.saved checked.hierarchy) }
     {
         let Loaded { graph, saved } = self;
         let hierarchy = match saved {
@@ -206,11 +203,10 @@ impl Loaded {
     pub(crate) fn hierarchy<R: Threads + Sync, G: Gate>(
         self,
         crew: &Crew<'_, R, G>,
-        hops: u32,
+        hops: HopBound,
         order: OrderBy,
     ) -> Result<Hierarchy, AllocError>
-        requires hops { IsNone self.saved → IsHopBound hops }
-        ensures serving { IfOk result (IsServing order hops self.graph self.saved) }
+        ensures serving { IfOk result (IsServing order hops.number self.graph self.saved) }
         ensures kept { IfOk result (IsKept self.graph) }
     {
         let Checked { graph, hierarchy } = self.checked(crew, hops, order)?;
@@ -225,9 +221,9 @@ fn saved_from<R: Threads + Sync, S: Input, G: Gate>(
     input: &mut S,
     graph: &Graph,
 ) -> Result<Saved, RunFault>
-    ensures value { IfOk result (ReadsSaved (reading S.read_gives input.old input.new) graph.now.nodes) }
+    ensures read { MatchResult result (ReadsSaved (reading S.read_gives input.old input.new) graph.now.nodes)
+        (EndsAt Which.Saved (reading S.read_gives input.old input.new) (IsSavedRefusedOn graph.now)) }
     ensures same { S.origin input.new ≡ S.origin input.old }
-    ensures ends { IfErr result (EndsAt Which.Saved (reading S.read_gives input.old input.new) (IsRefused Which.Saved (FormOf.Saved graph.now.nodes))) }
 {
     let bytes = bytes_from(crew.alloc, input, Which::Saved)?;
     Which::Saved.judged(read_saved_by(crew, &bytes, graph.nodes()))
@@ -240,9 +236,9 @@ fn order_from<R: Threads + Sync, S: Input, G: Gate>(
     input: &mut S,
     graph: &Graph,
 ) -> Result<Vec<u32>, RunFault>
-    ensures value { IfOk result (λ order. ReadsAll (reading S.read_gives input.old input.new) (λ bytes. NamesOrder bytes graph.now.nodes order.items)) }
+    ensures read { MatchResult result (λ order. ReadsAll (reading S.read_gives input.old input.new) (λ bytes. NamesOrder bytes graph.now.nodes order.items))
+        (EndsAt Which.Order (reading S.read_gives input.old input.new) (IsOrderRefusedOn graph.now)) }
     ensures same { S.origin input.new ≡ S.origin input.old }
-    ensures ends { IfErr result (EndsAt Which.Order (reading S.read_gives input.old input.new) (IsRefused Which.Order (FormOf.Saved graph.now.nodes))) }
 {
     let bytes = bytes_from(crew.alloc, input, Which::Order)?;
     Which::Order.judged(read_order_by(crew, &bytes, graph.nodes()))

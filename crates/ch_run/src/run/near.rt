@@ -1,8 +1,6 @@
 //! Runs that write the nearest targets of each source of a list, or of each node of the graph.
-ghost use Rattle.std.specs.Prelude.{◌≡◌, IfOk, IsNone};
-ghost use Rattle.ch_contract.specs.Legs.{IsHopBound};
-ghost use Rattle.ch_job.specs.declared.source.Source.TheVariants as SourceOf;
-ghost use Rattle.ch_job.specs.Job.{IsSourceAllowed, source_map, sources_map};
+ghost use Rattle.std.specs.Prelude.{◌≡◌, IfOk};
+ghost use Rattle.ch_job.specs.Job.{source_map, sources_map};
 ghost use Rattle.ch_run.specs.Stories.{RunsNear};
 ghost use Rattle.ch_run.specs.NearRun.{AreNodeLists, IsNearBy, nodes_of_sources, sources_reading};
 ghost use Rattle.ch_run.specs.Run.{Delivers, reading};
@@ -60,9 +58,6 @@ pub fn run_near<
     output: &mut O,
     options: &Options,
 ) -> Result<(), RunFault>
-    requires allowed { IsSourceAllowed source.old }
-    requires hops { source.old ≡ SourceOf.Built → IsHopBound options.now.hops }
-
     // The story of the run, in the order in which it happens.
     ensures went { RunsNear options.now (reading I.read_gives graph.old graph.new) (source_reading S.read_gives source.old source.new) (sources_reading J.read_gives sources.old sources.new) (reading L.read_gives targets.old targets.new)
         (source.new ≡ source.old) (sources.new ≡ sources.old) (targets.new ≡ targets.old) O.write_gives output.old output.new result }
@@ -89,7 +84,6 @@ fn near_of<R: Threads + Sync, G: Gate>(
     lists: &NodeLists,
     options: &Options,
 ) -> Result<Vec<u8>, AllocError>
-    requires hops { IsNone loaded.saved → IsHopBound options.now.hops }
     requires lists { AreNodeLists loaded.graph.nodes (nodes_of_sources loaded.graph.nodes lists.now.sources) lists.now.targets.items }
     ensures { IfOk result (λ text. IsNearTextFor options.now loaded.graph (nodes_of_sources loaded.graph.nodes lists.now.sources) lists.now.targets.items text.items) }
 {

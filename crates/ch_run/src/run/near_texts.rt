@@ -1,10 +1,13 @@
 //! The texts of near rows, made whole before the first write.
-ghost use Rattle.std.specs.Prelude.{◌≡◌, ◌<◌, All, IfOk};
+ghost use Rattle.std.specs.Prelude.{◌≡◌, ◌<◌, ◌≤◌, ◌++◌, ◌∷◌, [], List, ℕ, length, All, IfOk, OnOk};
+ghost use Rattle.ch_graph.specs.declared.limits.TheConstants.{MOST_LISTED};
 ghost use Rattle.ch_graph.specs.Graph.{Network, IsWithinLimits};
 ghost use Rattle.ch_hierarchy.specs.Hierarchy.{nodes_of};
 ghost use Rattle.ch_hierarchy.specs.Kept.{IsKept};
+ghost use Rattle.ch_near.specs.Near.{wanted_within};
 ghost use Rattle.ch_near.specs.Sweep.{AreNodeRows};
 ghost use Rattle.ch_query.specs.Distance.{IsKeptForSome};
+ghost use Rattle.ch_query.specs.Limits.{IsWithin};
 ghost use Rattle.ch_run.specs.NearRun.{AreNodeLists, nodes_of_sources};
 ghost use Rattle.ch_run.specs.NearRows.{HasNearRows};
 ghost use Rattle.ch_run.specs.Text.{IsNearTextFor};
@@ -44,28 +47,49 @@ pub(crate) fn near_by<R: Threads + Sync, G: Gate>(
     match sources {
         Sources::All => all_nodes_text(crew, &near, nodes),
         Sources::Listed(list) if list.len() < nodes as usize / 2 => {
-            searched_text(crew, &mut near, list)
+            searched_text(crew, &mut near, list, within)
         }
         Sources::Listed(list) => swept_text(crew, &near, list),
     }
 }
 
-/// Returns the text of the near rows of these sources. It makes them in portions, by a search from each
-/// source. The workers share the sources.
+/// Returns the text of the near rows of these sources, within the limit of the search. It makes them in
+/// portions, by a search from each source. The workers share the sources.
 fn searched_text<R: Threads + Sync, G: Gate>(
     crew: &Crew<'_, R, G>,
     near: &mut NearTargets<'_>,
     sources: &[u32],
+    within: Option<u64>,
 ) -> Result<Vec<u8>, AllocError>
     requires sources { All (λ s. s < nodes_of near.old.hierarchy) sources.now }
+    requires limit { near.old.limit ≡ within }
     ensures { IfOk result (λ text. HasNearRows near.old sources.now text.items) }
 {
     let mut text = Vec::new(crew.alloc);
     for portion in sources.chunks(PORTION) {
-        let rows = near.rows(crew, portion)?;
-        push_near_rows(&mut text, portion, near.targets(), &rows)?;
+        push_searched(crew, near, portion, within, &mut text)?;
     }
     Ok(text)
+}
+
+/// Writes the near rows of these sources within a limit that is at most the one of the search. It makes
+/// them by a search from each source.
+pub(crate) fn push_searched<R: Threads + Sync, G: Gate>(
+    crew: &Crew<'_, R, G>,
+    near: &mut NearTargets<'_>,
+    sources: &[u32],
+    within: Option<u64>,
+    text: &mut Vec<u8>,
+) -> Result<(), AllocError>
+    requires sources { All (λ s. s < nodes_of near.old.hierarchy) sources.now }
+    requires few { length sources.now ≤ MOST_LISTED }
+    requires limit { (x : ℕ) → IsWithin within x → IsWithin near.old.limit x }
+    ensures text { OnOk result ((done : List ℕ) → HasNearRows (wanted_within near.old within) done text.old.items →
+        HasNearRows (wanted_within near.old within) (done ++ sources.now) text.new.items) }
+    ensures same { near.new ≡ near.old }
+{
+    let rows = near.rows_within(crew, sources, within)?;
+    push_near_rows(text, sources, near.targets(), &rows)
 }
 
 /// Returns the text of the near rows of these sources, from the rows of all nodes.
@@ -78,10 +102,9 @@ fn swept_text<R: Threads + Sync, G: Gate>(
     ensures { IfOk result (λ text. HasNearRows near.now sources.now text.items) }
 {
     let rows = swept(crew, near)?;
-    let targets = near.targets();
     let mut text = Vec::new(crew.alloc);
     for source in sources {
-        push_near_row(&mut text, *source, targets, rows.row(*source))?;
+        push_swept(near, &rows, *source, &mut text)?;
     }
     Ok(text)
 }
@@ -96,12 +119,25 @@ fn all_nodes_text<R: Threads + Sync, G: Gate>(
     ensures { IfOk result (λ text. HasNearRows near.now (nodes_in_order nodes) text.items) }
 {
     let rows = swept(crew, near)?;
-    let targets = near.targets();
     let mut text = Vec::new(crew.alloc);
     for node in 0..nodes {
-        push_near_row(&mut text, node, targets, rows.row(node))?;
+        push_swept(near, &rows, node, &mut text)?;
     }
     Ok(text)
+}
+
+/// Writes the near row of a node, one of those that a sweep made.
+fn push_swept(
+    near: &NearTargets<'_>,
+    rows: &NodeRows<'_>,
+    node: u32,
+    text: &mut Vec<u8>,
+) -> Result<(), AllocError>
+    requires rows { AreNodeRows near.now rows.now }
+    requires node { node < nodes_of near.now.hierarchy }
+    ensures { OnOk result ((done : List ℕ) → HasNearRows near.now done text.old.items → HasNearRows near.now (done ++ node ∷ []) text.new.items) }
+{
+    push_near_row(text, node, near.targets(), rows.row(node))
 }
 
 /// Returns the near rows of all nodes, by a sweep. One worker makes them.

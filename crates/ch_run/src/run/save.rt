@@ -1,8 +1,6 @@
 //! Runs that save the hierarchy of a graph.
-ghost use Rattle.std.specs.Prelude.{◌≡◌, IfOk, IsNone};
-ghost use Rattle.ch_contract.specs.Legs.{IsHopBound};
-ghost use Rattle.ch_job.specs.declared.source.Source.TheVariants as SourceOf;
-ghost use Rattle.ch_job.specs.Job.{IsSourceAllowed, source_map};
+ghost use Rattle.std.specs.Prelude.{◌≡◌, IfOk};
+ghost use Rattle.ch_job.specs.Job.{source_map};
 ghost use Rattle.ch_run.specs.Run.{Delivers, reading};
 ghost use Rattle.ch_run.specs.Source.{IsOfRoutes, source_reading};
 ghost use Rattle.ch_run.specs.Stories.{RunsSave};
@@ -41,9 +39,6 @@ pub fn run_save<R: Threads + Sync, I: Input, S: Input + Drop, O: Output, G: Gate
     output: &mut O,
     options: &Options,
 ) -> Result<(), RunFault>
-    requires allowed { IsSourceAllowed source.old }
-    requires hops { source.old ≡ SourceOf.Built → IsHopBound options.now.hops }
-
     // The story of the run, in the order in which it happens.
     ensures went { RunsSave options.now (reading I.read_gives graph.old graph.new) (source_reading S.read_gives source.old source.new)
         (source.new ≡ source.old) O.write_gives output.old output.new result }
@@ -66,7 +61,6 @@ fn save_text_of<R: Threads + Sync, G: Gate>(
     loaded: Loaded,
     options: &Options,
 ) -> Result<Vec<u8>, AllocError>
-    requires hops { IsNone loaded.saved → IsHopBound options.now.hops }
     ensures { IfOk result (λ text. IsSaveTextOf (IsOfRoutes options.now loaded.graph loaded.saved) text.items) }
 {
     let hierarchy = loaded.hierarchy(crew, options.hops, options.order)?;

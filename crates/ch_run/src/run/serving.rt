@@ -1,15 +1,14 @@
 //! Reads requests and answers them as they come.
-ghost use Rattle.std.specs.Prelude.{◌≡◌, ◌+◌, ◌^◌, ◌<◌, ◌≤◌, length, List, None, Ok, Err, IfErr, IfOk, OnErr, OnOk};
+ghost use Rattle.std.specs.Prelude.{◌≡◌, ◌+◌, ◌<◌, ◌≤◌, length, [], None, Ok, Err, IfErr, IfOk, OnErr, OnOk};
 ghost use Rattle.ch_read.specs.Requests.{IsUsedUp};
-ghost use Rattle.ch_read.specs.declared.request.Request.{Request as RequestOf};
 ghost use Rattle.ch_run.specs.Ask.{IsTextOfRequest, Serves};
 ghost use Rattle.ch_text.specs.Device.{CanCountOneMore, failures_in};
 ghost use Rattle.ch_text.specs.declared.device.DeviceFault.{DeviceFault as Failure};
 ghost use Rattle.ch_run.specs.Run.{reading};
-ghost use Rattle.ch_run.specs.Serving.{IsRoomFor, Turns, places_of};
+ghost use Rattle.ch_run.specs.Serving.{GoesOn, IsRoomFor, places_of};
 
 use super::answering::{Answering, Room, answer_requests};
-use super::batch::gather;
+use super::batch::{Then, gather};
 use super::inputs::counts_one_more;
 use crate::fault::{RunFault, Which};
 use crate::plan::{Crew, Gate};
@@ -58,12 +57,11 @@ fn serve_in<'a, R: Threads + Sync, J: Input, O: Output, G: Gate>(
     let mut written = 0;
     for _ in 0..u64::MAX {
         let count = read_once(requests, buffer)?;
-        let ended = count == 0;
-        reader.feed(&buffer[..count])?;
-        answer_whole(crew, by, room, &mut reader, ended, output, &mut written)?;
-        if ended {
-            return Ok(());
+        if count == 0 {
+            return answer_whole(crew, by, room, &mut reader, true, output, &mut written);
         }
+        reader.feed(&buffer[..count])?;
+        answer_whole(crew, by, room, &mut reader, false, output, &mut written)?;
     }
     Err(RunFault::Memory)
 }
@@ -95,9 +93,8 @@ fn answer_whole<'a, R: Threads + Sync, O: Output, G: Gate>(
 ) -> Result<(), RunFault>
     requires room { IsRoomFor by.now.options.now.direction by.now.checked.now room.old }
     requires nodes { reader.old.nodes ≡ by.now.checked.now.graph.nodes }
-    requires counted { written.old < 2 ^ 64 }
-    ensures answered { (given : List RequestOf) × Turns (IsTextOfRequest by.now.options.now by.now.checked.now.graph by.now.checked.now.hierarchy) O.write_gives ended reader.old reader.new
-        (places_of room.old.near) (places_of room.new.near) output.old output.new written.old written.new given result }
+    ensures answered { GoesOn (IsTextOfRequest by.now.options.now by.now.checked.now.graph by.now.checked.now.hierarchy) O.write_gives by.now.checked.now.graph.nodes ended
+        reader.old reader.new [] [] output.old output.new (places_of room.old.near) (places_of room.new.near) written.old written.new result }
     ensures used_up { OnOk result (IsUsedUp ended reader.new) }
     ensures nodes { reader.new.nodes ≡ reader.old.nodes }
     ensures room { OnOk result (IsRoomFor by.now.options.now.direction by.now.checked.now room.new) }
@@ -105,8 +102,10 @@ fn answer_whole<'a, R: Threads + Sync, O: Output, G: Gate>(
     for _ in 0..u64::MAX {
         let batch = gather(crew.alloc, reader, ended);
         answer_requests(crew, by, room, &batch.requests, output, written)?;
-        if let Some(end) = batch.then.end() {
-            return end;
+        match batch.then {
+            Then::More => {}
+            Then::Nothing => return Ok(()),
+            Then::Stop(fault) => return Err(fault),
         }
     }
     Err(RunFault::Memory)

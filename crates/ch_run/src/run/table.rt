@@ -1,9 +1,7 @@
 //! Runs that make tables.
-ghost use Rattle.std.specs.Prelude.{◌≡◌, ◌^◌, ◌<◌, length, flat_map, IfOk, IsNone};
-ghost use Rattle.ch_contract.specs.Legs.{IsHopBound};
+ghost use Rattle.std.specs.Prelude.{◌≡◌, ◌^◌, ◌<◌, length, flat_map, IfOk};
 ghost use Rattle.ch_text.specs.TableText.{IsTableText};
-ghost use Rattle.ch_job.specs.declared.source.Source.TheVariants as SourceOf;
-ghost use Rattle.ch_job.specs.Job.{IsSourceAllowed, source_map};
+ghost use Rattle.ch_job.specs.Job.{source_map};
 ghost use Rattle.ch_run.specs.Lists.{AreLists};
 ghost use Rattle.ch_run.specs.Run.{Delivers, reading};
 ghost use Rattle.ch_run.specs.Source.{source_reading};
@@ -57,9 +55,6 @@ pub fn run_table<
     output: &mut O,
     options: &Options,
 ) -> Result<(), RunFault>
-    requires allowed { IsSourceAllowed source.old }
-    requires hops { source.old ≡ SourceOf.Built → IsHopBound options.now.hops }
-
     // The story of the run, in the order in which it happens.
     ensures went { RunsTable options.now (reading I.read_gives graph.old graph.new) (source_reading S.read_gives source.old source.new) (reading J.read_gives sources.old sources.new) (reading L.read_gives targets.old targets.new)
         (source.new ≡ source.old) (sources.new ≡ sources.old) (targets.new ≡ targets.old) O.write_gives output.old output.new result }
@@ -86,7 +81,6 @@ fn table_of<R: Threads + Sync, G: Gate>(
     lists: &Lists,
     options: &Options,
 ) -> Result<Vec<Vec<u8>>, AllocError>
-    requires hops { IsNone loaded.saved → IsHopBound options.now.hops }
     requires lists { AreLists loaded.graph.nodes lists.now.sources.items lists.now.targets.items }
     ensures text { IfOk result (λ parts. IsTableText loaded.graph options.now.within lists.now.sources.items lists.now.targets.items (flat_map (λ part. part.items) parts.items)) }
     ensures length { IfOk result (λ parts. length (flat_map (λ part. part.items) parts.items) < 2 ^ 64) }

@@ -5,7 +5,7 @@ use Rattle.ch_graph.specs.declared.arc.InArc.{InArc}
 use Rattle.ch_graph.specs.Rows.{AreRowsOf}
 use Rattle.ch_hierarchy.specs.declared.leg.Leg.{Leg}
 use Rattle.ch_hierarchy.specs.Rows.{row, IsRow}
-use Rattle.ch_query.specs.Side.{rows_of}
+use Rattle.ch_hierarchy.specs.Side.{rows_of}
 use Rattle.ch_query.proofs.one_side.Expanding.{rows_size}
 use Rattle.ch_query.proofs.routing.Rows.{rows_ordered}
 use Rattle.ch_engine.specs.Lines.{IsLineWord, IsSeen, Leads, ended_lines, head_of, node_at, tail_of}
@@ -27,7 +27,7 @@ find_lines-requires c =
       few = omega (arith, long, c.arcs-arcs.ensures.limits.size.1);
       seen = subst (λ (r : List ℕ). (i : ℕ) → i < length r → slice_index r i < length arcs) (sym c.row.ensures)
           (row_low side arcs g.nodes seen are node low);
-      order = subst IsRow (sym c.legs_of-legs.ensures.row) (rows_ordered c.args.hierarchy.now c.legs_of-legs.ensures.levelled side node);
+      order = subst IsRow (sym c.legs-legs.ensures.row) (rows_ordered c.args.hierarchy.now c.legs-legs.ensures.levelled side node);
     }
 
 pub returns : goal.returns
@@ -70,8 +70,8 @@ loop-node-preserved c =
     let Made : List Leg → List ℕ → Type 0 = λ legs from. (length made ≡ length legs) × ((k : ℕ) → k < length legs →
     IsLineWord arcs (IsSeen arcs side from (length from) (node_at legs k)) (slice_index made k)) in
     let found : Made (row (rows_of H side) node) (get_or seen node []) =
-    subst (λ (legs : List Leg). Made legs (get_or seen node [])) c.legs_of-legs.ensures.row
-    (subst (Made c.legs_of-legs.result.now) c.row.ensures
+    subst (λ (legs : List Leg). Made legs (get_or seen node [])) c.legs-legs.ensures.row
+    (subst (Made c.legs-legs.result.now) c.row.ensures
     ((c.in_ok-find_lines.ensures {u = tt}).long, (c.in_ok-find_lines.ensures {u = tt}).each)) in
     let here : Fits node made = (
       found.0,

@@ -1,7 +1,7 @@
 -- The nodes before the current one have a word for each leg: the line of the arc between its ends, or none.
 use Rattle.std.proofs.Common.{◌≡◌, ◌<◌, ℕ, [], length, slice_index, slice_index_or}
 use Rattle.ch_hierarchy.specs.Rows.{row}
-use Rattle.ch_query.specs.Side.{rows_of}
+use Rattle.ch_hierarchy.specs.Side.{rows_of}
 use Rattle.ch_engine.specs.Lines.{IsLineWord, Leads, head_of, node_at, tail_of}
 use Rattle.ch_engine.proofs.lines.lines_of.Given as goal
 

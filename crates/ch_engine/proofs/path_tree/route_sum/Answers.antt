@@ -1,7 +1,7 @@
 -- The trees meet where the route does, and the ways back from there have the sum along it.
 use Rattle.std.proofs.Common.{ℕ, List, length, sym, subst}
 use Rattle.ch_graph.specs.declared.cost.Cost.{Cost}
-use Rattle.ch_query.specs.declared.side.Side.TheVariants.{Up as UpSide, Down as DownSide}
+use Rattle.ch_hierarchy.specs.declared.side.Side.TheVariants.{Up as UpSide, Down as DownSide}
 use Rattle.ch_engine.specs.PathTrees.{AreInOrder, IsDescentSum, IsFirstMeet, IsRouteSum, entry_at}
 use Rattle.ch_engine.proofs.MeetingTrees.{meets, route_over}
 use Rattle.ch_engine.proofs.path_tree.route_sum.Goals as goal

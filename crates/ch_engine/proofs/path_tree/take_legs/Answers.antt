@@ -2,7 +2,7 @@
 use Rattle.std.proofs.Common.{◌≡◌, ◌<◌, ℕ, List, length, ◌∙◌, ap, subst, arith}
 use Rattle.ch_hierarchy.specs.declared.leg.Leg.{Leg as AnyLeg}
 use Rattle.ch_hierarchy.specs.Rows.{row as the_row_of}
-use Rattle.ch_query.specs.Side.{rows_of}
+use Rattle.ch_hierarchy.specs.Side.{rows_of}
 use Rattle.ch_engine.specs.LegSums.{leg_on}
 use Rattle.ch_engine.specs.PathTrees.{IsSlotWithin, IsTaken, entry_at, step_at}
 use Rattle.ch_engine.proofs.PathTrees.{slot_ends, slot_goes_on}
@@ -17,7 +17,7 @@ loop-k-preserved c =
     let l = c.loop-k in
     let legs = the_row_of (rows_of H side) (entry_at entries place).0 in
     let word = c.word-word.result in
-    let same : c.legs_of-legs.result.now ≡ legs = c.legs_of-legs.ensures.row in
+    let same : c.legs-legs.result.now ≡ legs = c.legs-legs.ensures.row in
     let low : l.k < length legs = subst (λ (them : List AnyLeg). l.k < length them) same c.loop-k-test.true in
     record {
       long = c.take_leg.ensures.long ∙ l.invariant.long;
@@ -36,7 +36,7 @@ returns-clause-slots c = λ lines values sums slots i inside.
     let entries = c.args.entries.now in
     let place = c.args.place in
     let legs = the_row_of (rows_of H side) (entry_at entries place).0 in
-    let size = ap (λ (them : List AnyLeg). length them) c.legs_of-legs.ensures.row in
+    let size = ap (λ (them : List AnyLeg). length them) c.legs-legs.ensures.row in
     let end : c.loop-k.k ≡ length legs = omega (arith, size, c.loop-k-test.false, c.loop-k.auto.k-end) in
     slot_ends side H lines values entries place i (step_at c.loop-k.steps i)
     (subst (λ (n : ℕ). IsSlotWithin side H lines values entries place n i (step_at c.loop-k.steps i)) end

@@ -4,7 +4,5 @@ use Rattle.ch_line.proofs.laws.run_tells.Goals as goal
 
 pub returns : goal.returns
 returns g c = λ old new requests requests' output output' result same went.
-    run_tells g.I.Input.read_gives g.I.Input.origin g.I.Input.failed g.met.I.Input.counts g.J.Input.read_gives g.J.Input.failed
-    g.met.J.Input.counts g.O.Output.write_gives g.O.Output.failed g.O.Output.idle g.met.O.Output.counts old new requests
-    requests' output output'
+    run_tells g.I.Input.origin g.met.I.Input.counts g.met.J.Input.counts g.met.O.Output.counts old new requests requests' output output'
     result same went

@@ -11,9 +11,10 @@ contract_in_turn-requires-clause-nodes g c lifetimes bounds =
 
 pub returns-clause-hierarchy : goal.returns-clause-hierarchy
 returns-clause-hierarchy g c =
-    IfOk-weaker c.contract_in_turn.result _ _ (λ H is. in_turn_from c.args.by c.args.graph.now c.args.hops H is) c.contract_in_turn.ensures
+    IfOk-weaker c.contract_in_turn.result _ _ (λ H is. in_turn_from c.args.by c.args.graph.now c.args.hops.number H is)
+    c.contract_in_turn.ensures
 
 pub returns-clause-kept : goal.returns-clause-kept
 returns-clause-kept g c =
     IfOk-weaker c.contract_in_turn.result _ _ (λ H is.
-    in_turn_kept c.args.by c.args.graph.now c.args.hops H c.ask_ahead.ensures c.requires.hops is) (returns-clause-hierarchy g c)
+    in_turn_kept c.args.by c.args.graph.now c.args.hops.number H c.ask_ahead.ensures c.args.hops.in_range is) (returns-clause-hierarchy g c)

@@ -6,7 +6,8 @@ use Rattle.ch_order.proofs.construction.contract_in_turn.Given as goal
 
 abbrev pub invariant-loop-node : goal.invariant-loop-node
 invariant-loop-node g l = IsSized l.construction × (l.construction.remaining.nodes ≡ l.graph.nodes)
-    × IsAfterSomeSteps l.by l.graph l.hops (take l.given l.nodes) (progress_of l.construction) × IsJudging l.hops l.construction
+    × IsAfterSomeSteps l.by l.graph l.hops.number (take l.given l.nodes) (progress_of l.construction)
+    × IsJudging l.hops.number l.construction
 
 abbrev pub decreases-loop-node : goal.decreases-loop-node
 decreases-loop-node g l = l.construction.remaining.nodes - l.construction.contracted

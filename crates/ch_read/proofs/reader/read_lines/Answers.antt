@@ -3,48 +3,56 @@ use Rattle.std.proofs.Common.{arith}
 use Rattle.ch_read.proofs.Reading.{nothing_read, skipped, found, taken_first, taken_second, fault_here, all_lines, counted_by}
 use Rattle.ch_read.proofs.reader.read_lines.Goals as goal
 
-pub loop-rest-preserved-in-Ok-Skipped : goal.loop-rest-preserved-in-Ok-Skipped
-loop-rest-preserved-in-Ok-Skipped g c =
-    let holds = rw (c.in-Ok-Skipped.field-0-is) at c.in-Ok-Skipped.ensures in
+pub loop-rest-preserved-in-Skipped : goal.loop-rest-preserved-in-Skipped
+loop-rest-preserved-in-Skipped g c =
+    let first = c.in-Ok.ensures in
+    let holds = rw (c.in-Skipped.is) at first.is in
     skipped g.A.FromItem.from_item_gives g.B.FromItem.from_item_gives c.args.form c.args.begun c.args.bytes.now c.loop-rest.rest.now
-    _ _ c.loop-rest.line c.new.result c.loop-rest.seen c.loop-rest.first.items c.loop-rest.second.items
-    c.loop-rest.invariant c.split_line.ensures.line c.split_line.ensures.less
-    (counted_by _ c.len.result c.len-in-loop-rest.result _ _ c.new.ensures (omega arith) (omega arith)) holds.0 holds.1 holds.2
-
-pub loop-rest-preserved-in-Ok-Problem : goal.loop-rest-preserved-in-Ok-Problem
-loop-rest-preserved-in-Ok-Problem g c =
-    let holds = rw (c.in-Ok-Problem.field-0-is) at c.in-Ok-Problem.ensures in
-    found g.A.FromItem.from_item_gives g.B.FromItem.from_item_gives c.args.form c.args.begun c.args.bytes.now c.loop-rest.rest.now _
-    _ c.loop-rest.line c.new.result c.loop-rest.seen c.loop-rest.first.items c.loop-rest.second.items
-    c.loop-rest.invariant c.split_line.ensures.line c.split_line.ensures.less
-    (counted_by _ c.len.result c.len-in-loop-rest.result _ _ c.new.ensures (omega arith) (omega arith)) c.in-Ok-Problem.heading
+    _ _ c.loop-rest.line c.new-counts.result c.loop-rest.seen c.loop-rest.first.items c.loop-rest.second.items
+    c.loop-rest.invariant first.split first.less
+    (counted_by _ c.len.result c.len-in-loop-rest.result _ _ c.new-counts.ensures (omega arith) (omega arith))
     holds.0 holds.1 holds.2
 
-pub loop-rest-preserved-in_ok-push-in-Ok-First : goal.loop-rest-preserved-in_ok-push-in-Ok-First
-loop-rest-preserved-in_ok-push-in-Ok-First g c =
-    let holds = rw (c.in-Ok-First.field-0-is) at c.in-Ok-First.ensures in
-    rw (c.in_ok-push-in-Ok-First.ensures.items, c.from_item.ensures)
-    (taken_first g.A.FromItem.from_item_gives g.B.FromItem.from_item_gives c.args.form c.args.begun c.args.bytes.now
-    c.loop-rest.rest.now _ _ c.loop-rest.line c.new.result c.loop-rest.seen c.loop-rest.first.items c.loop-rest.second.items
-    c.loop-rest.invariant c.split_line.ensures.line c.split_line.ensures.less
-    (counted_by _ c.len.result c.len-in-loop-rest.result _ _ c.new.ensures (omega arith) (omega arith)) c.in-Ok-First.item
-    holds.0 holds.1 holds.2 holds.3)
+pub loop-rest-preserved-in-Problem : goal.loop-rest-preserved-in-Problem
+loop-rest-preserved-in-Problem g c =
+    let first = c.in-Ok.ensures in
+    let holds = rw (c.in-Problem.is) at first.is in
+    found g.A.FromItem.from_item_gives g.B.FromItem.from_item_gives c.args.form c.args.begun c.args.bytes.now c.loop-rest.rest.now
+    _ _ c.loop-rest.line c.new-counts.result c.loop-rest.seen c.loop-rest.first.items c.loop-rest.second.items
+    c.loop-rest.invariant first.split first.less
+    (counted_by _ c.len.result c.len-in-loop-rest.result _ _ c.new-counts.ensures (omega arith) (omega arith))
+    c.in-Problem.heading holds.0 holds.1 holds.2
+
+pub loop-rest-preserved-in_ok-push-in-First : goal.loop-rest-preserved-in_ok-push-in-First
+loop-rest-preserved-in_ok-push-in-First g c =
+    let first = c.in-Ok.ensures in
+    let holds = rw (c.in-First.is) at first.is in
+    rw (c.in_ok-push-in-First.ensures.items, c.from_item.ensures)
+    (taken_first g.A.FromItem.from_item_gives g.B.FromItem.from_item_gives c.args.form c.args.begun c.args.bytes.now c.loop-rest.rest.now
+    _ _ c.loop-rest.line c.new-counts.result c.loop-rest.seen c.loop-rest.first.items c.loop-rest.second.items
+    c.loop-rest.invariant first.split first.less
+    (counted_by _ c.len.result c.len-in-loop-rest.result _ _ c.new-counts.ensures (omega arith) (omega arith))
+    c.in-First.item holds.0 holds.1 holds.2 holds.3)
 
 pub loop-rest-preserved : goal.loop-rest-preserved
 loop-rest-preserved g c =
-    let holds = rw (c.in-Ok-Second.field-0-is) at c.in-Ok-Second.ensures in
-    rw (c.in_ok-push-in-Ok-Second.ensures.items, c.from_item-in-Ok-Second.ensures)
-    (taken_second g.A.FromItem.from_item_gives g.B.FromItem.from_item_gives c.args.form c.args.begun c.args.bytes.now
-    c.loop-rest.rest.now _ _ c.loop-rest.line c.new.result c.loop-rest.seen c.loop-rest.first.items c.loop-rest.second.items
-    c.loop-rest.invariant c.split_line.ensures.line c.split_line.ensures.less
-    (counted_by _ c.len.result c.len-in-loop-rest.result _ _ c.new.ensures (omega arith) (omega arith)) c.in-Ok-Second.item
-    holds.0 holds.1 holds.2 holds.3)
+    let first = c.in-Ok.ensures in
+    let holds = rw (c.in-Second.is) at first.is in
+    rw (c.in_ok-push-in-Second.ensures.items, c.from_item-in-Second.ensures)
+    (taken_second g.A.FromItem.from_item_gives g.B.FromItem.from_item_gives c.args.form c.args.begun c.args.bytes.now c.loop-rest.rest.now
+    _ _ c.loop-rest.line c.new-counts.result c.loop-rest.seen c.loop-rest.first.items c.loop-rest.second.items
+    c.loop-rest.invariant first.split first.less
+    (counted_by _ c.len.result c.len-in-loop-rest.result _ _ c.new-counts.ensures (omega arith) (omega arith))
+    c.in-Second.item holds.0 holds.1 holds.2 holds.3)
 
 pub returns-in-Err : goal.returns-in-Err
-returns-in-Err g c = fault_here g.A.FromItem.from_item_gives g.B.FromItem.from_item_gives c.args.form c.args.begun c.args.bytes.now
-    c.loop-rest.rest.now _ _ c.loop-rest.line c.new.result c.loop-rest.seen c.loop-rest.first.items c.loop-rest.second.items
-    c.loop-rest.invariant c.split_line.ensures.line c.split_line.ensures.less
-    (counted_by _ c.len.result c.len-in-loop-rest.result _ _ c.new.ensures (omega arith) (omega arith)) c.in-Err.kind c.in-Err.ensures
+returns-in-Err g c =
+    let first = c.in-Err.ensures in
+    fault_here g.A.FromItem.from_item_gives g.B.FromItem.from_item_gives c.args.form c.args.begun c.args.bytes.now c.loop-rest.rest.now
+    _ _ c.loop-rest.line c.new-counts.result c.loop-rest.seen c.loop-rest.first.items c.loop-rest.second.items
+    c.loop-rest.invariant first.split first.less
+    (counted_by _ c.len.result c.len-in-loop-rest.result _ _ c.new-counts.ensures (omega arith) (omega arith))
+    c.in-Err.kind first.fails
 
 pub loop-rest-init : goal.loop-rest-init
 loop-rest-init g c = rw (c.new-first.ensures.items, c.new-second.ensures.items)

@@ -15,69 +15,70 @@ use Rattle.ch_rounds.proofs.RoundsMade.{rounds_at_start, rounds_next, rounds_som
 use Rattle.ch_rounds.proofs.RoundsMade.{rounds_depth, rounds_counts, rounds_levelled}
 use Rattle.ch_rounds.proofs.rounds.build_by_rounds.Goals as goal
 
-pub loop-next-init : goal.loop-next-init
-loop-next-init g c =
+pub loop-hops-init : goal.loop-hops-init
+loop-hops-init g c =
     let first = c.in_ok-construction.ensures in (
       first.sizes,
       first.nodes,
-      ([], λ r. opening c.args.graph.now, rounds_at_start c.args.graph.now c.args.hops _ first.begun),
+      ([], λ r. opening c.args.graph.now, rounds_at_start c.args.graph.now c.args.hops.number _ first.begun),
       first.rooms,
       first.keys,
     )
 
 pub contract-requires-clause-limits : goal.contract-requires-clause-limits
 contract-requires-clause-limits g c lifetimes bounds =
-    let i = c.loop-next.invariant in
-    subst (λ n. AreLegsWithin n (legs_of c.loop-next.construction.remaining)) (sym i.1)
-    (left_within c.ask_ahead.ensures c.requires.hops i.2.2)
+    let i = c.loop-hops.invariant in
+    subst (λ n. AreLegsWithin n (legs_of c.loop-hops.construction.remaining)) (sym i.1)
+    (left_within c.ask_ahead.ensures c.args.hops.in_range i.2.2)
 
 pub contract-requires-clause-near : goal.contract-requires-clause-near
-contract-requires-clause-near g c lifetimes bounds = neighbour_left c.ask_ahead.ensures c.requires.hops c.loop-next.invariant.2.2
+contract-requires-clause-near g c lifetimes bounds = neighbour_left c.ask_ahead.ensures c.args.hops.in_range c.loop-hops.invariant.2.2
 
 pub contract-requires-clause-counts : goal.contract-requires-clause-counts
 contract-requires-clause-counts g c lifetimes bounds k d lt =
-    let i = c.loop-next.invariant in
+    let i = c.loop-hops.invariant in
     let n = c.args.graph.now.nodes in
-    let left = c.loop-next.construction.left.items in
-    let most = rounds_counts c.ask_ahead.ensures c.requires.hops i.2.2 (get_or left k d) (Contains-get_or left k d lt) in
+    let left = c.loop-hops.construction.left.items in
+    let most = rounds_counts c.ask_ahead.ensures c.args.hops.in_range i.2.2 (get_or left k d) (Contains-get_or left k d lt) in
     let few : n ≤ MOST_NODES = omega (arith, i.0.nodes, i.1) in
     let square : n * n ≤ 2 ^ 50 = mul-le-mul {n₁ = n} {m₁ = n} {n₂ = MOST_NODES} {m₂ = MOST_NODES} few few in
     omega (arith, most, square)
 
 pub contract-requires-clause-depths : goal.contract-requires-clause-depths
-contract-requires-clause-depths g c lifetimes bounds = rounds_depth c.loop-next.invariant.2.2
+contract-requires-clause-depths g c lifetimes bounds = rounds_depth c.loop-hops.invariant.2.2
 
 pub contract-requires-clause-keys : goal.contract-requires-clause-keys
-contract-requires-clause-keys g c lifetimes bounds = c.loop-next.invariant.4
+contract-requires-clause-keys g c lifetimes bounds = c.loop-hops.invariant.4
 
-pub loop-next-smaller : goal.loop-next-smaller
-loop-next-smaller g c =
-    let i = c.loop-next.invariant in
+pub loop-hops-smaller : goal.loop-hops-smaller
+loop-hops-smaller g c =
+    let i = c.loop-hops.invariant in
     let next = c.in_ok-construction-2.ensures in
-    let left = c.loop-next.construction.left.items in
-    let step = subst (λ n. IsRoundStep n c.args.hops (round_progress_of c.loop-next.construction) next.step.0
+    let left = c.loop-hops.construction.left.items in
+    let step = subst (λ n. IsRoundStep n c.args.hops.number (round_progress_of c.loop-hops.construction) next.step.0
     (round_progress_of c.in_ok-construction-2.construction)) i.1 next.step.1 in
-    let some : 0 < length left = (let e = c.is_empty.ensures in let t = c.loop-next-test.true in grind (arith, nat_tests)) in
-    let more = rounds_some c.ask_ahead.ensures c.requires.hops i.2.2 next.step.0 step.round (get_or left 0 0)
+    let some : 0 < length left = (let e = c.is_empty.ensures in let t = c.loop-hops-test.true in grind (arith, nat_tests)) in
+    let more = rounds_some c.ask_ahead.ensures c.args.hops.in_range i.2.2 next.step.0 step.round (get_or left 0 0)
     (Contains-get_or left 0 0 some) in
     omega (arith, i.0.count, next.sizes.count, next.nodes, step.contracted, more)
 
-pub loop-next-preserved : goal.loop-next-preserved
-loop-next-preserved g c =
-    let i = c.loop-next.invariant in
+pub loop-hops-preserved : goal.loop-hops-preserved
+loop-hops-preserved g c =
+    let i = c.loop-hops.invariant in
     let next = c.in_ok-construction-2.ensures in
-    let left = c.loop-next.construction.left.items in
+    let left = c.loop-hops.construction.left.items in
     let nodes = next.step.0 in
-    let step = subst (λ n. IsRoundStep n c.args.hops (round_progress_of c.loop-next.construction) nodes
+    let step = subst (λ n. IsRoundStep n c.args.hops.number (round_progress_of c.loop-hops.construction) nodes
     (round_progress_of c.in_ok-construction-2.construction)) i.1 next.step.1 in
-    let some : 0 < length left = (let e = c.is_empty.ensures in let t = c.loop-next-test.true in grind (arith, nat_tests)) in
-    let more = rounds_some c.ask_ahead.ensures c.requires.hops i.2.2 nodes step.round (get_or left 0 0) (Contains-get_or left 0 0 some) in (
+    let some : 0 < length left = (let e = c.is_empty.ensures in let t = c.loop-hops-test.true in grind (arith, nat_tests)) in
+    let more = rounds_some c.ask_ahead.ensures c.args.hops.in_range i.2.2 nodes step.round (get_or left 0 0)
+    (Contains-get_or left 0 0 some) in (
       next.sizes,
       next.nodes ∙ i.1,
       (
         i.2.0 ++ nodes ∷ [],
         then_legs (length i.2.0) i.2.1 (legs_of c.in_ok-construction-2.construction.remaining),
-        rounds_next c.ask_ahead.ensures c.requires.hops i.2.2 more step,
+        rounds_next c.ask_ahead.ensures c.args.hops.in_range i.2.2 more step,
       ),
       next.rooms,
       next.keys,
@@ -85,19 +86,19 @@ loop-next-preserved g c =
 
 pub finish-requires-clause-levelled : goal.finish-requires-clause-levelled
 finish-requires-clause-levelled g c lifetimes bounds H end =
-    let i = c.loop-next.invariant in
+    let i = c.loop-hops.invariant in
     let u = i.2 in
-    rounds_levelled c.args.graph.now c.args.hops u.0 u.1 _ H c.ask_ahead.ensures c.requires.hops (omega (arith, i.0.nodes, i.1)) u.2
-    (subst (λ n. IsRoundsEnd n (round_progress_of c.loop-next.construction) H) i.1 end)
+    rounds_levelled c.args.graph.now c.args.hops.number u.0 u.1 _ H c.ask_ahead.ensures c.args.hops.in_range (omega (arith, i.0.nodes, i.1))
+    u.2 (subst (λ n. IsRoundsEnd n (round_progress_of c.loop-hops.construction) H) i.1 end)
 
 pub returns-clause-hierarchy : goal.returns-clause-hierarchy
 returns-clause-hierarchy g c =
-    let i = c.loop-next.invariant in
+    let i = c.loop-hops.invariant in
     let u = i.2 in
-    IfOk-weaker c.finish.result _ _ (λ H end. rounds_at_end c.args.graph.now c.args.hops u.0 u.1 _ H u.2
-    (subst (λ n. IsRoundsEnd n (round_progress_of c.loop-next.construction) H) i.1 end)) c.finish.ensures
+    IfOk-weaker c.finish.result _ _ (λ H end. rounds_at_end c.args.graph.now c.args.hops.number u.0 u.1 _ H u.2
+    (subst (λ n. IsRoundsEnd n (round_progress_of c.loop-hops.construction) H) i.1 end)) c.finish.ensures
 
 pub returns-clause-kept : goal.returns-clause-kept
 returns-clause-kept g c =
-    IfOk-weaker c.finish.result _ _ (λ H is. hierarchies_by_rounds_kept c.args.graph.now c.args.hops H c.ask_ahead.ensures
-    c.requires.hops is) (returns-clause-hierarchy g c)
+    IfOk-weaker c.finish.result _ _ (λ H is. hierarchies_by_rounds_kept c.args.graph.now c.args.hops.number H c.ask_ahead.ensures
+    c.args.hops.in_range is) (returns-clause-hierarchy g c)

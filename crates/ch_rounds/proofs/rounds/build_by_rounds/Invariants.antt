@@ -7,13 +7,13 @@ use Rattle.ch_rounds.specs.RoundConstruction.{AreKeysNow, IsSizedByRounds, round
 use Rattle.ch_rounds.proofs.RoundsMade.{IsAfterRounds}
 use Rattle.ch_rounds.proofs.rounds.build_by_rounds.Given as goal
 
-abbrev pub invariant-loop-next : goal.invariant-loop-next
-invariant-loop-next g l =
+abbrev pub invariant-loop-hops : goal.invariant-loop-hops
+invariant-loop-hops g l =
     IsSizedByRounds l.construction
     × (l.construction.remaining.nodes ≡ l.graph.nodes)
-    × ((rounds : List (List ℕ)) × (L : ℕ → Legs) × IsAfterRounds l.graph l.hops rounds L (round_progress_of l.construction))
+    × ((rounds : List (List ℕ)) × (L : ℕ → Legs) × IsAfterRounds l.graph l.hops.number rounds L (round_progress_of l.construction))
     × All IsIdleRoom l.construction.rooms.items
     × AreKeysNow l.construction
 
-abbrev pub decreases-loop-next : goal.decreases-loop-next
-decreases-loop-next g l = length l.construction.left.items
+abbrev pub decreases-loop-hops : goal.decreases-loop-hops
+decreases-loop-hops g l = length l.construction.left.items

@@ -21,7 +21,7 @@ run_list_in-requires-clause-takes g c lifetimes bounds k d lt =
     let v = get_or c.args.nodes.now k d in
     let n = c.args.remaining.nodes in
     let away = c.take_all_out-away in
-    let here = touched n c.args.hops c.args.nodes.now c.args.remaining away.result c.requires.limits c.requires.apart away.ensures v
+    let here = touched n c.args.hops.number c.args.nodes.now c.args.remaining away.result c.requires.limits c.requires.apart away.ensures v
     (Contains-get_or c.args.nodes.now k d lt) in (
       subst (λ m. v < m) (sym away.ensures.count) (c.requires.nodes k d lt),
       subst (λ m. AreTouching m MOST_WEIGHT v (row away.result.ups v) (row away.result.downs v)) (sym away.ensures.count) here,
@@ -29,13 +29,13 @@ run_list_in-requires-clause-takes g c lifetimes bounds k d lt =
 
 -- the lists have the shortcuts of the nodes; the number of nodes is that of before
 among : (g : _) (c : In_ok-lists g) →
-    AllZip (λ (v : ℕ) (list : Vec Shortcut). AreShortcutsAmong c.args.remaining.nodes c.args.hops
+    AllZip (λ (v : ℕ) (list : Vec Shortcut). AreShortcutsAmong c.args.remaining.nodes c.args.hops.number
     (legs_touching v (row c.take_all_out-away.result.ups v) (row c.take_all_out-away.result.downs v))
     (legs_of c.take_all_out-away.result) v list.items) c.args.nodes.now c.in_ok-lists.lists.items
 among g c =
     let away = c.take_all_out-away in
     subst (λ m. AllZip (λ (v : ℕ) (list : Vec Shortcut).
-    AreShortcutsAmong m c.args.hops (legs_touching v (row away.result.ups v) (row away.result.downs v)) (legs_of away.result) v
+    AreShortcutsAmong m c.args.hops.number (legs_touching v (row away.result.ups v) (row away.result.downs v)) (legs_of away.result) v
     list.items) c.args.nodes.now c.in_ok-lists.lists.items) away.ensures.count c.in_ok-lists.ensures.values
 
 pub put_all-requires : goal.put_all-requires
@@ -43,12 +43,12 @@ put_all-requires g c =
     let n = c.args.remaining.nodes in
     let away = c.take_all_out-away in
     let nodes = c.args.nodes.now in
-    let Among = λ (v : ℕ) (list : Vec Shortcut). AreShortcutsAmong n c.args.hops
+    let Among = λ (v : ℕ) (list : Vec Shortcut). AreShortcutsAmong n c.args.hops.number
     (legs_touching v (row away.result.ups v) (row away.result.downs v)) (legs_of away.result) v list.items in
     let put = zipped_also Among (λ (v : ℕ) (list : Vec Shortcut). ArePutIn n v list.items) nodes c.in_ok-lists.lists.items
-    (λ v list here are. put_in n c.args.hops v (legs_touching v (row away.result.ups v) (row away.result.downs v))
+    (λ v list here are. put_in n c.args.hops.number v (legs_touching v (row away.result.ups v) (row away.result.downs v))
     (legs_of away.result) list.items
-    (touched n c.args.hops nodes c.args.remaining away.result c.requires.limits c.requires.apart away.ensures v here).within are)
+    (touched n c.args.hops.number nodes c.args.remaining away.result c.requires.limits c.requires.apart away.ensures v here).within are)
     (among g (goal.at.put_all-requires g c).In_ok-lists) in
     let lent = subst (AllZip (λ (v : ℕ) (list : Vec Shortcut). ArePutIn n v list.items) nodes) (sym c.as_slice-2.ensures.value) put in
     let all = subst (λ m. AllZip (λ (v : ℕ) (list : Vec Shortcut). ArePutIn m v list.items) nodes c.as_slice-2.result.now)
@@ -61,12 +61,12 @@ returns-clause-nodes g c = IfOk-weaker c.put_all.result _ _ (λ r e. e ∙ c.tak
 pub returns-clause-legs : goal.returns-clause-legs
 returns-clause-legs g c =
     let away = c.take_all_out-away in
-    let Among = λ (v : ℕ) (list : Vec Shortcut). AreShortcutsAmong c.args.remaining.nodes c.args.hops
+    let Among = λ (v : ℕ) (list : Vec Shortcut). AreShortcutsAmong c.args.remaining.nodes c.args.hops.number
     (legs_touching v (row away.result.ups v) (row away.result.downs v)) (legs_of away.result) v list.items in
     let all = subst (AllZip Among c.args.nodes.now) (sym c.as_slice-2.ensures.value)
     (among g (goal.at.returns-clause-legs g c).In_ok-lists) in
     IfOk-weaker c.put_all.result _ _
-    (λ r put. round_done c.args.remaining.nodes c.args.hops c.args.nodes.now c.args.remaining away.result c.requires.limits
+    (λ r put. round_done c.args.remaining.nodes c.args.hops.number c.args.nodes.now c.args.remaining away.result c.requires.limits
     c.requires.apart away.ensures (λ (list : Vec Shortcut). list.items) c.as_slice-2.result.now (legs_of r) all put)
     c.put_all.ensures.legs
 

@@ -13,12 +13,12 @@ set_each-requires-clause-nodes g c k d lt = let node = c.requires.nodes k d lt i
 pub set_each-requires-clause-values : goal.set_each-requires-clause-values
 set_each-requires-clause-values g c =
     ap length c.as_slice.ensures.value
-    ∙ zipped_length (IsCount c.args.remaining.now.nodes c.args.hops (legs_of c.args.remaining.now)) c.args.nodes.now _
+    ∙ zipped_length (IsCount c.args.remaining.now.nodes c.args.hops.number (legs_of c.args.remaining.now)) c.args.nodes.now _
     c.in_ok-values.ensures.values
 
 pub returns-clause-counts : goal.returns-clause-counts
 returns-clause-counts g c =
-    let R = IsCount c.args.remaining.now.nodes c.args.hops (legs_of c.args.remaining.now) in
+    let R = IsCount c.args.remaining.now.nodes c.args.hops.number (legs_of c.args.remaining.now) in
     let all = subst (λ (l : List ℕ). AllZip R c.args.nodes.now l) (sym c.as_slice.ensures.value) c.in_ok-values.ensures.values in
     record {
       size = c.set_each.ensures.size;

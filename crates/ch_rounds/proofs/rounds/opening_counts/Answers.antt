@@ -19,7 +19,7 @@ count-requires-clause-count g c lifetimes bounds =
 pub returns-clause-counts : goal.returns-clause-counts
 returns-clause-counts g c =
     let n = c.args.remaining.now.nodes in
-    let C = AreCounted n c.args.hops (legs_of c.args.remaining.now) c.args.nodes.now in
+    let C = AreCounted n c.args.hops.number (legs_of c.args.remaining.now) c.args.nodes.now in
     let first = c.deref_mut.ensures.value ∙ c.in_ok-counts.ensures.items_if_clones_equal (λ y p. p)
     ∙ ap (λ k. replicate k 0) c.nodes-all.ensures.nodes in
     let written = with_items_is c.in_ok-counts.counts c.count.new.counts (c.in_ok-count.ensures.counts.size ∙ c.deref_mut.ensures.len) in

@@ -1,8 +1,16 @@
 -- The story of a run that answers queries says which faults end it, and counts each failed call exactly.
-use Rattle.ch_run.proofs.Stories.{dist_tells}
+use Rattle.ch_run.proofs.Counted.{lines_after, source_after, writes_after}
+use Rattle.ch_run.proofs.Stories.{dist_told}
+use Rattle.ch_run.specs.Run.{IsGraphRefused}
 use Rattle.ch_run.proofs.laws.dist_tells.Goals as goal
 
 pub returns : goal.returns
 returns g c = λ options graph graph' source source' queries queries' output output' result same went.
-    dist_tells options _ _ g.met.I.Input.counts graph graph' _ _ g.met.S.Input.counts g.S.Input.origin source source'
-    _ _ g.met.J.Input.counts queries queries' _ _ _ g.met.O.Output.counts output output' result same went
+    let e = dist_told options went in
+    record {
+      own = e.own;
+      graph = (lines_after g.met.I.Input.counts (λ none. absurd none) IsGraphRefused e.graph).reads;
+      source = source_after result g.met.S.Input.counts g.S.Input.origin _ source source' same e.source;
+      queries = lines_after g.met.J.Input.counts (λ same. same) _ e.later.0;
+      output = writes_after g.met.O.Output.counts e.later.1;
+    }

@@ -6,7 +6,7 @@ use Rattle.ch_run.proofs.laws.one_saved_text.Goals as goal
 pub returns-clause-answers : goal.returns-clause-answers
 returns-clause-answers g c = λ graph graph' saved saved' queries queries' options bytes file asked text other told told_file told_queries.
     answers_one (reading g.I.Input.read_gives graph graph') bytes told (SavedFile (reading g.S.Input.read_gives saved saved'))
-    (reading g.J.Input.read_gives queries queries') options tt (file, told_file) asked told_queries text other
+    (reading g.J.Input.read_gives queries queries') options (file, told_file) asked told_queries text other
 
 pub returns-clause-tables : goal.returns-clause-tables
 returns-clause-tables g c = λ graph graph' saved saved' sources sources' targets targets' options bytes file from to text other told

@@ -4,9 +4,9 @@ use Rattle.ch_run.proofs.OneRun.{answers_one, tables_one}
 use Rattle.ch_run.proofs.laws.one_text.Goals as goal
 
 pub returns-clause-answers : goal.returns-clause-answers
-returns-clause-answers g c = λ graph graph' queries queries' options bytes asked text other bound told told_queries.
-    answers_one (reading g.I.Input.read_gives graph graph') bytes told NoFile (reading g.J.Input.read_gives queries queries') options bound
-    tt asked told_queries text other
+returns-clause-answers g c = λ graph graph' queries queries' options bytes asked text other told told_queries.
+    answers_one (reading g.I.Input.read_gives graph graph') bytes told NoFile (reading g.J.Input.read_gives queries queries') options tt
+    asked told_queries text other
 
 pub returns-clause-tables : goal.returns-clause-tables
 returns-clause-tables g c = λ graph graph' sources sources' targets targets' options bytes from to text other told told_from told_to.

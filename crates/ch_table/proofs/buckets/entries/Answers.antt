@@ -1,7 +1,7 @@
 -- One more node adds an entry for each node that it reaches, so in the end all nodes have added theirs.
 use Rattle.std.proofs.Common.{◌≡◌, ℕ, List, ◌+◌, ◌++◌, length, map, subst, sym, ◌∙◌, arith}
 use Rattle.ch_graph.specs.declared.cost.Cost.{Cost}
-use Rattle.ch_query.specs.Side.{rows_of}
+use Rattle.ch_hierarchy.specs.Side.{rows_of}
 use Rattle.ch_table.specs.Entries.{AreEntries, entry_at}
 use Rattle.ch_table.proofs.Entries.{entries_more}
 use Rattle.ch_table.proofs.buckets.entries.Goals as goal

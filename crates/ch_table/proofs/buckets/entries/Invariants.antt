@@ -1,7 +1,7 @@
 -- The entries are those of the nodes before the current place, and the scratch space is clean.
 use Rattle.std.proofs.Common.{◌≡◌}
 use Rattle.ch_hierarchy.specs.Hierarchy.{nodes_of}
-use Rattle.ch_query.specs.Side.{rows_of}
+use Rattle.ch_hierarchy.specs.Side.{rows_of}
 use Rattle.ch_table.specs.Entries.{AreEntries}
 use Rattle.ch_table.proofs.buckets.entries.Given as goal
 

@@ -19,17 +19,17 @@ meets-requires g c =
     let outs = c.self.inside.outs.rows in
     let ins = c.self.inside.ins.rows in
     let nodes = ap (λ (m : RemainingLegs). m.nodes) c.self.view_is in
-    let known = subst (λ (m : RemainingLegs). IsKnown m c.args.wanted c.args.hops
+    let known = subst (λ (m : RemainingLegs). IsKnown m c.args.wanted c.args.hops.number
     (known_of g.K.HeldCost.cost c.args.search.now.known)) (sym c.self.view_is) c.requires.known in
     let count = c.self.invariant.0.sizes.1 in
-    let few : c.args.hops - 2 ≤ MOST_HOPS = omega (arith, c.requires.hops) in
+    let few : c.args.hops.number - 2 ≤ MOST_HOPS = omega (arith, c.args.hops.in_range) in
     let light = subst (λ (m : RemainingLegs). AreLegsUpTo g.K.HeldCost.limit (legs_of m)) (sym c.self.view_is) c.requires.light in
     record {
       start = omega (arith, c.requires.node);
       size = sym (length-map c.args.search.now.known.costs.items g.K.HeldCost.cost) ∙ known.size ∙ sym count;
       limits = subst (λ n. AreListsWithin g.K.HeldCost.limit n ins) (sym count)
           (ins_light n outs ins c.self.invariant.0 g.K.HeldCost.limit light);
-      small = known_small n outs ins c.self.invariant.0 g.K.HeldCost.limit c.args.wanted (c.args.hops - 2)
+      small = known_small n outs ins c.self.invariant.0 g.K.HeldCost.limit c.args.wanted (c.args.hops.number - 2)
           (known_of g.K.HeldCost.cost c.args.search.now.known) few (omega (arith, c.requires.end)) c.requires.most known.least;
       most = c.requires.cost.0;
     }
@@ -40,12 +40,12 @@ returns g c =
     let n = c.self.inside.nodes in
     let outs = c.self.inside.outs.rows in
     let ins = c.self.inside.ins.rows in
-    let known = subst (λ (m : RemainingLegs). IsKnown m c.args.wanted c.args.hops
+    let known = subst (λ (m : RemainingLegs). IsKnown m c.args.wanted c.args.hops.number
     (known_of g.K.HeldCost.cost c.args.search.now.known)) (sym c.self.view_is) c.requires.known in
     let held = c.requires.cost.0 in
-    let met = met_witness n outs ins c.self.invariant.0 c.args.wanted c.args.hops
+    let met = met_witness n outs ins c.self.invariant.0 c.args.wanted c.args.hops.number
     (known_of g.K.HeldCost.cost c.args.search.now.known) c.args.w c.args.cost known.least
-    (held.weight, omega (arith, held.arcs)) c.requires.cost.1 c.requires.hops.0 c.requires.apart.0 c.requires.apart.1 in
+    (held.weight, omega (arith, held.arcs)) c.requires.cost.1 c.args.hops.in_range.0 c.requires.apart.0 c.requires.apart.1 in
     subst (λ (m : RemainingLegs). IsTrue c.meets.result ↔ HasWitness (legs_from m.rows) c.args.wanted.avoided c.args.wanted.end
-    c.args.w c.args.cost c.args.hops) c.self.view_is
+    c.args.w c.args.cost c.args.hops.number) c.self.view_is
     ((λ t. met.0 (c.meets.ensures.0 t)), λ w. c.meets.ensures.1 (met.1 w))

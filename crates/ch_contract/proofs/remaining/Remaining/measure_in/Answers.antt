@@ -11,7 +11,6 @@ use Rattle.ch_contract.proofs.remaining.Remaining.measure_in.Goals as goal
 
 pub invariant_of-judging : goal.invariant_of-judging
 invariant_of-judging g c = record {
-  bound = c.requires.hops;
   light = c.requires.light;
   touches = are_touching (legs_of c.args.self.now) _ _ _ c.touching-touching.ensures.up c.touching-touching.ensures.down _ _
       c.touching-touching.ensures.limits c.requires.light;
@@ -19,10 +18,10 @@ invariant_of-judging g c = record {
 
 -- the list has the shortcuts of the node
 listed : (g : _) (c : In_ok-fill g) →
-    AreShortcuts c.args.self.now.nodes c.args.hops (legs_of c.args.self.now) c.args.v c.fill.new.list.items
+    AreShortcuts c.args.self.now.nodes c.args.hops.number (legs_of c.args.self.now) c.args.v c.fill.new.list.items
 listed g c =
     let t = c.touching-touching in
-    subst (λ v. AreShortcuts c.args.self.now.nodes c.args.hops (legs_of c.args.self.now) v c.fill.new.list.items) t.ensures.node
+    subst (λ v. AreShortcuts c.args.self.now.nodes c.args.hops.number (legs_of c.args.self.now) v c.fill.new.list.items) t.ensures.node
     (own_shortcuts (legs_of c.args.self.now) t.result.node t.result.up.now t.result.down.now t.ensures.up t.ensures.down _ _ _
     c.in_ok-fill.ensures.list)
 
@@ -33,7 +32,7 @@ invariant_of-result g c =
     let known = c.touching-touching.ensures in
     let t = c.touching-touching in
     let count = rows_touching n t.result.node L t.result.up.now t.result.down.now known.limits t.ensures.up t.ensures.down in
-    let few = shortcuts_most n c.args.hops L c.args.v c.fill.new.list.items known.limits
+    let few = shortcuts_most n c.args.hops.number L c.args.v c.fill.new.list.items known.limits
     (listed g (goal.at.invariant_of-result g c).In_ok-fill) in
     let square : n * n ≤ 2 ^ 50 = mul-le-mul {n₁ = n} {m₁ = n} {n₂ = MOST_NODES} {m₂ = MOST_NODES} known.count known.count in
     record { small = (omega (arith, few, square, c.len.ensures), omega (arith, count, touching_most n L t.result.node, known.count)) }

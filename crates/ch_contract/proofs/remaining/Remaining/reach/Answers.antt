@@ -28,7 +28,6 @@ reach-requires g c =
       nodes = subst (λ n. n ≤ MOST_NODES) (sym count) c.self.invariant.0.nodes;
       end = (subst (λ n. c.args.wanted.end < n) (sym (count ∙ nodes)) c.requires.end.0, c.requires.end.1);
       most = c.requires.most;
-      rounds = omega (arith, c.saturating_sub.ensures, c.requires.hops);
     }
 
 pub returns : goal.returns
@@ -38,9 +37,8 @@ returns g c =
     let ins = c.self.inside.ins.rows in
     record {
       known = subst (λ (m : RemainingLegs). OnOk c.reach.result
-          (IsKnown m c.args.wanted c.args.hops (known_of g.K.HeldCost.cost c.reach.new.self.known))) c.self.view_is
-          (known_after n outs ins c.self.invariant.0 c.self.inside.outs.aside c.self.inside.ins.aside c.args.wanted c.args.hops
-          c.saturating_sub.result (known_of g.K.HeldCost.cost c.reach.new.self.known) c.reach.result c.saturating_sub.ensures
-          c.reach.ensures.size c.reach.ensures.least);
+          (IsKnown m c.args.wanted c.args.hops.number (known_of g.K.HeldCost.cost c.reach.new.self.known))) c.self.view_is
+          (known_after n outs ins c.self.invariant.0 c.self.inside.outs.aside c.self.inside.ins.aside c.args.wanted c.args.hops.number
+          (known_of g.K.HeldCost.cost c.reach.new.self.known) c.reach.result c.reach.ensures.size c.reach.ensures.least);
       touched = c.reach.ensures.touched;
     }

@@ -11,7 +11,6 @@ invariant_of-judging c =
     let limits = c.nodes.ensures.limits in
     let light = within_light _ _ limits in
     record {
-      bound = c.requires.hops;
       light = light;
       touches = are_touching (legs_of c.args.self.now) _ _ _ c.touching-touching.ensures.up c.touching-touching.ensures.down _ _
           limits light;
@@ -20,6 +19,6 @@ invariant_of-judging c =
 pub returns : goal.returns
 returns c =
     let t = c.touching-touching in
-    subst (λ v. AreShortcuts c.args.self.now.nodes c.args.hops (legs_of c.args.self.now) v c.fill.new.list.items) t.ensures.node
+    subst (λ v. AreShortcuts c.args.self.now.nodes c.args.hops.number (legs_of c.args.self.now) v c.fill.new.list.items) t.ensures.node
     (own_shortcuts (legs_of c.args.self.now) t.result.node t.result.up.now t.result.down.now t.ensures.up t.ensures.down _ _ _
     c.in_ok-fill.ensures.list)

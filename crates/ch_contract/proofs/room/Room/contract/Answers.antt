@@ -27,8 +27,8 @@ shortcuts-requires c =
 
 pub contract_with-requires-clause-shortcuts : goal.contract_with-requires-clause-shortcuts
 contract_with-requires-clause-shortcuts c = (
-  c.args.hops,
-  subst (AreShortcuts c.args.remaining.nodes c.args.hops (legs_of c.args.remaining) c.args.node)
+  c.args.hops.number,
+  subst (AreShortcuts c.args.remaining.nodes c.args.hops.number (legs_of c.args.remaining) c.args.node)
       (sym c.shortcuts.ensures) (kept _ _ _ _ _ _ c.in_ok-place.ensures.ready c.in_ok-place.ensures.place),
 )
 

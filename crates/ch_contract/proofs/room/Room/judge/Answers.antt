@@ -41,7 +41,7 @@ returns-clause-ready c =
       | then-place-len+in_ok-push w ↦ ap (λ (r : Room). r.judged.items) w.self-is
       | else-place-len w ↦ ap (λ (r : Room). r.judged.items) w.self-is
     ] in
-    ready_more c.args.remaining.now.nodes c.args.hops (legs_of c.args.remaining.now) old _ c.if-place-len.self.lists.items
+    ready_more c.args.remaining.now.nodes c.args.hops.number (legs_of c.args.remaining.now) old _ c.if-place-len.self.lists.items
     c.args.node c.measure.new.list c.requires.ready c.in_ok-measure.ensures.idle
     (c.in_ok-push-2.ensures.items ∙ ap (λ z. z ++ c.args.node ∷ []) judged)
     (ap (λ k. set c.if-place-len.self.lists.items k c.measure.new.list) place) inside same c.in_ok-measure.ensures.list

@@ -18,7 +18,6 @@ pub invariant_of-judging : goal.invariant_of-judging
 invariant_of-judging c =
     let t = c.touched-touching in
     record {
-      bound = c.requires.hops;
       light = c.is_light.ensures c.if-is_light.true;
       touches = lighter_touching c.args.remaining.now.nodes MOST_LIGHT MOST_WEIGHT t.result.node t.result.up.now t.result.down.now
           (lent t.ensures.node t.ensures.up t.ensures.down c.requires.touching)

@@ -1,7 +1,7 @@
 -- One more node has the words of its legs, first up and then down.
 use Rattle.std.proofs.Common.{◌≡◌, ◌<◌, ℕ, List, [], ◌∷◌, ◌++◌, get_or, length, ◌∙◌, ap, arith}
 use Rattle.std.proofs.lemmas.List.{get_or_default, length-append}
-use Rattle.ch_query.specs.declared.side.Side.TheVariants.{Up, Down}
+use Rattle.ch_hierarchy.specs.declared.side.Side.TheVariants.{Up, Down}
 use Rattle.ch_engine.proofs.LegSums.{legs_pushed}
 use Rattle.ch_engine.proofs.network.Network.leg_sums.Goals as goal
 

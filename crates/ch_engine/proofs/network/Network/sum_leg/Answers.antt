@@ -2,7 +2,7 @@
 use Rattle.std.proofs.Common.{◌≡◌, ℕ, sym, subst}
 use Rattle.ch_hierarchy.specs.declared.leg.Leg.{Leg as AnyLeg}
 use Rattle.ch_hierarchy.specs.Hierarchy.{LevelsAndLegs}
-use Rattle.ch_query.specs.declared.side.Side.{Side as AnySide}
+use Rattle.ch_hierarchy.specs.declared.side.Side.{Side as AnySide}
 use Rattle.ch_engine.specs.LegSums.{AreLegSums, IsLegSum, IsRowLegSum}
 use Rattle.ch_engine.specs.Lines.{IsLineBy, head_of, tail_of}
 use Rattle.ch_engine.proofs.LegSums.{arc_sum}

@@ -1,7 +1,7 @@
 -- The legs before the current one have their words.
 use Rattle.std.proofs.Common.{◌≡◌, ◌<◌, ℕ, length, slice_index}
 use Rattle.ch_hierarchy.specs.Rows.{row}
-use Rattle.ch_query.specs.Side.{rows_of}
+use Rattle.ch_hierarchy.specs.Side.{rows_of}
 use Rattle.ch_engine.specs.LegSums.{IsLegWord, leg_on}
 use Rattle.ch_engine.proofs.network.Network.sum_legs.Given as goal
 

@@ -1,9 +1,9 @@
 -- Each way on from the current entry to the source makes a way from the first entry, with the sum so far.
 use Rattle.std.proofs.Common.{◌≢◌, ◌+◌, ℕ, List}
 use Rattle.ch_hierarchy.specs.Hierarchy.{LevelsAndLegs}
-use Rattle.ch_query.specs.declared.side.Side.{Side}
+use Rattle.ch_hierarchy.specs.declared.side.Side.{Side}
+use Rattle.ch_hierarchy.specs.Side.{rows_of}
 use Rattle.ch_query.specs.Routes.{DescentStep, IsDescent}
-use Rattle.ch_query.specs.Side.{rows_of}
 use Rattle.ch_engine.specs.LegSums.{unknown}
 use Rattle.ch_engine.specs.Lines.{Lines}
 use Rattle.ch_engine.specs.PathTrees.{IsDescentSum, IsStepsSum, IsTree, entry_at}

@@ -13,7 +13,7 @@ use Rattle.ch_order.proofs.construction.Construction.after.Goals as goal
 
 pub loop-node-init : goal.loop-node-init
 loop-node-init g c = let first = c.in_ok-construction.ensures in
-    (first.sizes, first.nodes, given_none _ _ _ first.begun, first.ready c.args.hops)
+    (first.sizes, first.nodes, given_none _ _ _ first.begun, first.ready c.args.hops.number)
 
 pub take-requires : goal.take-requires
 take-requires g c =
@@ -25,7 +25,6 @@ take-requires g c =
     let left = not_before k c.args.nodes.now c.loop-node-test.true c.requires.nodes.1 in
     record {
       next = record {
-        hops = c.requires.hops;
         sizes = i.0;
         limits = subst (λ n. AreLegsWithin n (legs_of c.loop-node.construction.remaining)) (sym i.1) (legs_within _ _ _ _ _ u);
         node = subst (λ n. v < n) (sym i.1) node;
@@ -44,12 +43,12 @@ loop-node-preserved g c =
     let v : ℕ = get_or c.args.nodes.now k 0 in
     let node = c.requires.nodes.0 k 0 c.loop-node-test.true in
     let left = not_before k c.args.nodes.now c.loop-node-test.true c.requires.nodes.1 in
-    let step = subst (λ n. IsContraction n c.args.hops (progress_of c.loop-node.construction) v (progress_of after)) i.1
-    (taken_step c.args.hops c.loop-node.construction v _ after after.waiting next.taken) in
+    let step = subst (λ n. IsContraction n c.args.hops.number (progress_of c.loop-node.construction) v (progress_of after)) i.1
+    (taken_step c.args.hops.number c.loop-node.construction v _ after after.waiting next.taken) in
     let more = given_more _ _ _ _ v _ i.2 node left step next.taken.waiting in (
       next.sizes,
       next.taken.nodes ∙ i.1,
-      subst (λ l. IsAfterGiven c.args.graph.now c.args.hops l (progress_of after))
+      subst (λ l. IsAfterGiven c.args.graph.now c.args.hops.number l (progress_of after))
           (sym (take_more c.args.nodes.now k 0 c.loop-node-test.true)) more,
       next.taken.ready,
     )

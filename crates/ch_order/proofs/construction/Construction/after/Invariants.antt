@@ -6,4 +6,4 @@ use Rattle.ch_order.proofs.construction.Construction.after.Given as goal
 
 abbrev pub invariant-loop-node : goal.invariant-loop-node
 invariant-loop-node g l = IsSized l.construction × (l.construction.remaining.nodes ≡ l.graph.nodes)
-    × IsAfterGiven l.graph l.hops (take l.node-index l.nodes) (progress_of l.construction) × IsJudging l.hops l.construction
+    × IsAfterGiven l.graph l.hops.number (take l.node-index l.nodes) (progress_of l.construction) × IsJudging l.hops.number l.construction

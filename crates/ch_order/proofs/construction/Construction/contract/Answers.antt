@@ -27,6 +27,6 @@ pub returns-clause-step : goal.returns-clause-step
 returns-clause-step g c =
     let taken = c.in_ok-taken.taken in
     let next = c.requires.next in
-    let anew = lent_refreshed (λ d. IsPriorityIn c.args.by taken.remaining c.args.hops d) _ _ _ _ _ _ c.as_slice.ensures.value
+    let anew = lent_refreshed (λ d. IsPriorityIn c.args.by taken.remaining c.args.hops.number d) _ _ _ _ _ _ c.as_slice.ensures.value
     c.as_slice-2.ensures.value c.in_ok-refresh.ensures.anew in
-    stepped c.args.by c.args.hops c.args.self c.args.node _ taken _ next.node next.limits next.sizes c.in_ok-taken.ensures.taken anew
+    stepped c.args.by c.args.hops.number c.args.self c.args.node _ taken _ next.node next.limits next.sizes c.in_ok-taken.ensures.taken anew

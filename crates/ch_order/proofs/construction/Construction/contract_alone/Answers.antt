@@ -18,6 +18,6 @@ pub returns-clause-step : goal.returns-clause-step
 returns-clause-step c =
     let taken = c.in_ok-taken.taken in
     let next = c.requires.next in
-    let anew = lent_refreshed (λ d. IsPriorityIn Depth taken.remaining c.args.hops d) _ _ _ _ _ _ c.as_slice.ensures.value
+    let anew = lent_refreshed (λ d. IsPriorityIn Depth taken.remaining c.args.hops.number d) _ _ _ _ _ _ c.as_slice.ensures.value
     c.as_slice-2.ensures.value c.in_ok-refresh_here.ensures.anew in
-    stepped Depth c.args.hops c.args.self c.args.node _ taken _ next.node next.limits next.sizes c.in_ok-taken.ensures.taken anew
+    stepped Depth c.args.hops.number c.args.self c.args.node _ taken _ next.node next.limits next.sizes c.in_ok-taken.ensures.taken anew

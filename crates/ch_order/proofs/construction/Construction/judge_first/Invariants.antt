@@ -10,4 +10,4 @@ invariant-loop l =
     × (l.self.remaining.nodes ≡ l.fn.self.remaining.nodes)
     × IsRekeyed (progress_of l.fn.self) (progress_of l.self)
     × HasKey l.self.waiting l.node
-    × IsJudging l.hops l.self
+    × IsJudging l.hops.number l.self

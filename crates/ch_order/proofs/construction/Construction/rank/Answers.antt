@@ -7,6 +7,6 @@ use Rattle.ch_order.proofs.construction.Construction.rank.Goals as goal
 pub returns-clause-ranked : goal.returns-clause-ranked
 returns-clause-ranked g c = record {
   rest = refl;
-  keys = subst (λ (d : List ℕ). AreRefreshed (IsPriorityIn c.args.by c.args.self.remaining c.args.hops d) c.args.nodes.now
+  keys = subst (λ (d : List ℕ). AreRefreshed (IsPriorityIn c.args.by c.args.self.remaining c.args.hops.number d) c.args.nodes.now
       c.args.self.waiting c.set_by_all.new.waiting) c.as_slice.ensures.value c.in_ok-set_by_all.ensures.anew;
 }

@@ -8,6 +8,6 @@ use Rattle.ch_order.proofs.construction.Construction.rank_alone.Goals as goal
 pub returns-clause-ranked : goal.returns-clause-ranked
 returns-clause-ranked c = record {
   rest = refl;
-  keys = subst (λ (d : List ℕ). AreRefreshed (IsPriorityIn Depth c.args.self.remaining c.args.hops d) c.args.nodes.now
+  keys = subst (λ (d : List ℕ). AreRefreshed (IsPriorityIn Depth c.args.self.remaining c.args.hops.number d) c.args.nodes.now
       c.args.self.waiting c.set_in_turn.new.waiting) c.as_slice.ensures.value c.in_ok-set_in_turn.ensures;
 }

@@ -40,4 +40,4 @@ returns-clause-rekeyed g c =
     c.rank.ensures.ranked
 
 pub returns-clause-ready : goal.returns-clause-ready
-returns-clause-ready g c = IfOk-weaker c.rank.result _ _ (λ r is. is c.args.hops c.requires.ready) c.rank.ensures.ready
+returns-clause-ready g c = IfOk-weaker c.rank.result _ _ (λ r is. is c.args.hops.number c.requires.ready) c.rank.ensures.ready

@@ -11,9 +11,10 @@ contract_in_turn-requires-clause-nodes c = numbers_given _ _ _ _ c.as_slice.ensu
 
 pub returns-clause-hierarchy : goal.returns-clause-hierarchy
 returns-clause-hierarchy c =
-    IfOk-weaker c.contract_in_turn.result _ _ (λ H is. in_turn_from Depth c.args.graph.now c.args.hops H is) c.contract_in_turn.ensures
+    IfOk-weaker c.contract_in_turn.result _ _ (λ H is. in_turn_from Depth c.args.graph.now c.args.hops.number H is)
+    c.contract_in_turn.ensures
 
 pub returns-clause-kept : goal.returns-clause-kept
 returns-clause-kept c =
     IfOk-weaker c.contract_in_turn.result _ _ (λ H is.
-    hierarchies_kept Depth c.args.graph.now c.args.hops H c.ask_ahead.ensures c.requires.hops is) (returns-clause-hierarchy c)
+    hierarchies_kept Depth c.args.graph.now c.args.hops.number H c.ask_ahead.ensures c.args.hops.in_range is) (returns-clause-hierarchy c)

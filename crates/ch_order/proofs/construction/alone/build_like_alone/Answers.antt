@@ -12,4 +12,5 @@ pub returns-clause-hierarchy : goal.returns-clause-hierarchy
 returns-clause-hierarchy c = like_of _ _ _ _ _ _ c.in_ok-first.ensures.count c.in_ok-contract_in_turn.ensures
 
 pub returns-clause-kept : goal.returns-clause-kept
-returns-clause-kept c = from_kept Depth c.args.graph.now c.args.hops _ _ c.ask_ahead.ensures c.requires.hops (returns-clause-hierarchy c)
+returns-clause-kept c =
+    from_kept Depth c.args.graph.now c.args.hops.number _ _ c.ask_ahead.ensures c.args.hops.in_range (returns-clause-hierarchy c)

@@ -25,12 +25,12 @@ loop-node-init c =
     let begun = c.in_ok-begun.ensures in
     let parts = c.split_at.result in
     let order = subst (IsOrderOf c.args.graph.now.nodes) c.split_at.ensures.by_index.0 c.requires.nodes in
-    let ranked = subst (λ n. IsRanked Depth n c.args.hops parts.1.now (progress_of c.in_ok-begun.begun)
+    let ranked = subst (λ n. IsRanked Depth n c.args.hops.number parts.1.now (progress_of c.in_ok-begun.begun)
     (progress_of c.in_ok-construction.construction)) begun.nodes first.ranked in
-    let start = steps_at_start Depth c.args.graph.now c.args.hops parts.0.now parts.1.now _ _ order begun.after ranked in (
+    let start = steps_at_start Depth c.args.graph.now c.args.hops.number parts.0.now parts.1.now _ _ order begun.after ranked in (
       first.sizes,
       first.nodes ∙ begun.nodes,
-      subst (λ l. IsAfterSomeSteps Depth c.args.graph.now c.args.hops l (progress_of c.in_ok-construction.construction))
+      subst (λ l. IsAfterSomeSteps Depth c.args.graph.now c.args.hops.number l (progress_of c.in_ok-construction.construction))
           c.split_at.ensures.front start,
       first.ready,
     )
@@ -40,7 +40,6 @@ contract_alone-requires c =
     let i = c.loop-node.invariant in
     record {
       next = record {
-        hops = c.requires.hops;
         sizes = i.0;
         limits = subst (λ n. AreLegsWithin n (legs_of c.loop-node.construction.remaining)) (sym i.1) (steps_within _ _ _ _ _ i.2);
         node = omega (arith, i.1, steps_node _ _ _ _ _ i.2 _ c.in-Some.ensures);
@@ -60,7 +59,7 @@ pub loop-node-preserved : goal.loop-node-preserved
 loop-node-preserved c =
     let i = c.loop-node.invariant in
     let next = c.in_ok-construction-2.ensures in
-    let step = subst (λ n. IsStep Depth n c.args.hops (progress_of c.loop-node.construction) c.in-Some.node
+    let step = subst (λ n. IsStep Depth n c.args.hops.number (progress_of c.loop-node.construction) c.in-Some.node
     (progress_of c.in_ok-construction-2.construction)) i.1 next.step in
     (next.sizes, next.nodes ∙ i.1, steps_next _ _ _ _ _ i.2 _ c.in-Some.ensures _ step, next.ready)
 

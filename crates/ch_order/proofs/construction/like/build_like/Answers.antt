@@ -13,4 +13,4 @@ returns-clause-hierarchy g c = like_of _ _ _ _ _ _ c.in_ok-first.ensures.count c
 
 pub returns-clause-kept : goal.returns-clause-kept
 returns-clause-kept g c =
-    from_kept Depth c.args.graph.now c.args.hops _ _ c.ask_ahead.ensures c.requires.hops (returns-clause-hierarchy g c)
+    from_kept Depth c.args.graph.now c.args.hops.number _ _ c.ask_ahead.ensures c.args.hops.in_range (returns-clause-hierarchy g c)

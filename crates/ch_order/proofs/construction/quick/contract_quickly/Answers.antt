@@ -25,7 +25,7 @@ rank_if_due-requires-clause-nodes g c κs within =
     (other_nodes _ _ _ order)
 
 pub rank_if_due-requires-clause-ready : goal.rank_if_due-requires-clause-ready
-rank_if_due-requires-clause-ready g c κs within = c.queue-queued.ensures.ready c.args.hops c.in_ok-begun.ensures.ready
+rank_if_due-requires-clause-ready g c κs within = c.queue-queued.ensures.ready c.args.hops.number c.in_ok-begun.ensures.ready
 
 pub loop-least-init : goal.loop-least-init
 loop-least-init g c =
@@ -34,10 +34,10 @@ loop-least-init g c =
     let parts = c.split_at.result in
     let order = subst (IsOrderOf c.args.graph.now.nodes) c.split_at.ensures.by_index.0 c.requires.nodes in
     let queued = c.queue-queued.ensures in
-    let start = any_at_start c.args.graph.now c.args.hops parts.0.now parts.1.now _ _ order begun.after queued.queued in (
+    let start = any_at_start c.args.graph.now c.args.hops.number parts.0.now parts.1.now _ _ order begun.after queued.queued in (
       first.sizes,
       first.nodes ∙ queued.nodes ∙ begun.nodes,
-      subst (λ l. IsAfterAny c.args.graph.now c.args.hops l (progress_of c.in_ok-construction.construction))
+      subst (λ l. IsAfterAny c.args.graph.now c.args.hops.number l (progress_of c.in_ok-construction.construction))
           c.split_at.ensures.front (any_rekeyed _ _ _ _ start _ first.rekeyed),
       first.ready,
     )
@@ -50,7 +50,6 @@ take-requires g c =
     let u = any_rekeyed _ _ _ _ i.2 _ judged.rekeyed in
     record {
       next = record {
-        hops = c.requires.hops;
         sizes = judged.sizes;
         limits = subst (λ n. AreLegsWithin n (legs_of c.in_ok-judged.judged.remaining)) (sym nodes) (any_within _ _ _ _ u);
         node = omega (arith, nodes, any_node _ _ _ _ u _ judged.node);
@@ -93,8 +92,8 @@ loop-least-preserved g c =
     let after = c.in_ok-taken.taken in
     let nodes = judged.nodes ∙ i.1 in
     let u = any_rekeyed _ _ _ _ i.2 _ judged.rekeyed in
-    let step = subst (λ n. IsContraction n c.args.hops (progress_of c.in_ok-judged.judged) c.in_ok-judged.node (progress_of after))
-    nodes (taken_step c.args.hops c.in_ok-judged.judged c.in_ok-judged.node _ after after.waiting taken) in (
+    let step = subst (λ n. IsContraction n c.args.hops.number (progress_of c.in_ok-judged.judged) c.in_ok-judged.node (progress_of after))
+    nodes (taken_step c.args.hops.number c.in_ok-judged.judged c.in_ok-judged.node _ after after.waiting taken) in (
       last.sizes,
       last.nodes ∙ taken.nodes ∙ nodes,
       any_rekeyed _ _ _ _ (any_next _ _ _ _ u _ judged.node _ step taken.waiting) _ last.rekeyed,

@@ -6,7 +6,7 @@ use Rattle.ch_order.proofs.construction.quick.contract_quickly.Given as goal
 
 abbrev pub invariant-loop-least : goal.invariant-loop-least
 invariant-loop-least g l = IsSized l.construction × (l.construction.remaining.nodes ≡ l.graph.nodes)
-    × IsAfterAny l.graph l.hops (take l.given l.nodes) (progress_of l.construction) × IsJudging l.hops l.construction
+    × IsAfterAny l.graph l.hops.number (take l.given l.nodes) (progress_of l.construction) × IsJudging l.hops.number l.construction
 
 abbrev pub decreases-loop-least : goal.decreases-loop-least
 decreases-loop-least g l = l.construction.remaining.nodes - l.construction.contracted

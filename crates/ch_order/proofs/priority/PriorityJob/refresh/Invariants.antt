@@ -10,8 +10,9 @@ abbrev pub invariant-loop-from : goal.invariant-loop-from
 invariant-loop-from g l =
     (l.number ≤ l.from)
     × (l.from ≤ length l.nodes)
-    × AreRefreshed (IsPriorityIn l.self.by l.self.remaining.now l.self.hops l.self.depths.now) (take l.from l.nodes) l.fn.waiting l.waiting
-    × IsReady l.self.remaining.now.nodes l.self.hops (legs_of l.self.remaining.now) l.room
+    × AreRefreshed (IsPriorityIn l.self.by l.self.remaining.now l.self.hops.number l.self.depths.now) (take l.from l.nodes) l.fn.waiting
+    l.waiting
+    × IsReady l.self.remaining.now.nodes l.self.hops.number (legs_of l.self.remaining.now) l.room
 
 abbrev pub decreases-loop-from : goal.decreases-loop-from
 decreases-loop-from g l = length l.nodes - l.from

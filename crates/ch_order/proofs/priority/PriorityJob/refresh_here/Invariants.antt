@@ -8,6 +8,6 @@ use Rattle.ch_order.proofs.priority.PriorityJob.refresh_here.Given as goal
 
 abbrev pub invariant-loop-node : goal.invariant-loop-node
 invariant-loop-node l =
-    AreRefreshed (IsPriorityIn l.self.by l.self.remaining.now l.self.hops l.self.depths.now) (take l.node-index l.nodes)
+    AreRefreshed (IsPriorityIn l.self.by l.self.remaining.now l.self.hops.number l.self.depths.now) (take l.node-index l.nodes)
     l.fn.waiting l.waiting
-    × IsReady l.self.remaining.now.nodes l.self.hops (legs_of l.self.remaining.now) l.room
+    × IsReady l.self.remaining.now.nodes l.self.hops.number (legs_of l.self.remaining.now) l.room

@@ -14,7 +14,7 @@ use Rattle.ch_order.proofs.priority.PriorityJob.set_all.Goals as goal
 pub loop-node-preserved : goal.loop-node-preserved
 loop-node-preserved c =
     let job = c.args.self.now in
-    let P = IsPriorityIn job.by job.remaining.now job.hops job.depths.now in
+    let P = IsPriorityIn job.by job.remaining.now job.hops.number job.depths.now in
     let nodes = c.args.nodes.now in
     let anew = c.args.priorities.now in
     let yielded = c.loop-node.yielded in
@@ -34,7 +34,7 @@ loop-node-preserved c =
 pub returns : goal.returns
 returns c =
     let job = c.args.self.now in
-    let P = IsPriorityIn job.by job.remaining.now job.hops job.depths.now in
+    let P = IsPriorityIn job.by job.remaining.now job.hops.number job.depths.now in
     let nodes = c.args.nodes.now in
     let anew = c.args.priorities.now in
     let end = zip_end nodes anew c.loop-node.yielded c.into_iter-node-iterator.result c.loop-node.node-iterator c.next.new.self

@@ -5,5 +5,5 @@ use Rattle.ch_order.specs.Priorities.{AreRefreshed}
 use Rattle.ch_order.proofs.priority.PriorityJob.set_all.Given as goal
 
 abbrev pub invariant-loop-node : goal.invariant-loop-node
-invariant-loop-node l = AreRefreshed (IsPriorityIn l.self.by l.self.remaining.now l.self.hops l.self.depths.now)
+invariant-loop-node l = AreRefreshed (IsPriorityIn l.self.by l.self.remaining.now l.self.hops.number l.self.depths.now)
     (take (length l.yielded) l.nodes) l.fn.waiting l.waiting

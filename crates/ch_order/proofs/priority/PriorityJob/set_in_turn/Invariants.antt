@@ -7,6 +7,6 @@ use Rattle.ch_order.proofs.priority.PriorityJob.set_in_turn.Given as goal
 
 abbrev pub invariant-loop-node : goal.invariant-loop-node
 invariant-loop-node l =
-    AreRefreshed (IsPriorityIn l.self.by l.self.remaining.now l.self.hops l.self.depths.now) (take l.node-index l.nodes)
+    AreRefreshed (IsPriorityIn l.self.by l.self.remaining.now l.self.hops.number l.self.depths.now) (take l.node-index l.nodes)
     l.fn.waiting l.waiting
     × IsIdleRoom l.room

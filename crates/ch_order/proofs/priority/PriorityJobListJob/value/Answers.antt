@@ -4,4 +4,5 @@ use Rattle.ch_order.proofs.priority.PriorityJobListJob.value.Goals as goal
 
 pub priority-requires-clause-ready : goal.priority-requires-clause-ready
 priority-requires-clause-ready c =
-    c.forget.ensures c.args.self.now.remaining.now.nodes c.args.self.now.hops (legs_of c.args.self.now.remaining.now) c.requires.clean
+    c.forget.ensures c.args.self.now.remaining.now.nodes c.args.self.now.hops.number (legs_of c.args.self.now.remaining.now)
+    c.requires.clean

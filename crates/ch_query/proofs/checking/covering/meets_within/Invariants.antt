@@ -1,6 +1,6 @@
 -- Both searches are underway from their ends, and each turn that goes on settles one more node.
 use Rattle.std.proofs.Common.{◌≡◌, ◌+◌}
-use Rattle.ch_query.specs.declared.side.Side.TheVariants.{Up, Down}
+use Rattle.ch_hierarchy.specs.declared.side.Side.TheVariants.{Up, Down}
 use Rattle.ch_query.specs.Underway.{count_unsettled_in, IsUnderway}
 use Rattle.ch_query.proofs.two_sides.ConnectedSearches.{IsShown, nodes_left}
 use Rattle.ch_query.proofs.checking.covering.meets_within.Given as goal

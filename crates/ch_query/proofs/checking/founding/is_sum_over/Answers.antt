@@ -2,7 +2,7 @@
 use Rattle.std.proofs.Common.{Contains, arith, sym, ◌∙◌, subst}
 use Rattle.std.proofs.lemmas.Bool.{false≢true}
 use Rattle.ch_hierarchy.specs.Rows.{IsRow}
-use Rattle.ch_query.specs.declared.side.Side.TheVariants.{Up, Down}
+use Rattle.ch_hierarchy.specs.declared.side.Side.TheVariants.{Up, Down}
 use Rattle.ch_query.proofs.faults.LegCosts.{sums_over, cost_bounds, equal_costs}
 use Rattle.ch_query.proofs.routing.Rows.{rows_ordered}
 use Rattle.ch_query.proofs.checking.founding.is_sum_over.Goals as goal

@@ -1,7 +1,7 @@
 -- The leg between two nodes is in the row up of its start if the end is higher, and else in the row down of its end.
 use Rattle.std.proofs.Common.{arith, subst}
 use Rattle.ch_hierarchy.specs.Rows.{IsRow}
-use Rattle.ch_query.specs.declared.side.Side.TheVariants.{Up, Down}
+use Rattle.ch_hierarchy.specs.declared.side.Side.TheVariants.{Up, Down}
 use Rattle.ch_query.proofs.faults.LegCosts.{cost_up, cost_down}
 use Rattle.ch_query.proofs.routing.Rows.{rows_ordered}
 use Rattle.std.proofs.Common.{sym}

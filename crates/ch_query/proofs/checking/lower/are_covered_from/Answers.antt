@@ -1,8 +1,8 @@
 -- The costs of two legs through a node add up without overflow, and one more leg up is covered together with this one.
 use Rattle.std.proofs.Common.{arith, ◌∙◌, refl}
 use Rattle.ch_hierarchy.proofs.theory.NoLeg.{no_leg}
-use Rattle.ch_query.specs.declared.side.Side.TheVariants.{Up, Down}
 use Rattle.std.proofs.lemmas.Bool.{false≢true}
+use Rattle.ch_hierarchy.specs.declared.side.Side.TheVariants.{Up, Down}
 use Rattle.ch_query.proofs.one_side.Expanding.{leg_up}
 use Rattle.ch_query.proofs.faults.FirstFailing.{read_more}
 use Rattle.ch_query.proofs.faults.Pairs.{IsPairCovered, row_leg_up}

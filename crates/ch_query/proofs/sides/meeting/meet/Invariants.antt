@@ -1,6 +1,6 @@
 -- The two searches from these ends are meeting with the least sum, and each turn settles one more node.
 use Rattle.std.proofs.Common.{◌≡◌, ◌+◌}
-use Rattle.ch_query.specs.declared.side.Side.TheVariants.{Up, Down}
+use Rattle.ch_hierarchy.specs.declared.side.Side.TheVariants.{Up, Down}
 use Rattle.ch_query.specs.Underway.{count_unsettled_in}
 use Rattle.ch_query.specs.Meeting.{AreMeeting}
 use Rattle.ch_query.proofs.sides.meeting.meet.Given as goal

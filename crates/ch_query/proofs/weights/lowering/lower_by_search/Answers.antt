@@ -13,7 +13,7 @@ lower_by_space-requires-clause-space g c =
     let space = c.gather.new.found.items in
     subst (All (λ entry. (entry.0 < length a.buckets.now) × (entry.1 ≤ MOST_WEIGHT))) (sym c.deref.ensures.value)
     (subst (λ n. All (λ entry. (entry.0 < n) × (entry.1 ≤ MOST_WEIGHT)) space) (sym c.requires.ranks)
-    (space_among a.hierarchy.now c.requires.kept.2.levelled a.side a.within a.source space c.in_ok-gather.ensures.space))
+    (space_among a.hierarchy.now c.requires.kept.2.levelled a.start.side a.start.within a.start.source space c.in_ok-gather.ensures.space))
 
 pub returns-clause-lowered : goal.returns-clause-lowered
 returns-clause-lowered g c =

@@ -4,4 +4,5 @@ use Rattle.ch_rounds.proofs.round_jobs.CountJobListJob.value.Goals as goal
 
 pub judge-requires-clause-ready : goal.judge-requires-clause-ready
 judge-requires-clause-ready c =
-    c.forget.ensures c.args.self.now.remaining.now.nodes c.args.self.now.hops (legs_of c.args.self.now.remaining.now) c.requires.clean
+    c.forget.ensures c.args.self.now.remaining.now.nodes c.args.self.now.hops.number (legs_of c.args.self.now.remaining.now)
+    c.requires.clean

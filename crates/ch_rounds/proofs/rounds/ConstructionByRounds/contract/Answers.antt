@@ -128,13 +128,14 @@ after g c = record {
 
 -- the parts of the step
 stepped : (g : _) (c : In_ok-renew g) →
-    IsSteppedByRound c.args.hops c.args.self (after g c) c.as_slice-nodes.result.now c.in_ok-around.around.near.items c.args.self.keys.items
+    IsSteppedByRound c.args.hops.number c.args.self (after g c) c.as_slice-nodes.result.now c.in_ok-around.around.near.items
+    c.args.self.keys.items
 stepped g c =
     let r = c.in_ok-renew.ensures.renewed in
     let was = c.args.self in
     let now = c.renew.new.self in
     let n = was.remaining.nodes in
-    let h = c.args.hops in
+    let h = c.args.hops.number in
     let L = legs_of was.remaining in
     let M = c.in_ok-self.field-0 in
     let nodes = c.as_slice-nodes.result.now in
@@ -190,21 +191,21 @@ stepped g c =
 pub returns-clause-sizes : goal.returns-clause-sizes
 returns-clause-sizes g c =
     let at = (goal.at.returns-clause-sizes g c).In_ok-renew in
-    sized_by_round c.args.hops c.args.self (after g at) c.as_slice-nodes.result.now c.in_ok-around.around.near.items
+    sized_by_round c.args.hops.number c.args.self (after g at) c.as_slice-nodes.result.now c.in_ok-around.around.near.items
     c.args.self.keys.items c.requires.near (stepped g at) c.requires.sizes
 
 pub returns-clause-step : goal.returns-clause-step
 returns-clause-step g c =
     let at = (goal.at.returns-clause-step g c).In_ok-renew in (
       c.as_slice-nodes.result.now,
-      stepped_by_round c.args.hops c.args.self (after g at) c.as_slice-nodes.result.now
+      stepped_by_round c.args.hops.number c.args.self (after g at) c.as_slice-nodes.result.now
           c.in_ok-around.around.near.items c.args.self.keys.items c.requires.near (stepped g at),
     )
 
 pub returns-clause-keys : goal.returns-clause-keys
 returns-clause-keys g c =
     let at = (goal.at.returns-clause-keys g c).In_ok-renew in
-    keyed_by_round c.args.hops c.args.self (after g at) c.as_slice-nodes.result.now c.in_ok-around.around.near.items
+    keyed_by_round c.args.hops.number c.args.self (after g at) c.as_slice-nodes.result.now c.in_ok-around.around.near.items
     c.args.self.keys.items c.requires.near (stepped g at) refl
 
 pub returns-clause-nodes : goal.returns-clause-nodes

@@ -52,9 +52,9 @@ returns-clause-sizes g c =
 pub returns-clause-begun : goal.returns-clause-begun
 returns-clause-begun g c =
     let n = c.in_ok-remaining.remaining.nodes in
-    let counted = subst (λ (l : List ℕ). AreCounted n c.args.hops (legs_of c.in_ok-remaining.remaining) l (replicate n 0)
+    let counted = subst (λ (l : List ℕ). AreCounted n c.args.hops.number (legs_of c.in_ok-remaining.remaining) l (replicate n 0)
     c.in_ok-rooms.field-0.counts.items) c.as_slice.ensures.value c.in_ok-rooms.ensures.counts in
-    rounds_open c.args.graph.now c.args.hops (made g c) (replicate n 0) c.in_ok-remaining.ensures.legs
+    rounds_open c.args.graph.now c.args.hops.number (made g c) (replicate n 0) c.in_ok-remaining.ensures.legs
     c.in_ok-remaining.ensures.nodes (all g c) counted
     (λ x. ap (λ (l : List ℕ). slice_index l x) c.in_ok-rooms.ensures.depths ∙ zeros n x) (levelled g c) refl
 

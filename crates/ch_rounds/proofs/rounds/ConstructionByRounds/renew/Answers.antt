@@ -22,9 +22,9 @@ count-requires-clause-nodes g c lifetimes bounds =
 
 -- the due nodes are counted
 counted : (g : _) (c : In_ok-count g) →
-    AreCounted c.args.self.now.remaining.nodes c.args.hops (legs_of c.args.self.now.remaining) c.due-due.result.now
+    AreCounted c.args.self.now.remaining.nodes c.args.hops.number (legs_of c.args.self.now.remaining) c.due-due.result.now
     c.args.self.now.counts.items c.count.new.counts
-counted g c = subst (λ (l : List ℕ). AreCounted c.args.self.now.remaining.nodes c.args.hops (legs_of c.args.self.now.remaining)
+counted g c = subst (λ (l : List ℕ). AreCounted c.args.self.now.remaining.nodes c.args.hops.number (legs_of c.args.self.now.remaining)
     c.due-due.result.now l c.count.new.counts) c.deref_mut.ensures.value c.in_ok-count.ensures.counts
 
 pub refresh-requires-clause-nodes : goal.refresh-requires-clause-nodes
@@ -39,7 +39,7 @@ refresh-requires-clause-nodes g c lifetimes bounds =
     let small : (x : ℕ) → was x → P x = λ x k. (
       k.0,
       subst (λ (l : List ℕ). slice_index l x ≤ 2 ^ 50) (sym written)
-          (counts_small n c.args.hops (legs_of s.remaining) _ s.counts.items c.count.new.counts x c.nodes-all.ensures.limits
+          (counts_small n c.args.hops.number (legs_of s.remaining) _ s.counts.items c.count.new.counts x c.nodes-all.ensures.limits
           c.nodes-all.ensures.count all k.1),
     ) in
     subst (All P) (sym c.stale-stale.ensures)
@@ -53,7 +53,7 @@ returns-clause-renewed g c =
     let n = s.remaining.nodes in
     let near = c.args.near.now in
     let rest = c.args.waiting.now in
-    let C = AreCounted n c.args.hops (legs_of s.remaining) in
+    let C = AreCounted n c.args.hops.number (legs_of s.remaining) in
     let all = counted g (goal.at.returns-clause-renewed g c).In_ok-count in
     let written = with_items_is s.counts c.count.new.counts (c.in_ok-count.ensures.counts.size ∙ c.deref_mut.ensures.len) in
     let due = c.due-due.ensures ∙ ap (λ m. due_of m c.args.before s.contracted near rest) c.nodes-all.ensures.nodes in

@@ -17,7 +17,7 @@ opening_keys-requires-clause-nodes g c lifetimes bounds k d lt =
     let all = subst (All (λ y. y < r.nodes)) (sym c.requires.nodes) (numbers_below r.nodes) in (
       All-contains (λ y. y < r.nodes) c.args.nodes.now x all has,
       subst (λ (l : List ℕ). slice_index l x ≤ 2 ^ 50) (sym c.as_slice.ensures.value)
-          (count_small r.nodes c.args.hops (legs_of r) x (slice_index c.in_ok-counts.counts.items x) c.nodes.ensures.limits
+          (count_small r.nodes c.args.hops.number (legs_of r) x (slice_index c.in_ok-counts.counts.items x) c.nodes.ensures.limits
           c.nodes.ensures.count (c.in_ok-counts.ensures.counts.anew x has)),
     )
 

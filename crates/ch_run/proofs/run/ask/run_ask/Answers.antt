@@ -2,7 +2,7 @@
 use Rattle.std.proofs.Common.{inl, inr, refl}
 use Rattle.ch_run.specs.Ask.{IsRequestText, IsTextOfRequest}
 use Rattle.ch_run.specs.Source.{IsServing, order_built}
-use Rattle.ch_run.proofs.AskStory.{ask_served}
+use Rattle.ch_run.proofs.AskStory.{ask_told}
 use Rattle.ch_run.proofs.Owed.{ends_as}
 use Rattle.ch_run.proofs.Served.{asked_in, served_weaker}
 use Rattle.ch_run.proofs.Story.{loads_on, loads_stops}
@@ -24,17 +24,17 @@ returns-clause-went g c =
     let H = c.in_ok-checked.checked.hierarchy in
     loads_on _ _ _ _ _ _ _
     (inr (served_weaker (IsTextOfRequest options network H)
-    (IsRequestText options network (IsServing (order_built options) options.hops network saved))
+    (IsRequestText options network (IsServing (order_built options) options.hops.number network saved))
     (asked_in options network saved H (rw c.building_order-order.ensures at c.in_ok-checked.ensures.serving)) g.O.Output.write_gives
     network.nodes _ _ _ c.serve.result (rw c.in_ok-checked.ensures.graph at c.serve.ensures)))
     c.in_ok-loaded.ensures.went
 
 -- so the requests were served
 pub returns-in_err-loaded-clause-served : goal.returns-in_err-loaded-clause-served
-returns-in_err-loaded-clause-served g c = ask_served c.args.options.now _ _ _ _ _ (returns-in_err-loaded-clause-went g c)
+returns-in_err-loaded-clause-served g c = (ask_told c.args.options.now (returns-in_err-loaded-clause-went g c)).later.2
 
 pub returns-in_err-checked-clause-served : goal.returns-in_err-checked-clause-served
-returns-in_err-checked-clause-served g c = ask_served c.args.options.now _ _ _ _ _ (returns-in_err-checked-clause-went g c)
+returns-in_err-checked-clause-served g c = (ask_told c.args.options.now (returns-in_err-checked-clause-went g c)).later.2
 
 pub returns-clause-served : goal.returns-clause-served
-returns-clause-served g c = ask_served c.args.options.now _ _ _ _ _ (returns-clause-went g c)
+returns-clause-served g c = (ask_told c.args.options.now (returns-clause-went g c)).later.2

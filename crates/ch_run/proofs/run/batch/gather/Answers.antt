@@ -1,28 +1,30 @@
 -- The requests so far, with the one that was not kept or the fault that came, are what the reader gave.
-use Rattle.std.proofs.Common.{◌≡◌, ◌∙◌, sym}
-use Rattle.ch_run.proofs.Served.{batch_more, batch_nothing, batch_refused, batch_stopped, not_pushed}
+use Rattle.std.proofs.Common.{◌≡◌, [], refl, sym, ◌∙◌, subst}
+use Rattle.std.proofs.lemmas.List.{append-nil}
+use Rattle.ch_read.specs.Requests.{Gives}
+use Rattle.ch_read.proofs.Requests.{gives_more}
+use Rattle.ch_run.proofs.Answered.{not_pushed, refused}
 use Rattle.ch_run.proofs.run.batch.gather.Goals as goal
 
 pub returns-then-is_err-clause-given : goal.returns-then-is_err-clause-given
 returns-then-is_err-clause-given c =
     let same : c.push.new.self.items ≡ c.loop.requests.items = not_pushed c.push.result c.loop.requests.items _
     c.push.new.self.items (sym c.is_err.ensures.value ∙ c.if-is_err.true) c.push.ensures.items in
-    rw (c.new.ensures.requests, c.new.ensures.then, same)
-    (batch_refused c.args.ended c.args.reader.now c.loop.reader c.next.new.self c.loop.requests.items c.loop.invariant.given)
+    (c.loop.reader, rw same c.loop.invariant.given, tt)
 
 pub returns-in-Ok-None-clause-given : goal.returns-in-Ok-None-clause-given
 returns-in-Ok-None-clause-given c =
-    rw (c.new-in-Ok-None.ensures.requests, c.new-in-Ok-None.ensures.then)
-    (batch_nothing c.args.ended c.args.reader.now c.loop.reader c.next.new.self c.loop.requests.items c.loop.invariant.given
-    (rw c.in-Ok-None.field-0-is at c.in-Ok-None.ensures.given))
+    let given = c.loop.requests.items in
+    let on = gives_more c.args.ended c.args.reader.now c.loop.reader c.next.new.self given [] c.loop.invariant.given
+    (rw c.in-Ok-None.field-0-is at c.in-Ok-None.ensures.given) in (
+      c.next.new.self,
+      subst (Gives c.args.ended c.args.reader.now c.next.new.self) (append-nil given) on,
+      (refl, c.in-Ok-None.ensures.used_up c.in-Ok-None.field-0-is),
+    )
 
 pub returns-in-Err-clause-given : goal.returns-in-Err-clause-given
 returns-in-Err-clause-given c =
-    rw (c.new-in-Err.ensures.requests, c.new-in-Err.ensures.then, c.refusal.ensures.fault)
-    (batch_stopped c.args.ended c.args.reader.now c.loop.reader c.next.new.self c.loop.requests.items c.in-Err.error
-    c.loop.invariant.given c.in-Err.ensures.fault)
+    (c.loop.reader, c.loop.invariant.given, rw c.refusal.ensures (refused c.args.ended c.loop.reader c.in-Err.error c.in-Err.ensures.fault))
 
 pub returns-clause-given : goal.returns-clause-given
-returns-clause-given c =
-    rw (c.new-2.ensures.requests, c.new-2.ensures.then)
-    (batch_more c.args.ended c.args.reader.now c.loop.reader c.loop.reader c.loop.requests.items c.loop.invariant.given)
+returns-clause-given c = (c.loop.reader, c.loop.invariant.given, refl)

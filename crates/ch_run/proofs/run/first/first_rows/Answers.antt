@@ -4,50 +4,43 @@ use Rattle.std.specs.Prelude.{All}
 use Rattle.ch_hierarchy.specs.Hierarchy.{nodes_of}
 use Rattle.ch_near.specs.Near.{Wanted}
 use Rattle.ch_text.specs.NearText.{near_row_text}
-use Rattle.ch_run.specs.Serving.{IsSearched, near_row_of, places_of}
+use Rattle.ch_run.specs.Serving.{near_row_of, places_of}
 use Rattle.ch_run.proofs.Gathered.{first_answered, near_answered, none_near, one_answered, values_within}
 use Rattle.ch_run.proofs.run.first.first_rows.Goals as goal
 
 pub returns-in_default-clause-first : goal.returns-in_default-clause-first
 returns-in_default-clause-first g c =
-    let options = c.args.by.now.options.now in
-    let network = c.args.by.now.checked.now.graph in
-    let H = c.args.by.now.checked.now.hierarchy in
+    let checked = c.args.by.now.checked.now in
     let line = c.in_ok-push_near_row.ensures ∙ ap (λ (l : List ℕ). l ++ near_row_text [] (c.args.source, [])) c.new-text.ensures.items in
-    rw (c.in_default.is) (one_answered (near_row_of c.args.within c.args.source)
-    (none_near options network (λ K. K ≡ H) c.args.source c.args.within c.push_near_row.new.text.items line))
+    rw (c.in_default.is) (one_answered (near_row_of c.args.within c.args.source) (none_near c.args.by.now.options.now checked.graph
+    (λ K. K ≡ checked.hierarchy) c.args.source c.args.within c.push_near_row.new.text.items line))
 
-pub rows_text-requires-clause-sources : goal.rows_text-requires-clause-sources
-rows_text-requires-clause-sources g c = λ kept within.
+pub push_searched-requires-clause-sources : goal.push_searched-requires-clause-sources
+push_searched-requires-clause-sources g c = λ kept within.
     let n = c.args.by.now.checked.now.graph.nodes in
     let searched = rw c.in-Some.is at c.requires.room.near in
     let size : nodes_of c.in-Some.near.hierarchy ≡ n = ap nodes_of searched.0 ∙ searched.2.kept.nodes in
     let all = values_within c.in_ok-sources.ensures n (λ s. s < n) (λ s is. is) c.requires.each in
     subst (λ m. All (λ s. s < m) c.deref.result.now) (sym size) (subst (All (λ s. s < n)) (sym c.deref.ensures.value) all)
 
-pub rows_text-requires-clause-limit : goal.rows_text-requires-clause-limit
-rows_text-requires-clause-limit g c = λ kept within. (rw c.in-Some.is at c.requires.room.near).1
+pub push_searched-requires-clause-limit : goal.push_searched-requires-clause-limit
+push_searched-requires-clause-limit g c = λ kept valid x within. rw (rw c.in-Some.is at c.requires.room.near).1 tt
 
 pub returns-clause-first : goal.returns-clause-first
 returns-clause-first g c =
-    let options = c.args.by.now.options.now in
-    let network = c.args.by.now.checked.now.graph in
-    let H = c.args.by.now.checked.now.hierarchy in
-    let near = c.in-Some.near in
-    let sources = c.in_ok-sources.sources.items in
+    let checked = c.args.by.now.checked.now in
     let searched = rw c.in-Some.is at c.requires.room.near in
-    let text = rw (c.deref.ensures.value, c.limit_of.ensures) at c.in_ok-text.ensures.text in
+    let text = rw (c.deref.ensures.value, c.limit_of-within.ensures) at c.in_ok-push_searched.ensures.text in
     rw (c.in-Some.is) (first_answered c.in_ok-sources.ensures (λ places s. refl)
     (c.len-count.ensures ∙ sym c.deref.ensures.len ∙ ap length c.deref.ensures.value)
-    (ap (λ (w : Wanted). places_of (Some w)) c.in_ok-text.ensures.same)
-    (near_answered options network H searched.2.limits searched.2.kept c.args.within near searched.0 sources c.in_ok-text.text.items text))
+    (ap (λ (w : Wanted). places_of (Some w)) c.in_ok-push_searched.ensures.same)
+    (near_answered c.args.by.now.options.now checked.graph checked.hierarchy searched.2.limits searched.2.kept c.args.within c.in-Some.near
+    searched.0 c.in_ok-sources.sources.items _ (text [] (rw c.new-text.ensures.items ([], tt, refl)))))
 
 pub returns-clause-room : goal.returns-clause-room
 returns-clause-room g c =
-    let options = c.args.by.now.options.now in
     let searched = rw c.in-Some.is at c.requires.room.near in
     record {
       scratches = c.requires.room.scratches;
-      near = subst (λ (w : Wanted). IsSearched options.direction c.args.by.now.checked.now (Some w)) (sym c.in_ok-text.ensures.same)
-          searched;
+      near = rw c.in_ok-push_searched.ensures.same searched;
     }

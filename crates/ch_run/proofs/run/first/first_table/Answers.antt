@@ -5,9 +5,12 @@ use Rattle.ch_run.proofs.run.first.first_table.Goals as goal
 
 pub returns : goal.returns
 returns g c = λ places rest.
-    let network = c.args.by.now.checked.now.graph in
     let right = c.hierarchy.ensures.right in
-    let text = rw c.hierarchy.ensures.hierarchy at c.in_ok-text.ensures in
-    let made = rw (c.sources-sources.ensures, c.targets-targets.ensures, c.limit_of-within.ensures, c.within.ensures) at
-    (text network right.limits right.kept) in
-    one_answered (Table c.args.lists.now) made
+    let text = rw (
+      c.hierarchy.ensures.hierarchy,
+      c.sources-sources.ensures,
+      c.targets-targets.ensures,
+      c.limit_of-within.ensures,
+      c.within.ensures,
+    ) at c.in_ok-text.ensures in
+    one_answered (Table c.args.lists.now) (text c.args.by.now.checked.now.graph right.limits right.kept)

@@ -1,19 +1,15 @@
 -- The saved hierarchy that was read is right for the graph, or its first fault ends the run.
-use Rattle.std.proofs.Common.{refl}
-use Rattle.ch_run.specs.Story.{IsSavedRefusedOn}
 use Rattle.ch_run.proofs.Owed.{own_as}
-use Rattle.ch_run.proofs.Story.{lines_end}
 use Rattle.ch_run.proofs.run.loading.checked_from.Goals as goal
 
 pub returns-in-Ok-clause-value : goal.returns-in-Ok-clause-value
-returns-in-Ok-clause-value g c = let told = c.in_ok-saved.ensures.value in
+returns-in-Ok-clause-value g c = let told = c.in_ok-saved.ensures.read in
     (told.0, told.1, (c.in_ok-saved.saved, told.2, c.in-Ok.ensures.hierarchy))
 
 pub returns-in_err-saved-clause-ends : goal.returns-in_err-saved-clause-ends
-returns-in_err-saved-clause-ends g c = own_as _ _ _ c.from_residual.ensures.1
-    (lines_end _ _ _ (IsSavedRefusedOn c.args.graph.now) (λ bytes f is. (refl, is)) _ c.in_err-saved.ensures.ends)
+returns-in_err-saved-clause-ends g c = own_as _ _ _ c.from_residual.ensures.1 c.in_err-saved.ensures.read
 
 pub returns-in-Err-Fault-clause-ends : goal.returns-in-Err-Fault-clause-ends
-returns-in-Err-Fault-clause-ends g c = let told = c.in_ok-saved.ensures.value in
+returns-in-Err-Fault-clause-ends g c = let told = c.in_ok-saved.ensures.read in
     let first = (c.in-Err-Fault.ensures.fault c.in-Err-Fault.fault).0 (let field = c.in-Err-Fault.fault-is in cc) in
     (told.0, told.1, (c.in_ok-saved.saved, told.2, first))

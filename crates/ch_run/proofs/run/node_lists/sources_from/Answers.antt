@@ -12,4 +12,4 @@ returns-in-All-clause-within g c = all_below c.args.graph.now.nodes
 pub returns-in_err-list-in-Listed-clause-ends : goal.returns-in_err-list-in-Listed-clause-ends
 returns-in_err-list-in-Listed-clause-ends g c =
     rw c.in-Listed.is (at_err c.from_residual.result _
-    (inl (err_as _ _ _ c.from_residual.ensures.1 c.in_err-list-in-Listed.ensures.ends, tt)))
+    (inl (err_as _ _ _ c.from_residual.ensures.1 c.in_err-list-in-Listed.ensures.read, tt)))

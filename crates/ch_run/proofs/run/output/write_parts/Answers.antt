@@ -1,5 +1,5 @@
 -- One more part follows those before it, and a failed write ends the text within its part.
-use Rattle.std.proofs.Common.{ℕ, List, [], Ok, Err, take, ap, sym, ◌∙◌, subst}
+use Rattle.std.proofs.Common.{ℕ, List, [], Err, take, ap, sym, ◌∙◌, subst}
 use Rattle.ch_text.specs.Moves.{Took}
 use Rattle.ch_text.proofs.Moves.{took-counts, took-then}
 use Rattle.ch_run.specs.Serving.{WritesMore}
@@ -13,8 +13,7 @@ loop-part-preserved g c =
     let first = bytes_of (take i c.args.parts.now) in
     let within = c.loop-part-test.true in
     let same = c.deref.ensures.value ∙ ap (λ p. p.items) c.part-item.is in
-    let wrote = subst (λ (text : List ℕ). WritesMore {T = Unit} g.O.Output.write_gives c.loop-part.output c.write_more.new.output
-    c.loop-part.written c.write_more.new.written text (Ok tt)) same c.in_ok-write_more.ensures.more in
+    let wrote = rw same at c.in_ok-write_more.ensures.more in
     let more = one_more c.args.parts.now i part within in
     let counts = took-counts g.O.Output.write_gives g.O.Output.failed g.O.Output.idle g.met.O.Output.counts _ _ [] _ wrote.0 in
     record {

@@ -8,7 +8,6 @@ use Rattle.ch_run.proofs.run.texts.answers_by.Goals as goal
 pub answers_text_by-requires-after_bounds : goal.answers_text_by-requires-after_bounds
 answers_text_by-requires-after_bounds g c κs within =
     let long = AllZip-long _ c.args.queries.now c.in_ok-answers.answers.items c.in_ok-answers.ensures in
-    let most = c.requires.count in
     rw c.deref.ensures.value (omega arith)
 
 pub returns : goal.returns

@@ -1,6 +1,6 @@
 -- The texts that were gathered from consecutive ranges of rows are the text of the table.
 use Rattle.std.proofs.lemmas.Result.{IfOk-weaker}
-use Rattle.ch_run.proofs.TableTexts.{gathered_texts}
+use Rattle.ch_run.proofs.RowTexts.{gathered_texts}
 use Rattle.ch_run.proofs.run.workers.table_texts.Goals as goal
 
 pub returns : goal.returns

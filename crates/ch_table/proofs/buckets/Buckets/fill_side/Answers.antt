@@ -2,7 +2,7 @@
 use Rattle.std.proofs.Common.{◌<◌, subst, sym}
 use Rattle.std.specs.Prelude.{All}
 use Rattle.ch_graph.specs.Rows.{AreRowsOf}
-use Rattle.ch_query.specs.Side.{rows_of}
+use Rattle.ch_hierarchy.specs.Side.{rows_of}
 use Rattle.ch_table.proofs.Entries.{rows_up, keys_below, are_buckets}
 use Rattle.ch_table.proofs.buckets.Buckets.fill_side.Goals as goal
 

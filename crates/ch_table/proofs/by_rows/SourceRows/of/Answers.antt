@@ -5,10 +5,10 @@ use Rattle.std.specs.declared.alloc.Global.{Global}
 use Rattle.std.proofs.lemmas.List.Elements.{All-map}
 use Rattle.ch_graph.proofs.Lists.{zipped_length, zipped_map}
 use Rattle.ch_graph.specs.Rows.{AreRowsOf, pairs_of}
-use Rattle.ch_query.specs.declared.side.Side.TheVariants.{Down}
+use Rattle.ch_hierarchy.specs.declared.side.Side.TheVariants.{Down}
 use Rattle.ch_query.specs.SearchSpace.{IsRankedSpace}
 use Rattle.ch_table.specs.Buckets.{HoldLists}
-use Rattle.ch_table.proofs.Held.{hold_lists, pairs_entries}
+use Rattle.ch_table.proofs.Held.{hold_lists}
 use Rattle.ch_table.proofs.Tables.{spaces_within}
 use Rattle.ch_table.proofs.by_rows.SourceRows.of.Goals as goal
 
@@ -42,7 +42,7 @@ invariant_of-result c =
     (spaces_within H Down a.within c.requires.kept.2.levelled a.targets.now spaces c.requires.spaces)) in
     let made = subst (λ (l : List (Vec (ℕ × ℕ) Global)). AreRowsOf c.nodes.result (pairs_of (map items l)) buckets)
     c.deref.ensures.value c.in_ok-buckets.ensures in
-    let held = hold_lists (λ rank. rank) lists c.nodes.result (pairs_of lists) (pairs_entries lists) below buckets made in
+    let held = hold_lists c.nodes.result lists below buckets made in
     record {
       kept = c.requires.kept;
       fall = record {

@@ -2,7 +2,7 @@
 use Rattle.std.proofs.Common.{◌≡◌, List, [], ℕ, length, map, replicate, sym, ap, ◌∙◌, subst}
 use Rattle.std.specs.Prelude.{All, slice_index_or}
 use Rattle.std.proofs.lemmas.Result.{on_ok_weaker}
-use Rattle.ch_query.specs.declared.side.Side.TheVariants.{Down}
+use Rattle.ch_hierarchy.specs.declared.side.Side.TheVariants.{Down}
 use Rattle.ch_query.specs.Lowered.{AreLowered}
 use Rattle.ch_table.specs.declared.row.TheConstants.{UNREACHED}
 use Rattle.ch_table.specs.Rows.{Asked, IsSumOf, cell_of}

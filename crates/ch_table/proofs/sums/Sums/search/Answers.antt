@@ -1,6 +1,6 @@
 -- The search spaces of sources and of targets, dealt over the items, are both sides of the sums.
 use Rattle.std.proofs.Common.{refl, ap, subst}
-use Rattle.ch_query.specs.declared.side.Side.TheVariants.{Up, Down}
+use Rattle.ch_hierarchy.specs.declared.side.Side.TheVariants.{Up, Down}
 use Rattle.ch_table.specs.Buckets.{HoldSearchSpaces}
 use Rattle.ch_table.specs.Dealing.{Deal, item_of}
 use Rattle.ch_table.proofs.Deals.{dealt_by}

@@ -20,7 +20,7 @@ pub push-requires-clause-list : goal.push-requires-clause-list
 push-requires-clause-list g c =
     let t = c.args.self.now.touching in
     let so_far = c.loop-first.invariant.0 in
-    before_next_down c.args.self.now.remaining.now.nodes c.args.self.now.hops (legs_touching t.node t.up.now t.down.now)
+    before_next_down c.args.self.now.remaining.now.nodes c.args.self.now.hops.number (legs_touching t.node t.up.now t.down.now)
     (legs_of c.args.self.now.remaining.now) t.node so_far.0 c.loop-first.first-index no_leg t.down.now c.loop-first.list.items
     c.args.self.now.touches.to so_far.1 c.loop-first-test.true so_far.2
 
@@ -41,7 +41,7 @@ returns g c =
     let t = c.args.self.now.touching in
     let so_far = c.loop-first.invariant.0 in
     record {
-      list = before_end_down c.args.self.now.remaining.now.nodes c.args.self.now.hops (legs_touching t.node t.up.now t.down.now)
+      list = before_end_down c.args.self.now.remaining.now.nodes c.args.self.now.hops.number (legs_touching t.node t.up.now t.down.now)
           (legs_of c.args.self.now.remaining.now) t.node so_far.0 c.loop-first.first-index t.down.now c.loop-first.list.items
           c.args.self.now.touches.to so_far.1 c.loop-first-test.false so_far.2;
       clean = c.loop-first.invariant.1;

@@ -40,21 +40,21 @@ loop-second-preserved g c =
     let so_far = c.loop-second.invariant in
     let to = (get_or up i no_leg).node in
     let second = leg_from_at L v up i no_leg row c.loop-second-test.true in
-    let next : AreShortcutsBefore n c.args.self.now.hops L W v c.args.first.node to c.loop-second.list.items =
-    before_next_up n c.args.self.now.hops L W v c.args.first.node so_far.0 i no_leg up c.loop-second.list.items row so_far.1
+    let next : AreShortcutsBefore n c.args.self.now.hops.number L W v c.args.first.node to c.loop-second.list.items =
+    before_next_up n c.args.self.now.hops.number L W v c.args.first.node so_far.0 i no_leg up c.loop-second.list.items row so_far.1
     c.loop-second-test.true so_far.2 in (
       to + 1,
       boundary_next up i no_leg row.0 c.loop-second-test.true,
       elim c.match-shortcut.branch [
         | in-Some-shortcut+in_ok-push w ↦
             let is = (rw w.in-Some-shortcut.is at c.shortcut.ensures) L c.requires.first second in
-            subst (AreShortcutsBefore n c.args.self.now.hops L W v c.args.first.node (to + 1))
+            subst (AreShortcutsBefore n c.args.self.now.hops.number L W v c.args.first.node (to + 1))
             (sym (ap (λ v. v.items) w.list-is ∙ w.in_ok-push.ensures.items))
-            (before_push n c.args.self.now.hops L W v c.args.first.node to c.loop-second.list.items w.in-Some-shortcut.shortcut next
+            (before_push n c.args.self.now.hops.number L W v c.args.first.node to c.loop-second.list.items w.in-Some-shortcut.shortcut next
             is.0 is.1 is.2)
         | in_default-shortcut w ↦
             let is = (rw w.in_default-shortcut.is at c.shortcut.ensures) L c.requires.first second in
-            rw w.list-is (before_skip n c.args.self.now.hops L W v c.args.first.node to c.loop-second.list.items next is)
+            rw w.list-is (before_skip n c.args.self.now.hops.number L W v c.args.first.node to c.loop-second.list.items next is)
       ],
     )
 
@@ -80,7 +80,7 @@ pub returns-in_default-clause-list : goal.returns-in_default-clause-list
 returns-in_default-clause-list g c =
     let t = c.args.self.now.touching in
     let none = rw c.in_default.is at c.most_cost.ensures in
-    before_no_candidate c.args.self.now.remaining.now.nodes c.args.self.now.hops (legs_touching t.node t.up.now t.down.now)
+    before_no_candidate c.args.self.now.remaining.now.nodes c.args.self.now.hops.number (legs_touching t.node t.up.now t.down.now)
     (legs_of c.args.self.now.remaining.now) t.node c.args.first t.up.now c.args.list.now.items c.requires.first
     c.args.self.now.touches.from
     (subst (λ n. All (λ l. IsCandidate n c.args.first l → ⊥) t.up.now) c.nodes-nodes.ensures.nodes none) c.requires.list

@@ -1,7 +1,7 @@
 -- The legs before the current one were taken from the settled node.
 use Rattle.std.proofs.Common.{take}
 use Rattle.ch_hierarchy.specs.Rows.{row}
-use Rattle.ch_query.specs.Side.{rows_of}
+use Rattle.ch_hierarchy.specs.Side.{rows_of}
 use Rattle.ch_query.specs.Underway.{IsPartlyExpanded}
 use Rattle.ch_query.proofs.sides.search.Search.expand.Given as goal
 

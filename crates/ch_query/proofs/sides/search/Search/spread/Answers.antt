@@ -1,8 +1,8 @@
 -- A search that ran until no key is left has reached each node at the least cost of an upward path.
 use Rattle.std.proofs.Common.{sym, ◌∙◌, subst}
 use Rattle.std.proofs.lemmas.Result.{IfOk-weaker}
+use Rattle.ch_hierarchy.specs.Side.{rows_of}
 use Rattle.ch_query.specs.Limits.{IsMost}
-use Rattle.ch_query.specs.Side.{rows_of}
 use Rattle.ch_query.specs.Spread.{IsSpread}
 use Rattle.ch_query.proofs.one_side.Spreads.{underway_room, spread_of}
 use Rattle.ch_query.proofs.sides.search.Search.spread.Goals as goal

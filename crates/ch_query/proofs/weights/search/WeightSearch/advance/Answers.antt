@@ -2,10 +2,10 @@
 use Rattle.std.proofs.Common.{◌/◌, ◌+◌, length, arith, ap, sym, ◌∙◌, subst, inl, inr}
 use Rattle.std.proofs.lemmas.Bool.{cases_lt}
 use Rattle.ch_hierarchy.specs.Hierarchy.{nodes_of}
+use Rattle.ch_hierarchy.specs.declared.side.Side.TheVariants.{Up}
+use Rattle.ch_hierarchy.specs.Side.{other, state_of}
 use Rattle.ch_hierarchy.proofs.code.Ranked.{node_of_rank}
 use Rattle.ch_query.specs.declared.weights.search.WeightSearch.{WeightSearch}
-use Rattle.ch_query.specs.declared.side.Side.TheVariants.{Up}
-use Rattle.ch_query.specs.Side.{other, state_of}
 use Rattle.ch_query.specs.Weights.{IsWeighingAt, HasGoneOn}
 use Rattle.ch_query.proofs.by_weight.States.{state_below}
 use Rattle.ch_query.proofs.by_weight.WeighingPops.{key_state, pop_weighs}

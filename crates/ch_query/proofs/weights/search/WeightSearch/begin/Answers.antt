@@ -1,8 +1,8 @@
 -- A clean search into which both ends are put knows no sum yet.
 use Rattle.std.proofs.Common.{ap, sym, ◌∙◌, get_or, get_or-set_other, set, None, Some}
 use Rattle.ch_hierarchy.specs.Hierarchy.{nodes_of}
-use Rattle.ch_query.specs.declared.side.Side.TheVariants.{Up, Down}
-use Rattle.ch_query.specs.Side.{state_of}
+use Rattle.ch_hierarchy.specs.declared.side.Side.TheVariants.{Up, Down}
+use Rattle.ch_hierarchy.specs.Side.{state_of}
 use Rattle.ch_query.proofs.by_weight.States.{state_apart}
 use Rattle.ch_query.proofs.by_weight.Unreached.{clean_none}
 use Rattle.ch_query.proofs.by_weight.WeighingBegins.{weighing_begun}

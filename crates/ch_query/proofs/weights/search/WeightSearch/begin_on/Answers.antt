@@ -1,7 +1,7 @@
 -- A clean search into which the source is put on one side has reached nothing else.
 use Rattle.std.proofs.Common.{ap, ◌∙◌, arith}
-use Rattle.ch_query.specs.Side.{state_of}
 use Rattle.ch_hierarchy.specs.Hierarchy.{nodes_of}
+use Rattle.ch_hierarchy.specs.Side.{state_of}
 use Rattle.ch_query.proofs.by_weight.Unreached.{clean_none}
 use Rattle.ch_query.proofs.by_weight.WeighingBegins.{begun_alone, source_where}
 use Rattle.ch_query.proofs.weights.search.WeightSearch.begin_on.Goals as goal

@@ -1,7 +1,7 @@
 -- The legs before the current one were taken from the settled state.
 use Rattle.std.proofs.Common.{take}
 use Rattle.ch_hierarchy.specs.Rows.{row}
-use Rattle.ch_query.specs.Side.{rows_of}
+use Rattle.ch_hierarchy.specs.Side.{rows_of}
 use Rattle.ch_query.specs.Weighed.{weighed}
 use Rattle.ch_query.specs.Weights.{AtRank, IsPartlyWeighed}
 use Rattle.ch_query.proofs.weights.search.WeightSearch.expand.Given as goal

@@ -1,6 +1,6 @@
 -- The search is underway on this side alone, and the states that were found are those where it did not stall.
+use Rattle.ch_hierarchy.specs.Side.{other}
 use Rattle.ch_query.specs.Search.{IsEmpty}
-use Rattle.ch_query.specs.Side.{other}
 use Rattle.ch_query.specs.Weights.{side_keys, IsWeighingOn, IsSameWeighing, AreUnstalledOn, count_unsettled_on}
 use Rattle.ch_query.proofs.weights.search.WeightSearch.explore.Given as goal
 

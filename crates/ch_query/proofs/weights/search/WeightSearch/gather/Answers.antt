@@ -10,9 +10,9 @@ pub returns-clause-space : goal.returns-clause-space
 returns-clause-space c =
     let begun = c.begin_on.ensures in
     let end = c.explore-explored.ensures in
-    space_if_done c.args.hierarchy.now c.requires.kept c.args.side c.explore-explored.new.self end.weighing c.args.within
-    (subst (IsMost c.args.within) (sym (end.same.most ∙ begun.most)) c.most_within.ensures) c.args.source
-    (same_source c.begin_on.new.self c.explore-explored.new.self end.same c.args.side ∙ begun.source) _ c.explore-explored.result
+    space_if_done c.args.hierarchy.now c.requires.kept c.args.start.side c.explore-explored.new.self end.weighing c.args.start.within
+    (subst (IsMost c.args.start.within) (sym (end.same.most ∙ begun.most)) c.most_within-most.ensures) c.args.start.source
+    (same_source c.begin_on.new.self c.explore-explored.new.self end.same c.args.start.side ∙ begun.source) _ c.explore-explored.result
     end.done end.unstalled
 
 pub returns-clause-clean : goal.returns-clause-clean

@@ -2,9 +2,9 @@
 use Rattle.std.proofs.Common.{◌≡◌, map, arith, subst}
 use Rattle.ch_hierarchy.specs.Rows.{row}
 use Rattle.ch_hierarchy.specs.Ranked.{ranked_leg}
+use Rattle.ch_hierarchy.specs.declared.side.Side.{Side}
+use Rattle.ch_hierarchy.specs.Side.{rows_of}
 use Rattle.ch_hierarchy.proofs.code.Ranked.{node_of_rank}
-use Rattle.ch_query.specs.declared.side.Side.{Side}
-use Rattle.ch_query.specs.Side.{rows_of}
 use Rattle.ch_query.proofs.by_weight.LegsRead.{read_leg, read_rank, read_light}
 use Rattle.ch_query.proofs.by_weight.WeightStalls.{stall_within, stall_small, stall_idle}
 use Rattle.ch_query.proofs.weights.search.WeightSearch.is_stalled.Goals as goal

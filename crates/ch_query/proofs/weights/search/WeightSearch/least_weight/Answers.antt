@@ -1,7 +1,7 @@
 -- Once no key is below the least sum, it is the least weight of going up and then down, or no node is reached from both.
 use Rattle.std.proofs.Common.{None, Some, ◌∙◌, arith}
 use Rattle.ch_hierarchy.specs.Hierarchy.{nodes_of}
-use Rattle.ch_query.specs.declared.side.Side.TheVariants.{Up}
+use Rattle.ch_hierarchy.specs.declared.side.Side.TheVariants.{Up}
 use Rattle.ch_query.proofs.by_weight.WeighingEnds.{least_known, none_known, least_between}
 use Rattle.ch_query.proofs.weights.search.WeightSearch.least_weight.Goals as goal
 

@@ -1,6 +1,6 @@
 -- The line of one more row follows the text of the rows before it.
 use Rattle.std.proofs.lemmas.Result.{on_ok_weaker}
-use Rattle.ch_run.proofs.TableTexts.{row_written}
+use Rattle.ch_run.proofs.RowTexts.{row_written}
 use Rattle.ch_run.proofs.run.workers.RowTextsRowJob.add.Goals as goal
 
 pub returns : goal.returns
