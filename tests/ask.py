@@ -25,11 +25,12 @@ from collections import Counter
 from pathlib import Path
 
 from helpers.asking import Conversation, apart, run_before_leaving, run_by_parts
+from helpers.requests_by_hand import FAULTS, FAULTS_OF_THE_END, HUGE, SOUND
 from helpers.running import ROOT, Answer, Count, agrees, build, run, side_by_side
 from helpers.streams import FOR_ALL, FOR_QUERIES, FOR_TABLES, Drawn, drawn_requests, stream_of, words_of
 from helpers.writing import write_graph, write_list, write_queries
 from oracles.reading import graph_of
-from oracles.requesting import MOST_LINE, Answers, Near, Places, Query, Route, Table, told
+from oracles.requesting import Answers, Near, Places, Query, Route, Table, told
 
 GRAPH = ROOT / "examples" / "liechtenstein.gr"
 
@@ -129,111 +130,6 @@ def check_questions(tally, folder):
 
 
 # Faults and limits.
-
-# Requests on the line, what is written for them, and the line of the fault.
-FAULTS = [
-    (b"p aux sp p2p 1\nq 1 3\n", b"", b"request line 1: bad line"),
-    (b"q 1 3\nqq 1 3\n", b"d 1 3 9\n", b"request line 2: unknown line"),
-    (b"\xef\xbb\xbfq 1 3\n", b"", b"request line 1: unknown line"),
-    (b"q\x0b1 3\n", b"", b"request line 1: unknown line"),
-    (b"t 1 1\ns 1\na 1 2 4\n", b"", b"request line 3: unknown line"),
-    (b"q 1 3\nq 1\nq 1 3\n", b"d 1 3 9\n", b"request line 2: bad line"),
-    (b"q 1 2 3\n", b"", b"request line 1: bad line"),
-    (b"q\n", b"", b"request line 1: bad line"),
-    (b"q 1 -3\n", b"", b"request line 1: bad line"),
-    (b"q 1 3\x85\n", b"", b"request line 1: bad line"),
-    (b"q 4 x\n", b"", b"request line 1: bad line"),
-    (b"q 1 3\n\n\nq 1 4\nq 1 3\n", b"d 1 3 9\n", b"request line 4: node out of range"),
-    (b"q 0 1\n", b"", b"request line 1: node out of range"),
-    (b"t 1 1\ns 1\nq 1 3\n", b"", b"request line 3: too few lines"),
-    (b"t 1 1\ns 1\nq 9\n", b"", b"request line 3: too few lines"),
-    (b"t 1\n", b"", b"request line 1: bad line"),
-    (b"t 1 1 1 1\n", b"", b"request line 1: bad line"),
-    (b"t 65537 x\n", b"", b"request line 1: bad line"),
-    (b"t 1 1\ns 1\nt 1 1\n", b"", b"request line 3: too few lines"),
-    (b"t 1 1\ns 1\nt 4096 1025\n", b"", b"request line 3: too few lines"),
-    (b"q 1 3\nt 65537 0\n", b"d 1 3 9\n", b"request line 2: size too large"),
-    (b"t 0 65537\n", b"", b"request line 1: size too large"),
-    (b"t 65537 65537\n", b"", b"request line 1: size too large"),
-    (b"q 1 3\nt 4096 1025\ns 1\n", b"d 1 3 9\n", b"request line 2: too many cells"),
-    (b"q 1 3\nq 3 1\nt 65 65536\n", b"d 1 3 9\nd 3 1 -\n", b"request line 3: too many cells"),
-    (b"t 65536 65536\n", b"", b"request line 1: too many cells"),
-    (b"c\nt 4096 1025 1\n", b"", b"request line 2: too many cells"),
-    (b"t 4096 1025 %d\n" % (2**60 + 1), b"", b"request line 1: weight too large"),
-    (b"t 1 1 %d\n" % (2**60 + 1), b"", b"request line 1: weight too large"),
-    (b"t 1 1 -1\n", b"", b"request line 1: bad line"),
-    (b"r 1 3\nr 1\n", b"d 1 3 9\nr 2\na 1 2 4\na 2 3 5\n", b"request line 2: bad line"),
-    (b"r 1 3 9\n", b"", b"request line 1: bad line"),
-    (b"r 1 4\n", b"", b"request line 1: node out of range"),
-    (b"p 1 1\ns 1\nr 1 3\np 1 1\nr 1 3\n", b"d 1 3 9\nr 2\na 1 2 4\na 2 3 5\n", b"request line 5: too few lines"),
-    (b"p 1\n", b"", b"request line 1: bad line"),
-    (b"p 1 2 3\n", b"", b"request line 1: bad line"),
-    (b"p 65537 1\n", b"", b"request line 1: size too large"),
-    (b"p 1 65537\n", b"", b"request line 1: size too large"),
-    (b"p 1 0\ns 4\n", b"", b"request line 2: node out of range"),
-    (b"p 1 0\ns 1\ns 1\n", b"", b"request line 3: too many lines"),
-    (b"p 2 0\ns 1\nn 1\n", b"", b"request line 3: too few lines"),
-    (b"p 1 1\ns 1\nn 1\nn 4\n", b"n 1 1 1 0\n", b"request line 4: node out of range"),
-    (b"n\n", b"", b"request line 1: bad line"),
-    (b"n 1 2 3\n", b"", b"request line 1: bad line"),
-    (b"n 0\n", b"", b"request line 1: node out of range"),
-    (b"n 4 %d\n" % (2**60 + 1), b"", b"request line 1: node out of range"),
-    (b"n 1 %d\n" % (2**60 + 1), b"", b"request line 1: weight too large"),
-    ((MOST_LINE + 1) * b"c", b"", b"request line 1: bad line"),
-    (b"q 1 3\n" + (MOST_LINE + 1) * b" " + b"\n", b"d 1 3 9\n", b"request line 2: bad line"),
-    (b"q 1 3\nq 1 3" + (MOST_LINE - 4) * b" " + b"\n", b"d 1 3 9\n", b"request line 2: bad line"),
-    (b"q 1 3\ns 1\n", b"d 1 3 9\n", b"request line 2: too many lines"),
-    (b"t 1 0\ns 2\ns 9\n", b"t 2\n", b"request line 3: too many lines"),
-    (b"t 0 0\ns 1\n", b"", b"request line 2: too many lines"),
-    (b"s x\n", b"", b"request line 1: bad line"),
-    (b"t 1 1\ns 1\ns\n", b"", b"request line 3: bad line"),
-    (b"t 1 1\ns 1\ns 1 2\n", b"", b"request line 3: bad line"),
-    (b"t 1 1\ns 1\nc\ns 4\n", b"", b"request line 4: node out of range"),
-    (b"t 1 1\ns 0\n", b"", b"request line 2: node out of range"),
-]
-
-# The same, where the end has the fault, or the last line is cut short.
-FAULTS_OF_THE_END = [
-    (b"q 1 3\nt 1 1\ns 1\n", b"d 1 3 9\n", b"request line 4: too few lines"),
-    (b"q 1 3\nt 1 1\ns 1", b"d 1 3 9\n", b"request line 4: too few lines"),
-    (b"t 1 1", b"", b"request line 2: too few lines"),
-    (b"t 1 2\ns 1\n\ns 2\nc", b"", b"request line 6: too few lines"),
-    (b"q 1 3\nq 1", b"d 1 3 9\n", b"request line 2: bad line"),
-    (b"q 1 3\nq 1 4", b"d 1 3 9\n", b"request line 2: node out of range"),
-    (b"t 1 2\ns 1\ns", b"", b"request line 3: bad line"),
-    (b"q 1 3\nt 4096 1025", b"d 1 3 9\n", b"request line 2: too many cells"),
-    (b"n 1\np 1 0", b"n 1 0\n", b"request line 3: too few lines"),
-    (b"q 1 3\ns", b"d 1 3 9\n", b"request line 2: bad line"),
-]
-
-# Requests without a fault, and their answers.
-SOUND = [
-    (b"", b""),
-    (b"\n", b""),
-    (b"c", b""),
-    (b"\r\n \t\n\n", b""),
-    (b"q 1 3", b"d 1 3 9\n"),
-    (b"\n\nc\n  q\t1  3\r\n\n", b"d 1 3 9\n"),
-    (b"t 1 1\ns 1\ns 2", b"t 1 4\n"),
-    (b"t 0 0", b""),
-    (b"t 0 65536\n" + 65_536 * b"s 1\n" + b"q 3 3\n", b"d 3 3 0\n"),
-    (b"t 65536 0\n" + 65_536 * b"s 2\n", 65_536 * b"t 2\n"),
-    (b"t 65536 64\n" + 65_600 * b"s 3\n" + b"q 1 3\n", 65_536 * (b"t 3" + 64 * b" 0" + b"\n") + b"d 1 3 9\n"),
-    (b"t 64 65536\n" + 64 * b"s 1\n" + 65_536 * b"s 3\n", 64 * (b"t 1" + 65_536 * b" 9" + b"\n")),
-    (b"q " + 32_765 * b"0" + b"1 " + 32_766 * b"0" + b"3\nq 3 1\n", b"d 1 3 9\nd 3 1 -\n"),
-    (MOST_LINE * b"c" + b"\nq 1 3\n" + MOST_LINE * b" ", b"d 1 3 9\n"),
-    (b"r 1 3\nq 1 3\nr 3 1\nr 2 2\n", b"d 1 3 9\nr 2\na 1 2 4\na 2 3 5\nd 1 3 9\nd 3 1 -\nd 2 2 0\nr 0\n"),
-    (b"n 2\np 3 2\ns 3\ns 1\ns 3\nn 1\nn 1 9\nn 1 8\nn 3 0\np 0 0\nn 1\n",
-     b"n 2 0\nn 1 2 1 0 3 9\nn 1 2 1 0 3 9\nn 1 1 1 0\nn 3 2 3 0 3 0\nn 1 0\n"),
-    (b"p 2 0\ns 3\ns 2\nn 1\nn 1\np 1 65536\ns 1\nn 1\nn 2\n", b"n 1 2 2 4 3 9\nn 1 2 2 4 3 9\nn 1 1 1 0\nn 2 0\n"),
-    (b"p 1 0\ns 3\nn 1 8\nn 1\nt 1 1 8\ns 1\ns 3\nt 1 1\ns 1\ns 3\n", b"n 1 0\nn 1 1 3 9\nt 1 -\nt 1 9\n"),
-    (b"p 1 0\ns 3\n" + 5000 * b"n 1\n", 5000 * b"n 1 1 3 9\n"),
-    (b"t " + 1000 * b"0" + b"1 1\ns 1\ns " + 65_000 * b"0" + b"3", b"t 1 9\n"),
-    (b"c" + 60_000 * b"x" + b"\n" + 60_000 * b" " + b"\nq 1 3\n", b"d 1 3 9\n"),
-]
-
-# Numbers past the greatest node and the greatest size, some of which would be 1 if they were cut to 25, 32 or 64 bits.
-HUGE = [4, 2**16 + 1, 2**24 + 1, 2**25, 2**25 + 1, 2**32 - 1, 2**32 + 1, 2**60 + 1, 2**64 - 1, 2**64, 2**64 + 1, 2**128 + 1, 10**1000 + 1]
 
 
 def check_stream(tally, folder, requests, wanted):

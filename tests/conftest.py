@@ -17,7 +17,7 @@ from helpers import columns, in_process, packages, running
 
 
 # Each can also be run by itself, as `./check` does.
-SCRIPTS = "service", "osrm", "load", "operating", "page", "looks", "steps"
+SCRIPTS = "service", "osrm", "osrm_requests", "load", "operating", "clients", "page", "looks", "steps"
 
 
 class Script(pytest.Module):

@@ -432,7 +432,7 @@ def check_parts(tally):
         is_other = test.name in ("believe.py", "conftest.py", "packages.sh")
         tally.expect(is_other or found and is_run, f"{told(test)} is no part of ./check, or has no row in TESTING.md")
     for path in sorted([*(ROOT / "tests" / "oracles").glob("*.*"), *(ROOT / "tests" / "helpers").glob("*.*")]):
-        tally.expect(re.match(r'(#!.*\n)?("""|//|/\*)', path.read_text()), f"{told(path)} does not say in its first line what it is")
+        tally.expect(re.match(r'(#!.*\n)?("""|//|/\*|# )', path.read_text()), f"{told(path)} does not say in its first line what it is")
 
 
 def check_first_lines(tally):

@@ -1,6 +1,6 @@
 #!/usr/bin/python3
 """Runs each command of README.md, docs/GUIDE.md, docs/PYTHON.md and examples/README.md, in order, and compares what it prints with the lines
-below it, and so each line of Python with `>>>` before it. What needs a package that is missing is told and left out.
+below it, and so each line of Python with `>>>` before it. A check that needs a missing package is named and left out.
 
 The pictures of the guide are those that the commands make, and the code of docs/CALLING.md stands in the sources, where it is proved.
 The last line is 'N passed, N failed'.

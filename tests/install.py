@@ -2,7 +2,7 @@
 """Tests the scripts `chtab` and `install`, Debian's package and the wheel: through links, without the command rt, what is installed below a
 prefix, what the package puts into a root of its own and leaves there, and what pip puts into a new environment. All three bring the library for C.
 
-What needs a package that is missing, or a root of its own, is told and left out. The last line is 'N passed, N failed'.
+A check that needs a missing package, or a root of its own, is named and left out. The last line is 'N passed, N failed'.
 """
 import hashlib
 import os

@@ -5,7 +5,7 @@ systemd.
 
   load.py [SECONDS]
 
-Clients ask for SECONDS (10). What needs a package that is missing is told and left out. The last line is 'N passed, N failed'.
+Clients ask for SECONDS (10). A check that needs a missing package is named and left out. The last line is 'N passed, N failed'.
 """
 import collections
 import concurrent.futures

@@ -2,7 +2,7 @@
 """Tests how the page of a network looks in a browser: on low screens and on phones everything is reached and nothing lies on anything else,
 texts and lines stand out from what is behind them, the colours of reach are those of the legend, and screen readers are told what is where.
 
-What needs a package that is missing is told and left out. The last line is 'N passed, N failed'.
+A check that needs a missing package is named and left out. The last line is 'N passed, N failed'.
 """
 import itertools
 import re

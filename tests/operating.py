@@ -2,7 +2,7 @@
 """Tests the service as one who runs it meets it: files that are replaced, too many connections, proxies and forged addresses, bodies that are packed,
 a second service on the port, one that takes the port over without losing a request, and what the log and the metrics say.
 
-What needs a package that is missing is told and left out. The last line is 'N passed, N failed'.
+A check that needs a missing package is named and left out. The last line is 'N passed, N failed'.
 """
 import collections
 import concurrent.futures

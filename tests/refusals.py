@@ -18,14 +18,12 @@
 
 The last line is 'N passed, N failed', where each run of the program is counted.
 """
-import fcntl
 import os
 import re
-import struct
+import select
 import subprocess
 import sys
 import tempfile
-import termios
 import time
 from itertools import count, pairwise
 
@@ -149,9 +147,6 @@ RUNS = {
     "requests by a saved hierarchy": (["ask"], {"graph": "line.gr", "saved": "line.ch", "requests": "line.txt"}, answers_of(LINE_ASKED)),
     "requests for routes": (["ask", "--routes"], {"graph": "star.gr", "requests": "star.txt"}, answers_of(STAR_ASKED)),
 }
-
-# What Linux calls F_GETPIPE_SZ: how many bytes a pipe can hold.
-PIPE_SIZE = 1032
 
 # The errors of the system, as <errno.h> of Linux has them.
 INTERRUPTED, DEVICE_FAILED, DEVICE_FULL, READER_GONE = 4, 5, 28, 32
@@ -310,21 +305,15 @@ def close_pipe(tally, folder):
     read_end, write_end = os.pipe()
     process = subprocess.Popen([PROGRAM, "table", "one.gr", "ones.ss", "ones.ss"], cwd=folder, stdout=write_end,
                                stderr=subprocess.PIPE)
-    os.close(write_end)
-    room = fcntl.fcntl(read_end, PIPE_SIZE)
     for _ in range(100 * SECONDS):
-        if process.poll() is not None or waiting_in(read_end) == room:
+        if process.poll() is not None or not select.select([], [write_end], [], 0)[1]:
             break
         time.sleep(0.01)
     os.close(read_end)
+    os.close(write_end)
     err = process.communicate(timeout=SECONDS)[1]
     is_silent = (process.returncode, err) == (STATUS_OF_READER_GONE, b"")
     tally.expect(is_silent, f"a full pipe is closed: {process.returncode}, {err}")
-
-
-def waiting_in(pipe):
-    """How many bytes wait in a pipe."""
-    return struct.unpack("=i", fcntl.ioctl(pipe, termios.FIONREAD, bytes(4)))[0]
 
 
 def main():

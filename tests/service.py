@@ -1,7 +1,7 @@
 #!/usr/bin/python3
 """Tests the service of a network for programs: places that are too far, pages of other sites, health, and clients that do nothing.
 
-What needs a package that is missing is told and left out. The last line is 'N passed, N failed'.
+A check that needs a missing package is named and left out. The last line is 'N passed, N failed'.
 """
 import asyncio
 import collections

@@ -135,3 +135,10 @@ def random_relation(draw, nodes, ways):
     key = draw.choice(["restriction"] * 8 + ["restriction:bicycle", "restriction:foot"])
     tags = {"type": "restriction", key: draw.choice(["no_", "no_", "only_"]) + draw.choice(turns)}
     return members, tags | ({"except": draw.choice(["bicycle", "motorcar;psv"])} if draw.random() < 0.1 else {})
+
+
+def called(made):
+    """What each arc is called, without what is empty."""
+    found, numbers, _ = made.streets
+    assert len(set(found)) == len(found) and list(dict.fromkeys(filter(None, numbers))) == list(range(1, len(found) + 1)), numbers
+    return [{key: text for key, text in found[number - 1]._asdict().items() if text} if number else {} for number in numbers]

@@ -1,0 +1,60 @@
+"""Questions to a service in OSRM's form, and what an answer is compared with."""
+import collections
+import json
+import math
+import random
+
+from helpers.maps import COUNTRY
+from helpers.running import run
+from helpers.serving import send
+from chtab import files
+
+VADUZ, ESCHEN, MALBUN = (9.5209, 47.1410), (9.5450, 47.2200), (9.6079, 47.1020)
+THREE = VADUZ, ESCHEN, MALBUN
+# An answer rounds metres to tenths, and a place to millionths of a degree, which is 0.11 m.
+TENTH, MILLIONTH = 0.051, 0.000_000_6
+
+
+def text_of(places):
+    return ";".join(f"{x:.6f},{y:.6f}" for x, y in places)
+
+
+def get(address, path):
+    """Status and value of an answer."""
+    status, _, text = send(address, path)
+    return status, json.loads(text)
+
+
+def answer(address, name, places, profile="car", **options):
+    """The value of an answer that is none of a refusal."""
+    query = "&".join(f"{key}={value}" for key, value in options.items())
+    status, value = get(address, f"/{name}/v1/{profile}/{text_of(places)}?{query}")
+    assert (status, value["code"]) == (200, "Ok"), value
+    return value
+
+
+def some_nodes(count, seed):
+    """Nodes of the country with their places, at which no other node lies."""
+    coordinates = files.read_coordinates(f"{COUNTRY}.co")
+    crowds = collections.Counter(map(coordinates.of, coordinates.known()))
+    nodes = random.Random(seed).sample([node for node in coordinates.known() if crowds[coordinates.of(node)] == 1], count)
+    return nodes, [coordinates.of(node) for node in nodes]
+
+
+def distances(pairs):
+    """What `chtab dist` says of pairs of nodes, in seconds."""
+    files.write_queries("pairs.p2p", pairs)
+    done = run(["dist", f"{COUNTRY}.gr", "pairs.p2p"], ".")
+    words = [line.split()[-1] for line in done.out.decode().splitlines()]
+    assert done.status == 0 and len(words) == len(pairs)
+    return [None if word == "-" else int(word) / 1000 for word in words]
+
+
+def on_sphere(start, end):
+    """Metres between two places, by the haversine."""
+    (x, y), (u, v) = (map(math.radians, place) for place in (start, end))
+    part = math.sin((v - y) / 2) ** 2 + math.cos(y) * math.cos(v) * math.sin((u - x) / 2) ** 2
+    return 2 * 6_371_008.8 * math.asin(math.sqrt(part))
+
+
+PLAIN = "9.5209,47.1410;9.5450,47.2200"
