@@ -313,13 +313,18 @@ def rows(page):
     return page.run("return [...document.querySelectorAll('#turns button > span:first-child')].map(part => part.textContent)")
 
 
+def last_row(page):
+    """The last row of the list, which is read once: the page may empty the list between two readings."""
+    return (rows(page) or [None])[-1]
+
+
 def a_list_of_turns():
     """Each maneuver of the chosen way has a row, which shows its point: by a press, and by arrow keys."""
     with shown_page(out=with_names()) as (_, page):
         page.fill("start", "vaduz", Keys.ENTER)
         page.fill("goal", "eschen", Keys.ENTER)
         page.wait("route")
-        there = page.until(lambda: len(rows(page)) > 5 and rows(page))
+        there = page.until(lambda: last_row(page) == "Arrive at B" and rows(page))
         assert there[0].startswith("Head ") and there[-1] == "Arrive at B" and any("Feldkircher Strasse" in row for row in there), there
         assert there[1].startswith("Leave Adlerkreisel") and not any("undefined" in row for row in there), there
         _, value = ask(page.address, "/route/v1/x/{},{};{},{}?steps=true&overview=false".format(*page.at("start"), *page.at("goal")))
@@ -341,7 +346,7 @@ def a_list_of_turns():
         page.keys(Keys.TAB)
         assert page.focus() == "swap", "the list is one stop"
         page.find("back").click()
-        page.until(lambda: rows(page) and rows(page)[-1] == "Arrive at A")
+        page.until(lambda: last_row(page) == "Arrive at A")
         page.find("mode-reach").click()
         page.wait("reach")
         assert not page.find("turns-part").is_displayed() and not page.faults()
@@ -367,7 +372,7 @@ def places_on_the_way():
         page.until(lambda: page.state() == "route" and page.weight() == str(over(network, page, "start", "via1", "via2", "goal")))
         labels = [pin.get_attribute("aria-label") for pin in page.all(".pin")]
         assert labels[2] == "1: Ruggell" and labels[3].startswith("2: "), labels
-        page.until(lambda: "Arrive at 1" in rows(page) and "Arrive at 2" in rows(page))
+        page.until(lambda: {"Arrive at 1", "Arrive at 2"} <= set(rows(page)))
         page.find("swap").click()
         page.until(lambda: page.state() == "route" and page.weight() == str(over(network, page, "start", "via2", "via1", "goal")))
         page.run("document.querySelectorAll('.pin')[3].focus()")
