@@ -2,23 +2,21 @@
 use Rattle.std.proofs.Common.{◌≡◌, ℕ, List, inl, refl, ap, subst}
 use Rattle.std.specs.Prelude.{IfErr, Result, ⊤}
 use Rattle.std.proofs.Math.Logic.{⊎_map}
-use Rattle.std.proofs.lemmas.Result.{IfErr-at_err, IfErr-weaker}
+use Rattle.ch_read.specs.declared.form.Form.TheVariants as Form
 use Rattle.ch_text.specs.Device.{CountsAtMostOne}
 use Rattle.ch_job.specs.Job.{job_map, question_map, sources_map}
 use Rattle.ch_job.specs.declared.job.Job.{Job}
 use Rattle.ch_job.specs.declared.job.Question.{Question}
 use Rattle.ch_run.specs.declared.fault.RunFault.{RunFault}
 use Rattle.ch_run.specs.declared.fault.Which.{Which}
-use Rattle.ch_run.specs.Run.{IsGraphRefused, Reading, SourceReading, reading}
+use Rattle.ch_run.specs.Run.{Reading, SourceReading, reading}
 use Rattle.ch_run.specs.Source.{source_reading}
-use Rattle.ch_run.specs.DistRun.{HasQueriesRefused}
-use Rattle.ch_run.specs.NearRun.{HasNearTargetsRefused}
-use Rattle.ch_run.specs.TableRun.{HasSourcesRefused, HasTargetsRefused}
+use Rattle.ch_run.specs.Story.{HasEnded, IsRefused}
 use Rattle.ch_run.specs.Told.{Calls}
 use Rattle.ch_run.proofs.AskStory.{ask_told}
-use Rattle.ch_run.proofs.Counted.{CountsCalls, CountsReads, lines_after, listed_after, reads_once, source_after, writes_once}
+use Rattle.ch_run.proofs.Counted.{CountsCalls, CountsReads, listed_after, reads_after, reads_once, source_after, writes_once}
 use Rattle.ch_run.proofs.Stories.{dist_told, near_told, save_told, table_told}
-use Rattle.ch_run.proofs.Tells.{Met, MetSource, Refuses, ReportsWrites, Written}
+use Rattle.ch_run.proofs.Tells.{Met, MetSource, ReportsWrites, Written}
 use Rattle.ch_line.specs.Inputs.{AreRead, IsOwn, RefusesAsked, RunsFor, RunsOver, TellsOver, WritesFor, WritesText}
 use Rattle.ch_line.specs.Inputs.{question_inputs, sources_after, sources_before, sources_read}
 use Rattle.ch_line.proofs.Read.{source-told, sources-told}
@@ -51,13 +49,13 @@ module _ {I J O : Type 0} {gives : Calls I} (origin : I → ℕ) {failed : I →
   -- what a run tells of the graph and of the source of its hierarchy, whatever its question is
   told : (asked : Question (I × I)) →
       WritesFor old.options graph source gives asked gives_requests failed_requests takes requests requests' output output' r →
-      IfErr r (IsOwn source gives asked) → Met r Which.Graph graph ⊥ ⊤ (Refuses Which.Graph (IsGraphRefused graph)) →
+      IfErr r (IsOwn source gives asked) → Met r Which.Graph graph ⊥ ⊤ (λ input. HasEnded input (IsRefused Form.Graph)) →
       MetSource r graph source (new.source ≡ old.source) → RefusesAsked graph source gives asked r →
       AreRead origin failed r (question_inputs (before asked)) (question_inputs (after asked)) →
       CountsAtMostOne (failed_requests requests) (failed_requests requests') → ReportsWrites takes output output' r →
       TellsOf (before asked) (after asked)
   told asked written own met met_source refused read once wrote =
-      let on_graph = lines_after counts (λ none. absurd none) IsGraphRefused met in
+      let on_graph = reads_after counts (λ none. absurd none) met in
       let same_source = ap (λ (job : Job ℕ). job.source) same in
       let on_source = source_after r counts origin graph old.source new.source same_source met_source in
       let source_told = source-told gives origin failed r _ _ read graph old.source new.source on_source same_source in
@@ -84,26 +82,22 @@ module _ {I J O : Type 0} {gives : Calls I} (origin : I → ℕ) {failed : I →
       TellsOf (before asked) (after asked)
   asked_told (Question.Queries queries) each (went, unasked) =
       let e = dist_told old.options went in
-      let read = (lines_after counts (λ at. at) (HasQueriesRefused graph source) e.later.0).reads in
+      let read = (reads_after counts (λ at. at) e.later.0).reads in
       told (Question.Queries queries) (texts unasked e.later.1) e.own e.graph e.source read.refused
       (refl, record { same = cc; once = read.once }, tt) (inl (ap failed_requests unasked)) e.later.1.calls
   asked_told (Question.Table from to) each (went, unasked) =
       let e = table_told old.options went in
-      let sources = (lines_after counts (λ at. at) (HasSourcesRefused graph source) e.later.0).reads in
-      let targets = (lines_after counts (λ at. at) (HasTargetsRefused graph source (reading gives from.0 from.1)) e.later.1.0).reads in
-      told (Question.Table from to) (texts unasked e.later.1.1) (IfErr-weaker r _ _ (λ fault own. own.0) e.own) e.graph e.source
-      (record {
-        sources_refused = sources.refused;
-        targets_refused = targets.refused;
-        cells_refused = λ is. (IfErr-at_err _ is e.own).1 refl;
-      })
+      let sources = (reads_after counts (λ at. at) e.later.0).reads in
+      let targets = (reads_after counts (λ at. at) e.later.1.0).reads in
+      told (Question.Table from to) (texts unasked e.later.1.1.1) e.own e.graph e.source
+      (record { sources_refused = sources.refused; targets_refused = targets.refused; cells_refused = e.later.1.1.0 })
       (refl, record { same = cc; once = sources.once }, (refl, record { same = cc; once = targets.once }, tt))
-      (inl (ap failed_requests unasked)) e.later.1.1.calls
+      (inl (ap failed_requests unasked)) e.later.1.1.1.calls
   asked_told (Question.Near from to) each (went, unasked) =
       let from_same : sources_map origin (sources_after from) ≡ sources_map origin (sources_before from) = cc in
       let e = near_told old.options _ went in
-      let targets = (lines_after counts (λ at. at) (HasNearTargetsRefused graph source (sources_read gives from)) e.later.1.0).reads in
-      let sources = listed_after r counts origin _ (HasSourcesRefused graph source) _ _ from_same e.later.0 in
+      let targets = (reads_after counts (λ at. at) e.later.1.0).reads in
+      let sources = listed_after r counts origin _ _ _ _ from_same e.later.0 in
       let lists = sources-told gives origin failed r _ _ (refl, record { same = cc; once = targets.once }, tt) graph source _ _ _ _ sources
       from_same in
       told (Question.Near from to) (texts unasked e.later.1.1) e.own e.graph e.source

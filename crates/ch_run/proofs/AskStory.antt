@@ -1,19 +1,18 @@
 -- What the story of a run that answers requests tells.
-use Rattle.std.proofs.Common.{◌≡◌, ◌⊎◌, ℕ, List, [], Result, Ok, Err, inl, inr, refl, sym, ap, arith}
+use Rattle.std.proofs.Common.{◌≡◌, ◌⊎◌, ℕ, ◌<◌, List, [], Result, Ok, Err, inl, inr, refl, sym, ap, arith}
 use Rattle.std.specs.Prelude.{IfErr, IsErrAnd, ⊤}
 use Rattle.std.proofs.lemmas.Result.{IfErr-weaker}
 use Rattle.ch_job.specs.declared.options.Options.{Options}
 use Rattle.ch_run.specs.declared.fault.RunFault.{RunFault}
 use Rattle.ch_run.specs.declared.fault.Which.{Which}
 use Rattle.ch_run.specs.Ask.{IsOfAsk, IsOfServing, ReadsSome, Serves, ServesBy, TextOf}
-use Rattle.ch_run.specs.Run.{Reading, SourceReading}
+use Rattle.ch_run.specs.Run.{IsOf, Reading, SourceReading}
 use Rattle.ch_run.specs.Source.{IsOfLoading}
 use Rattle.ch_run.specs.Stories.{RunsAsk}
 use Rattle.ch_run.specs.Told.{Calls}
 use Rattle.ch_run.proofs.Loading.{loading_memory}
-use Rattle.ch_run.proofs.Owed.{of_no_write}
-use Rattle.ch_run.proofs.Tells.{IsBefore, IsFrom, Loaded, ReportsReads, ReportsWrites, loads_told, of_from, untouched}
-use Rattle.ch_run.proofs.Tells.{unwritten}
+use Rattle.ch_run.proofs.Owed.{of_no_write, of_one}
+use Rattle.ch_run.proofs.Tells.{GoesPastBefore, Loaded, ReportsReads, ReportsWrites, loads_told, step_of, untouched, unwritten}
 
 -- reads that gave these bytes did not fail
 some_read : (requests : Reading) (P : List ℕ → List ℕ → Type 0) → ReadsSome requests P →
@@ -38,10 +37,12 @@ module _ {T S : Type 0} (IsTextOf : TextOf) (takes : Calls S) (n : ℕ) (request
       (inr tt, inr (λ is. cc, inr e.0), inl (tt, (e.1.2.2, e.1.2.3, e.1.2.6)))
   serves_report (Err _) h = absurd h
 
--- a fault of serving is no earlier one
-serving_from : (e : RunFault) → IsOfServing e → IsFrom 2 e
-serving_from e (inl of) = of_from Which.Requests e of
-serving_from e (inr write) = λ which stops. absurd (of_no_write which e stops.0 write)
+-- a run that ends in a fault of serving goes past the graph and the file for the hierarchy
+serving_past : {T : Type 0} (r : Result T RunFault) → IfErr r IsOfServing → GoesPastBefore r 2
+serving_past r own which less = IfErr-weaker r _ _ (λ e of stops. elim of [
+  | inl requests ↦ let one = ap step_of (of_one Which.Requests which e requests stops) in absurd (omega arith)
+  | inr write ↦ absurd (of_no_write which e stops.0 write)
+]) own
 
 -- a run that answers requests stops while it loads, has no memory for the hierarchy, or serves the requests
 pub ask_told : {T O : Type 0} (options : Options) {graph : Reading} {saved : SourceReading} {requests : Reading}
@@ -50,22 +51,20 @@ pub ask_told : {T O : Type 0} (options : Options) {graph : Reading} {saved : Sou
     Loaded r (IsOfAsk saved) graph saved same_source (ReportsReads Which.Requests requests same r × ReportsWrites takes old new r
     × ((IsErrAnd r (IsOfLoading saved) × same × (new ≡ old)) ⊎ ServesBy options graph saved requests takes old new r))
 ask_told options {graph} {saved} {requests} {same = same} {takes} {old} {new} {r} went =
-    let quiet : IsErrAnd r (IsBefore 2) → same × (new ≡ old) → ReportsReads Which.Requests requests same r × ReportsWrites takes old new r =
-    λ before at. (
-      (untouched r 2 {accepted = ⊤} {Why = λ e. ⊤} before (omega arith) at.0).calls,
-      (unwritten r 2 {accepted = ⊤} {P = λ text. ⊤} before at.1).calls,
+    let quiet : (first : Which) → step_of first < 2 → IsErrAnd r (IsOf first) → IsErrAnd r (IsOfLoading saved) → same × (new ≡ old) →
+    ReportsReads Which.Requests requests same r × ReportsWrites takes old new r
+    × ((IsErrAnd r (IsOfLoading saved) × same × (new ≡ old)) ⊎ ServesBy options graph saved requests takes old new r) =
+    λ first less is own at. (
+      (untouched r first {accepted = ⊤} {Why = λ input e. ⊤} is less at.0).calls,
+      (unwritten r {accepted = ⊤} {P = λ text. ⊤} is (of_no_write first) at.1).calls,
+      inl (own, at.0, at.1),
     ) in
-    loads_told r (IsOfAsk saved) graph saved (λ e is. inl is) went
-    (λ own before at. let e = quiet before at in (e.0, e.1, inl (own, at.0, at.1)))
-    (λ g h loaded serving. elim serving [
-      | inl none ↦ let e = quiet (rw none.0 (λ write. write, λ which stops. absurd (stops.1 refl))) (none.1, none.2) in record {
-        own = rw none.0 (inr (inl tt));
-        from = rw none.0 (λ which stops. absurd (stops.1 refl));
-        told = (e.0, e.1, inl (rw none.0 (loading_memory saved), none.1, none.2));
-      }
-      | inr served ↦ let e = serves_report _ takes g.nodes requests old new r served in record {
-        own = IfErr-weaker r _ _ (λ e own. inr own) e.0;
-        from = IfErr-weaker r _ _ serving_from e.0;
-        told = (e.1, e.2, inr (g, h, loaded, served));
-      }
+    loads_told r (IsOfAsk saved) graph saved (λ e is. inl is) went quiet (λ g h loaded serving. elim serving [
+      | inl none ↦ (
+        rw none.0 (inl (loading_memory saved)),
+        λ which less. rw none.0 (λ stops. absurd (stops.1 refl)),
+        quiet Which.Graph (omega arith) (rw none.0 tt) (rw none.0 (loading_memory saved)) (none.1, none.2),
+      )
+      | inr served ↦ let e = serves_report _ takes g.nodes requests old new r served in
+          (IfErr-weaker r _ _ (λ e own. inr own) e.0, serving_past r e.0, (e.1, e.2, inr (g, h, loaded, served)))
     ])

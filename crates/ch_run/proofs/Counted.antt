@@ -2,7 +2,6 @@
 use Rattle.std.proofs.Common.{◌≡◌, ℕ, ◌+◌, List, [], inl, inr, refl, ap, arith}
 use Rattle.std.specs.Prelude.{◌⊎◌, Result}
 use Rattle.std.proofs.Math.Logic.{⊎_map}
-use Rattle.ch_read.specs.declared.fault.ReadFault.{ReadFault}
 use Rattle.ch_text.specs.Device.{failures_in, idle_writes}
 use Rattle.ch_text.specs.Moves.{Took}
 use Rattle.ch_text.specs.declared.device.DeviceFault.{DeviceFault}
@@ -16,7 +15,7 @@ use Rattle.ch_run.specs.NearRun.{ReadsSources, sources_reading}
 use Rattle.ch_run.specs.Run.{Reading, ReadsAfter, ReadsOnce, WritesAfter, WritesOnce, reading}
 use Rattle.ch_run.specs.Source.{ReadsSource, source_reading}
 use Rattle.ch_run.specs.Told.{Calls}
-use Rattle.ch_run.proofs.Tells.{Met, MetIf, MetSource, Refuses, ReportsReads, ReportsWrites, Written, read_before, step_of}
+use Rattle.ch_run.proofs.Tells.{Met, MetIf, MetSource, ReportsReads, ReportsWrites, Written, read_before, step_of}
 
 -- the law of an input that ties its calls to its count of failures
 abbrev pub CountsReads : {I : Type 0} → Calls I → (I → ℕ) → Type 0
@@ -70,21 +69,12 @@ module _ {T I : Type 0} {gives : Calls I} {failed : I → ℕ} (counts : CountsR
       kept (inr (bytes, inr all)) = all-counts gives failed counts old bytes new all
 
   -- the promise on an input
-  pub reads_after : {accepted : Type 0} {Why : RunFault → Type 0} (P : Reading → ReadFault → Type 0) →
-      ((fault : ReadFault) → Why (RunFault.Read which fault) → P (reading gives old new) fault) →
-      Met r which (reading gives old new) same accepted Why →
-      ReadsAfter (read_before (step_of which)) accepted which r gives failed old new P
-  reads_after P so met = record {
-    reads = record { refused = λ fault is. so fault (met.why _ (refl, λ is. cc) is); once = reads_once met.calls };
+  pub reads_after : {accepted : Type 0} {Why : Reading → RunFault → Type 0} → Met r which (reading gives old new) same accepted Why →
+      ReadsAfter (read_before (step_of which)) accepted which r gives failed old new (λ input fault. Why input (RunFault.Read which fault))
+  reads_after met = record {
+    reads = record { refused = λ fault is. met.why _ (refl, λ is. cc) is; once = reads_once met.calls };
     unread = ⊎_map still (λ accepted. accepted) met.unread;
   }
-
--- the promise on an input whose lines alone can be refused
-pub lines_after : {T I : Type 0} {gives : Calls I} {failed : I → ℕ} (counts : CountsReads gives failed) {old new : I} {same : Type 0}
-    (still : same → new ≡ old) {r : Result T RunFault} {which : Which} {accepted : Type 0} (P : Reading → ReadFault → Type 0) →
-    Met r which (reading gives old new) same accepted (Refuses which (P (reading gives old new))) →
-    ReadsAfter (read_before (step_of which)) accepted which r gives failed old new P
-lines_after counts still P = reads_after counts still P (λ fault why. why fault refl)
 
 module _ {T I : Type 0} (r : Result T RunFault) {gives : Calls I} {failed : I → ℕ} (counts : CountsReads gives failed)
     (origin : I → ℕ) where
@@ -93,21 +83,21 @@ module _ {T I : Type 0} (r : Result T RunFault) {gives : Calls I} {failed : I �
       MetSource r graph (source_reading gives old new) (new ≡ old) → ReadsSource graph r gives failed old new
   source_after graph Source.Built Source.Built same met = refl
   source_after graph (Source.Saved old) (Source.Saved new) same met = record {
-    lines = reads_after counts (λ is. cc) _ (λ fault at. (at.0, at.1, (at.2.0, at.2.1, at.2.2.1))) met;
+    lines = reads_after counts (λ is. cc) met;
     check = λ fault is. let at = met.why (RunFault.Check fault) (refl, λ is. cc) is in
         (at.0, at.2.2.0, at.1, (at.2.0, at.2.1, at.2.2.1), at.2.2.2);
   }
   source_after graph (Source.Like old fresh hops) (Source.Like new fresh' hops') same met = record {
-    lines = reads_after counts (λ is. cc) _ (λ fault at. (at.0, at.1, (at.2.0, at.2.1, at.2.2.1))) met;
+    lines = reads_after counts (λ is. cc) met;
     order = λ is. let at = met.why RunFault.Order (refl, λ is. cc) is in
         (at.0, at.2.2.0, at.1, (at.2.0, at.2.1, at.2.2.1), at.2.2.2);
   }
   source_after graph _ _ same met = absurd (let none : ⊥ = cc in none)
 
   -- the promise on the list of sources
-  pub listed_after : (accepted : Type 0) (P : Reading → ReadFault → Type 0) (old new : Sources I) →
-      sources_map origin new ≡ sources_map origin old → MetIf r (sources_reading gives old new) (new ≡ old) accepted P →
-      ReadsSources (read_before 2) accepted r gives failed old new P
-  listed_after accepted P Sources.All Sources.All same met = refl
-  listed_after accepted P (Sources.Listed old) (Sources.Listed new) same met = lines_after counts (λ is. cc) P met
-  listed_after accepted P _ _ same met = absurd (let none : ⊥ = cc in none)
+  pub listed_after : (accepted : Type 0) (Why : Reading → RunFault → Type 0) (old new : Sources I) →
+      sources_map origin new ≡ sources_map origin old → MetIf r (sources_reading gives old new) (new ≡ old) accepted Why →
+      ReadsSources (read_before 2) accepted r gives failed old new (λ input fault. Why input (RunFault.Read Which.Sources fault))
+  listed_after accepted Why Sources.All Sources.All same met = refl
+  listed_after accepted Why (Sources.Listed old) (Sources.Listed new) same met = reads_after counts (λ is. cc) met
+  listed_after accepted Why _ _ same met = absurd (let none : ⊥ = cc in none)

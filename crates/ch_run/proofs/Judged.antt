@@ -16,7 +16,7 @@ use Rattle.ch_run.specs.declared.fault.Which.{Which}
 unread_ends : (which : Which) (input : Reading) (refuses : List ℕ → RunFault → Type 0) (fault : RunFault) →
     IsUnread which input fault → EndsAt which input refuses fault
 unread_ends which input refuses (RunFault.Device other) unread = unread
-unread_ends which input refuses RunFault.Memory unread = (unread.0, inl unread.1)
+unread_ends which input refuses RunFault.Memory unread = (tt, (unread.0, inl unread.1))
 unread_ends which input refuses _ unread = absurd unread
 
 pub unread_judged : {V : Type 0} (which : Which) (input : Reading) (refuses : List ℕ → RunFault → Type 0) (Q : V → Type 0)
@@ -32,8 +32,8 @@ module _ (which : Which) (input : Reading) (refuses : List ℕ → RunFault → 
       ((fault : ReadFault) → read ≡ Err (Fault fault) → refuses bytes (RunFault.Read which fault)) →
       MatchResult (judged which read) (λ value. ReadsAll input (λ given. names given value)) (EndsAt which input refuses)
   value_judged names (Ok value) named refused = (bytes, all, named value refl)
-  value_judged names (Err (Fault fault)) named refused = (bytes, all, refused fault refl)
-  value_judged names (Err NoMemory) named refused = (bytes, inr all)
+  value_judged names (Err (Fault fault)) named refused = (refl, (bytes, all, refused fault refl))
+  value_judged names (Err NoMemory) named refused = (tt, (bytes, inr all))
 
   -- the same of a list
   pub list_judged : {A : Type 0} (names : List ℕ → List A → Type 0) (read : Result (Vec A Global) ReadError) →

@@ -37,15 +37,7 @@ module _ (g : Network) (hops : ℕ) (given : List ℕ) (fresh : ℕ) where
       (H.0, H.1, from_kept Depth g hops _ H.0 limits bound H.1, subst (λ b. IsInPlaceOf b g (Some H.0) (Some K)) (sym unnamed) (refl, kept))
   built_in_its_place named (Err e) unnamed bound limits each kept = tt
 
--- loading does not end in too many cells
-pub loading_no_cells : (source : SourceReading) → IsOfLoading source RunFault.Cells → ⊥
-loading_no_cells NoFile own = own
-loading_no_cells (SavedFile saved) (inl own) = own
-loading_no_cells (SavedFile saved) (inr own) = own
-loading_no_cells (OrderFile order fresh hops) (inl own) = own
-loading_no_cells (OrderFile order fresh hops) (inr own) = own
-
--- it can end in a lack of memory
+-- loading can end in a lack of memory
 pub loading_memory : (source : SourceReading) → IsOfLoading source RunFault.Memory
 loading_memory NoFile = tt
 loading_memory (SavedFile saved) = inl tt

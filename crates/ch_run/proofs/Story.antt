@@ -49,7 +49,7 @@ loads_as : {S T : Type 0} (s : Result S RunFault) (r : Result T RunFault) (graph
     ((g : Network) (h : Option LevelsAndLegs) → none g h → next g h) → Loads graph source unread s ⊤ none →
     Loads graph source unread r later next
 loads_as s r graph source {later = later} {none = none} {next = next} stop go =
-    reads_as s r Which.Graph graph (IsRefused Which.Graph Form.Graph) (λ P own at. let e = stop P own in (e.0, (at.0, e.1))) (at source)
+    reads_as s r Which.Graph graph (IsRefused Form.Graph) (λ P own at. let e = stop P own in (e.0, (at.0, e.1))) (at source)
   where
     at : (input : SourceReading) (g : Network) → LoadsSource g input s ⊤ (none g) → LoadsSource g input r later (next g)
     at NoFile g reads = go g None reads

@@ -21,7 +21,7 @@ abbrev pub RunsDist : {T O : Type 0} → Options → (graph : Reading) → (sour
     → (takes : O → List ℕ → Result ℕ DeviceFault → O → Type 0) → (old new : O) → Result T RunFault → Type 0
 RunsDist options graph source queries same_source same_queries takes old new result =
     Loads graph source same_source result (same_queries × (new ≡ old)) (λ g h.
-    Reads Which.Queries queries (λ bytes pairs. NamesQueries bytes g.nodes pairs) (IsRefused Which.Queries (Form.Queries g.nodes))
+    Reads Which.Queries queries (λ bytes pairs. NamesQueries bytes g.nodes pairs) (IsRefused (Form.Queries g.nodes))
     result (new ≡ old) (λ pairs.
     Writes takes old new (IsTextBy (writes_routes options) g (IsOfRoutes options g h) pairs) result))
 
@@ -31,9 +31,9 @@ abbrev pub RunsTable : {T O : Type 0} → Options → (graph : Reading) → (sou
     → (takes : O → List ℕ → Result ℕ DeviceFault → O → Type 0) → (old new : O) → Result T RunFault → Type 0
 RunsTable options graph source sources targets same_source same_sources same_targets takes old new result =
     Loads graph source same_source result (same_sources × same_targets × (new ≡ old)) (λ g h.
-    Reads Which.Sources sources (λ bytes from. NamesNodes bytes g.nodes from) (IsRefused Which.Sources (Form.Nodes g.nodes)) result
+    Reads Which.Sources sources (λ bytes from. NamesNodes bytes g.nodes from) (IsRefused (Form.Nodes g.nodes)) result
     (same_targets × (new ≡ old)) (λ from.
-    Reads Which.Targets targets (λ bytes to. NamesNodes bytes g.nodes to) (IsRefused Which.Targets (Form.Nodes g.nodes)) result
+    Reads Which.Targets targets (λ bytes to. NamesNodes bytes g.nodes to) (IsRefused (Form.Nodes g.nodes)) result
     (new ≡ old) (λ to.
     Cells from to result (new ≡ old) (
     Writes takes old new (IsTableText g options.within from to) result))))
@@ -44,9 +44,9 @@ abbrev pub RunsNear : {T O : Type 0} → Options → (graph : Reading) → (sour
     → (takes : O → List ℕ → Result ℕ DeviceFault → O → Type 0) → (old new : O) → Result T RunFault → Type 0
 RunsNear options graph source sources targets same_source same_sources same_targets takes old new result =
     Loads graph source same_source result (same_sources × same_targets × (new ≡ old)) (λ g h.
-    ReadsIf Which.Sources sources (λ bytes listed. NamesNodes bytes g.nodes listed) (IsRefused Which.Sources (Form.Nodes g.nodes))
+    ReadsIf Which.Sources sources (λ bytes listed. NamesNodes bytes g.nodes listed) (IsRefused (Form.Nodes g.nodes))
     result (same_targets × (new ≡ old)) (λ listed.
-    Reads Which.Targets targets (λ bytes to. NamesNodes bytes g.nodes to) (IsRefused Which.Targets (Form.Nodes g.nodes)) result
+    Reads Which.Targets targets (λ bytes to. NamesNodes bytes g.nodes to) (IsRefused (Form.Nodes g.nodes)) result
     (new ≡ old) (λ to.
     Writes takes old new (IsNearTextFor options g (sources_among g.nodes listed) to) result)))
 

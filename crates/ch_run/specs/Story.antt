@@ -15,22 +15,22 @@ use Rattle.ch_text.specs.declared.device.DeviceFault.{DeviceFault}
 use Rattle.ch_run.specs.declared.fault.Which.{Which}
 use Rattle.ch_run.specs.declared.fault.RunFault.{RunFault}
 use Rattle.ch_run.specs.Lists.{HasTooManyCells}
-use Rattle.ch_run.specs.Run.{NoInput, OneInput, Reading, ReadingIf, ReadsAll, SourceReading, NoFile, SavedFile, OrderFile}
+use Rattle.ch_run.specs.Run.{IsOf, NoInput, OneInput, Reading, ReadingIf, ReadsAll, SourceReading, NoFile, SavedFile, OrderFile}
 
--- the bytes of an input of this form are refused, for this fault
-abbrev pub IsRefused : Which → Form → List ℕ → RunFault → Type 0
-IsRefused which form bytes (RunFault.Read input fault) = (which ≡ input) × IsFault form bytes fault.line fault.kind
-IsRefused which form bytes _ = ⊥
+-- the bytes of an input of this form are refused, for this fault of their lines
+abbrev pub IsRefused : Form → List ℕ → RunFault → Type 0
+IsRefused form bytes (RunFault.Read input fault) = IsFault form bytes fault.line fault.kind
+IsRefused form bytes _ = ⊥
 
 -- the bytes of a saved hierarchy are refused on this graph, for a fault of their lines or for their first fault on the graph
 abbrev pub IsSavedRefusedOn : Network → List ℕ → RunFault → Type 0
-IsSavedRefusedOn g bytes (RunFault.Read input fault) = (Which.Saved ≡ input) × IsFault (Form.Saved g.nodes) bytes fault.line fault.kind
+IsSavedRefusedOn g bytes (RunFault.Read input fault) = IsFault (Form.Saved g.nodes) bytes fault.line fault.kind
 IsSavedRefusedOn g bytes (RunFault.Check fault) = (s : OrderAndLegs) × NamesSaved bytes g.nodes s × IsFirstFault g s fault
 IsSavedRefusedOn g bytes _ = ⊥
 
 -- the bytes of an order are refused on this graph, for a fault of their lines, or because they don't have each node once
 abbrev pub IsOrderRefusedOn : Network → List ℕ → RunFault → Type 0
-IsOrderRefusedOn g bytes (RunFault.Read input fault) = (Which.Order ≡ input) × IsFault (Form.Saved g.nodes) bytes fault.line fault.kind
+IsOrderRefusedOn g bytes (RunFault.Read input fault) = IsFault (Form.Saved g.nodes) bytes fault.line fault.kind
 IsOrderRefusedOn g bytes RunFault.Order = (s : OrderAndLegs) × NamesSaved bytes g.nodes s × (IsOrderOf g.nodes s.order → ⊥)
 IsOrderRefusedOn g bytes _ = ⊥
 
@@ -39,12 +39,16 @@ abbrev pub NamesLike : Network → (fresh hops : ℕ) → List ℕ → LevelsAnd
 NamesLike g fresh hops bytes H = (s : OrderAndLegs) × NamesSaved bytes g.nodes s × IsOrderOf g.nodes s.order
     × IsHierarchyLike g hops s.order fresh H × IsKept g H
 
--- the run stopped at this input, for this fault: a read failed, and no read came after it. Or there was no memory. Or the input was read
--- to its end, and its bytes are refused
+-- why a run stopped at an input: a read failed, and no read came after it. Or there was no memory. Or the input was read to its end, and
+-- its bytes are refused
+abbrev pub HasEnded : Reading → (refuses : List ℕ → RunFault → Type 0) → RunFault → Type 0
+HasEnded input refuses (RunFault.Device other) = (bytes : List ℕ) × input.failed bytes
+HasEnded input refuses RunFault.Memory = (bytes : List ℕ) × (input.some bytes ⊎ input.all bytes)
+HasEnded input refuses fault = ReadsAll input (λ bytes. refuses bytes fault)
+
+-- the run stopped at this input, for this fault, which is one of the input
 abbrev pub EndsAt : Which → Reading → (refuses : List ℕ → RunFault → Type 0) → RunFault → Type 0
-EndsAt which input refuses (RunFault.Device other) = (which ≡ other) × ((bytes : List ℕ) × input.failed bytes)
-EndsAt which input refuses RunFault.Memory = (bytes : List ℕ) × (input.some bytes ⊎ input.all bytes)
-EndsAt which input refuses fault = ReadsAll input (λ bytes. refuses bytes fault)
+EndsAt which input refuses fault = IsOf which fault × HasEnded input refuses fault
 
 -- the run stopped at this input, and left what comes later as it was. Or it read the input to its end, its bytes name a value, and the
 -- run went on with that value
@@ -75,7 +79,7 @@ LoadsSource g (OrderFile order fresh hops) result later next =
 abbrev pub Loads : {T : Type 0} → (graph : Reading) → (source : SourceReading) → (unread : Type 0) → Result T RunFault →
     (later : Type 0) → (next : Network → Option LevelsAndLegs → Type 0) → Type 0
 Loads graph source unread result later next =
-    Reads Which.Graph graph (λ bytes g. NamesGraph bytes g × IsWithinLimits g) (IsRefused Which.Graph Form.Graph) result
+    Reads Which.Graph graph (λ bytes g. NamesGraph bytes g × IsWithinLimits g) (IsRefused Form.Graph) result
     (unread × later) (λ g.
     LoadsSource g source result later (λ h. next g h))
 

@@ -21,7 +21,7 @@ pub(crate) fn graph_from<R: Threads + Sync, I: Input, G: Gate>(
     crew: &Crew<'_, R, G>,
     input: &mut I,
 ) -> Result<Graph, RunFault>
-    ensures read { MatchResult result (ReadsGraph (reading I.read_gives input.old input.new)) (EndsAt Which.Graph (reading I.read_gives input.old input.new) (IsRefused Which.Graph FormOf.Graph)) }
+    ensures read { MatchResult result (ReadsGraph (reading I.read_gives input.old input.new)) (EndsAt Which.Graph (reading I.read_gives input.old input.new) (IsRefused FormOf.Graph)) }
     ensures same { I.origin input.new ≡ I.origin input.old }
 {
     let bytes = bytes_from(crew.alloc, input, Which::Graph)?;
@@ -35,7 +35,7 @@ pub(crate) fn queries_from<I: Input>(
     graph: &Graph,
 ) -> Result<Vec<(u32, u32)>, RunFault>
     ensures read { MatchResult result (λ queries. ReadsQueries (reading I.read_gives input.old input.new) graph.now.nodes queries.items)
-        (EndsAt Which.Queries (reading I.read_gives input.old input.new) (IsRefused Which.Queries (FormOf.Queries graph.now.nodes))) }
+        (EndsAt Which.Queries (reading I.read_gives input.old input.new) (IsRefused (FormOf.Queries graph.now.nodes))) }
     ensures within { IfOk result (λ queries. AreQueries graph.now.nodes queries.items) }
     ensures size { IfOk result (λ queries. vec_len queries ≤ MOST_QUERIES) }
     ensures same { I.origin input.new ≡ I.origin input.old }
@@ -52,7 +52,7 @@ pub(crate) fn nodes_from<I: Input>(
     which: Which,
 ) -> Result<Vec<u32>, RunFault>
     ensures read { MatchResult result (λ list. ReadsNodes (reading I.read_gives input.old input.new) graph.now.nodes list.items)
-        (EndsAt which (reading I.read_gives input.old input.new) (IsRefused which (FormOf.Nodes graph.now.nodes))) }
+        (EndsAt which (reading I.read_gives input.old input.new) (IsRefused (FormOf.Nodes graph.now.nodes))) }
     ensures within { IfOk result (λ list. All (λ node. node < graph.now.nodes) list.items) }
     ensures size { IfOk result (λ list. vec_len list ≤ MOST_LISTED) }
     ensures same { I.origin input.new ≡ I.origin input.old }

@@ -34,8 +34,8 @@ pub(crate) fn lists_from<J: Input, L: Input>(
 
     // The story of the lists, if they are not accepted.
     ensures ends { OnErr result (
-        Reads Which.Sources (reading J.read_gives sources.old sources.new) (λ bytes from. NamesNodes bytes graph.now.nodes from) (IsRefused Which.Sources (FormOf.Nodes graph.now.nodes)) result (targets.new ≡ targets.old) (λ from.
-        Reads Which.Targets (reading L.read_gives targets.old targets.new) (λ bytes to. NamesNodes bytes graph.now.nodes to) (IsRefused Which.Targets (FormOf.Nodes graph.now.nodes)) result ⊤ (λ to.
+        Reads Which.Sources (reading J.read_gives sources.old sources.new) (λ bytes from. NamesNodes bytes graph.now.nodes from) (IsRefused (FormOf.Nodes graph.now.nodes)) result (targets.new ≡ targets.old) (λ from.
+        Reads Which.Targets (reading L.read_gives targets.old targets.new) (λ bytes to. NamesNodes bytes graph.now.nodes to) (IsRefused (FormOf.Nodes graph.now.nodes)) result ⊤ (λ to.
         Cells from to result ⊤ ⊥))) }
 
     ensures same_sources { J.origin sources.new ≡ J.origin sources.old }

@@ -34,8 +34,8 @@ pub(crate) fn node_lists_from<J: Input + Drop, L: Input>(
     ensures within { IfOk result (λ lists. AreNodeLists graph.now.nodes (nodes_of_sources graph.now.nodes lists.sources) lists.targets.items) }
     // The story of the lists, if they are not accepted.
     ensures ends { OnErr result (
-        ReadsIf Which.Sources (sources_reading J.read_gives sources.old sources.new) (λ bytes from. NamesNodes bytes graph.now.nodes from) (IsRefused Which.Sources (FormOf.Nodes graph.now.nodes)) result (targets.new ≡ targets.old) (λ _.
-        Reads Which.Targets (reading L.read_gives targets.old targets.new) (λ bytes to. NamesNodes bytes graph.now.nodes to) (IsRefused Which.Targets (FormOf.Nodes graph.now.nodes)) result ⊤ (λ _. ⊥))) }
+        ReadsIf Which.Sources (sources_reading J.read_gives sources.old sources.new) (λ bytes from. NamesNodes bytes graph.now.nodes from) (IsRefused (FormOf.Nodes graph.now.nodes)) result (targets.new ≡ targets.old) (λ _.
+        Reads Which.Targets (reading L.read_gives targets.old targets.new) (λ bytes to. NamesNodes bytes graph.now.nodes to) (IsRefused (FormOf.Nodes graph.now.nodes)) result ⊤ (λ _. ⊥))) }
     ensures same_sources { sources_map J.origin sources.new ≡ sources_map J.origin sources.old }
     ensures same_targets { L.origin targets.new ≡ L.origin targets.old }
 {
@@ -53,7 +53,7 @@ fn sources_from<J: Input + Drop>(
 ) -> Result<Sources<Vec<u32>>, RunFault>
     ensures value { IfOk result (λ from. AreSources (sources_reading J.read_gives sources.old sources.new) graph.now.nodes (nodes_of_sources graph.now.nodes from)) }
     ensures within { IfOk result (λ from. All (λ node. node < graph.now.nodes) (nodes_of_sources graph.now.nodes from)) }
-    ensures ends { OnErr result (ReadsIf Which.Sources (sources_reading J.read_gives sources.old sources.new) (λ bytes from. NamesNodes bytes graph.now.nodes from) (IsRefused Which.Sources (FormOf.Nodes graph.now.nodes)) result ⊤ (λ _. ⊥)) }
+    ensures ends { OnErr result (ReadsIf Which.Sources (sources_reading J.read_gives sources.old sources.new) (λ bytes from. NamesNodes bytes graph.now.nodes from) (IsRefused (FormOf.Nodes graph.now.nodes)) result ⊤ (λ _. ⊥)) }
     ensures same { sources_map J.origin sources.new ≡ sources_map J.origin sources.old }
 {
     match sources {

@@ -1,7 +1,6 @@
 -- The story of a run that writes near rows says which faults end it, and counts each failed call exactly.
-use Rattle.ch_run.proofs.Counted.{lines_after, source_after, listed_after, writes_after}
+use Rattle.ch_run.proofs.Counted.{reads_after, source_after, listed_after, writes_after}
 use Rattle.ch_run.proofs.Stories.{near_told}
-use Rattle.ch_run.specs.Run.{IsGraphRefused}
 use Rattle.ch_run.proofs.laws.near_tells.Goals as goal
 
 pub returns : goal.returns
@@ -9,9 +8,9 @@ returns g c = λ options graph graph' source source' sources sources' targets ta
     let e = near_told options _ went in
     record {
       own = e.own;
-      graph = (lines_after g.met.I.Input.counts (λ none. absurd none) IsGraphRefused e.graph).reads;
+      graph = (reads_after g.met.I.Input.counts (λ none. absurd none) e.graph).reads;
       source = source_after result g.met.S.Input.counts g.S.Input.origin _ source source' same e.source;
       sources = listed_after result g.met.J.Input.counts g.J.Input.origin _ _ sources sources' same_sources e.later.0;
-      targets = lines_after g.met.L.Input.counts (λ same. same) _ e.later.1.0;
+      targets = reads_after g.met.L.Input.counts (λ same. same) e.later.1.0;
       output = writes_after g.met.O.Output.counts e.later.1.1;
     }

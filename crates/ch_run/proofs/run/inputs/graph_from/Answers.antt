@@ -4,7 +4,6 @@ use Rattle.ch_read.specs.Names.{NamesGraph}
 use Rattle.ch_run.specs.Story.{IsRefused}
 use Rattle.ch_run.specs.Run.{reading}
 use Rattle.ch_run.specs.declared.fault.Which.{Which}
-use Rattle.std.proofs.Common.{refl}
 use Rattle.ch_run.proofs.Judged.{value_judged, unread_judged}
 use Rattle.ch_run.proofs.run.inputs.graph_from.Goals as goal
 
@@ -13,10 +12,10 @@ returns-clause-read g c =
     let input = reading g.I.Input.read_gives c.args.input.now c.bytes_from.new.input in
     let all : input.all c.deref.result.now = rw c.deref.ensures.value c.in_ok-bytes.ensures.bytes in
     rw c.judged.ensures
-    (value_judged Which.Graph input (IsRefused Which.Graph Form.Graph) c.deref.result.now all
+    (value_judged Which.Graph input (IsRefused Form.Graph) c.deref.result.now all
     NamesGraph _ (λ value. (c.read_graph_by.ensures.value value).0)
-    (λ fault is. (refl, (c.read_graph_by.ensures.fault fault).0 is)))
+    (λ fault. (c.read_graph_by.ensures.fault fault).0))
 
 pub returns-in_err-bytes-clause-read : goal.returns-in_err-bytes-clause-read
 returns-in_err-bytes-clause-read g c =
-    unread_judged _ _ (IsRefused Which.Graph Form.Graph) _ _ _ c.from_residual.ensures.1 c.in_err-bytes.ensures.unread
+    unread_judged _ _ (IsRefused Form.Graph) _ _ _ c.from_residual.ensures.1 c.in_err-bytes.ensures.unread

@@ -4,7 +4,6 @@ use Rattle.ch_read.specs.Names.{NamesQueries}
 use Rattle.ch_run.specs.Story.{IsRefused}
 use Rattle.ch_run.specs.Run.{reading}
 use Rattle.ch_run.specs.declared.fault.Which.{Which}
-use Rattle.std.proofs.Common.{refl}
 use Rattle.ch_run.proofs.Judged.{list_judged, unread_judged}
 use Rattle.ch_run.proofs.run.inputs.queries_from.Goals as goal
 
@@ -13,11 +12,10 @@ returns-clause-read g c =
     let input = reading g.I.Input.read_gives c.args.input.now c.bytes_from.new.input in
     let all : input.all c.deref.result.now = rw c.deref.ensures.value c.in_ok-bytes.ensures.bytes in
     rw (c.judged.ensures, ← c.nodes.ensures.nodes)
-    (list_judged Which.Queries input (IsRefused Which.Queries (Form.Queries c.nodes.result)) c.deref.result.now all
+    (list_judged Which.Queries input (IsRefused (Form.Queries c.nodes.result)) c.deref.result.now all
     (λ given pairs. NamesQueries given c.nodes.result pairs) _ c.read_queries.ensures.value
-    (λ fault is. (refl, (c.read_queries.ensures.fault fault).0 is)))
+    (λ fault. (c.read_queries.ensures.fault fault).0))
 
 pub returns-in_err-bytes-clause-read : goal.returns-in_err-bytes-clause-read
 returns-in_err-bytes-clause-read g c =
-    unread_judged _ _ (IsRefused Which.Queries (Form.Queries c.args.graph.now.nodes)) _ _ _ c.from_residual.ensures.1
-    c.in_err-bytes.ensures.unread
+    unread_judged _ _ (IsRefused (Form.Queries c.args.graph.now.nodes)) _ _ _ c.from_residual.ensures.1 c.in_err-bytes.ensures.unread

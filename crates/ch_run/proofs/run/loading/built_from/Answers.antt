@@ -1,4 +1,5 @@
 -- The order and the graph that were read give the hierarchy, or the first fault of the order ends the run.
+use Rattle.std.proofs.Common.{refl}
 use Rattle.ch_run.proofs.Owed.{own_as}
 use Rattle.ch_run.proofs.run.loading.built_from.Goals as goal
 
@@ -17,4 +18,4 @@ returns-in-Err-Order-clause-ends g c =
     let told = c.in_ok-given.ensures.read in
     let refused = c.build_in_order.ensures.refused (let is = c.in-Err-Order.is in let field = c.in-Err-Order.field-0-is in cc) in
     let unlike = rw c.deref.ensures.value at refused in
-    (told.0, told.1, (record { order = c.in_ok-given.given.items; legs = told.2.0 }, told.2.1, unlike))
+    (refl, (told.0, told.1, (record { order = c.in_ok-given.given.items; legs = told.2.0 }, told.2.1, unlike)))

@@ -1,4 +1,5 @@
 -- The saved hierarchy that was read is right for the graph, or its first fault ends the run.
+use Rattle.std.proofs.Common.{refl}
 use Rattle.ch_run.proofs.Owed.{own_as}
 use Rattle.ch_run.proofs.run.loading.checked_from.Goals as goal
 
@@ -12,4 +13,4 @@ returns-in_err-saved-clause-ends g c = own_as _ _ _ c.from_residual.ensures.1 c.
 pub returns-in-Err-Fault-clause-ends : goal.returns-in-Err-Fault-clause-ends
 returns-in-Err-Fault-clause-ends g c = let told = c.in_ok-saved.ensures.read in
     let first = (c.in-Err-Fault.ensures.fault c.in-Err-Fault.fault).0 (let field = c.in-Err-Fault.fault-is in cc) in
-    (told.0, told.1, (c.in_ok-saved.saved, told.2, first))
+    (refl, (told.0, told.1, (c.in_ok-saved.saved, told.2, first)))

@@ -3,7 +3,6 @@ use Rattle.ch_read.specs.Names.{NamesOrder}
 use Rattle.ch_run.specs.Story.{IsOrderRefusedOn}
 use Rattle.ch_run.specs.Run.{reading}
 use Rattle.ch_run.specs.declared.fault.Which.{Which}
-use Rattle.std.proofs.Common.{refl}
 use Rattle.ch_run.proofs.Judged.{list_judged, unread_judged}
 use Rattle.ch_run.proofs.run.loading.order_from.Goals as goal
 
@@ -15,7 +14,7 @@ returns-clause-read g c =
     (list_judged Which.Order input (IsOrderRefusedOn c.args.graph.now) c.deref.result.now all
     (λ given order. NamesOrder given c.args.graph.now.nodes order) _
     (λ items. rw c.nodes.ensures.nodes at c.read_order_by.ensures.value items)
-    (λ fault is. (refl, rw c.nodes.ensures.nodes at (c.read_order_by.ensures.fault fault).0 is)))
+    (λ fault is. rw c.nodes.ensures.nodes at (c.read_order_by.ensures.fault fault).0 is))
 
 pub returns-in_err-bytes-clause-read : goal.returns-in_err-bytes-clause-read
 returns-in_err-bytes-clause-read g c =

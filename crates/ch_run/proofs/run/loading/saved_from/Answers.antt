@@ -3,7 +3,6 @@ use Rattle.ch_read.specs.Names.{NamesSaved}
 use Rattle.ch_run.specs.Story.{IsSavedRefusedOn}
 use Rattle.ch_run.specs.Run.{reading}
 use Rattle.ch_run.specs.declared.fault.Which.{Which}
-use Rattle.std.proofs.Common.{refl}
 use Rattle.ch_run.proofs.Judged.{value_judged, unread_judged}
 use Rattle.ch_run.proofs.run.loading.saved_from.Goals as goal
 
@@ -15,7 +14,7 @@ returns-clause-read g c =
     (value_judged Which.Saved input (IsSavedRefusedOn c.args.graph.now) c.deref.result.now all
     (λ given saved. NamesSaved given c.args.graph.now.nodes saved) _
     (λ value. (rw c.nodes.ensures.nodes at c.read_saved_by.ensures.value value).0)
-    (λ fault is. (refl, rw c.nodes.ensures.nodes at (c.read_saved_by.ensures.fault fault).0 is)))
+    (λ fault is. rw c.nodes.ensures.nodes at (c.read_saved_by.ensures.fault fault).0 is))
 
 pub returns-in_err-bytes-clause-read : goal.returns-in_err-bytes-clause-read
 returns-in_err-bytes-clause-read g c =

@@ -23,8 +23,8 @@ returns-in_err-lists-clause-went g c =
     let sources = sources_reading g.J.Input.read_gives c.args.sources.now c.node_lists_from.new.sources in
     let targets = reading g.L.Input.read_gives c.args.targets.now c.node_lists_from.new.targets in
     loads_serving _ _ _ _ _ _ _ (λ h place. if_as {S = NodeLists} (Err _) _ Which.Sources sources _
-    (IsRefused Which.Sources (Form.Nodes n)) _ _ (λ P own at. (err_as _ _ P is own, (at, refl)))
-    (λ listed. reads_as {S = NodeLists} (Err _) _ Which.Targets targets (IsRefused Which.Targets (Form.Nodes n))
+    (IsRefused (Form.Nodes n)) _ _ (λ P own at. (err_as _ _ P is own, (at, refl)))
+    (λ listed. reads_as {S = NodeLists} (Err _) _ Which.Targets targets (IsRefused (Form.Nodes n))
     (λ P own at. (err_as _ _ P is own, refl)) (λ to none. absurd none))
     (rw c.graph.ensures.graph at c.in_err-lists.ensures.ends)) c.in_ok-loaded.ensures.went
 

@@ -10,7 +10,7 @@ use Rattle.ch_run.proofs.run.node_lists.node_lists_from.Goals as goal
 -- the story, as far as it went
 pub returns-in_err-sources-clause-ends : goal.returns-in_err-sources-clause-ends
 returns-in_err-sources-clause-ends g c =
-    at_err c.from_residual.result _ (if_as (Err _) _ Which.Sources _ _ (IsRefused Which.Sources (Form.Nodes c.args.graph.now.nodes)) _ _
+    at_err c.from_residual.result _ (if_as (Err _) _ Which.Sources _ _ (IsRefused (Form.Nodes c.args.graph.now.nodes)) _ _
     (λ P own at. (err_as _ _ P c.from_residual.ensures.1 own, refl)) (λ listed none. absurd none) c.in_err-sources.ensures.ends)
 
 pub returns-in_err-targets-clause-ends : goal.returns-in_err-targets-clause-ends

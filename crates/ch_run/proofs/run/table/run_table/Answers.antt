@@ -21,9 +21,9 @@ returns-in_err-lists-clause-went g c =
     let n = c.in_ok-loaded.loaded.graph.nodes in
     let sources = reading g.J.Input.read_gives c.args.sources.now c.lists_from.new.sources in
     let targets = reading g.L.Input.read_gives c.args.targets.now c.lists_from.new.targets in
-    loads_serving _ _ _ _ _ _ _ (λ h place. reads_as {S = Lists} (Err _) _ Which.Sources sources (IsRefused Which.Sources (Form.Nodes n))
+    loads_serving _ _ _ _ _ _ _ (λ h place. reads_as {S = Lists} (Err _) _ Which.Sources sources (IsRefused (Form.Nodes n))
     (λ P own at. (err_as _ _ P is own, (at, refl))) (λ from. reads_as {S = Lists} (Err _) _ Which.Targets targets
-    (IsRefused Which.Targets (Form.Nodes n)) (λ P own at. (err_as _ _ P is own, refl)) (λ to cells. cells_as from to _ _ is cells refl))
+    (IsRefused (Form.Nodes n)) (λ P own at. (err_as _ _ P is own, refl)) (λ to cells. cells_as from to _ _ is cells refl))
     (rw c.graph.ensures.graph at c.in_err-lists.ensures.ends)) c.in_ok-loaded.ensures.went
 
 pub returns-in_err-parts-clause-went : goal.returns-in_err-parts-clause-went
@@ -43,13 +43,13 @@ returns-clause-went g c =
 
 -- so the output took the text or its beginning
 pub returns-in_err-loaded-clause-written : goal.returns-in_err-loaded-clause-written
-returns-in_err-loaded-clause-written g c = (table_told c.args.options.now (returns-in_err-loaded-clause-went g c)).later.1.1.delivers
+returns-in_err-loaded-clause-written g c = (table_told c.args.options.now (returns-in_err-loaded-clause-went g c)).later.1.1.1.delivers
 
 pub returns-in_err-lists-clause-written : goal.returns-in_err-lists-clause-written
-returns-in_err-lists-clause-written g c = (table_told c.args.options.now (returns-in_err-lists-clause-went g c)).later.1.1.delivers
+returns-in_err-lists-clause-written g c = (table_told c.args.options.now (returns-in_err-lists-clause-went g c)).later.1.1.1.delivers
 
 pub returns-in_err-parts-clause-written : goal.returns-in_err-parts-clause-written
-returns-in_err-parts-clause-written g c = (table_told c.args.options.now (returns-in_err-parts-clause-went g c)).later.1.1.delivers
+returns-in_err-parts-clause-written g c = (table_told c.args.options.now (returns-in_err-parts-clause-went g c)).later.1.1.1.delivers
 
 pub returns-clause-written : goal.returns-clause-written
-returns-clause-written g c = (table_told c.args.options.now (returns-clause-went g c)).later.1.1.delivers
+returns-clause-written g c = (table_told c.args.options.now (returns-clause-went g c)).later.1.1.1.delivers
