@@ -10,9 +10,10 @@ use Rattle.ch_run.specs.Run.{IsOf, Reading, SourceReading}
 use Rattle.ch_run.specs.Source.{IsOfLoading}
 use Rattle.ch_run.specs.Stories.{RunsAsk}
 use Rattle.ch_run.specs.Told.{Calls}
-use Rattle.ch_run.proofs.Loading.{loading_memory}
-use Rattle.ch_run.proofs.Owed.{of_no_write, of_one}
-use Rattle.ch_run.proofs.Tells.{GoesPastBefore, Loaded, ReportsReads, ReportsWrites, loads_told, step_of, untouched, unwritten}
+use Rattle.ch_run.proofs.Loading.{graph_of}
+use Rattle.ch_run.proofs.Owed.{err_weaker, of_no_write, of_one}
+use Rattle.ch_run.proofs.Tells.{GoesPastBefore, Loaded, Met, ReportsReads, ReportsWrites, Written, loads_told, step_of, untouched}
+use Rattle.ch_run.proofs.Tells.{unwritten}
 
 -- reads that gave these bytes did not fail
 some_read : (requests : Reading) (P : List ℕ → List ℕ → Type 0) → ReadsSome requests P →
@@ -51,20 +52,17 @@ pub ask_told : {T O : Type 0} (options : Options) {graph : Reading} {saved : Sou
     Loaded r (IsOfAsk saved) graph saved same_source (ReportsReads Which.Requests requests same r × ReportsWrites takes old new r
     × ((IsErrAnd r (IsOfLoading saved) × same × (new ≡ old)) ⊎ ServesBy options graph saved requests takes old new r))
 ask_told options {graph} {saved} {requests} {same = same} {takes} {old} {new} {r} went =
-    let quiet : (first : Which) → step_of first < 2 → IsErrAnd r (IsOf first) → IsErrAnd r (IsOfLoading saved) → same × (new ≡ old) →
-    ReportsReads Which.Requests requests same r × ReportsWrites takes old new r
+    let quiet : (first : Which) → step_of first < 2 → ((e : RunFault) → IsOf first e → IsOfLoading saved e) → IsErrAnd r (IsOf first) →
+    same × (new ≡ old) → ReportsReads Which.Requests requests same r × ReportsWrites takes old new r
     × ((IsErrAnd r (IsOfLoading saved) × same × (new ≡ old)) ⊎ ServesBy options graph saved requests takes old new r) =
-    λ first less is own at. (
-      (untouched r first {accepted = ⊤} {Why = λ input e. ⊤} is less at.0).calls,
-      (unwritten r {accepted = ⊤} {P = λ text. ⊤} is (of_no_write first) at.1).calls,
-      inl (own, at.0, at.1),
-    ) in
+    λ first less of is at.
+    let met : Met r Which.Requests requests same ⊤ (λ input e. ⊤) = untouched r first is less at.0 in
+    let wrote : Written r takes old new ⊤ (λ text. ⊤) = unwritten r first is at.1 in
+    (met.calls, wrote.calls, inl (err_weaker r _ _ is of, at.0, at.1)) in
     loads_told r (IsOfAsk saved) graph saved (λ e is. inl is) went quiet (λ g h loaded serving. elim serving [
-      | inl none ↦ (
-        rw none.0 (inl (loading_memory saved)),
-        λ which less. rw none.0 (λ stops. absurd (stops.1 refl)),
-        quiet Which.Graph (omega arith) (rw none.0 tt) (rw none.0 (loading_memory saved)) (none.1, none.2),
-      )
+      | inl none ↦
+          let told = quiet Which.Graph (omega arith) (λ e is. graph_of saved e is) (rw none.0 tt) (none.1, none.2) in
+          (rw none.0 (inl (graph_of saved _ tt)), λ which less. rw none.0 (λ stops. absurd (stops.1 refl)), told)
       | inr served ↦ let e = serves_report _ takes g.nodes requests old new r served in
           (IfErr-weaker r _ _ (λ e own. inr own) e.0, serving_past r e.0, (e.1, e.2, inr (g, h, loaded, served)))
     ])

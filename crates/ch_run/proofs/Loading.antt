@@ -12,7 +12,8 @@ use Rattle.ch_order.specs.declared.construction.like.OrderError.{OrderError}
 use Rattle.ch_graph.specs.Graph.{Network, IsWithinLimits}
 use Rattle.ch_hierarchy.specs.Hierarchy.{LevelsAndLegs}
 use Rattle.ch_run.specs.declared.fault.RunFault.{RunFault}
-use Rattle.ch_run.specs.Run.{SourceReading, NoFile, SavedFile, OrderFile}
+use Rattle.ch_run.specs.declared.fault.Which.{Which}
+use Rattle.ch_run.specs.Run.{IsOf, SourceReading, NoFile, SavedFile, OrderFile}
 use Rattle.ch_run.specs.Source.{IsInPlaceOf, IsOfLoading}
 
 -- a hierarchy that is right for the graph serves in its own place
@@ -37,8 +38,8 @@ module _ (g : Network) (hops : ℕ) (given : List ℕ) (fresh : ℕ) where
       (H.0, H.1, from_kept Depth g hops _ H.0 limits bound H.1, subst (λ b. IsInPlaceOf b g (Some H.0) (Some K)) (sym unnamed) (refl, kept))
   built_in_its_place named (Err e) unnamed bound limits each kept = tt
 
--- loading can end in a lack of memory
-pub loading_memory : (source : SourceReading) → IsOfLoading source RunFault.Memory
-loading_memory NoFile = tt
-loading_memory (SavedFile saved) = inl tt
-loading_memory (OrderFile order fresh hops) = inl tt
+-- a fault of the graph is one of loading
+pub graph_of : (source : SourceReading) (e : RunFault) → IsOf Which.Graph e → IsOfLoading source e
+graph_of NoFile e is = is
+graph_of (SavedFile saved) e is = inl is
+graph_of (OrderFile order fresh hops) e is = inl is

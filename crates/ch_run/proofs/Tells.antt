@@ -14,7 +14,7 @@ use Rattle.ch_run.specs.Lists.{HasTooManyCells}
 use Rattle.ch_run.specs.NearRun.{AreSources, IsOfSources, sources_among}
 use Rattle.ch_run.specs.Run.{AcceptsGraph, Delivers, GoesPast, GoesPastAll, IsOf, IsWrite, NoFile, NoInput, OneInput, OrderFile, Reading}
 use Rattle.ch_run.specs.Run.{ReadingIf, ReadsAll, ReadsGraph, SavedFile, SourceReading, StopsAt}
-use Rattle.ch_run.specs.Source.{AreLoaded, IsOfLoading}
+use Rattle.ch_run.specs.Source.{AreBuiltLike, AreChecked, AreLoaded, IsOfLoading, ReadsSaved}
 use Rattle.ch_run.specs.Story.{Cells, EndsAt, HasEnded, IsOrderRefusedOn, IsRefused, IsSavedRefusedOn, Loads, Reads, ReadsIf, Writes}
 use Rattle.ch_run.specs.Told.{Calls}
 use Rattle.ch_run.proofs.Owed.{err_is, err_own, err_weaker, no_end, of_no_write, of_one}
@@ -126,14 +126,16 @@ untouched_if r first accepted Why NoInput is less same = tt
 untouched_if r first accepted Why (OneInput list) is less same = untouched r first is less same
 
 -- a run that ends in a fault that is no failed write has written nothing
-pub unwritten : {T O : Type 0} (r : Result T RunFault) {Is : RunFault → Type 0} {takes : Calls O} {old new : O} {accepted : Type 0}
-    {P : List ℕ → Type 0} → IsErrAnd r Is → ((e : RunFault) → Is e → IsWrite e → ⊥) → new ≡ old → Written r takes old new accepted P
-unwritten (Ok done) is none same = absurd is
-unwritten (Err e) is none same = record {
-  calls = inr (none e is, inl same);
-  unwritten = inl same;
-  delivers = λ count at. absurd (none e is (subst IsWrite (sym at) tt));
-}
+pub unwritten_by : {T O : Type 0} (r : Result T RunFault) {takes : Calls O} {old new : O} {accepted : Type 0} {P : List ℕ → Type 0} →
+    IsErrAnd r (λ e. IsWrite e → ⊥) → new ≡ old → Written r takes old new accepted P
+unwritten_by (Ok done) none same = absurd none
+unwritten_by (Err e) none same =
+    record { calls = inr (none, inl same); unwritten = inl same; delivers = λ count is. absurd (none (subst IsWrite (sym is) tt)) }
+
+-- so has one that stopped at an input
+pub unwritten : {T O : Type 0} (r : Result T RunFault) (first : Which) {takes : Calls O} {old new : O} {accepted : Type 0}
+    {P : List ℕ → Type 0} → IsErrAnd r (IsOf first) → new ≡ old → Written r takes old new accepted P
+unwritten r first is = unwritten_by r (err_weaker r _ _ is (of_no_write first))
 
 -- what a story tells from this step on: the run ends only in faults with Own, it stops at no input of an earlier step, and L
 abbrev pub Tells : {T : Type 0} → Result T RunFault → (Own : RunFault → Type 0) → (k : ℕ) → (L : Type 0) → Type 0
@@ -155,20 +157,15 @@ module _ {T : Type 0} (r : Result T RunFault) (Own : RunFault → Type 0) where
       Reads which input names refuses r later next → (IsErrAnd r (IsOf which) → later → L) →
       ((value : V) → ReadsAll input (λ bytes. names bytes value) → next value → Tells r Own k L) →
       Tells r Own (step_of which) (Met r which input same accepted Why × L)
-  reads_told which input refuses k less own met so (inl (ends, at)) stop go =
+  reads_told {same = same} {accepted = accepted} {Why = Why} which input refuses k less own met so (inl (ends, at)) stop go =
       let is = err_weaker r _ (IsOf which) ends (λ e at. at.0) in
-      let past = λ (other : Which) (before : step_of other < step_of which). past_other r which other is (λ one. omega arith) in (
-        err_own r _ _ is own,
-        past,
-        (
-          record {
-            why = λ fault stops same. so fault (err_is r _ fault ends same).1;
-            calls = ends_report which input refuses r ends;
-            unread = inr (past_all r (step_of which) past, met);
-          },
-          stop is at,
-        ),
-      )
+      let past = λ (other : Which) (before : step_of other < step_of which). past_other r which other is (λ one. omega arith) in
+      let told : Met r which input same accepted Why = record {
+        why = λ fault stops same. so fault (err_is r _ fault ends same).1;
+        calls = ends_report which input refuses r ends;
+        unread = inr (past_all r (step_of which) past, met);
+      } in
+      (err_own r _ _ is own, past, (told, stop is at))
   reads_told which input refuses k less own met so (inr (bytes, value, all, named, rest)) stop go =
       let tail = go value (bytes, all, named) rest in
       let past = λ (other : Which) (before : step_of other < step_of which). tail.1 other (omega arith) in
@@ -177,46 +174,34 @@ module _ {T : Type 0} (r : Result T RunFault) (Own : RunFault → Type 0) where
   -- a run stopped while it loaded, or went on with what it had loaded
   pub loads_told : {unread later L : Type 0} {next : Network → Option LevelsAndLegs → Type 0} (graph : Reading)
       (saved : SourceReading) → ((e : RunFault) → IsOfLoading saved e → Own e) → Loads graph saved unread r later next →
-      ((first : Which) → step_of first < 2 → IsErrAnd r (IsOf first) → IsErrAnd r (IsOfLoading saved) → later → L) →
+      ((first : Which) → step_of first < 2 → ((e : RunFault) → IsOf first e → IsOfLoading saved e) → IsErrAnd r (IsOf first) → later → L) →
       ((g : Network) (h : Option LevelsAndLegs) → AreLoaded graph saved g h → next g h → Tells r Own 2 L) →
       Loaded r Own graph saved unread L
   loads_told graph NoFile own went stop go =
       let e = reads_told Which.Graph graph (IsRefused Form.Graph) 2 (omega arith) own tt (λ e is. is) went
-      (λ is at. stop Which.Graph (omega arith) is is at.1)
-      (λ g read. go g None (read.2.1, (read.0, read.1, read.2.0), refl)) in
+      (λ is at. stop Which.Graph (omega arith) (λ e of. of) is at.1)
+      (λ g named. go g None (named.2.1, (named.0, named.1, named.2.0), refl)) in
       record { own = e.0; graph = e.2.0; source = tt; later = e.2.1 }
   loads_told graph (SavedFile saved) own went stop go =
       let e = reads_told Which.Graph graph (IsRefused Form.Graph) 1 (omega arith) (λ e is. own e (inl is)) tt (λ e is. is) went
-      (λ is at. (
-        untouched r Which.Graph is (omega arith) at.0,
-        stop Which.Graph (omega arith) is (err_weaker r _ _ is (λ e is. inl is)) at.1,
-      ))
-      (λ g read rest. let named : ReadsGraph graph g = (read.0, read.1, read.2.0) in
-      reads_told Which.Saved saved (IsSavedRefusedOn g) 2 (omega arith) (λ e is. own e (inr is)) (g, named) (λ e is. (g, named, is)) rest
-      (λ is. stop Which.Saved (omega arith) is (err_weaker r _ _ is (λ e is. inr is)))
-      (λ H is. go g (Some H)
-      (is.2.0, record { reads_graph = named; limits = read.2.1; reads_saved = (is.0, is.1, is.2.1); names = is.2.2 }))) in
+      (λ is at. (untouched r Which.Graph is (omega arith) at.0, stop Which.Graph (omega arith) (λ e of. inl of) is at.1))
+      (λ g named rest. let read : ReadsGraph graph g = (named.0, named.1, named.2.0) in
+      reads_told Which.Saved saved (IsSavedRefusedOn g) 2 (omega arith) (λ e is. own e (inr is)) (g, read) (λ e is. (g, read, is)) rest
+      (stop Which.Saved (omega arith) (λ e of. inr of)) (λ H is.
+      let checked : AreChecked graph saved g is.2.0 H =
+      record { reads_graph = read; limits = named.2.1; reads_saved = (is.0, is.1, is.2.1); names = is.2.2 } in
+      go g (Some H) (is.2.0, checked))) in
       record { own = e.0; graph = e.2.0; source = e.2.1.0; later = e.2.1.1 }
   loads_told graph (OrderFile order fresh hops) own went stop go =
       let e = reads_told Which.Graph graph (IsRefused Form.Graph) 1 (omega arith) (λ e is. own e (inl is)) tt (λ e is. is) went
-      (λ is at. (
-        untouched r Which.Graph is (omega arith) at.0,
-        stop Which.Graph (omega arith) is (err_weaker r _ _ is (λ e is. inl is)) at.1,
-      ))
-      (λ g read rest. let named : ReadsGraph graph g = (read.0, read.1, read.2.0) in
-      reads_told Which.Order order (IsOrderRefusedOn g) 2 (omega arith) (λ e is. own e (inr is)) (g, named) (λ e is. (g, named, is)) rest
-      (λ is. stop Which.Order (omega arith) is (err_weaker r _ _ is (λ e is. inr is)))
-      (λ H is. go g (Some H) (
-        is.2.0,
-        record {
-          reads_graph = named;
-          limits = read.2.1;
-          reads_order = (is.0, is.1, is.2.1);
-          each = is.2.2;
-          like = is.2.3;
-          kept = is.2.4;
-        },
-      ))) in
+      (λ is at. (untouched r Which.Graph is (omega arith) at.0, stop Which.Graph (omega arith) (λ e of. inl of) is at.1))
+      (λ g named rest. let read : ReadsGraph graph g = (named.0, named.1, named.2.0) in
+      reads_told Which.Order order (IsOrderRefusedOn g) 2 (omega arith) (λ e is. own e (inr is)) (g, read) (λ e is. (g, read, is)) rest
+      (stop Which.Order (omega arith) (λ e of. inr of)) (λ H is.
+      let order_read : ReadsSaved order g.nodes is.2.0 = (is.0, is.1, is.2.1) in
+      let built : AreBuiltLike graph order fresh hops g is.2.0 H =
+      record { reads_graph = read; limits = named.2.1; reads_order = order_read; each = is.2.2; like = is.2.3; kept = is.2.4 } in
+      go g (Some H) (is.2.0, built))) in
       record { own = e.0; graph = e.2.0; source = e.2.1.0; later = e.2.1.1 }
 
   -- a run stopped at the list of sources, or went on with the sources
@@ -245,20 +230,15 @@ pub writes_told : {T O : Type 0} (r : Result T RunFault) (Own : RunFault → Typ
     {answers : List ℕ → Type 0} {accepted : Type 0} {P : List ℕ → Type 0} → Own RunFault.Memory →
     ((count : ℕ) → Own (RunFault.Write count)) → accepted → ((text : List ℕ) → answers text → P text) →
     Writes takes old new answers r → Tells r Own k (Written r takes old new accepted P)
-writes_told (Ok done) Own k memory write met so (text, is, took) = (
-  tt,
-  λ which less. tt,
-  record { calls = inr (λ is. is, inr (text, took)); unwritten = inr (tt, met); delivers = (text, so text is, took) },
-)
-writes_told (Err (RunFault.Write count)) Own k {takes} {old} {new} memory write met so (text, is, took) = (
-  write count,
-  λ which less stops. absurd stops.0,
-  record {
-    calls = inl (tt, (text, count, took));
-    unwritten = inr (tt, met);
-    delivers = λ n same. (text, so text is, subst (λ k. TookUntilFault takes old text k new) (let one : count ≡ n = cc in one) took);
-  },
-)
+writes_told (Ok done) Own k memory write met so (text, is, took) =
+    (tt, λ which less. tt, record { calls = inr (λ is. is, inr (text, took)); unwritten = inr (tt, met); delivers = (text, so _ is, took) })
+writes_told {T} (Err (RunFault.Write count)) Own k {takes} {old} {new} {accepted = accepted} {P} memory write met so (text, is, took) =
+    let told : Written {T = T} (Err (RunFault.Write count)) takes old new accepted P = record {
+      calls = inl (tt, (text, count, took));
+      unwritten = inr (tt, met);
+      delivers = λ n same. (text, so text is, subst (λ k. TookUntilFault takes old text k new) (let one : count ≡ n = cc in one) took);
+    } in
+    (write count, λ which less stops. absurd stops.0, told)
 writes_told (Err RunFault.Memory) Own k memory write met so same =
-    (memory, λ which less stops. absurd (stops.1 refl), unwritten (Err RunFault.Memory) {Is = IsOf Which.Graph} tt (of_no_write _) same)
+    (memory, λ which less stops. absurd (stops.1 refl), unwritten (Err RunFault.Memory) Which.Graph tt same)
 writes_told (Err _) Own k memory write met so wrote = absurd wrote
