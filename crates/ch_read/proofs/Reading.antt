@@ -16,6 +16,8 @@ use Rattle.ch_read.specs.declared.form.Part.TheVariants.{First, Second}
 use Rattle.ch_read.specs.declared.form.Counts.{Counts}
 use Rattle.ch_read.specs.declared.form.Heading.{Heading}
 use Rattle.ch_read.specs.declared.form.Item.{Item}
+use Rattle.ch_read.specs.declared.check.Line.{Line}
+use Rattle.ch_read.specs.declared.check.Line.TheVariants.{Skipped, Problem, First as OfFirst, Second as OfSecond}
 use Rattle.ch_read.specs.Words.{lines, words}
 use Rattle.ch_read.specs.Forms.{heading, item, heading_in, items_in, count_of, counts_in}
 use Rattle.ch_read.specs.Checks.{first_failing, line_checks, end_checks, fault_at, IsFault}
@@ -23,7 +25,8 @@ use Rattle.ch_read.specs.declared.fault.ReadError.{ReadError}
 use Rattle.ch_read.specs.declared.fault.ReadError.TheVariants.{Fault, NoMemory}
 use Rattle.ch_read.specs.Sections.{seen_after, fault_after, IsFaultAfter, IsErrorAfter, AreLines, IsSection, BeginsWith}
 use Rattle.ch_read.specs.Reading.{item_from, AreItemsWithin, IsWithin, IsFile, values_in, IsProblem, IsNoItem, IsItem, IsItemWithin}
-use Rattle.ch_read.specs.Reading.{IsEnd, IsErrorOf}
+use Rattle.ch_read.specs.Reading.{IsEnd, IsErrorOf, IsLine}
+use Rattle.ch_read.specs.FirstLine.{IsFirstLine}
 use Rattle.ch_read.proofs.OneAnswer.{AreClear, clear_more, at_end}
 
 -- one more line
@@ -176,6 +179,17 @@ counts_are a b form all counts first second counted first_is second_is =
     counted.second_is ∙ ap length second_is ∙ length-map (items_in form Second all) (λ ns. b (item_from ns)) in
     λ i. record { first = ones i; second = others i }
 
+-- the heading after a line with this content
+abbrev pub seen_with : Line → Option Heading → Option Heading
+seen_with (Problem h) seen = Some h
+seen_with content seen = seen
+
+-- the values of a part after a line with this content
+abbrev pub values_with : {T : Type 0} → (Item → T) → Part → Line → List T → List T
+values_with of First (OfFirst i) values = values ++ of i ∷ []
+values_with of Second (OfSecond i) values = values ++ of i ∷ []
+values_with of part content values = values
+
 module _ {A B : Type 0} (a : Item → A) (b : Item → B) (form : Form) (begun : Option Heading) (bytes rest text after : List ℕ)
     (line : ℕ) (counts : Counts) (seen : Option Heading) (first : List A) (second : List B)
     (read : HasRead a b form begun bytes rest line seen first second) (split : lines rest ≡ text ∷ lines after)
@@ -262,7 +276,7 @@ module _ {A B : Type 0} (a : Item → A) (b : Item → B) (form : Form) (begun :
   before_item : (h : Heading) → seen ≡ Some h → IsWithin form (Some h) (items_in form First before) (items_in form Second before)
   before_item h is = subst (λ s. IsWithin form s (items_in form First before) (items_in form Second before)) is read.within
 
-  pub taken_first : (i : Item) → first_failing (line_checks form seen counts (words text)) ≡ None → heading form (words text) ≡ None →
+  taken_first : (i : Item) → first_failing (line_checks form seen counts (words text)) ≡ None → heading form (words text) ≡ None →
       IsItem form First seen counts.first (item form First (words text)) i → item form Second (words text) ≡ None →
       HasRead a b form begun bytes after (line + 1) seen (first ++ a i ∷ []) second
   taken_first i passes no_heading has no_other =
@@ -279,7 +293,7 @@ module _ {A B : Type 0} (a : Item → A) (b : Item → B) (form : Form) (begun :
       (within_same form (Some has.declared) _ _ _ _ (items_more form before text First has.ns has.has)
       (items_same form before text Second no_other) (within.0, one_more, within.2)))
 
-  pub taken_second : (i : Item) → first_failing (line_checks form seen counts (words text)) ≡ None → heading form (words text) ≡ None →
+  taken_second : (i : Item) → first_failing (line_checks form seen counts (words text)) ≡ None → heading form (words text) ≡ None →
       IsItem form Second seen counts.second (item form Second (words text)) i → item form First (words text) ≡ None →
       HasRead a b form begun bytes after (line + 1) seen first (second ++ b i ∷ [])
   taken_second i passes no_heading has no_other =
@@ -295,6 +309,27 @@ module _ {A B : Type 0} (a : Item → A) (b : Item → B) (form : Form) (begun :
       (sym has.seen_is)
       (within_same form (Some has.declared) _ _ _ _ (items_same form before text First no_other)
       (items_more form before text Second has.ns has.has) (within.0, within.1, one_more)))
+
+  -- what is read after a line with this content
+  with_content : (content : Line) → IsLine form seen counts (words text) content →
+      HasRead a b form begun bytes after (line + 1) (seen_with content seen) (values_with a First content first)
+      (values_with b Second content second)
+  with_content Skipped is = skipped is.0 is.1 is.2
+  with_content (Problem h) is = found h is.0 is.1 is.2
+  with_content (OfFirst i) is = taken_first i is.0 is.1 is.2 is.3
+  with_content (OfSecond i) is = taken_second i is.0 is.1 is.2 is.3
+
+-- one more line was read, and has this content
+pub line_read : {A B : Type 0} {a : Item → A} {b : Item → B} {form : Form} {begun : Option Heading} {bytes rest after : List ℕ} {line : ℕ}
+    {counts : Counts} {seen : Option Heading} {first : List A} {second : List B} {judged content : Line} →
+    HasRead a b form begun bytes rest line seen first second → AreCounted counts first second →
+    IsFirstLine form seen counts rest judged after → judged ≡ content →
+    HasRead a b form begun bytes after (line + 1) (seen_with content seen) (values_with a First content first)
+    (values_with b Second content second)
+line_read {a = a} {b = b} {form = form} {begun = begun} {bytes = bytes} {rest = rest} {after = after} {line = line} {counts = counts}
+    {seen = seen} {first = first} {second = second} {content = content} read counted next is =
+    with_content a b form begun bytes rest next.text after line counts seen first second read next.split next.less counted content
+    (subst (IsLine form seen counts (words next.text)) is next.is)
 
 -- the result after all lines were read
 pub all_lines : {A B : Type 0} (a : Item → A) (b : Item → B) (form : Form) (begun : Option Heading) (bytes rest : List ℕ) (line : ℕ)

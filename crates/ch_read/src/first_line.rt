@@ -21,30 +21,15 @@ pub(crate) fn check_first_line(
     ensures { MatchResult result (λ (line, rest). IsFirstLine form seen counts bytes.now line rest.now)
         (FailsFirst form seen counts bytes.now) }
 {
-    let Some(heading) = seen else {
-        return check_any_line(form, seen, counts, bytes);
-    };
-    let Some(found) = plain_item(form, bytes) else {
-        return check_any_line(form, seen, counts, bytes);
-    };
-    let (part, values, rest) = found;
-    match check_values(form, part, heading, counts.of(part), &values) {
-        Ok(item) => Ok((line_of(part, item), rest)),
-        Err(kind) => Err(kind),
+    if let Some(heading) = seen {
+        if let Some(found) = plain_item(form, bytes) {
+            let (part, values, rest) = found;
+            return match check_values(form, part, heading, counts.of(part), &values) {
+                Ok(item) => Ok((line_of(part, item), rest)),
+                Err(kind) => Err(kind),
+            };
+        }
     }
-}
-
-/// Does the same as [`check_first_line`] for a line of any form.
-fn check_any_line(
-    form: Form,
-    seen: Option<Heading>,
-    counts: Counts,
-    bytes: &[u8],
-) -> Result<(Line, &[u8]), FaultKind>
-    requires { 0 < length bytes.now }
-    ensures { MatchResult result (λ (line, rest). IsFirstLine form seen counts bytes.now line rest.now)
-        (FailsFirst form seen counts bytes.now) }
-{
     let (text, rest) = split_line(bytes);
     let line = check_line(form, seen, counts, text)?;
     Ok((line, rest))
