@@ -6,24 +6,28 @@ use Rattle.ch_read.proofs.reader.read_lines.Goals as goal
 pub loop-rest-preserved-in-Skipped : goal.loop-rest-preserved-in-Skipped
 loop-rest-preserved-in-Skipped g c =
     line_read c.loop-rest.invariant
-    (counted_by _ c.len.result c.len-in-loop-rest.result _ _ c.new-counts.ensures (omega arith) (omega arith)) c.in-Ok.ensures c.in-Skipped.is
+    (counted_by _ c.len.result c.len-in-loop-rest.result _ _ c.new-counts.ensures (omega arith) (omega arith))
+    c.in-Ok.ensures c.in-Skipped.is
 
 pub loop-rest-preserved-in-Problem : goal.loop-rest-preserved-in-Problem
 loop-rest-preserved-in-Problem g c =
     line_read c.loop-rest.invariant
-    (counted_by _ c.len.result c.len-in-loop-rest.result _ _ c.new-counts.ensures (omega arith) (omega arith)) c.in-Ok.ensures c.in-Problem.is
+    (counted_by _ c.len.result c.len-in-loop-rest.result _ _ c.new-counts.ensures (omega arith) (omega arith))
+    c.in-Ok.ensures c.in-Problem.is
 
 pub loop-rest-preserved-in_ok-push-in-First : goal.loop-rest-preserved-in_ok-push-in-First
 loop-rest-preserved-in_ok-push-in-First g c =
     rw (c.in_ok-push-in-First.ensures.items, c.from_item.ensures)
     (line_read c.loop-rest.invariant
-    (counted_by _ c.len.result c.len-in-loop-rest.result _ _ c.new-counts.ensures (omega arith) (omega arith)) c.in-Ok.ensures c.in-First.is)
+    (counted_by _ c.len.result c.len-in-loop-rest.result _ _ c.new-counts.ensures (omega arith) (omega arith))
+    c.in-Ok.ensures c.in-First.is)
 
 pub loop-rest-preserved : goal.loop-rest-preserved
 loop-rest-preserved g c =
     rw (c.in_ok-push-in-Second.ensures.items, c.from_item-in-Second.ensures)
     (line_read c.loop-rest.invariant
-    (counted_by _ c.len.result c.len-in-loop-rest.result _ _ c.new-counts.ensures (omega arith) (omega arith)) c.in-Ok.ensures c.in-Second.is)
+    (counted_by _ c.len.result c.len-in-loop-rest.result _ _ c.new-counts.ensures (omega arith) (omega arith))
+    c.in-Ok.ensures c.in-Second.is)
 
 pub returns-in-Err : goal.returns-in-Err
 returns-in-Err g c =

@@ -45,7 +45,8 @@ pub gather-requires-clause-keys : goal.gather-requires-clause-keys
 gather-requires-clause-keys c =
     let made = are_dealt c.args.dealing.now c.nodes.ensures.piece c.requires.ranks c.args.lists.ok.0 c.deref_mut-list-items.ensures.value
     c.loop-list.auto.list-items c.deref.ensures.value c.loop-list-test.false c.loop-list.invariant.before in
-    subst (AreBelow c.nodes.result) (sym made.held_is) (subst (λ n. AreBelow n c.loop-list.list-items) (sym c.nodes.ensures.nodes) made.below)
+    subst (AreBelow c.nodes.result) (sym made.held_is)
+    (subst (λ n. AreBelow n c.loop-list.list-items) (sym c.nodes.ensures.nodes) made.below)
 
 pub returns : goal.returns
 returns c =
