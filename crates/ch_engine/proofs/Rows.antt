@@ -1,23 +1,15 @@
 -- The words of a table, from its rows.
-use Rattle.std.proofs.Common.{◌≡◌, ℕ, zero, suc, ◌*◌, ◌/◌, ◌%◌, ◌<◌, List, [], ◌∷◌, length, get_or, Option, None, sym, subst, arith}
+use Rattle.std.proofs.Common.{◌≡◌, ℕ, zero, suc, ◌*◌, ◌/◌, ◌%◌, ◌<◌, List, [], length, get_or, Option, None, sym, subst, arith}
 use Rattle.std.proofs.Math.Nat.{div-lt_iff_lt-mul, mod-lt}
 use Rattle.std.specs.List.{AllZip}
+use Rattle.std.proofs.lemmas.Slice.Zip.{AllZip-long}
+use Rattle.ch_graph.proofs.Lists.{zipped_at}
 use Rattle.ch_hierarchy.specs.Hierarchy.{LevelsAndLegs}
-use Rattle.ch_graph.proofs.Lists.{zipped_length}
 use Rattle.ch_query.specs.Distance.{IsKeptForSome}
 use Rattle.ch_query.specs.Limits.{IsDistanceWithin}
 use Rattle.ch_table.specs.Table.{IsRowBy}
 use Rattle.ch_engine.specs.Cells.{AreRowWords, IsCell, word_of}
 use Rattle.ch_engine.proofs.Bounds.{word_within}
-
--- a relation at each place of two lists holds at this place
-at_place : {X Y : Type 0} (R : X → Y → Type 0) (xs : List X) (ys : List Y) → AllZip R xs ys → (i : ℕ) → i < length xs → (d : X) (e : Y) →
-    R (get_or xs i d) (get_or ys i e)
-at_place R [] [] h i low d e = absurd (omega arith)
-at_place R [] (y ∷ ys) h i low d e = absurd h
-at_place R (x ∷ xs) [] h i low d e = absurd h
-at_place R (x ∷ xs) (y ∷ ys) h zero low d e = h.0
-at_place R (x ∷ xs) (y ∷ ys) h (suc i) low d e = at_place R xs ys h.1 i (omega arith) d e
 
 -- a table with a cell has a column
 some_column : (rows columns k : ℕ) → k < rows * columns → 0 < columns
@@ -28,12 +20,12 @@ module _ (H : LevelsAndLegs) (limit : Option ℕ) (sources targets : List ℕ) (
     (all : AllZip (IsRowBy H limit targets) sources rows) where
   -- there are as many rows as sources
   pub row_count : length rows ≡ length sources
-  row_count = zipped_length (IsRowBy H limit targets) sources rows all
+  row_count = AllZip-long (IsRowBy H limit targets) sources rows all
 
   -- each row has as many answers as there are targets
   pub row_length : (i : ℕ) → i < length sources → length (get_or rows i []) ≡ length targets
-  row_length i low = zipped_length (IsDistanceWithin H limit (get_or sources i 0)) targets (get_or rows i [])
-      (at_place (IsRowBy H limit targets) sources rows all i low 0 [])
+  row_length i low = AllZip-long (IsDistanceWithin H limit (get_or sources i 0)) targets (get_or rows i [])
+      (zipped_at (IsRowBy H limit targets) sources rows i 0 [] all low)
 
   -- the word of each answer is the word of its cell
   pub cell_word : IsKeptForSome H → (i j : ℕ) → i < length sources → j < length targets →
@@ -42,8 +34,8 @@ module _ (H : LevelsAndLegs) (limit : Option ℕ) (sources targets : List ℕ) (
       let s = get_or sources i 0 in
       let answer = get_or (get_or rows i []) j None in
       let within : IsDistanceWithin H limit s (get_or targets j 0) answer
-      = at_place (IsDistanceWithin H limit s) targets (get_or rows i [])
-      (at_place (IsRowBy H limit targets) sources rows all i row 0 []) j column 0 None in (
+      = zipped_at (IsDistanceWithin H limit s) targets (get_or rows i []) j 0 None
+      (zipped_at (IsRowBy H limit targets) sources rows i 0 [] all row) column in (
         within.whole,
         answer,
         within.distance,

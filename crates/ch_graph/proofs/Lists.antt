@@ -1,6 +1,6 @@
 -- Members of lists, of maps and of filters, and lists whose elements are related in order.
 use Rattle.std.proofs.Common.{◌≡◌, ℕ, zero, suc, Bool, true, false, cond, ◌<◌, List, [], ◌∷◌, ◌++◌, length, map, Contains, get_or}
-use Rattle.std.proofs.Common.{refl, sym, ◌∙◌, ap, subst, arith, inl, inr}
+use Rattle.std.proofs.Common.{refl, sym, ◌∙◌, ap, ap₂, subst, arith, inl, inr}
 use Rattle.std.specs.Prelude.{◌⊎◌, AllPairs}
 use Rattle.std.specs.List.{AllZip, filter}
 use Rattle.std.proofs.lemmas.Bool.{false≢true}
@@ -106,23 +106,39 @@ pairs_append R (x ∷ xs) ys h k across = pairs_cons R x (xs ++ ys)
     (pairs_append R xs ys (pairs_tail R x xs h) k (λ z y c d. across z y (contains_tail z x xs c) d))
 
 module _ {X Y : Type 0} (R : X → Y → Type 0) where
-  -- one more pair at the end
-  pub zipped_push : (xs : List X) (ys : List Y) (x : X) (y : Y) → AllZip R xs ys → R x y → AllZip R (xs ++ x ∷ []) (ys ++ y ∷ [])
-  zipped_push [] [] x y h r = (r, tt)
-  zipped_push [] (z ∷ ys) x y h r = absurd h
-  zipped_push (w ∷ xs) [] x y h r = absurd h
-  zipped_push (w ∷ xs) (z ∷ ys) x y h r = (h.0, zipped_push xs ys x y h.1 r)
-
-  -- related lists are of one length
-  pub zipped_length : (xs : List X) (ys : List Y) → AllZip R xs ys → length ys ≡ length xs
-  zipped_length [] [] h = refl
-  zipped_length [] (y ∷ ys) h = absurd h
-  zipped_length (x ∷ xs) [] h = absurd h
-  zipped_length (x ∷ xs) (y ∷ ys) h = let more = zipped_length xs ys h.1 in omega arith
-
   -- a relation to images is a relation to the list of images
   pub zipped_map : {Z : Type 0} (f : Z → Y) (xs : List X) (zs : List Z) → AllZip (λ x z. R x (f z)) xs zs → AllZip R xs (map f zs)
   zipped_map f [] [] h = tt
   zipped_map f [] (z ∷ zs) h = absurd h
   zipped_map f (x ∷ xs) [] h = absurd h
   zipped_map f (x ∷ xs) (z ∷ zs) h = (h.0, zipped_map f xs zs h.1)
+
+  -- related lists are related at each place
+  pub zipped_at : (xs : List X) (ys : List Y) (i : ℕ) (d : X) (e : Y) → AllZip R xs ys → i < length xs → R (get_or xs i d) (get_or ys i e)
+  zipped_at [] ys i d e h lt = absurd (omega arith)
+  zipped_at (x ∷ xs) [] i d e h lt = absurd h
+  zipped_at (x ∷ xs) (y ∷ ys) zero d e h lt = h.0
+  zipped_at (x ∷ xs) (y ∷ ys) (suc i) d e h lt = zipped_at xs ys i d e h.1 (omega arith)
+
+  -- two lists that are related to one list are equal, if each of its elements is related to only one
+  pub zipped_one : ((x : X) (y z : Y) → R x y → R x z → y ≡ z) → (xs : List X) (ys zs : List Y) → AllZip R xs ys → AllZip R xs zs → ys ≡ zs
+  zipped_one one [] [] [] h k = refl
+  zipped_one one [] [] (z ∷ zs) h k = absurd k
+  zipped_one one [] (y ∷ ys) zs h k = absurd h
+  zipped_one one (x ∷ xs) [] zs h k = absurd h
+  zipped_one one (x ∷ xs) (y ∷ ys) [] h k = absurd k
+  zipped_one one (x ∷ xs) (y ∷ ys) (z ∷ zs) h k = ap₂ ◌∷◌ (one x y z h.0 k.0) (zipped_one one xs ys zs h.1 k.1)
+
+-- two relations at each place of two lists give a third, if they do for members of the first list
+pub zipped_two : {X Y : Type 0} (R S T : X → Y → Type 0) (xs : List X) (ys : List Y) →
+    ((x : X) (y : Y) → Contains xs x → R x y → S x y → T x y) → AllZip R xs ys → AllZip S xs ys → AllZip T xs ys
+zipped_two R S T [] [] f h k = tt
+zipped_two R S T [] (y ∷ ys) f h k = absurd h
+zipped_two R S T (x ∷ xs) [] f h k = absurd h
+zipped_two R S T (x ∷ xs) (y ∷ ys) f h k =
+    (f x y (contains_head x xs) h.0 k.0, zipped_two R S T xs ys (λ z w c r s. f z w (contains_tail z x xs c) r s) h.1 k.1)
+
+-- a relation at each place of two lists gives another, if it does for members of the first list
+pub zipped_also : {X Y : Type 0} (R S : X → Y → Type 0) (xs : List X) (ys : List Y) →
+    ((x : X) (y : Y) → Contains xs x → R x y → S x y) → AllZip R xs ys → AllZip S xs ys
+zipped_also R S xs ys f h = zipped_two R R S xs ys (λ x y c r _. f x y c r) h h

@@ -1,5 +1,5 @@
 -- The row of a source: the least sums of its search space and the buckets, put in order and cut.
-use Rattle.std.proofs.Common.{◌≡◌, ℕ, zero, suc, ◌+◌, ◌<◌, ◌≤◌, List, [], ◌∷◌, length, Vec, get_or, Contains, Option}
+use Rattle.std.proofs.Common.{◌≡◌, ℕ, ◌+◌, ◌<◌, ◌≤◌, List, [], length, Vec, get_or, Contains, Option}
 use Rattle.std.proofs.Common.{refl, sym, ◌∙◌, ap, subst, arith, inl, inr}
 use Rattle.std.specs.Prelude.{◌≢◌, All, AllPairs, slice_index, slice_index_or}
 use Rattle.std.specs.List.{AllZip}
@@ -7,8 +7,9 @@ use Rattle.std.proofs.lemmas.Bool.{cases_lt, cases_order}
 use Rattle.std.specs.declared.alloc.Global.{Global}
 use Rattle.std.proofs.lemmas.List.{get_or_past, get_or_default}
 use Rattle.std.proofs.lemmas.List.Elements.{Contains-get_or}
+use Rattle.std.proofs.lemmas.Slice.Zip.{AllZip-long}
 use Rattle.ch_graph.specs.declared.limits.TheConstants.{MOST_WEIGHT}
-use Rattle.ch_graph.proofs.Lists.{contains_none, zipped_length}
+use Rattle.ch_graph.proofs.Lists.{contains_none, zipped_at}
 use Rattle.ch_hierarchy.specs.Hierarchy.{LevelsAndLegs, nodes_of, IsLevelled}
 use Rattle.ch_hierarchy.specs.declared.side.Side.{Side}
 use Rattle.ch_hierarchy.specs.declared.side.Side.TheVariants.{Up, Down}
@@ -24,15 +25,6 @@ use Rattle.ch_near.specs.Offers.{AreUnoffered, AreOffered, AreTaken}
 use Rattle.ch_near.specs.Sums.{IsSumOf}
 use Rattle.ch_near.proofs.Distances.{one_distance, distance_shared, shared_distance}
 use Rattle.ch_near.proofs.LeastRows.{IsOutdone, outdone_by, places_apart, row_of_offers}
-
--- the elements of related lists are related at each place
-pub zip_at : {X Y : Type 0} (R : X → Y → Type 0) (d : X) (e : Y) (xs : List X) (ys : List Y) → AllZip R xs ys → (j : ℕ) → j < length xs →
-    R (get_or xs j d) (get_or ys j e)
-zip_at R d e [] [] h j lt = absurd (omega arith)
-zip_at R d e [] (y ∷ ys) h j lt = absurd h
-zip_at R d e (x ∷ xs) [] h j lt = absurd h
-zip_at R d e (x ∷ xs) (y ∷ ys) h zero lt = h.0
-zip_at R d e (x ∷ xs) (y ∷ ys) h (suc j) lt = zip_at R d e xs ys h.1 j (omega arith)
 
 -- the weights and ranks of a space
 module _ (H : LevelsAndLegs) (side : Side) (limit : Option ℕ) (s : ℕ) (space : List (ℕ × ℕ)) (is : IsRankedSpace H side limit s space) where
@@ -57,13 +49,13 @@ module _ (H : LevelsAndLegs) (side : Side) (limit : Option ℕ) (s : ℕ) (space
 module _ (H : LevelsAndLegs) (limit count : Option ℕ) (targets : List ℕ) (buckets : List (List (ℕ × ℕ)))
     (hold : HoldNearest H limit count targets buckets) where
   pub spaces_count : length hold.spaces ≡ length targets
-  spaces_count = zipped_length (IsRankedSpace H Down limit) targets hold.spaces hold.each
+  spaces_count = AllZip-long (IsRankedSpace H Down limit) targets hold.spaces hold.each
 
   abbrev pub down : ℕ → List (ℕ × ℕ)
   down j = slice_index_or hold.spaces j []
 
   pub down_at : (j : ℕ) → j < length targets → IsRankedSpace H Down limit (slice_index targets j) (down j)
-  down_at j lt = zip_at (IsRankedSpace H Down limit) 0 [] targets hold.spaces hold.each j lt
+  down_at j lt = zipped_at (IsRankedSpace H Down limit) targets hold.spaces j 0 [] hold.each lt
 
   -- an entry of a bucket is an entry of a space
   pub entry_at : (rank : ℕ) (e : ℕ × ℕ) → rank < nodes_of H → Contains (slice_index_or buckets rank []) e →
@@ -154,13 +146,13 @@ module _ (H : LevelsAndLegs) (limit count : Option ℕ) (targets : List ℕ) (bu
 module _ (H : LevelsAndLegs) (limit : Option ℕ) (targets : List ℕ) (spaces : List (Vec (ℕ × ℕ) Global))
     (each : AllZip (λ node (space : Vec (ℕ × ℕ) Global). IsRankedSpace H Down limit node space.items) targets spaces) where
   pub found_count : length spaces ≡ length targets
-  found_count = zipped_length (λ node (space : Vec (ℕ × ℕ) Global). IsRankedSpace H Down limit node space.items) targets spaces each
+  found_count = AllZip-long (λ node (space : Vec (ℕ × ℕ) Global). IsRankedSpace H Down limit node space.items) targets spaces each
 
   found_at : (k : ℕ) (d : Vec (ℕ × ℕ) Global) → k < length spaces →
       IsRankedSpace H Down limit (get_or targets k 0) (get_or spaces k d).items
   found_at k d lt =
       let size = found_count in
-      zip_at (λ node (list : Vec (ℕ × ℕ) Global). IsRankedSpace H Down limit node list.items) 0 d targets spaces each k (omega arith)
+      zipped_at (λ node (list : Vec (ℕ × ℕ) Global). IsRankedSpace H Down limit node list.items) targets spaces k 0 d each (omega arith)
 
   -- the ranks of the spaces are below the number of nodes, and they are different
   pub found_within : IsLevelled H → All (λ (space : Vec (ℕ × ℕ) Global). All (λ entry. entry.0 < nodes_of H) space.items) spaces

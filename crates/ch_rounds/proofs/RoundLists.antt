@@ -3,7 +3,8 @@ use Rattle.std.proofs.Common.{◌≡◌, ℕ, List, [], ◌∷◌, sym, ◌∙�
 use Rattle.std.specs.Prelude.{◌≢◌, ◌==◌, if◌then◌else◌, AllPairs}
 use Rattle.std.specs.List.{AllZip}
 use Rattle.std.proofs.lemmas.List.Elements.{All-from_get_or, Contains-get_or}
-use Rattle.ch_graph.proofs.Lists.{pairs_head, pairs_tail, contains_head, contains_tail, contains_cons, contains_none}
+use Rattle.ch_graph.proofs.Lists.{pairs_head, pairs_tail, contains_cons, contains_none, zipped_also}
+use Rattle.ch_graph.proofs.Lists.{zipped_two}
 use Rattle.ch_graph.proofs.Numbers.{eqb-refl, not_eqb}
 use Rattle.ch_graph.specs.declared.limits.TheConstants.{MOST_WEIGHT}
 use Rattle.ch_hierarchy.specs.Rows.{row}
@@ -18,24 +19,6 @@ use Rattle.ch_contract.proofs.theory.OneInTurn.{one_map}
 use Rattle.ch_contract.proofs.theory.Contracting.{shortcut_within}
 use Rattle.ch_contract.proofs.code.ListEdits.{no_shortcut}
 use Rattle.ch_contract.proofs.code.Touching.{among_same, touching_from, touching_to, are_touching}
-
--- a relation at each place of two lists may be replaced by one that follows from it for members of the first list
-pub zipped_also : {A B : Type 0} (R S : A → B → Type 0) (xs : List A) (ys : List B) → ((x : A) (y : B) → Contains xs x → R x y → S x y) →
-    AllZip R xs ys → AllZip S xs ys
-zipped_also R S [] [] f all = tt
-zipped_also R S [] (y ∷ ys) f all = absurd all
-zipped_also R S (x ∷ xs) [] f all = absurd all
-zipped_also R S (x ∷ xs) (y ∷ ys) f all =
-    (f x y (contains_head x xs) all.0, zipped_also R S xs ys (λ z w c r. f z w (contains_tail z x xs c) r) all.1)
-
--- two relations at each place of two lists give a third
-zipped_two : {A B : Type 0} (R S T : A → B → Type 0) (xs : List A) (ys : List B) →
-    ((x : A) (y : B) → Contains xs x → R x y → S x y → T x y) → AllZip R xs ys → AllZip S xs ys → AllZip T xs ys
-zipped_two R S T [] [] f all also = tt
-zipped_two R S T [] (y ∷ ys) f all also = absurd all
-zipped_two R S T (x ∷ xs) [] f all also = absurd all
-zipped_two R S T (x ∷ xs) (y ∷ ys) f all also =
-    (f x y (contains_head x xs) all.0 also.0, zipped_two R S T xs ys (λ z w c r s. f z w (contains_tail z x xs c) r s) all.1 also.1)
 
 -- a property at each place of two lists holds of each member of the first list
 zipped_each : {B : Type 0} (P : ℕ → Type 0) (xs : List ℕ) (ys : List B) → AllZip (λ x y. P x) xs ys → (v : ℕ) → Contains xs v → P v

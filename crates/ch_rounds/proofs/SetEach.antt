@@ -6,9 +6,9 @@ use Rattle.std.specs.List.{AllZip}
 use Rattle.std.proofs.lemmas.Bool.{cases_eq}
 use Rattle.std.proofs.lemmas.List.{take_more, get_or-take, length-take-le}
 use Rattle.std.proofs.lemmas.List.Elements.{Contains-push_cases}
-use Rattle.ch_graph.proofs.Lists.{contains_none}
+use Rattle.ch_graph.proofs.Lists.{contains_none, zipped_at}
 use Rattle.ch_rounds.specs.SetEach.{AreGiven, AreRanked}
-use Rattle.ch_contract.proofs.code.NodeLists.{zipped_at, away_both}
+use Rattle.ch_contract.proofs.code.NodeLists.{away_both}
 
 -- the first i + 1 nodes are i + 1 nodes
 size_more : (nodes : List ℕ) (i : ℕ) → i < length nodes → length (take (i + 1) nodes) ≡ i + 1

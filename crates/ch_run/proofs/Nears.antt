@@ -7,12 +7,12 @@ use Rattle.std.proofs.lemmas.List.{map-id}
 use Rattle.std.proofs.lemmas.List.Elements.{Contains-get_or}
 use Rattle.std.proofs.lemmas.Result.{IfOk-weaker}
 use Rattle.std.proofs.lemmas.List.FromFn.{get_or-range_with_len, length-range_with_len, map-range_with_len_more}
-use Rattle.ch_graph.proofs.Lists.{zipped_length}
+use Rattle.std.proofs.lemmas.Slice.Zip.{AllZip-long}
+use Rattle.ch_graph.proofs.Lists.{zipped_at}
 use Rattle.ch_graph.specs.Graph.{Network, IsWithinLimits}
 use Rattle.ch_hierarchy.specs.Hierarchy.{LevelsAndLegs, nodes_of}
 use Rattle.ch_hierarchy.specs.Kept.{IsKept}
 use Rattle.ch_near.proofs.GraphRows.{row_of_graph}
-use Rattle.ch_near.proofs.NearRows.{zip_at}
 use Rattle.ch_near.specs.Direction.{facing}
 use Rattle.ch_near.specs.Near.{Wanted, IsNearRow, IsNearestRow}
 use Rattle.ch_job.specs.declared.options.Options.{Options}
@@ -41,8 +41,8 @@ pub rows_places : (wanted : Wanted) (sources : List ℕ) (rows : List (Vec (ℕ 
     AllZip (λ s (row : Vec (ℕ × ℕ) Global). IsWantedRow wanted s row.items) sources rows →
     All (λ (row : Vec (ℕ × ℕ) Global). All (λ (e : ℕ × ℕ). e.1 < length wanted.targets) row.items) rows
 rows_places wanted sources rows each i d lt =
-    let size = zipped_length (λ s (row : Vec (ℕ × ℕ) Global). IsWantedRow wanted s row.items) sources rows each in
-    let row = zip_at (λ s (vec : Vec (ℕ × ℕ) Global). IsWantedRow wanted s vec.items) 0 d sources rows each i (omega arith) in
+    let size = AllZip-long (λ s (row : Vec (ℕ × ℕ) Global). IsWantedRow wanted s row.items) sources rows each in
+    let row = zipped_at (λ s (vec : Vec (ℕ × ℕ) Global). IsWantedRow wanted s vec.items) sources rows i 0 d each (omega arith) in
     row_places wanted (get_or sources i 0) (get_or rows i d).items row
 
 -- if a call makes the near rows of a hierarchy that is right for a graph, it makes those of the graph

@@ -4,7 +4,7 @@ use Rattle.std.specs.Prelude.{Vec}
 use Rattle.std.specs.List.{AllZip, flat_map, zip}
 use Rattle.std.specs.declared.alloc.Global.{Global}
 use Rattle.std.proofs.lemmas.List.{append-nil}
-use Rattle.ch_graph.proofs.Lists.{zipped_length}
+use Rattle.std.proofs.lemmas.Slice.Zip.{AllZip-long}
 use Rattle.ch_hierarchy.specs.Hierarchy.{LevelsAndLegs}
 use Rattle.ch_work.proofs.PieceLists.{zipped_append}
 use Rattle.ch_table.specs.Table.{IsRowBy, IsGathered, AreGathered}
@@ -46,7 +46,7 @@ module _ {A B : Type 0} (P : A → B → Type 0) (line : A × B → List ℕ) wh
   rows_joined a b s t h k = (
     h.0 ++ k.0,
     zipped_append P a h.0 b k.0 h.1 k.1,
-    ap₂ ◌++◌ h.2 k.2 ∙ sym (lines_append line a h.0 b k.0 (zipped_length P a h.0 h.1)),
+    ap₂ ◌++◌ h.2 k.2 ∙ sym (lines_append line a h.0 b k.0 (AllZip-long P a h.0 h.1)),
   )
 
   -- a text of rows with P is one of rows with Q, if P implies Q

@@ -3,7 +3,8 @@ use Rattle.std.proofs.Common.{◌≡◌, ℕ, ◌<◌, ◌≤◌, List, Option, 
 use Rattle.std.specs.Prelude.{All}
 use Rattle.std.specs.declared.alloc.Global.{Global}
 use Rattle.std.specs.List.{AllZip}
-use Rattle.ch_graph.proofs.Lists.{zipped_length, zipped_map}
+use Rattle.std.proofs.lemmas.Slice.Zip.{AllZip-long}
+use Rattle.ch_graph.proofs.Lists.{zipped_map}
 use Rattle.ch_graph.specs.declared.limits.TheConstants.{MOST_LISTED}
 use Rattle.ch_hierarchy.specs.Hierarchy.{LevelsAndLegs, nodes_of, IsLevelled}
 use Rattle.ch_hierarchy.specs.declared.side.Side.{Side}
@@ -15,7 +16,7 @@ module _ (H : LevelsAndLegs) (side : Side) (limit : Option ℕ) (nodes : List �
     (each : AllZip (λ node (space : Vec (ℕ × ℕ) Global). IsRankedSpace H side limit node space.items) nodes spaces) where
   -- there are at most as many lists as a list of nodes may be long
   pub lists_few : length nodes ≤ MOST_LISTED → length spaces ≤ MOST_LISTED
-  lists_few few = let size = zipped_length (λ node (space : Vec (ℕ × ℕ) Global). IsRankedSpace H side limit node space.items) nodes
+  lists_few few = let size = AllZip-long (λ node (space : Vec (ℕ × ℕ) Global). IsRankedSpace H side limit node space.items) nodes
       spaces each in omega (arith, size, few)
 
   -- the ranks in the lists are below the number of nodes

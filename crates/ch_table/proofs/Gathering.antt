@@ -4,8 +4,7 @@ use Rattle.std.proofs.Common.{Option, Vec, sym, ◌∙◌, ap, subst, arith}
 use Rattle.std.specs.declared.alloc.Global.{Global}
 use Rattle.std.specs.List.{AllZip, flat_map, slice_range}
 use Rattle.std.proofs.lemmas.List.{append-nil, length-take, take_more, drop_all, map-append}
-use Rattle.std.proofs.lemmas.Slice.Zip.{all_zipped_more}
-use Rattle.ch_graph.proofs.Lists.{zipped_length}
+use Rattle.std.proofs.lemmas.Slice.Zip.{AllZip-long, all_zipped_more}
 use Rattle.ch_hierarchy.specs.Hierarchy.{LevelsAndLegs}
 use Rattle.ch_work.specs.Pieces.{pieces_of, MeanEach, AreValues}
 use Rattle.ch_work.proofs.PieceLists.{covers, piece_split, zipped_append}
@@ -63,7 +62,7 @@ module _ {X : Type 0} (M : List ℕ → List (List (Option ℕ)) → X → Type 
   one_more sources i before after cells within so_far row add =
       let R = IsRowBy H limit targets in
       let some = take i sources in
-      let added = add some so_far.0 (zipped_length R some so_far.0 so_far.1) so_far.2 in
+      let added = add some so_far.0 (AllZip-long R some so_far.0 so_far.1) so_far.2 in
       subst (λ list. IsGathered M H limit targets list after) (sym (take_more sources i 0 within))
       (so_far.0 ++ cells ∷ [], all_zipped_more R some so_far.0 (get_or sources i 0) cells so_far.1 row, added)
 

@@ -8,7 +8,8 @@ use Rattle.std.proofs.lemmas.List.Edits.{length-between, get_or-between}
 use Rattle.std.proofs.lemmas.List.Elements.{Contains-get_or}
 use Rattle.std.proofs.lemmas.List.FromFn.{length-map-range_with_len, get_or-map-range_with_len}
 use Rattle.std.proofs.lemmas.Nat.{same_from_place, mul-le}
-use Rattle.ch_graph.proofs.Lists.{zipped_length}
+use Rattle.std.proofs.lemmas.Slice.Zip.{AllZip-long}
+use Rattle.ch_graph.proofs.Lists.{zipped_at}
 use Rattle.ch_hierarchy.specs.Hierarchy.{LevelsAndLegs, nodes_of, IsLevelled}
 use Rattle.ch_hierarchy.specs.declared.side.Side.{Side}
 use Rattle.ch_hierarchy.specs.declared.side.Side.TheVariants.{Up, Down}
@@ -34,15 +35,6 @@ all_zip_at R d e [] [] size h = tt
 all_zip_at R d e [] (y ∷ ys) size h = absurd (omega arith)
 all_zip_at R d e (x ∷ xs) [] size h = absurd (omega arith)
 all_zip_at R d e (x ∷ xs) (y ∷ ys) size h = (h zero (omega arith), all_zip_at R d e xs ys (omega arith) (λ j lt. h (suc j) (omega arith)))
-
--- the elements of related lists are related at each place
-zip_at : {X Y : Type 0} (R : X → Y → Type 0) (d : X) (e : Y) (xs : List X) (ys : List Y) → AllZip R xs ys → (j : ℕ) → j < length xs →
-    R (get_or xs j d) (get_or ys j e)
-zip_at R d e [] [] h j lt = absurd (omega arith)
-zip_at R d e [] (y ∷ ys) h j lt = absurd h
-zip_at R d e (x ∷ xs) [] h j lt = absurd h
-zip_at R d e (x ∷ xs) (y ∷ ys) h zero lt = h.0
-zip_at R d e (x ∷ xs) (y ∷ ys) h (suc j) lt = zip_at R d e xs ys h.1 j (omega arith)
 
 -- there are `rows` rows
 pub length_rows : (rows columns : ℕ) (cells : List (Option ℕ)) → length (rows_of_cells rows columns cells) ≡ rows
@@ -70,10 +62,10 @@ space_within H side limit levelled s rank x list space c =
 module _ (H : LevelsAndLegs) (side : Side) (limit : Option ℕ) (item : ℕ → ℕ) (nodes : List ℕ) (buckets : List (List (ℕ × ℕ)))
     (hold : HoldSearchSpaces H side limit item nodes buckets) where
   pub spaces_count : length hold.spaces ≡ length nodes
-  spaces_count = zipped_length (IsRankedSpace H side limit) nodes hold.spaces hold.each
+  spaces_count = AllZip-long (IsRankedSpace H side limit) nodes hold.spaces hold.each
 
   pub space_at : (j : ℕ) → j < length nodes → IsRankedSpace H side limit (slice_index nodes j) (slice_index_or hold.spaces j [])
-  space_at j lt = zip_at (IsRankedSpace H side limit) 0 [] nodes hold.spaces hold.each j lt
+  space_at j lt = zipped_at (IsRankedSpace H side limit) nodes hold.spaces j 0 [] hold.each lt
 
   -- the rank of an entry is below the number of nodes
   held_rank : IsLevelled H → (j rank x : ℕ) → j < length nodes → Contains (slice_index_or hold.spaces j []) (rank, x) → rank < nodes_of H
@@ -193,8 +185,8 @@ pub spaces_within : (H : LevelsAndLegs) (side : Side) (limit : Option ℕ) → I
     AllZip (λ node (space : Vec (ℕ × ℕ) Global). IsRankedSpace H side limit node space.items) nodes spaces →
     All (λ (space : Vec (ℕ × ℕ) Global). All (λ entry. entry.0 < nodes_of H) space.items) spaces
 spaces_within H side limit levelled nodes spaces each k d lt k' d' lt' =
-    let size = zipped_length (λ node (space : Vec (ℕ × ℕ) Global). IsRankedSpace H side limit node space.items) nodes spaces each in
-    let space = zip_at (λ node (list : Vec (ℕ × ℕ) Global). IsRankedSpace H side limit node list.items) 0 d nodes spaces each k
+    let size = AllZip-long (λ node (space : Vec (ℕ × ℕ) Global). IsRankedSpace H side limit node space.items) nodes spaces each in
+    let space = zipped_at (λ node (list : Vec (ℕ × ℕ) Global). IsRankedSpace H side limit node list.items) nodes spaces k 0 d each
     (omega arith) in
     let list = (get_or spaces k d).items in
     let entry = get_or list k' d' in

@@ -1,18 +1,10 @@
--- Lists of nodes, and lists that are related place by place.
-use Rattle.std.proofs.Common.{◌≡◌, ℕ, zero, suc, ◌+◌, ◌<◌, List, [], ◌∷◌, ◌++◌, length, get_or, take, sym, subst, arith, Contains}
+-- Lists of nodes.
+use Rattle.std.proofs.Common.{◌≡◌, ℕ, ◌+◌, ◌<◌, List, [], ◌∷◌, ◌++◌, length, get_or, take, sym, subst, arith, Contains}
 use Rattle.std.specs.Prelude.{◌≢◌, All}
-use Rattle.std.specs.List.{AllZip, range_with_len}
+use Rattle.std.specs.List.{range_with_len}
 use Rattle.std.proofs.lemmas.List.{take_more}
 use Rattle.std.proofs.lemmas.List.Elements.{Contains-append_left, Contains-push, Contains-get_or}
 use Rattle.std.proofs.lemmas.List.FromFn.{length-range_with_len, get_or-range_with_len}
-
--- if a relation holds at each place of two lists, it holds at this place
-pub zipped_at : {A B : Type 0} (R : A → B → Type 0) (xs : List A) (ys : List B) (i : ℕ) (d : A) (e : B) → AllZip R xs ys → i < length xs →
-    R (get_or xs i d) (get_or ys i e)
-zipped_at R [] ys i d e are lt = absurd (omega arith)
-zipped_at R (x ∷ xs) [] i d e are lt = absurd are
-zipped_at R (x ∷ xs) (y ∷ ys) zero d e are lt = are.0
-zipped_at R (x ∷ xs) (y ∷ ys) (suc i) d e are lt = zipped_at R xs ys i d e are.1 (omega arith)
 
 -- the numbers below n are below n
 pub numbers_below : (n : ℕ) → All (λ x. x < n) (range_with_len 0 n)

@@ -5,6 +5,7 @@ use Rattle.std.specs.Global.{Vec}
 use Rattle.std.proofs.lemmas.Result.{IfOk-weaker}
 use Rattle.std.proofs.lemmas.List.Elements.{Contains-get_or}
 use Rattle.ch_graph.specs.declared.limits.TheConstants.{MOST_WEIGHT}
+use Rattle.ch_graph.proofs.Lists.{zipped_also}
 use Rattle.ch_hierarchy.specs.Rows.{row}
 use Rattle.ch_contract.specs.declared.shortcut.Shortcut.{Shortcut}
 use Rattle.ch_contract.specs.Legs.{turned_legs}
@@ -12,7 +13,7 @@ use Rattle.ch_contract.specs.Rounds.{AreShortcutsAmong}
 use Rattle.ch_contract.specs.Remaining.{legs_of}
 use Rattle.ch_contract.specs.ShortcutLists.{legs_touching, AreTouching}
 use Rattle.ch_contract.specs.TakenOut.{AreSetAside, ArePutIn}
-use Rattle.ch_rounds.proofs.RoundLists.{touched, zipped_also, put_in, round_done}
+use Rattle.ch_rounds.proofs.RoundLists.{touched, put_in, round_done}
 use Rattle.ch_rounds.proofs.rounds.contract_round.Goals.{In_ok-lists}
 use Rattle.ch_rounds.proofs.rounds.contract_round.Goals as goal
 

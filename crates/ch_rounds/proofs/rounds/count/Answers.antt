@@ -1,7 +1,7 @@
 -- The counts that the workers made, written at the places of their nodes, are those of the nodes' shortcuts.
 use Rattle.std.proofs.Common.{◌∙◌, ℕ, List, sym, ap, subst, length, arith}
 use Rattle.std.specs.List.{AllZip}
-use Rattle.ch_graph.proofs.Lists.{zipped_length}
+use Rattle.std.proofs.lemmas.Slice.Zip.{AllZip-long}
 use Rattle.ch_contract.specs.Remaining.{legs_of}
 use Rattle.ch_rounds.specs.RoundProgress.{IsCount}
 use Rattle.ch_rounds.proofs.SetEach.{given_by}
@@ -13,7 +13,7 @@ set_each-requires-clause-nodes g c k d lt = let node = c.requires.nodes k d lt i
 pub set_each-requires-clause-values : goal.set_each-requires-clause-values
 set_each-requires-clause-values g c =
     ap length c.as_slice.ensures.value
-    ∙ zipped_length (IsCount c.args.remaining.now.nodes c.args.hops.number (legs_of c.args.remaining.now)) c.args.nodes.now _
+    ∙ AllZip-long (IsCount c.args.remaining.now.nodes c.args.hops.number (legs_of c.args.remaining.now)) c.args.nodes.now _
     c.in_ok-values.ensures.values
 
 pub returns-clause-counts : goal.returns-clause-counts

@@ -2,7 +2,8 @@
 use Rattle.std.proofs.Common.{ℕ, List, Option, Vec, subst, arith}
 use Rattle.std.specs.declared.alloc.Global.{Global}
 use Rattle.std.specs.List.{AllZip}
-use Rattle.ch_graph.proofs.Lists.{zipped_length, zipped_map}
+use Rattle.std.proofs.lemmas.Slice.Zip.{AllZip-long}
+use Rattle.ch_graph.proofs.Lists.{zipped_map}
 use Rattle.ch_table.specs.Rows.{Asked}
 use Rattle.ch_table.specs.Table.{IsRowBy}
 use Rattle.ch_table.proofs.by_rows.table_alone.Goals as goal
@@ -12,7 +13,7 @@ invariant_of-result c =
     let a = c.args in
     let asked = subst (λ (b : Asked). AllZip (λ s (row : Vec (Option ℕ) Global). IsRowBy b.hierarchy b.limit b.targets s row.items)
     a.sources.now c.in_ok-rows.rows.items) c.in_ok-source_rows.ensures c.in_ok-rows.ensures.rows in
-    let count = zipped_length (λ s (row : Vec (Option ℕ) Global). IsRowBy a.hierarchy.now a.within a.targets.now s row.items)
+    let count = AllZip-long (λ s (row : Vec (Option ℕ) Global). IsRowBy a.hierarchy.now a.within a.targets.now s row.items)
     a.sources.now c.in_ok-rows.rows.items asked in
     omega (arith, c.in_ok-rows.rows.ok.0, count, c.requires.lists.0)
 

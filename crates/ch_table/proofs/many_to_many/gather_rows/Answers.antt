@@ -1,6 +1,6 @@
 -- The table that is made by cells has a row for each source, and the value gathered from all of them is the only one.
 use Rattle.std.proofs.Common.{[], ◌∷◌, ◌++◌, ap, ◌∙◌, sym, subst}
-use Rattle.ch_graph.proofs.Lists.{zipped_length}
+use Rattle.std.proofs.lemmas.Slice.Zip.{AllZip-long}
 use Rattle.ch_table.specs.Table.{IsRowBy, AreGathered}
 use Rattle.ch_table.proofs.Gathering.{one_part}
 use Rattle.ch_table.proofs.many_to_many.gather_rows.Goals as goal
@@ -8,7 +8,7 @@ use Rattle.ch_table.proofs.many_to_many.gather_rows.Goals as goal
 pub gathered-requires-clause-rows : goal.gathered-requires-clause-rows
 gathered-requires-clause-rows g c κs within =
     let a = c.args in
-    zipped_length (IsRowBy a.hierarchy.now a.within a.targets.now) a.sources.now c.in_ok-table.table c.in_ok-table.ensures
+    AllZip-long (IsRowBy a.hierarchy.now a.within a.targets.now) a.sources.now c.in_ok-table.table c.in_ok-table.ensures
 
 pub returns-in_ok-push : goal.returns-in_ok-push
 returns-in_ok-push g c =

@@ -3,7 +3,7 @@ use Rattle.std.proofs.Common.{ℕ, List, Option, Vec, map, arith, sym, subst}
 use Rattle.std.specs.declared.alloc.Global.{Global}
 use Rattle.std.specs.List.{AllZip}
 use Rattle.std.proofs.lemmas.List.{length-map}
-use Rattle.ch_graph.proofs.Lists.{zipped_length}
+use Rattle.std.proofs.lemmas.Slice.Zip.{AllZip-long}
 use Rattle.ch_table.specs.Table.{IsRowBy}
 use Rattle.ch_table.proofs.Gathering.{kept_rows}
 use Rattle.ch_table.proofs.many_to_many.table.Goals as goal
@@ -17,7 +17,7 @@ invariant_of-result g c =
     let R = IsRowBy a.hierarchy.now a.within a.targets.now in
     let kept = kept_rows a.hierarchy.now a.within a.targets.now a.sources.now c.in_ok-parts.parts.items c.in_ok-parts.ensures in
     let rows = subst (λ (list : List (Vec (Option ℕ) Global)). AllZip R a.sources.now (map items list)) (sym c.in_ok-rows.ensures) kept in
-    let count = zipped_length R a.sources.now (map items c.in_ok-rows.rows.items) rows in
+    let count = AllZip-long R a.sources.now (map items c.in_ok-rows.rows.items) rows in
     omega (arith, c.in_ok-rows.rows.ok.0, count, length-map c.in_ok-rows.rows.items items, c.requires.lists.0)
 
 pub returns : goal.returns

@@ -4,7 +4,8 @@ use Rattle.std.specs.Prelude.{All, AllPairs}
 use Rattle.std.specs.Global.{Vec}
 use Rattle.std.proofs.lemmas.List.{take_all}
 use Rattle.std.proofs.lemmas.List.Elements.{All-from_get_or}
-use Rattle.ch_graph.proofs.Lists.{zipped_length}
+use Rattle.std.proofs.lemmas.Slice.Zip.{AllZip-long}
+use Rattle.ch_graph.proofs.Lists.{zipped_at}
 use Rattle.ch_contract.specs.declared.shortcut.Shortcut.{Shortcut}
 use Rattle.ch_contract.specs.declared.leg_lists.End.{End}
 use Rattle.ch_contract.specs.Legs.{IsLegWithin}
@@ -12,7 +13,6 @@ use Rattle.ch_contract.specs.Contraction.{IsPairBefore, shortcut_label}
 use Rattle.ch_contract.specs.LegLists.{AreOverridden, end_of, legs_at}
 use Rattle.ch_contract.specs.RoundSides.{ArePutInTurn}
 use Rattle.ch_contract.specs.TakenOut.{ArePutIn}
-use Rattle.ch_contract.proofs.code.NodeLists.{zipped_at}
 use Rattle.ch_contract.proofs.code.ListEdits.{no_shortcut}
 use Rattle.ch_contract.proofs.code.RoundPutLists.{put_next}
 use Rattle.ch_contract.proofs.leg_lists.LegLists.with_all_at.Goals as goal
@@ -31,7 +31,7 @@ loop-place-init c = (refl, c.requires.rows, refl, refl)
 
 pub bounds-lists-place : goal.bounds-lists-place
 bounds-lists-place c =
-    let size = zipped_length (IsPut (length c.args.self.rows)) c.args.nodes.now c.args.lists.now c.requires.puts in
+    let size = AllZip-long (IsPut (length c.args.self.rows)) c.args.nodes.now c.args.lists.now c.requires.puts in
     omega arith
 
 pub offset_bounds-lists-place : goal.offset_bounds-lists-place
@@ -64,7 +64,7 @@ loop-place-preserved c =
     let nodes = c.args.nodes.now in
     let lists = c.args.lists.now in
     let put = c.in_ok-put_at.ensures in
-    let size = zipped_length (IsPut (length c.args.self.rows)) nodes lists c.requires.puts in
+    let size = AllZip-long (IsPut (length c.args.self.rows)) nodes lists c.requires.puts in
     let legs = subst (λ l. AreOverridden (legs_at c.args.end) (get_or nodes i 0) l c.loop-place.self.rows c.put_at.new.self.rows)
     (c.as_slice.ensures.value ∙ ap (λ (l : Vec Shortcut). l.items) list.is) put.legs in (
       put_next (legs_at c.args.end) nodes lists i list.result c.args.self.rows c.loop-place.self.rows c.put_at.new.self.rows
@@ -79,7 +79,7 @@ returns-clause-legs c =
     let i = c.loop-place.place in
     let nodes = c.args.nodes.now in
     let lists = c.args.lists.now in
-    let size = zipped_length (IsPut (length c.args.self.rows)) nodes lists c.requires.puts in
+    let size = AllZip-long (IsPut (length c.args.self.rows)) nodes lists c.requires.puts in
     let past : length nodes ≤ i = omega arith in
     let all : length lists ≤ i = omega arith in
     subst (λ (l : List ℕ). ArePutInTurn (legs_at c.args.end) l lists c.args.self.rows c.loop-place.self.rows) (take_all i nodes past)

@@ -5,10 +5,10 @@ use Rattle.std.specs.Prelude.{ℤ, pos}
 use Rattle.std.proofs.lemmas.Int.{to_z-of_z}
 use Rattle.std.proofs.lemmas.Slice.Zip.{zip_turn, zip_end, AllZip-long}
 use Rattle.std.proofs.lemmas.List.{take_all}
+use Rattle.ch_graph.proofs.Lists.{zipped_at}
 use Rattle.ch_order.specs.Priorities.{AreRefreshed}
 use Rattle.ch_contract.specs.Measures.{IsPriorityIn}
 use Rattle.ch_order.proofs.KeptPriorities.{refreshed_more}
-use Rattle.ch_contract.proofs.code.NodeLists.{zipped_at}
 use Rattle.ch_order.proofs.priority.PriorityJob.set_all.Goals as goal
 
 pub loop-node-preserved : goal.loop-node-preserved

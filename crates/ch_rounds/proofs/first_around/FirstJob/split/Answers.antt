@@ -2,11 +2,11 @@
 use Rattle.std.proofs.Common.{◌≤◌, ℕ, false, length, get_or, subst, arith}
 use Rattle.std.specs.Prelude.{◌↔◌, Bool, IsTrue}
 use Rattle.std.proofs.lemmas.List.{take_all}
-use Rattle.ch_graph.proofs.Lists.{zipped_length}
+use Rattle.std.proofs.lemmas.Slice.Zip.{AllZip-long}
+use Rattle.ch_graph.proofs.Lists.{zipped_at}
 use Rattle.ch_contract.specs.Remaining.{legs_of}
 use Rattle.ch_rounds.specs.FirstAround.{IsFirstBy}
 use Rattle.ch_rounds.specs.RoundChoice.{IsSplit}
-use Rattle.ch_contract.proofs.code.NodeLists.{zipped_at}
 use Rattle.ch_rounds.proofs.RoundChoice.{split_none, split_more}
 use Rattle.ch_rounds.proofs.first_around.FirstJob.split.Goals as goal
 
@@ -17,7 +17,7 @@ loop-place-init c = rw (c.new.ensures.items, c.in_ok-with_capacity.ensures.items
 pub bounds-firsts-place : goal.bounds-firsts-place
 bounds-firsts-place c =
     let P = IsFirstBy c.args.self.now.keys.now (legs_of c.args.self.now.remaining.now) in
-    let size = zipped_length (λ (x : ℕ) (b : Bool). IsTrue b ↔ P x) c.args.nodes.now c.args.firsts.now c.requires.firsts in
+    let size = AllZip-long (λ (x : ℕ) (b : Bool). IsTrue b ↔ P x) c.args.nodes.now c.args.firsts.now c.requires.firsts in
     omega arith
 
 pub loop-place-preserved : goal.loop-place-preserved

@@ -2,7 +2,7 @@
 use Rattle.std.proofs.Common.{◌∙◌, List, sym, ap, subst, length, arith}
 use Rattle.std.specs.Prelude.{ℤ, pos}
 use Rattle.std.specs.List.{AllZip}
-use Rattle.ch_graph.proofs.Lists.{zipped_length}
+use Rattle.std.proofs.lemmas.Slice.Zip.{AllZip-long}
 use Rattle.ch_rounds.specs.RoundChoice.{IsKeyIn}
 use Rattle.ch_rounds.proofs.SetEach.{given_by}
 use Rattle.ch_rounds.proofs.round_choice.KeyParts.refresh.Goals as goal
@@ -13,7 +13,7 @@ set_each-requires-clause-nodes g c k d lt = let node = (c.requires.nodes k d lt)
 pub set_each-requires-clause-values : goal.set_each-requires-clause-values
 set_each-requires-clause-values g c =
     ap length c.as_slice.ensures.value
-    ∙ zipped_length (IsKeyIn c.args.self.now.remaining.now c.args.self.now.counts.now c.args.self.now.depths.now)
+    ∙ AllZip-long (IsKeyIn c.args.self.now.remaining.now c.args.self.now.counts.now c.args.self.now.depths.now)
     c.args.nodes.now _ c.in_ok-values.ensures
 
 pub returns : goal.returns

@@ -2,7 +2,8 @@
 use Rattle.std.proofs.Common.{◌++◌, ℕ, length, map, Vec, refl, sym, ap, ◌∙◌, subst}
 use Rattle.std.specs.declared.alloc.Global.{Global}
 use Rattle.std.proofs.lemmas.Result.{on_ok_weaker}
-use Rattle.ch_graph.proofs.Lists.{zipped_length, zipped_map}
+use Rattle.std.proofs.lemmas.Slice.Zip.{AllZip-long}
+use Rattle.ch_graph.proofs.Lists.{zipped_map}
 use Rattle.ch_near.specs.Near.{Wanted, wanted_within}
 use Rattle.ch_text.specs.NearText.{near_row_text}
 use Rattle.ch_run.specs.NearRows.{HasNearRows}
@@ -14,7 +15,7 @@ pub push_near_rows-requires-clause-rows : goal.push_near_rows-requires-clause-ro
 push_near_rows-requires-clause-rows g c =
     let wanted = wanted_within c.args.near.now c.args.within in
     ap length c.deref.ensures.value
-    ∙ zipped_length (λ s (row : Vec (ℕ × ℕ) Global). IsWantedRow wanted s row.items) c.args.sources.now c.in_ok-rows.rows.items
+    ∙ AllZip-long (λ s (row : Vec (ℕ × ℕ) Global). IsWantedRow wanted s row.items) c.args.sources.now c.in_ok-rows.rows.items
     c.in_ok-rows.ensures.rows
 
 pub push_near_rows-requires-clause-places : goal.push_near_rows-requires-clause-places

@@ -3,7 +3,8 @@ use Rattle.std.proofs.Common.{ℕ, ◌<◌, ◌≤◌, ◌^◌, List, length, ma
 use Rattle.std.specs.Prelude.{All}
 use Rattle.std.specs.declared.alloc.Global.{Global}
 use Rattle.std.proofs.lemmas.List.Elements.{All-map}
-use Rattle.ch_graph.proofs.Lists.{zipped_length, zipped_map}
+use Rattle.std.proofs.lemmas.Slice.Zip.{AllZip-long}
+use Rattle.ch_graph.proofs.Lists.{zipped_map}
 use Rattle.ch_graph.specs.Rows.{AreRowsOf, pairs_of}
 use Rattle.ch_hierarchy.specs.declared.side.Side.TheVariants.{Down}
 use Rattle.ch_query.specs.SearchSpace.{IsRankedSpace}
@@ -16,7 +17,7 @@ pub gather-requires-clause-places : goal.gather-requires-clause-places
 gather-requires-clause-places c =
     let a = c.args in
     let spaces = c.args.spaces.items in
-    let size = zipped_length (λ node (space : Vec (ℕ × ℕ) Global). IsRankedSpace a.hierarchy.now Down a.within node space.items)
+    let size = AllZip-long (λ node (space : Vec (ℕ × ℕ) Global). IsRankedSpace a.hierarchy.now Down a.within node space.items)
     a.targets.now spaces c.requires.spaces in
     subst (λ (l : List (Vec (ℕ × ℕ) Global)). length l ≤ 2 ^ 32) (sym c.deref.ensures.value) (omega (arith, size, c.requires.count))
 
