@@ -8,6 +8,7 @@ pub mod WalkLemmas
 pub mod WalkCosts
 pub mod SimpleWalks
 pub mod LeastSearch
+pub mod OneDistance
 pub mod Labels
 pub mod Ranges
 pub mod KeyCounts

@@ -8,6 +8,7 @@ pub mod LegWalks
 pub mod KeptWalks
 pub mod SavedLevels
 pub mod OneSaved
+pub mod NamedLegs
 pub mod SavedFaults
 pub mod LevelOrder
 pub mod WrittenLegs

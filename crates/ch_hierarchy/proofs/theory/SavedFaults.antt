@@ -1,12 +1,9 @@
 -- The faults of a saved hierarchy. At most one comes first, and a saved hierarchy that names a right one has none.
-use Rattle.std.proofs.Common.{◌≡◌, ℕ, zero, suc, ◌+◌, ◌<◌, ◌≤◌, inl, inr, List, get_or, Option, Some, None, refl, sym, ◌∙◌, ap}
+use Rattle.std.proofs.Common.{◌≡◌, ℕ, zero, suc, ◌+◌, ◌<◌, inl, inr, List, get_or, Some, None, refl, sym, ◌∙◌, ap}
 use Rattle.std.proofs.Common.{subst, arith}
-use Rattle.std.specs.Prelude.{◌≢◌, slice_get, slice_index, Result, Ok, Err, IsErrAnd}
+use Rattle.std.specs.Prelude.{slice_get, Result, Ok, Err, IsErrAnd}
 use Rattle.std.proofs.lemmas.Bool.{cases_eq, cases_lt}
 use Rattle.std.proofs.lemmas.Option.{slice_get_within, slice_get-get_or, get_or_from_slice_get}
-use Rattle.std.proofs.lemmas.List.Elements.{All-contains}
-use Rattle.ch_graph.specs.declared.limits.TheConstants.{MOST_WEIGHT}
-use Rattle.ch_graph.specs.declared.cost.Cost.{Cost}
 use Rattle.ch_graph.specs.declared.saved.SavedLeg.{SavedLeg}
 use Rattle.ch_graph.specs.Graph.{Network}
 use Rattle.ch_graph.specs.Saved.{OrderAndLegs}
@@ -14,13 +11,13 @@ use Rattle.ch_hierarchy.specs.declared.fault.CheckFault.{CheckFault}
 use Rattle.ch_hierarchy.specs.declared.fault.CheckFault.TheVariants.{Order, Pair, Bound, Base, Middle, Arc, Lower}
 use Rattle.ch_hierarchy.specs.declared.fault.CheckError.{CheckError}
 use Rattle.ch_hierarchy.specs.declared.fault.CheckError.TheVariants.{Fault, NoMemory}
-use Rattle.ch_hierarchy.specs.Hierarchy.{LevelsAndLegs, nodes_of, IsLegUp}
-use Rattle.ch_hierarchy.specs.Rows.{row}
+use Rattle.ch_hierarchy.specs.Hierarchy.{LevelsAndLegs}
 use Rattle.ch_hierarchy.specs.Kept.{IsLeg, IsFounded, HasLegWithin, IsCovered}
 use Rattle.ch_hierarchy.specs.Saved.{IsOrderOf, NamesHierarchy, NamesFor, NamesKept, JoinsNodes, IsWithinBounds, IsSamePair}
 use Rattle.ch_hierarchy.specs.Saved.{HasFault, HasPairFault, IsUnfounded, kind, place, IsFirstFault, IsEarly, AnswersWhere}
 use Rattle.ch_hierarchy.specs.Assembling.{IsFirstFailing, IsFirstPairFault}
-use Rattle.ch_hierarchy.proofs.theory.SavedLevels.{order_of, in_row_below}
+use Rattle.ch_hierarchy.proofs.theory.SavedLevels.{order_of}
+use Rattle.ch_hierarchy.proofs.theory.NamedLegs.{leg_bounds}
 use Rattle.ch_hierarchy.proofs.theory.OneSaved.{one_saved}
 
 -- the fault of a kind at a place
@@ -87,32 +84,6 @@ module _ (g : Network) (s : OrderAndLegs) where
     ])
   ]
 
--- the ends of a leg are two nodes
-leg_joins : (s : OrderAndLegs) (H : LevelsAndLegs) → NamesHierarchy s H → (u w : ℕ) (c : Cost) (m : Option ℕ) → IsLeg H u w c m →
-    (u < nodes_of H) × (w < nodes_of H) × (u ≢ w)
-leg_joins s H names u w c m (l, cost, middle, inl (has, is)) =
-    let up = All-contains (IsLegUp H u) (row H.up u) l (names.levelled.up.1 u).1 has in (
-      in_row_below H.up (nodes_of H) u l names.levelled.up.0 has,
-      subst (λ q. q < nodes_of H) is up.node,
-      λ same. let rise = up.higher in let e = ap (slice_index H.level) (same ∙ sym is) in omega arith,
-    )
-leg_joins s H names u w c m (l, cost, middle, inr (has, is)) =
-    let up = All-contains (IsLegUp H w) (row H.down w) l (names.levelled.down.1 w).1 has in (
-      subst (λ q. q < nodes_of H) is up.node,
-      in_row_below H.down (nodes_of H) w l names.levelled.down.0 has,
-      λ same. let rise = up.higher in let e = ap (slice_index H.level) (sym same ∙ sym is) in omega arith,
-    )
-
--- the cost of a leg is within the limits
-leg_bounded : (s : OrderAndLegs) (H : LevelsAndLegs) → NamesHierarchy s H → (u w : ℕ) (c : Cost) (m : Option ℕ) → IsLeg H u w c m →
-    (c.weight ≤ MOST_WEIGHT) × (c.arcs < nodes_of H)
-leg_bounded s H names u w c m (l, cost, middle, inl (has, is)) =
-    let up = All-contains (IsLegUp H u) (row H.up u) l (names.levelled.up.1 u).1 has in
-    subst (λ (q : Cost). (q.weight ≤ MOST_WEIGHT) × (q.arcs < nodes_of H)) cost (up.weight, up.arcs)
-leg_bounded s H names u w c m (l, cost, middle, inr (has, is)) =
-    let up = All-contains (IsLegUp H w) (row H.down w) l (names.levelled.down.1 w).1 has in
-    subst (λ (q : Cost). (q.weight ≤ MOST_WEIGHT) × (q.arcs < nodes_of H)) cost (up.weight, up.arcs)
-
 -- a leg at a place is a leg of the hierarchy
 pub leg_stands : (s : OrderAndLegs) (H : LevelsAndLegs) → NamesHierarchy s H → (i : ℕ) (l : SavedLeg) → slice_get s.legs i ≡ Some l →
     IsLeg H l.from l.to l.cost l.middle
@@ -126,7 +97,7 @@ module _ (g : Network) (s : OrderAndLegs) (H : LevelsAndLegs) (named : NamesFor 
 
   no_pair : (p : ℕ) → HasPairFault g.nodes s.legs p → ⊥
   no_pair p (l, at, inl bad) =
-      bad (subst (λ n. JoinsNodes n l) named.1 (leg_joins s H named.0 l.from l.to l.cost l.middle (leg_stands s H named.0 p l at)))
+      bad (subst (λ n. JoinsNodes n l) named.1 (leg_bounds H named.0.levelled l (leg_stands s H named.0 p l at)).0)
   no_pair p (l, at, inr (j, k, less, there, same)) =
       named.0.once j p l less (slice_get_within s.legs p l at)
       (subst (λ (q : SavedLeg). IsSamePair q (get_or s.legs p l)) (sym (get_or_from_slice_get s.legs j k l there))
@@ -134,7 +105,7 @@ module _ (g : Network) (s : OrderAndLegs) (H : LevelsAndLegs) (named : NamesFor 
 
   no_bound : (p : ℕ) → HasFault g s (Bound p) → ⊥
   no_bound p (l, at, bad) =
-      bad (subst (λ n. IsWithinBounds n l) named.1 (leg_bounded s H named.0 l.from l.to l.cost l.middle (leg_stands s H named.0 p l at)))
+      bad (subst (λ n. IsWithinBounds n l) named.1 (leg_bounds H named.0.levelled l (leg_stands s H named.0 p l at)).1)
 
   pub none_early : HasNoneBelow g s 3
   none_early = none_more g s 2 (none_more g s 1 (none_more g s 0 (none_below g s) (λ p h. no_order h)) no_pair) no_bound
