@@ -2,7 +2,7 @@
 use Rattle.std.proofs.Common.{subst, ◌≡◌, ℕ, suc, ◌+◌, ◌-◌, ◌<◌, ◌≤◌, Bool, true, false, eqb, leb, ltb, get_or, if◌then◌else◌, List}
 use Rattle.std.proofs.Common.{[], ◌∷◌, ◌++◌, length, take, drop, Option, Some, None, refl, sym, ◌∙◌, ap, arith, length-take}
 use Rattle.std.proofs.Common.{length-drop}
-use Rattle.std.specs.Prelude.{All, IfErr, IsErrAnd, Result, Ok, Err, is_none}
+use Rattle.std.specs.Prelude.{IfErr, IsErrAnd, Result, Ok, Err, is_none}
 use Rattle.std.specs.List.{position, position_or_len}
 use Rattle.std.proofs.lemmas.Bool.Decides.{nat_tests}
 use Rattle.std.proofs.lemmas.Option.{cond_some}

@@ -11,15 +11,15 @@ use Rattle.clap.specs.Words.{new_app, one_text, rows_of, subcommand_rows, subcom
 use Rattle.clap.specs.declared.builder.command.Command.{Command}
 use Rattle.clap.specs.declared.builder.command.Command.TheViews.{out-Command}
 use Rattle.clap.specs.declared.error.kind.ErrorKind.{ErrorKind}
-use Rattle.clap.specs.declared.error.kind.ErrorKind.TheVariants.{ArgumentConflict, OutOfMemory, WrongNumberOfValues}
+use Rattle.clap.specs.declared.error.kind.ErrorKind.TheVariants.{OutOfMemory, WrongNumberOfValues}
 use Rattle.clap.specs.declared.parser.matches.ArgMatches.{ArgMatches}
 use Rattle.clap.specs.declared.parser.matches.ArgMatches.TheViews.{out-ArgMatches, out-SubCommand}
 use Rattle.clap.specs.declared.parser.matches.Found.{Found}
 use Rattle.clap.specs.declared.parser.matches.SubCommand.{SubCommand}
 use Rattle.std.proofs.lemmas.List.{length-map}
 use Rattle.clap.proofs.WalkLemmas.{one_text-rows, raw_values-rows}
-use Rattle.ch_words.specs.Line.{AreRefusedLists, AreRefusedOrders, HasOtherLists, HasTwoOrders, IsFaultOf, IsFlag, IsFlagIn}
-use Rattle.ch_words.specs.Line.{IsGivenBy, IsMixed, IsReadFrom, IsRefusedMix, IsToldOf, chtab_form, faults_of, given_by, name_of}
+use Rattle.ch_words.specs.Line.{AreRefusedLists, AreRefusedOrders, HasOtherLists, IsFaultOf, IsFlag, IsFlagIn}
+use Rattle.ch_words.specs.Line.{IsGivenBy, IsReadFrom, IsRefusedMix, IsToldOf, chtab_form, faults_of, given_by, name_of}
 use Rattle.ch_words.specs.Line.{number_in, number_of, lists_in, program_form}
 use Rattle.ch_words.specs.declared.line.Line.{Line}
 use Rattle.ch_words.specs.declared.fault.LineFault.{LineFault}

@@ -1,5 +1,5 @@
 -- A search over the legs from each node learns the costs of chains in the other direction, up to two legs before the end.
-use Rattle.std.proofs.Common.{◌≤◌, ◌<◌, sym, subst, arith, ap, ◌∙◌}
+use Rattle.std.proofs.Common.{◌≤◌, ◌<◌, sym, subst, ap, ◌∙◌}
 use Rattle.std.specs.Prelude.{OnOk}
 use Rattle.ch_graph.specs.declared.limits.TheConstants.{MOST_NODES}
 use Rattle.ch_contract.specs.Legs.{AreLegsWithin}
