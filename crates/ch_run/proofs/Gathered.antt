@@ -34,8 +34,7 @@ module _ {A : Type 0} {from : A → Request} {requests : List Request} {values :
   values_within n P so each k d lt =
       let made : All (IsRequest n) (map from values) =
       subst (All (IsRequest n)) (sym first.are) (All-take (IsRequest n) (length values) requests each) in
-      let within : k < length (map from values) = omega (arith, length-map values from) in
-      so (get_or values k d) (subst (IsRequest n) (get_or-map from values k d) (made k (from d) within))
+      so (get_or values k d) (subst (IsRequest n) (get_or-map from values k d) (made k (from d) (omega (arith, length-map values from))))
 
   places_stay : ((places : PlaceList) (v : A) → places_then places (from v) ≡ places) → (places : PlaceList) (vs : List A) →
       places_after places (map from vs) ≡ places
@@ -46,16 +45,12 @@ module _ {A : Type 0} {from : A → Request} {requests : List Request} {values :
   pub first_answered : {IsTextOf : TextOf} {before after : PlaceList} {text : List ℕ} {count : ℕ} →
       ((places : PlaceList) (v : A) → places_then places (from v) ≡ places) → count ≡ length values → after ≡ before →
       AreAnswered IsTextOf before (map from values) text → AnswersFirst IsTextOf before after requests text count
-  first_answered {IsTextOf} {before} {after} {text} {count} stay count_is same answers =
-      let these : map from values ≡ take count requests = first.are ∙ ap (λ n. take n requests) (sym count_is) in
-      let some = first.some in
-      let few = first.few in
-      record {
-        some = omega arith;
-        few = omega arith;
-        answers = subst (λ (rs : List Request). AreAnswered IsTextOf before rs text) these answers;
-        places = same ∙ sym (places_stay stay before values) ∙ ap (places_after before) these;
-      }
+  first_answered {before = before} stay count_is same answers = rw count_is (record {
+    some = first.some;
+    few = first.few;
+    answers = rw (← first.are) answers;
+    places = rw (← first.are) (same ∙ sym (places_stay stay before values));
+  })
 
 -- a query asks for nodes of the graph
 pub asked_within : (n : ℕ) (routed : Bool) (pair : ℕ × ℕ) → IsRequest n (asked_for routed pair) → (pair.0 < n) × (pair.1 < n)
