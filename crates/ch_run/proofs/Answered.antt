@@ -1,8 +1,8 @@
 -- Requests that are answered one after the other.
-use Rattle.std.proofs.Common.{◌≡◌, ℕ, ◌+◌, ◌||◌, Bool, true, false, List, [], ◌∷◌, ◌++◌, length, map, take, drop, Result, Ok, Err}
-use Rattle.std.proofs.Common.{Option, Some, None, refl, sym, ap, ◌∙◌, subst, arith, append_assoc}
+use Rattle.std.proofs.Common.{◌≡◌, ℕ, ◌||◌, Bool, true, false, List, [], ◌∷◌, ◌++◌, map, take, drop, Result, Ok, Err}
+use Rattle.std.proofs.Common.{None, refl, sym, ap, ◌∙◌, subst, arith, append_assoc}
 use Rattle.std.specs.Prelude.{MatchResult, is_ok, is_err, if◌then◌else◌}
-use Rattle.std.proofs.lemmas.List.{append-nil, length-append, take-append-drop}
+use Rattle.std.proofs.lemmas.List.{append-nil, take-append-drop}
 use Rattle.std.specs.List.{AllZip, flat_map}
 use Rattle.ch_graph.specs.Graph.{Network}
 use Rattle.ch_hierarchy.specs.Hierarchy.{LevelsAndLegs}
@@ -10,21 +10,20 @@ use Rattle.ch_query.specs.declared.answer.Answer.{Answer}
 use Rattle.ch_read.specs.declared.request.Request.{Request}
 use Rattle.ch_read.specs.declared.request_fault.RequestError.{RequestError}
 use Rattle.ch_read.specs.declared.request_fault.RequestError.TheVariants.{Fault, NoMemory}
-use Rattle.ch_read.specs.declared.request_fault.RequestFault.{RequestFault}
 use Rattle.ch_read.specs.declared.request_fault.RequestFault.TheVariants.{Line, Cells}
 use Rattle.ch_read.specs.RequestLists.{PlaceList}
-use Rattle.ch_read.specs.Requests.{Gives, HasGiven, IsErrorAhead, IsUsedUp, MayCome, Standing, after_these, ahead, fed, starting}
-use Rattle.ch_read.specs.Requests.{stopping, told, told_by}
+use Rattle.ch_read.specs.Requests.{Gives, IsErrorAhead, IsUsedUp, MayCome, Standing, after_these, ahead, starting, stopping, told}
+use Rattle.ch_read.specs.Requests.{told_by}
 use Rattle.ch_read.specs.Words.{lines}
-use Rattle.ch_read.proofs.Requests.{gives_more}
 use Rattle.ch_run.specs.declared.fault.RunFault.{RunFault}
 use Rattle.ch_job.specs.declared.options.Options.{Options}
 use Rattle.ch_text.specs.declared.device.DeviceFault.{DeviceFault}
-use Rattle.ch_text.proofs.Moves.{took-fault-then, took-none, took-then}
+use Rattle.ch_text.proofs.Moves.{took-none}
 use Rattle.ch_text.specs.Distances.{AnswersShortly, HasText, distance_text}
 use Rattle.ch_text.specs.Routes.{AnswersWithRoute, answer_text}
 use Rattle.ch_run.specs.Text.{IsTextBy, writes_routes}
-use Rattle.ch_run.specs.Ask.{AreAnswered, IsRequestText, TextOf, TookAnswers, no_places, places_after, places_then}
+use Rattle.ch_run.specs.Ask.{AreAnswered, IsRequestText, TextOf, no_places, places_after, places_then}
+use Rattle.ch_run.proofs.Parts.{written_then}
 use Rattle.ch_run.specs.Serving.{AnswersFirst, Ends, HasAnswered, IsStop, WritesMore, asked_for, request_refusal}
 
 -- if no request of these values gives places, the lines of their answers, joined, answer the requests one by one
@@ -96,8 +95,12 @@ pub answered_none : (IsTextOf : TextOf) {S : Type 0} (gives : S → List ℕ →
     HasAnswered IsTextOf gives n false [] (starting n) [] output output no_places 0
 answered_none IsTextOf gives n output = record {
   answered = [];
-  told = λ more may. refl;
-  output = record { took = ([], refl, took-none gives output); places = refl; count = omega arith };
+  told = λ left may. refl;
+  is = record {
+    output = record { text = []; answers = refl; took = took-none gives output };
+    places = refl;
+    count = omega arith;
+  };
 }
 
 module _ {IsTextOf : TextOf} {S : Type 0} {gives : S → List ℕ → Result ℕ DeviceFault → S → Type 0} {n : ℕ} {ended : Bool} {read : List ℕ}
@@ -105,55 +108,53 @@ module _ {IsTextOf : TextOf} {S : Type 0} {gives : S → List ℕ → Result ℕ
   module _ {waiting : List Request} (h : HasAnswered IsTextOf gives n ended read reader waiting old output held written) where
     -- the run may end for want of memory
     pub ends_memory : Ends IsTextOf gives n ended read old output (Err RunFault.Memory)
-    ends_memory = record {
-      over = λ left may. (
-        h.answered,
-        waiting ++ (ahead reader left).given,
-        ap (λ t. t.given) (h.told left may) ∙ append_assoc h.answered waiting (ahead reader left).given,
-        h.output.took,
-      );
-    }
+    ends_memory = record { answered = h.answered; told = λ left may. (_, h.told left may, tt); output = h.is.output }
 
     module _ {held' : PlaceList} {count : ℕ} {text : List ℕ} (first : AnswersFirst IsTextOf held held' waiting text count) where
       abbrev now : List Request
       now = h.answered ++ take count waiting
 
-      parts : h.answered ++ waiting ≡ now ++ drop count waiting
-      parts = ap (λ l. h.answered ++ l) (sym (take-append-drop count waiting))
-          ∙ sym (append_assoc h.answered (take count waiting) (drop count waiting))
+      abbrev later : List Request
+      later = drop count waiting
 
-      both : AreAnswered IsTextOf no_places now (h.output.took.0 ++ text)
-      both = answered_append IsTextOf no_places h.answered (take count waiting) h.output.took.0 text h.output.took.1
-          (subst (λ (p : PlaceList). AreAnswered IsTextOf p (take count waiting) text) h.output.places first.answers)
+      -- the first requests that wait are told after those before, and the others later
+      now_told : (left : List ℕ) → MayCome ended left → told_by n (read ++ left) ≡ after_these now (after_these later (ahead reader left))
+      now_told left may =
+          let more = (ahead reader left).given in
+          let parts : h.answered ++ (waiting ++ more) ≡ now ++ (later ++ more) =
+          rw (append_assoc h.answered (take count waiting) (later ++ more)) (ap (λ l. h.answered ++ l)
+          (ap (λ l. l ++ more) (sym (take-append-drop count waiting)) ∙ append_assoc (take count waiting) later more)) in
+          h.told left may ∙ ap (λ (given : List Request). record { given = given; fault = (ahead reader left).fault }) parts
+
+      now_answered : AreAnswered IsTextOf no_places now (h.is.output.text ++ text)
+      now_answered = answered_append IsTextOf no_places h.answered (take count waiting) h.is.output.text text h.is.output.answers
+          (subst (λ (p : PlaceList). AreAnswered IsTextOf p (take count waiting) text) h.is.places first.answers)
 
       -- the text of the first requests that wait was written, or the run ends in a fault
       pub first_written : (output' : S) (written' : ℕ) (r : Result Unit RunFault) →
           WritesMore gives output output' written written' text r → MatchResult r
-          (λ _. HasAnswered IsTextOf gives n ended read reader (drop count waiting) old output' held' written')
+          (λ _. HasAnswered IsTextOf gives n ended read reader later old output' held' written')
           (λ fault. Ends IsTextOf gives n ended read old output' (Err fault))
-      first_written output' written' (Ok x) wrote = record {
-        answered = now;
-        told = subst (HasGiven ended n read reader) parts h.told;
-        output = record {
-          took = (h.output.took.0 ++ text, both, took-then gives old output output' h.output.took.0 text [] h.output.took.2 wrote.0);
-          places = first.places ∙ ap (λ (p : PlaceList). places_after p (take count waiting)) h.output.places
-              ∙ sym (places_append no_places h.answered (take count waiting));
-          count = (let k = wrote.1 in let before = h.output.count in omega (arith, length-append h.output.took.0 text));
-        };
-      }
-      first_written output' written' (Err (RunFault.Write total)) wrote = record {
-        over = λ left may. (
-          now,
-          drop count waiting ++ (ahead reader left).given,
-          h.output.took.0 ++ text,
-          length h.output.took.0 + wrote.0,
-          ap (λ t. t.given) (h.told left may) ∙ ap (λ l. l ++ (ahead reader left).given) parts
-              ∙ append_assoc now (drop count waiting) (ahead reader left).given,
-          both,
-          took-fault-then gives old output output' h.output.took.0 text wrote.0 h.output.took.2 wrote.1,
-          (let k = wrote.2 in let before = h.output.count in omega arith),
-        );
-      }
+      first_written output' written' (Ok done) wrote =
+          let more = written_then gives old output output' written written' _ text (Ok done) tt h.is.output.took h.is.count wrote in
+          record {
+            answered = now;
+            told = now_told;
+            is = record {
+              output = record { text = h.is.output.text ++ text; answers = now_answered; took = more.0 };
+              places = first.places ∙ ap (λ (p : PlaceList). places_after p (take count waiting)) h.is.places
+                  ∙ sym (places_append no_places h.answered (take count waiting));
+              count = more.1;
+            };
+          }
+      first_written output' written' (Err (RunFault.Write total)) wrote =
+          let fault = RunFault.Write total in
+          let more = written_then gives old output output' written written' _ text (Err fault) tt h.is.output.took h.is.count wrote in
+          record {
+            answered = now;
+            told = λ left may. (after_these later (ahead reader left), now_told left may, tt);
+            output = record { text = h.is.output.text ++ text; answers = now_answered; took = more.0 };
+          }
       first_written output' written' (Err RunFault.Memory) wrote = rw wrote ends_memory
       first_written output' written' (Err _) wrote = absurd wrote
 
@@ -161,38 +162,24 @@ module _ {IsTextOf : TextOf} {S : Type 0} {gives : S → List ℕ → Result ℕ
     -- a batch of requests that the reader gave waits
     pub batch_waits : {gave : Standing} {batch : List Request} → Gives ended reader gave batch →
         HasAnswered IsTextOf gives n ended read gave batch old output held written
-    batch_waits {gave} {batch} given = record {
-      answered = h.answered;
-      told = subst (λ (l : List Request). HasGiven ended n read gave (l ++ batch)) (append-nil h.answered)
-          (gives_more ended (fed (starting n) read) reader gave (h.answered ++ []) batch h.told given);
-      output = h.output;
-    }
+    batch_waits given =
+        record { answered = h.answered; told = λ left may. h.told left may ∙ ap (after_these h.answered) (given left may); is = h.is }
 
-    -- if this fault or none is ahead, it follows the requests that are answered
-    told_end : (left : List ℕ) (fault : Option RequestFault) → MayCome ended left → ahead reader left ≡ stopping fault →
-        ((told_by n (read ++ left)).fault ≡ fault) × TookAnswers IsTextOf gives no_places old output (told_by n (read ++ left)).given
-    told_end left fault may is =
-        let whole = h.told left may ∙ ap (after_these (h.answered ++ [])) is in
-        let given = ap (λ t. t.given) whole ∙ append-nil (h.answered ++ []) ∙ append-nil h.answered in
-        (ap (λ t. t.fault) whole, subst (TookAnswers IsTextOf gives no_places old output) (sym given) h.output.took)
-
-    -- the run ends in the fault that is ahead
+    -- the run ends in the fault that the reader stopped for
     pub ends_stopped : (fault : RunFault) → IsStop ended reader fault → Ends IsTextOf gives n ended read old output (Err fault)
-    ends_stopped (RunFault.Read which fault) stop = record {
-      over = λ left may.
-          let end = told_end left (Some (Line fault)) may (stop.1 left may) in (stop.0, end.0, end.1);
-    }
+    ends_stopped (RunFault.Read which fault) stop =
+        record { answered = h.answered; told = λ left may. (_, h.told left may, (stop.0, stop.1 left may)); output = h.is.output }
     ends_stopped (RunFault.CellsAt line) stop =
-        record { over = λ left may. told_end left (Some (Cells line)) may (stop left may) }
+        record { answered = h.answered; told = λ left may. (_, h.told left may, stop left may); output = h.is.output }
     ends_stopped RunFault.Memory stop = ends_memory h
     ends_stopped _ stop = absurd stop
 
     -- at the end, no request is left
     pub ends_well : ended ≡ true → IsUsedUp true reader → Ends IsTextOf gives n ended read old output (Ok tt)
-    ends_well is up = record {
-      over = λ left may. told_end left None may (ap (ahead reader) (may is)
-          ∙ ap (λ xs. told reader.nodes reader.line reader.begun (lines (xs ++ []))) up.0 ∙ ap stopping up.1);
-    }
+    ends_well is up =
+        let none : (left : List ℕ) → MayCome ended left → ahead reader left ≡ stopping None = λ left may. ap (ahead reader) (may is)
+        ∙ ap (λ xs. told reader.nodes reader.line reader.begun (lines (xs ++ []))) up.0 ∙ ap stopping up.1 in
+        record { answered = h.answered; told = λ left may. (_, h.told left may, none left may); output = h.is.output }
 
 -- the error that a reader returns stops it
 pub refused : (ended : Bool) (reader : Standing) (error : RequestError) → IsErrorAhead ended reader error →

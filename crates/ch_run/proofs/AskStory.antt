@@ -25,18 +25,22 @@ some_read requests P (read, inr (all, p)) = ((read, inr all), (read, [], p))
 module _ {T S : Type 0} (IsTextOf : TextOf) (takes : Calls S) (n : ℕ) (requests : Reading) (old new : S) {same : Type 0} where
   serves_report : (r : Result T RunFault) → Serves IsTextOf takes n requests old new r →
       IfErr r IsOfServing × ReportsReads Which.Requests requests same r × ReportsWrites takes old new r
-  serves_report (Ok x) h = (tt, inr (λ is. cc, inr (h.0, inr h.1)), inr (λ is. is, inr (h.2.1.0, h.2.1.2)))
-  serves_report (Err (RunFault.Read which f)) h = let e = some_read requests _ h.1 in
-      (inl (sym h.0), inr (λ is. cc, inr e.0), inr (λ is. is, inr (e.1.2.1.0, e.1.2.1.2)))
-  serves_report (Err (RunFault.CellsAt line)) h = let e = some_read requests _ h in
-      (inl refl, inr (λ is. cc, inr e.0), inr (λ is. is, inr (e.1.2.1.0, e.1.2.1.2)))
-  serves_report (Err RunFault.Memory) h = let e = some_read requests _ h in
-      (inl tt, inr (λ is. cc, inr e.0), inr (λ is. is, inr (e.1.2.3.0, e.1.2.3.2)))
-  serves_report (Err (RunFault.Device which)) h =
-      (inl (sym h.0), inl (ap (λ (w : Which). Err (RunFault.Device w)) h.0, (h.1, h.2)), inr (λ is. is, inr (h.3.0, h.3.2)))
-  serves_report (Err (RunFault.Write count)) h = let e = some_read requests _ h in
-      (inr tt, inr (λ is. cc, inr e.0), inl (tt, (e.1.2.2, e.1.2.3, e.1.2.6)))
-  serves_report (Err _) h = absurd h
+  serves_report (Ok x) h =
+      (tt, inr (λ is. cc, inr (h.read.0, inr h.read.1)), inr (λ is. is, inr (h.output.text, h.output.took)))
+  serves_report (Err (RunFault.Read which f)) h = let e = some_read requests _ h.read in
+      (inl (sym e.1.2.2.0), inr (λ is. cc, inr e.0), inr (λ is. is, inr (h.output.text, h.output.took)))
+  serves_report (Err (RunFault.CellsAt line)) h = let e = some_read requests _ h.read in
+      (inl refl, inr (λ is. cc, inr e.0), inr (λ is. is, inr (h.output.text, h.output.took)))
+  serves_report (Err RunFault.Memory) h = let e = some_read requests _ h.read in
+      (inl tt, inr (λ is. cc, inr e.0), inr (λ is. is, inr (h.output.text, h.output.took)))
+  serves_report (Err (RunFault.Device which)) h = (
+    inl (sym h.read.0),
+    inl (ap (λ (w : Which). Err (RunFault.Device w)) h.read.0, (h.read.1, h.read.2)),
+    inr (λ is. is, inr (h.output.text, h.output.took)),
+  )
+  serves_report (Err (RunFault.Write count)) h = let e = some_read requests _ h.read in
+      (inr tt, inr (λ is. cc, inr e.0), inl (tt, (h.output.text, h.output.took.0, h.output.took.1)))
+  serves_report (Err _) h = absurd (some_read requests _ h.read).1.2.2
 
 -- a run that ends in a fault of serving goes past the graph and the file for the hierarchy
 serving_past : {T : Type 0} (r : Result T RunFault) → IfErr r IsOfServing → GoesPastBefore r 2

@@ -1,12 +1,12 @@
 -- Requests that are read and answered as they come.
-use Rattle.std.proofs.Common.{◌≡◌, ℕ, ◌<◌, ◌≤◌, Bool, true, false, List, [], ◌∷◌, ◌++◌, length, take, Option, Some, None, Result, Ok, Err}
+use Rattle.std.proofs.Common.{◌≡◌, ℕ, ◌<◌, ◌≤◌, Bool, true, false, List, [], ◌∷◌, ◌++◌, length, take, Option, Result, Ok, Err}
 use Rattle.std.proofs.Common.{inl, inr, refl, sym, ap, ◌∙◌, subst, append_assoc}
 use Rattle.std.specs.Prelude.{MatchResult, OnOk}
 use Rattle.std.proofs.lemmas.List.{append-nil}
+use Rattle.std.proofs.lemmas.Result.{on_ok_weaker}
 use Rattle.ch_read.specs.declared.request.Request.{Request}
-use Rattle.ch_read.specs.declared.request.Request.TheVariants.{Query, Route, Table as TableOf, Places as PlacesOf, Near}
+use Rattle.ch_read.specs.declared.request.Request.TheVariants.{Query, Route}
 use Rattle.ch_read.specs.RequestLists.{PlaceList}
-use Rattle.ch_read.specs.declared.request_fault.RequestFault.TheVariants.{Line}
 use Rattle.ch_read.specs.Words.{lines}
 use Rattle.ch_read.specs.Requests.{IsUsedUp, MayCome, Standing, after_these, fed, starting, told, told_by}
 use Rattle.ch_read.proofs.RequestsHeldBack.{not_held_back}
@@ -16,9 +16,9 @@ use Rattle.ch_text.specs.Moves.{Gave, GaveAll}
 use Rattle.ch_text.specs.declared.device.DeviceFault.{DeviceFault}
 use Rattle.ch_text.proofs.Moves.{gave-more}
 use Rattle.ch_run.specs.Run.{Reading, reading}
-use Rattle.ch_run.specs.Ask.{AreAnswered, IsRequestText, IsTextOfRequest, ReadsSome, Serves, TellsThen, TextOf}
-use Rattle.ch_run.specs.Ask.{TookAnswers, no_places, places_then, whole_in}
-use Rattle.ch_run.specs.Serving.{Ends, EndsOver, GoesOn, HasAnswered}
+use Rattle.ch_run.specs.Ask.{AreAnswered, IsRequestText, IsTextOfRequest, ReadsAndAnswers, Serves, TellsFirst, TextOf}
+use Rattle.ch_run.specs.Ask.{no_places, places_then, whole_in}
+use Rattle.ch_run.specs.Serving.{Ends, GoesOn, HasAnswered}
 use Rattle.ch_graph.specs.Graph.{Network}
 use Rattle.ch_hierarchy.specs.Hierarchy.{LevelsAndLegs}
 use Rattle.ch_job.specs.declared.options.Options.{Options}
@@ -33,35 +33,23 @@ abbrev AreRead : Bool → {J : Type 0} → (reads : J → List ℕ → Result �
 AreRead true reads start read now = GaveAll reads start read now
 AreRead false reads start read now = Gave reads start read now
 
--- the run ends in this fault after these bytes were read
-serves_fault : {J : Type 0} (reads : J → List ℕ → Result ℕ DeviceFault → J → Type 0) (start now : J) {IsTextOf : TextOf} {n : ℕ}
-    {S : Type 0} {gives : S → List ℕ → Result ℕ DeviceFault → S → Type 0} {old new : S} {read : List ℕ} (ended : Bool) (fault : RunFault) →
-    AreRead ended reads start read now → Ends IsTextOf gives n ended read old new (Err fault) →
-    Serves {T = Unit} IsTextOf gives n (reading reads start now) old new (Err fault)
-serves_fault reads start now {IsTextOf} {n} {gives = gives} {old} {new} {read} ended fault input ends =
-    at fault (on ended input) ends.over
+-- the run ends so after these bytes were read
+serves_end : {J : Type 0} (reads : J → List ℕ → Result ℕ DeviceFault → J → Type 0) (start now : J) {IsTextOf : TextOf} {n : ℕ}
+    {S : Type 0} {gives : S → List ℕ → Result ℕ DeviceFault → S → Type 0} {old new : S} {read : List ℕ} (ended : Bool)
+    (r : Result Unit RunFault) → OnOk r (ended ≡ true) → AreRead ended reads start read now →
+    Ends IsTextOf gives n ended read old new r → Serves IsTextOf gives n (reading reads start now) old new r
+serves_end reads start now {n = n} {read = read} ended r full input ends =
+    record { answered = ends.answered; read = at r ended full input ends.told; output = ends.output }
   where
-    P : RunFault → List ℕ → List ℕ → Type 0
-    P fault = λ bytes left. EndsOver IsTextOf gives old new (Err fault) (told_by n (bytes ++ left))
-
-    on : (ended : Bool) → AreRead ended reads start read now → (Q : List ℕ → List ℕ → Type 0) →
-        ((left : List ℕ) → MayCome ended left → Q read left) → ReadsSome (reading reads start now) Q
-    on true input Q so = (read, inr (input, so [] (λ e. refl)))
-    on false input Q so = (read, inl (input, λ left. so left (λ e. cc)))
-
-    at : (fault : RunFault) →
-        ((Q : List ℕ → List ℕ → Type 0) → ((left : List ℕ) → MayCome ended left → Q read left) → ReadsSome (reading reads start now) Q) →
-        ((left : List ℕ) → MayCome ended left → P fault read left) →
-        Serves {T = Unit} IsTextOf gives n (reading reads start now) old new (Err fault)
-    at (RunFault.Read which fault) some ends = (
-      (ends [] (λ e. refl)).0,
-      some (λ bytes left. TellsThen n (Some (Line fault)) (TookAnswers IsTextOf gives no_places old new) (bytes ++ left))
-          (λ left may. let end = ends left may in (end.1, end.2)),
-    )
-    at (RunFault.CellsAt line) some ends = some (P (RunFault.CellsAt line)) ends
-    at RunFault.Memory some ends = some (P RunFault.Memory) ends
-    at (RunFault.Write count) some ends = some (P (RunFault.Write count)) ends
-    at _ some ends = absurd (ends [] (λ e. refl))
+    at : (r : Result Unit RunFault) (ended : Bool) → OnOk r (ended ≡ true) → AreRead ended reads start read now →
+        ((left : List ℕ) → MayCome ended left → TellsFirst ends.answered r (told_by n (read ++ left))) →
+        ReadsAndAnswers n (reading reads start now) ends.answered r
+    at (Ok done) true full input told =
+        (read, input, subst (λ bytes. TellsFirst ends.answered (Ok done) (told_by n bytes)) (append-nil read) (told [] (λ e. refl)))
+    at (Ok done) false full input told = cc
+    at (Err (RunFault.Device which)) ended full input told = absurd (told [] (λ e. refl)).2
+    at (Err fault) true full input told = (read, inr (input, told [] (λ e. refl)))
+    at (Err fault) false full input told = (read, inl (input, λ left. told left (λ e. cc)))
 
 -- bytes were read and fed to a reader, which is in this standing, and all requests that it gave are answered
 pub record HasServed {J : Type 0} (reads : J → List ℕ → Result ℕ DeviceFault → J → Type 0) (start now : J) {S : Type 0}
@@ -80,13 +68,14 @@ served_none {IsTextOf = IsTextOf} {gives} {n} {output} = record { read = []; gav
 module _ {J : Type 0} {reads : J → List ℕ → Result ℕ DeviceFault → J → Type 0} {start now : J} {S : Type 0} {IsTextOf : TextOf}
     {gives : S → List ℕ → Result ℕ DeviceFault → S → Type 0} {n : ℕ} {reader : Standing} {old output : S} {held : PlaceList} {written : ℕ}
     (h : HasServed reads start now IsTextOf gives n reader old output held written) where
-  -- the run ends for want of memory, or in a fault that answering ends in
-  pub serves_memory : Serves {T = Unit} IsTextOf gives n (reading reads start now) old output (Err RunFault.Memory)
-  serves_memory = serves_fault reads start now false RunFault.Memory h.gave (ends_memory h.has)
-
+  -- the run ends in a fault that answering ends in
   pub serves_stopped : {new : S} {fault : RunFault} → Ends IsTextOf gives n false h.read old new (Err fault) →
       Serves {T = Unit} IsTextOf gives n (reading reads start now) old new (Err fault)
-  serves_stopped {fault = fault} ends = serves_fault reads start now false fault h.gave ends
+  serves_stopped {fault = fault} ends = serves_end reads start now false (Err fault) tt h.gave ends
+
+  -- the run ends for want of memory
+  pub serves_memory : Serves {T = Unit} IsTextOf gives n (reading reads start now) old output (Err RunFault.Memory)
+  serves_memory = serves_stopped (ends_memory h.has)
 
   -- at the end of the input, the run ends as the call that answers the last requests
   pub serves_all : {end : J} (buffer : List ℕ) (reader' : Standing) (new : S) (held' : PlaceList) (written' : ℕ)
@@ -95,21 +84,15 @@ module _ {J : Type 0} {reads : J → List ℕ → Result ℕ DeviceFault → J �
       Serves IsTextOf gives n (reading reads start end) old new r
   serves_all {end} buffer reader' new held' written' r room call on up =
       let k = h.has in
-      at r (on h.read old (record { answered = k.answered; told = λ more may. k.told more (λ e. cc); output = k.output })) up
+      let all : GaveAll reads start h.read end = record { last = now; reads = h.gave; buffer = buffer; room = room; call = call } in
+      serves_end reads start end true r (on_ok_weaker r (λ up. refl) up) all
+      (at r (on h.read old (record { answered = k.answered; told = λ left may. k.told left (λ e. cc); is = k.is })) up)
     where
-      all : GaveAll reads start h.read end
-      all = record { last = now; reads = h.gave; buffer = buffer; room = room; call = call }
-
       at : (r : Result Unit RunFault) → MatchResult r (λ _. HasAnswered IsTextOf gives n true h.read reader' [] old new held' written')
           (λ fault. Ends IsTextOf gives n true h.read old new (Err fault)) → OnOk r (IsUsedUp true reader') →
-          Serves IsTextOf gives n (reading reads start end) old new r
-      at (Ok x) last up = (
-        h.read,
-        all,
-        subst (TellsThen n None (TookAnswers IsTextOf gives no_places old new)) (append-nil h.read)
-            ((ends_well last refl up).over [] (λ e. refl)),
-      )
-      at (Err fault) ends up = serves_fault reads start end true fault all ends
+          Ends IsTextOf gives n true h.read old new r
+      at (Ok done) last up = ends_well last refl up
+      at (Err fault) last up = last
 
   -- one more read gave bytes, and these were fed to the reader
   pub one_read : {next : J} {buffer : List ℕ} {count : ℕ} → reads now buffer (Ok count) next → 0 < count → count ≤ length buffer →
@@ -122,11 +105,11 @@ module _ {J : Type 0} {reads : J → List ℕ → Result ℕ DeviceFault → J �
         gave = gave-more reads start now next h.read (h.read ++ bytes) buffer count h.gave call some fits refl;
         has = record {
           answered = k.answered;
-          told = λ more may.
-              ap (told_by n) (append_assoc h.read bytes more) ∙ k.told (bytes ++ more) (λ e. cc)
-              ∙ ap (λ xs. after_these (k.answered ++ []) (told reader.nodes reader.line reader.begun (lines xs)))
-              (sym (append_assoc reader.pending bytes more));
-          output = k.output;
+          told = λ left may.
+              ap (told_by n) (append_assoc h.read bytes left) ∙ k.told (bytes ++ left) (λ e. cc)
+              ∙ ap (λ xs. after_these k.answered (told reader.nodes reader.line reader.begun (lines xs)))
+              (sym (append_assoc reader.pending bytes left));
+          is = k.is;
         };
       }
 
@@ -136,47 +119,29 @@ module _ {J : Type 0} {reads : J → List ℕ → Result ℕ DeviceFault → J �
   serves_refused buffer e up call =
       let k = h.has in
       let whole : k.answered ≡ whole_in n h.read =
-      sym (append-nil k.answered) ∙ sym (append-nil (k.answered ++ []))
-      ∙ not_held_back n ((h.read, k.answered ++ []) ∷ []) reader (reader, (λ more may. k.told more (λ e. cc)), refl) up
-      ∙ ap (whole_in n) (append-nil h.read) in (
-        refl,
-        h.read,
-        record { last = now; reads = h.gave; buffer = buffer; fault = e; call = call },
-        subst (TookAnswers IsTextOf gives no_places old output) whole k.output.took,
-      )
+      sym (append-nil k.answered) ∙ not_held_back n ((h.read, k.answered) ∷ []) reader (reader, k.told, refl) up
+      ∙ ap (whole_in n) (append-nil h.read) in
+      record {
+        answered = k.answered;
+        read = (refl, h.read, record { last = now; reads = h.gave; buffer = buffer; fault = e; call = call }, whole);
+        output = k.is.output;
+      }
 
--- what was read has P, and so it has Q, if P implies Q
-some_weaker : (requests : Reading) (P Q : List ℕ → List ℕ → Type 0) → ((read left : List ℕ) → P read left → Q read left) →
-    ReadsSome requests P → ReadsSome requests Q
-some_weaker requests P Q so (read, inl (some, p)) = (read, inl (some, λ left. so read left (p left)))
-some_weaker requests P Q so (read, inr (all, p)) = (read, inr (all, so read [] p))
-
--- answers with P are answers with Q, if P implies Q
+-- a run that answers with P answers with Q, if P implies Q
 module _ (P Q : TextOf) (so : (places : PlaceList) (request : Request) (text : List ℕ) → P places request text →
-    Q places request text) {S : Type 0} (gives : S → List ℕ → Result ℕ DeviceFault → S → Type 0) where
+    Q places request text) where
   answered_weaker : (places : PlaceList) (requests : List Request) (text : List ℕ) → AreAnswered P places requests text →
       AreAnswered Q places requests text
   answered_weaker places [] text h = h
   answered_weaker places (r ∷ requests) text h =
       (h.0, h.1, h.2, so places r h.0 h.3, answered_weaker (places_then places r) requests h.1 h.4)
 
-  took_weaker : (old new : S) (requests : List Request) → TookAnswers P gives no_places old new requests →
-      TookAnswers Q gives no_places old new requests
-  took_weaker old new requests h = (h.0, answered_weaker no_places requests h.0 h.1, h.2)
-
-  pub served_weaker : (n : ℕ) (requests : Reading) (old new : S) (r : Result Unit RunFault) → Serves P gives n requests old new r →
-      Serves Q gives n requests old new r
-  served_weaker n requests old new (Ok x) (bytes, all, (none, t)) = (bytes, all, (none, took_weaker old new (told_by n bytes).given t))
-  served_weaker n requests old new (Err (RunFault.Read which fault)) h =
-      (h.0, some_weaker requests _ _ (λ read left t. (t.0, took_weaker old new (told_by n (read ++ left)).given t.1)) h.1)
-  served_weaker n requests old new (Err (RunFault.CellsAt line)) h =
-      some_weaker requests _ _ (λ read left t. (t.0, took_weaker old new (told_by n (read ++ left)).given t.1)) h
-  served_weaker n requests old new (Err RunFault.Memory) h =
-      some_weaker requests _ _ (λ read left t. (t.0, t.1, t.2, took_weaker old new t.0 t.3)) h
-  served_weaker n requests old new (Err (RunFault.Device which)) h = (h.0, h.1, h.2, took_weaker old new (whole_in n h.1) h.3)
-  served_weaker n requests old new (Err (RunFault.Write count)) h = some_weaker requests _ _
-      (λ read left t. (t.0, t.1, t.2, t.3, t.4, answered_weaker no_places t.0 t.2 t.5, t.6, t.7)) h
-  served_weaker n requests old new (Err _) h = absurd h
+  pub served_weaker : {S : Type 0} {gives : S → List ℕ → Result ℕ DeviceFault → S → Type 0} {n : ℕ} {requests : Reading} {old new : S}
+      {r : Result Unit RunFault} → Serves P gives n requests old new r → Serves Q gives n requests old new r
+  served_weaker h =
+      let took = h.output in
+      let answers = answered_weaker no_places h.answered took.text took.answers in
+      record { answered = h.answered; read = h.read; output = record { text = took.text; answers = answers; took = took.took } }
 
 -- the hierarchy that answers a list of queries with their routes is built in the order of the options
 pub wanted_for_queries : (options : Options) (workers nodes : ℕ) → writes_routes options ≡ true →
@@ -192,6 +157,4 @@ asked_in options g h H is places (Query s t) text told = text_in (writes_routes 
     options.hops.number g h H (λ e. refl) is ((s, t) ∷ []) text told
 asked_in options g h H is places (Route s t) text told =
     text_in true (order_built options) (order_built options) options.hops.number g h H (λ e. refl) is ((s, t) ∷ []) text told
-asked_in options g h H is places (TableOf lists) text told = told
-asked_in options g h H is places (PlacesOf given) text told = told
-asked_in options g h H is places (Near s within) text told = told
+asked_in options g h H is places _ text told = told

@@ -1,14 +1,13 @@
 -- The promises of a run that answers requests as they come.
-use Rattle.std.specs.Prelude.{◌≡◌, ◌⊎◌, ℕ, ◌+◌, true, List, [], ◌∷◌, ◌++◌, Option, Some, None, Result, Ok, Err}
+use Rattle.std.specs.Prelude.{◌≡◌, ◌⊎◌, ℕ, true, List, [], ◌∷◌, ◌++◌, Option, Some, None, Result, Ok, Err, ⊤}
 use Rattle.ch_graph.specs.Graph.{Network}
 use Rattle.ch_hierarchy.specs.Hierarchy.{LevelsAndLegs}
 use Rattle.ch_read.specs.declared.request.Request.{Request}
 use Rattle.ch_read.specs.declared.request.Request.TheVariants.{Query, Route, Table, Places, Near}
-use Rattle.ch_read.specs.declared.request_fault.RequestFault.{RequestFault}
 use Rattle.ch_read.specs.declared.request_fault.RequestFault.TheVariants.{Line, Cells}
 use Rattle.ch_read.specs.RequestLists.{PlaceList}
 use Rattle.ch_read.specs.Reading.{capped_number}
-use Rattle.ch_read.specs.Requests.{told_by}
+use Rattle.ch_read.specs.Requests.{Told, after_these, stopping, told_by}
 use Rattle.ch_read.specs.RequestLaws.{went_by}
 use Rattle.ch_run.specs.declared.fault.Which.{Which}
 use Rattle.ch_run.specs.declared.fault.RunFault.{RunFault}
@@ -68,54 +67,62 @@ AreAnswered IsTextOf places (request ∷ requests) text =
     (first rest : List ℕ) × (text ≡ first ++ rest) × IsTextOf places request first
     × AreAnswered IsTextOf (places_then places request) requests rest
 
--- the output took the answers to these requests. `gives` says what one write may do
-abbrev pub TookAnswers : TextOf → {S : Type 0} → (gives : S → List ℕ → Result ℕ DeviceFault → S → Type 0) → PlaceList →
-    (old new : S) → List Request → Type 0
-TookAnswers IsTextOf gives places old new requests = (text : List ℕ) × AreAnswered IsTextOf places requests text × Took gives old text new
+-- the output took this text. Or it took the beginning of the text, up to a write that failed, and `count` is the number of its bytes, up to
+-- 2^64 - 1. `gives` says what one write may do
+abbrev pub TookUpTo : {S : Type 0} → (gives : S → List ℕ → Result ℕ DeviceFault → S → Type 0) → (old new : S) → List ℕ →
+    (count : Option ℕ) → Type 0
+TookUpTo gives old new text None = Took gives old text new
+TookUpTo gives old new text (Some count) = (bytes : ℕ) × TookUntilFault gives old text bytes new × (count ≡ capped_number bytes)
 
--- the output took the answers to the first of these requests, to any number of them
-abbrev pub TookFirstAnswers : TextOf → {S : Type 0} → (gives : S → List ℕ → Result ℕ DeviceFault → S → Type 0) → PlaceList →
-    (old new : S) → List Request → Type 0
-TookFirstAnswers IsTextOf gives places old new requests = (first later : List Request) × (requests ≡ first ++ later)
-    × TookAnswers IsTextOf gives places old new first
+-- the output took the answers to these requests, or the beginning of their text
+pub record TookAnswers {S : Type 0} (IsTextOf : TextOf) (gives : S → List ℕ → Result ℕ DeviceFault → S → Type 0) (old new : S)
+    (count : Option ℕ) (requests : List Request) : Type 0 where
+  pub text : List ℕ
+  pub answers : AreAnswered IsTextOf no_places requests text
+  pub took : TookUpTo gives old new text count
 
--- the output took the beginning of the answers to the first of these requests, up to a write that failed. `count` is the number of its
--- bytes and of the bytes `before`, up to 2^64 - 1
-abbrev pub TookBeginning : TextOf → {S : Type 0} → (gives : S → List ℕ → Result ℕ DeviceFault → S → Type 0) → PlaceList →
-    (old new : S) → (before count : ℕ) → List Request → Type 0
-TookBeginning IsTextOf gives places old new before count requests =
-    (first later : List Request) × (text : List ℕ) × (bytes : ℕ) × (requests ≡ first ++ later) × AreAnswered IsTextOf places first text
-    × TookUntilFault gives old text bytes new × (count ≡ capped_number (before + bytes))
+-- the number of bytes with which a run reports a failed write, if it does
+abbrev pub failed_write : {T : Type 0} → Result T RunFault → Option ℕ
+failed_write (Err (RunFault.Write count)) = Some count
+failed_write _ = None
+
+-- what may be told after the requests that a run answered: nothing if it succeeds, and the fault if it refuses them. Anything may be told
+-- if there is no memory, or if a write failed
+abbrev pub MayFollow : {T : Type 0} → Result T RunFault → Told → Type 0
+MayFollow (Ok _) rest = rest ≡ stopping None
+MayFollow (Err (RunFault.Read which fault)) rest = (which ≡ Which.Requests) × (rest ≡ stopping (Some (Line fault)))
+MayFollow (Err (RunFault.CellsAt line)) rest = rest ≡ stopping (Some (Cells line))
+MayFollow (Err RunFault.Memory) rest = ⊤
+MayFollow (Err (RunFault.Write count)) rest = ⊤
+MayFollow (Err _) rest = ⊥
+
+-- the requests that were answered are told first, and then what may follow them
+abbrev pub TellsFirst : {T : Type 0} → List Request → Result T RunFault → Told → Type 0
+TellsFirst answered result told = (rest : Told) × (told ≡ after_these answered rest) × MayFollow result rest
 
 -- reads gave these bytes, with P whatever bytes are left. Or they gave these bytes up to the end, with P where none are left
 abbrev pub ReadsSome : Reading → (List ℕ → List ℕ → Type 0) → Type 0
 ReadsSome input P = (read : List ℕ) × ((input.some read × ((left : List ℕ) → P read left)) ⊎ (input.all read × P read []))
 
--- the bytes give requests with P, and then this fault or none
-abbrev pub TellsThen : ℕ → Option RequestFault → (List Request → Type 0) → List ℕ → Type 0
-TellsThen n fault P bytes = ((told_by n bytes).fault ≡ fault) × P (told_by n bytes).given
-
 -- the requests that are whole in these bytes: those in lines that a line feed ends
 abbrev pub whole_in : ℕ → List ℕ → List Request
 whole_in n bytes = (went_by n bytes).told.given
 
--- how a run over requests on a graph of n nodes ends, and what the output took. At a failed read, all requests that were whole
--- before it are answered. No run can know which read will fail. That is why it answers what is whole before each read
-abbrev pub Serves : {T S : Type 0} → TextOf → (gives : S → List ℕ → Result ℕ DeviceFault → S → Type 0) → ℕ → Reading →
-    (old new : S) → Result T RunFault → Type 0
-Serves IsTextOf gives n requests old new (Ok _) = ReadsAll requests (TellsThen n None (TookAnswers IsTextOf gives no_places old new))
-Serves IsTextOf gives n requests old new (Err (RunFault.Read which fault)) =
-    (which ≡ Which.Requests) × ReadsSome requests
-    (λ read left. TellsThen n (Some (Line fault)) (TookAnswers IsTextOf gives no_places old new) (read ++ left))
-Serves IsTextOf gives n requests old new (Err (RunFault.CellsAt line)) =
-    ReadsSome requests (λ read left. TellsThen n (Some (Cells line)) (TookAnswers IsTextOf gives no_places old new) (read ++ left))
-Serves IsTextOf gives n requests old new (Err RunFault.Memory) =
-    ReadsSome requests (λ read left. TookFirstAnswers IsTextOf gives no_places old new (told_by n (read ++ left)).given)
-Serves IsTextOf gives n requests old new (Err (RunFault.Device which)) =
-    (which ≡ Which.Requests) × (read : List ℕ) × requests.failed read × TookAnswers IsTextOf gives no_places old new (whole_in n read)
-Serves IsTextOf gives n requests old new (Err (RunFault.Write count)) =
-    ReadsSome requests (λ read left. TookBeginning IsTextOf gives no_places old new 0 count (told_by n (read ++ left)).given)
-Serves IsTextOf gives n requests old new (Err _) = ⊥
+-- what a run on a graph of n nodes has read when it ends, and which requests it has answered. At a failed read, all requests that were
+-- whole before it are answered. No run can know which read will fail. That is why it answers what is whole before each read
+abbrev pub ReadsAndAnswers : {T : Type 0} → ℕ → Reading → List Request → Result T RunFault → Type 0
+ReadsAndAnswers n requests answered (Ok done) = ReadsAll requests (λ bytes. TellsFirst answered (Ok done) (told_by n bytes))
+ReadsAndAnswers n requests answered (Err (RunFault.Device which)) =
+    (which ≡ Which.Requests) × (read : List ℕ) × requests.failed read × (answered ≡ whole_in n read)
+ReadsAndAnswers {T} n requests answered (Err fault) =
+    ReadsSome requests (λ read left. TellsFirst {T = T} answered (Err fault) (told_by n (read ++ left)))
+
+-- how a run over requests on a graph of n nodes ends: the requests that it answered, what it read, and what the output took
+pub record Serves {T S : Type 0} (IsTextOf : TextOf) (gives : S → List ℕ → Result ℕ DeviceFault → S → Type 0) (n : ℕ)
+    (requests : Reading) (old new : S) (result : Result T RunFault) : Type 0 where
+  pub answered : List Request
+  pub read : ReadsAndAnswers n requests answered result
+  pub output : TookAnswers IsTextOf gives old new (failed_write result) answered
 
 -- the graph was accepted, and so was the file for the hierarchy, if one is read. The run answered the requests by this hierarchy, or by
 -- the contraction hierarchy that it built

@@ -12,48 +12,39 @@ use Rattle.ch_read.specs.declared.request_fault.RequestFault.TheVariants.{Line, 
 use Rattle.ch_read.specs.declared.request_fault.RequestError.{RequestError}
 use Rattle.ch_read.specs.declared.request_fault.RequestError.TheVariants.{Fault, NoMemory}
 use Rattle.ch_read.specs.Reading.{capped_number}
-use Rattle.ch_read.specs.Requests.{HasGiven, IsStopped, IsUsedUp, MayCome, Standing, Told, query_from, route_from, told_by}
+use Rattle.ch_read.specs.Requests.{IsStopped, IsUsedUp, MayCome, Standing, after_these, ahead, query_from, route_from, told_by}
 use Rattle.ch_run.specs.declared.fault.RunFault.{RunFault}
 use Rattle.ch_run.specs.declared.run.batch.Then.{Then}
 use Rattle.ch_run.specs.declared.run.batch.Then.TheVariants.{More, Nothing, Stop}
 use Rattle.ch_run.specs.declared.run.answering.Room.{Room}
 use Rattle.ch_run.specs.declared.fault.Which.{Which}
 use Rattle.ch_run.specs.Loaded.{GraphAndHierarchy, IsRight}
-use Rattle.ch_run.specs.Ask.{AreAnswered, TextOf, TookAnswers, TookFirstAnswers, TookBeginning, no_places, places_after}
+use Rattle.ch_run.specs.Ask.{AreAnswered, TellsFirst, TextOf, TookAnswers, failed_write, no_places, places_after}
 use Rattle.ch_text.specs.Moves.{Took, TookUntilFault}
 use Rattle.ch_text.specs.declared.device.DeviceFault.{DeviceFault}
 
--- how a run that was told this ends, and what the output took. At a fault of the requests, all requests before it are answered
-abbrev pub EndsOver : {S : Type 0} → TextOf → (gives : S → List ℕ → Result ℕ DeviceFault → S → Type 0) → (old new : S) →
-    Result Unit RunFault → Told → Type 0
-EndsOver IsTextOf gives old new (Ok _) told = (told.fault ≡ None) × TookAnswers IsTextOf gives no_places old new told.given
-EndsOver IsTextOf gives old new (Err (RunFault.Read which fault)) told =
-    (which ≡ Which.Requests) × (told.fault ≡ Some (Line fault)) × TookAnswers IsTextOf gives no_places old new told.given
-EndsOver IsTextOf gives old new (Err (RunFault.CellsAt line)) told =
-    (told.fault ≡ Some (Cells line)) × TookAnswers IsTextOf gives no_places old new told.given
-EndsOver IsTextOf gives old new (Err RunFault.Memory) told = TookFirstAnswers IsTextOf gives no_places old new told.given
-EndsOver IsTextOf gives old new (Err (RunFault.Write count)) told = TookBeginning IsTextOf gives no_places old new 0 count told.given
-EndsOver IsTextOf gives old new (Err _) told = ⊥
-
--- these bytes were read, and the run ends so whatever bytes may be left
+-- these bytes were read, and the run ends so after the requests that it answered, whatever bytes may be left
 pub record Ends {S : Type 0} (IsTextOf : TextOf) (gives : S → List ℕ → Result ℕ DeviceFault → S → Type 0) (n : ℕ) (ended : Bool)
     (read : List ℕ) (old new : S) (result : Result Unit RunFault) : Type 0 where
-  pub over : (left : List ℕ) → MayCome ended left → EndsOver IsTextOf gives old new result (told_by n (read ++ left))
+  pub answered : List Request
+  pub told : (left : List ℕ) → MayCome ended left → TellsFirst answered result (told_by n (read ++ left))
+  pub output : TookAnswers IsTextOf gives old new (failed_write result) answered
 
 -- the output took the answers to these requests, `written` bytes, and `held` are the places that were given last
 pub record IsAnswered {S : Type 0} (IsTextOf : TextOf) (gives : S → List ℕ → Result ℕ DeviceFault → S → Type 0) (old new : S)
     (requests : List Request) (held : PlaceList) (written : ℕ) : Type 0 where
-  pub took : TookAnswers IsTextOf gives no_places old new requests
+  pub output : TookAnswers IsTextOf gives old new None requests
   pub places : held ≡ places_after no_places requests
-  pub count : written ≡ capped_number (length took.0)
+  pub count : written ≡ capped_number (length output.text)
 
--- a reader gave requests of these bytes, and is in this standing. All but those that wait are answered
+-- a reader of these bytes is in this standing. Its requests are answered up to those that wait
 pub record HasAnswered {S : Type 0} (IsTextOf : TextOf) (gives : S → List ℕ → Result ℕ DeviceFault → S → Type 0) (n : ℕ)
     (ended : Bool) (read : List ℕ) (reader : Standing) (waiting : List Request) (old new : S) (held : PlaceList) (written : ℕ) :
     Type 0 where
   pub answered : List Request
-  pub told : HasGiven ended n read reader (answered ++ waiting)
-  pub output : IsAnswered IsTextOf gives old new answered held written
+  pub told : (left : List ℕ) → MayCome ended left →
+      told_by n (read ++ left) ≡ after_these answered (after_these waiting (ahead reader left))
+  pub is : IsAnswered IsTextOf gives old new answered held written
 
 -- a call answers requests: whatever was answered before it, these wait before it and those after it. Or the run ends in its fault
 abbrev pub GoesOn : {S : Type 0} → TextOf → (gives : S → List ℕ → Result ℕ DeviceFault → S → Type 0) → ℕ → (ended : Bool) →

@@ -25,8 +25,8 @@ returns-clause-went g c =
     loads_on _ _ _ _ _ _ _
     (inr (served_weaker (IsTextOfRequest options network H)
     (IsRequestText options network (IsServing (order_built options) options.hops.number network saved))
-    (asked_in options network saved H (rw c.building_order-order.ensures at c.in_ok-checked.ensures.serving)) g.O.Output.write_gives
-    network.nodes _ _ _ c.serve.result (rw c.in_ok-checked.ensures.graph at c.serve.ensures)))
+    (asked_in options network saved H (rw c.building_order-order.ensures at c.in_ok-checked.ensures.serving))
+    (rw c.in_ok-checked.ensures.graph at c.serve.ensures)))
     c.in_ok-loaded.ensures.went
 
 -- so the requests were served
