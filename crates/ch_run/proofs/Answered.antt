@@ -1,7 +1,7 @@
 -- Requests that are answered one after the other.
 use Rattle.std.proofs.Common.{◌≡◌, ℕ, ◌||◌, Bool, true, false, List, [], ◌∷◌, ◌++◌, map, take, drop, Result, Ok, Err}
 use Rattle.std.proofs.Common.{None, refl, sym, ap, ◌∙◌, subst, arith, append_assoc}
-use Rattle.std.specs.Prelude.{MatchResult, is_ok, is_err, if◌then◌else◌}
+use Rattle.std.specs.Prelude.{MatchResult}
 use Rattle.std.proofs.lemmas.List.{append-nil, take-append-drop}
 use Rattle.std.specs.List.{AllZip, flat_map}
 use Rattle.ch_graph.specs.Graph.{Network}
@@ -12,19 +12,17 @@ use Rattle.ch_read.specs.declared.request_fault.RequestError.{RequestError}
 use Rattle.ch_read.specs.declared.request_fault.RequestError.TheVariants.{Fault, NoMemory}
 use Rattle.ch_read.specs.declared.request_fault.RequestFault.TheVariants.{Line, Cells}
 use Rattle.ch_read.specs.RequestLists.{PlaceList}
-use Rattle.ch_read.specs.Requests.{Gives, IsErrorAhead, IsUsedUp, MayCome, Standing, after_these, ahead, starting, stopping, told}
-use Rattle.ch_read.specs.Requests.{told_by}
+use Rattle.ch_read.specs.Requests.{Gives, IsErrorAhead, IsUsedUp, MayCome, Standing, after_these, ahead, stopping, told, told_by}
 use Rattle.ch_read.specs.Words.{lines}
 use Rattle.ch_run.specs.declared.fault.RunFault.{RunFault}
 use Rattle.ch_job.specs.declared.options.Options.{Options}
 use Rattle.ch_text.specs.declared.device.DeviceFault.{DeviceFault}
-use Rattle.ch_text.proofs.Moves.{took-none}
 use Rattle.ch_text.specs.Distances.{AnswersShortly, HasText, distance_text}
 use Rattle.ch_text.specs.Routes.{AnswersWithRoute, answer_text}
 use Rattle.ch_run.specs.Text.{IsTextBy, writes_routes}
 use Rattle.ch_run.specs.Ask.{AreAnswered, IsRequestText, TextOf, no_places, places_after, places_then}
 use Rattle.ch_run.proofs.Parts.{written_then}
-use Rattle.ch_run.specs.Serving.{AnswersFirst, Ends, HasAnswered, IsStop, WritesMore, asked_for, request_refusal}
+use Rattle.ch_run.specs.Serving.{AnswersFirst, Ends, HasAnswered, WritesMore, asked_for, request_refusal}
 
 -- if no request of these values gives places, the lines of their answers, joined, answer the requests one by one
 module _ {A B : Type 0} (IsTextOf : TextOf) (from : A → Request) (places : PlaceList)
@@ -90,24 +88,15 @@ places_append : (places : PlaceList) (xs ys : List Request) → places_after pla
 places_append places [] ys = refl
 places_append places (x ∷ xs) ys = places_append (places_then places x) xs ys
 
--- at the start nothing was read and nothing is answered
-pub answered_none : (IsTextOf : TextOf) {S : Type 0} (gives : S → List ℕ → Result ℕ DeviceFault → S → Type 0) (n : ℕ) (output : S) →
-    HasAnswered IsTextOf gives n false [] (starting n) [] output output no_places 0
-answered_none IsTextOf gives n output = record {
-  answered = [];
-  told = λ left may. refl;
-  is = record {
-    output = record { text = []; answers = refl; took = took-none gives output };
-    places = refl;
-    count = omega arith;
-  };
-}
+-- after the end, nothing is ahead of a reader that is used up
+pub none_ahead : (reader : Standing) → IsUsedUp true reader → ahead reader [] ≡ stopping None
+none_ahead reader up = ap (λ xs. told reader.nodes reader.line reader.begun (lines (xs ++ []))) up.0 ∙ ap stopping up.1
 
 module _ {IsTextOf : TextOf} {S : Type 0} {gives : S → List ℕ → Result ℕ DeviceFault → S → Type 0} {n : ℕ} {ended : Bool} {read : List ℕ}
     {reader : Standing} {old output : S} {held : PlaceList} {written : ℕ} where
   module _ {waiting : List Request} (h : HasAnswered IsTextOf gives n ended read reader waiting old output held written) where
     -- the run may end for want of memory
-    pub ends_memory : Ends IsTextOf gives n ended read old output (Err RunFault.Memory)
+    pub ends_memory : Ends IsTextOf gives n ended read old output RunFault.Memory
     ends_memory = record { answered = h.answered; told = λ left may. (_, h.told left may, tt); output = h.is.output }
 
     module _ {held' : PlaceList} {count : ℕ} {text : List ℕ} (first : AnswersFirst IsTextOf held held' waiting text count) where
@@ -134,7 +123,7 @@ module _ {IsTextOf : TextOf} {S : Type 0} {gives : S → List ℕ → Result ℕ
       pub first_written : (output' : S) (written' : ℕ) (r : Result Unit RunFault) →
           WritesMore gives output output' written written' text r → MatchResult r
           (λ _. HasAnswered IsTextOf gives n ended read reader later old output' held' written')
-          (λ fault. Ends IsTextOf gives n ended read old output' (Err fault))
+          (λ fault. Ends IsTextOf gives n ended read old output' fault)
       first_written output' written' (Ok done) wrote =
           let more = written_then gives old output output' written written' _ text (Ok done) tt h.is.output.took h.is.count wrote in
           record {
@@ -165,31 +154,11 @@ module _ {IsTextOf : TextOf} {S : Type 0} {gives : S → List ℕ → Result ℕ
     batch_waits given =
         record { answered = h.answered; told = λ left may. h.told left may ∙ ap (after_these h.answered) (given left may); is = h.is }
 
-    -- the run ends in the fault that the reader stopped for
-    pub ends_stopped : (fault : RunFault) → IsStop ended reader fault → Ends IsTextOf gives n ended read old output (Err fault)
-    ends_stopped (RunFault.Read which fault) stop =
-        record { answered = h.answered; told = λ left may. (_, h.told left may, (stop.0, stop.1 left may)); output = h.is.output }
-    ends_stopped (RunFault.CellsAt line) stop =
+    -- the run ends in the error that the reader returned
+    pub ends_stopped : (error : RequestError) → IsErrorAhead ended reader error →
+        Ends IsTextOf gives n ended read old output (request_refusal error)
+    ends_stopped (Fault (Line fault)) stop =
+        record { answered = h.answered; told = λ left may. (_, h.told left may, (refl, stop left may)); output = h.is.output }
+    ends_stopped (Fault (Cells line)) stop =
         record { answered = h.answered; told = λ left may. (_, h.told left may, stop left may); output = h.is.output }
-    ends_stopped RunFault.Memory stop = ends_memory h
-    ends_stopped _ stop = absurd stop
-
-    -- at the end, no request is left
-    pub ends_well : ended ≡ true → IsUsedUp true reader → Ends IsTextOf gives n ended read old output (Ok tt)
-    ends_well is up =
-        let none : (left : List ℕ) → MayCome ended left → ahead reader left ≡ stopping None = λ left may. ap (ahead reader) (may is)
-        ∙ ap (λ xs. told reader.nodes reader.line reader.begun (lines (xs ++ []))) up.0 ∙ ap stopping up.1 in
-        record { answered = h.answered; told = λ left may. (_, h.told left may, none left may); output = h.is.output }
-
--- the error that a reader returns stops it
-pub refused : (ended : Bool) (reader : Standing) (error : RequestError) → IsErrorAhead ended reader error →
-    IsStop ended reader (request_refusal error)
-refused ended reader (Fault (Line fault)) h = (refl, h)
-refused ended reader (Fault (Cells line)) h = h
-refused ended reader NoMemory h = tt
-
--- if memory was refused, nothing was pushed
-pub not_pushed : {T E A : Type 0} (r : Result T E) (xs more all : List A) → is_err r ≡ true → all ≡ (if is_ok r then more else xs) →
-    all ≡ xs
-not_pushed (Ok x) xs more all e h = cc
-not_pushed (Err y) xs more all e h = h
+    ends_stopped NoMemory stop = ends_memory h

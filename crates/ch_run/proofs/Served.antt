@@ -1,22 +1,21 @@
 -- Requests that are read and answered as they come.
-use Rattle.std.proofs.Common.{◌≡◌, ℕ, ◌<◌, ◌≤◌, Bool, true, false, List, [], ◌∷◌, ◌++◌, length, take, Option, Result, Ok, Err}
-use Rattle.std.proofs.Common.{inl, inr, refl, sym, ap, ◌∙◌, subst, append_assoc}
+use Rattle.std.proofs.Common.{◌≡◌, ℕ, ◌<◌, ◌≤◌, true, false, List, [], ◌∷◌, ◌++◌, length, take, Option, Result, Ok, Err}
+use Rattle.std.proofs.Common.{inl, inr, refl, sym, ap, ◌∙◌, append_assoc, arith}
 use Rattle.std.specs.Prelude.{MatchResult, OnOk}
 use Rattle.std.proofs.lemmas.List.{append-nil}
-use Rattle.std.proofs.lemmas.Result.{on_ok_weaker}
 use Rattle.ch_read.specs.declared.request.Request.{Request}
 use Rattle.ch_read.specs.declared.request.Request.TheVariants.{Query, Route}
 use Rattle.ch_read.specs.RequestLists.{PlaceList}
 use Rattle.ch_read.specs.Words.{lines}
-use Rattle.ch_read.specs.Requests.{IsUsedUp, MayCome, Standing, after_these, fed, starting, told, told_by}
+use Rattle.ch_read.specs.Requests.{IsUsedUp, Standing, Told, after_these, fed, starting, told, told_by}
 use Rattle.ch_read.proofs.RequestsHeldBack.{not_held_back}
 use Rattle.ch_run.specs.declared.fault.RunFault.{RunFault}
 use Rattle.ch_run.specs.declared.fault.Which.{Which}
 use Rattle.ch_text.specs.Moves.{Gave, GaveAll}
 use Rattle.ch_text.specs.declared.device.DeviceFault.{DeviceFault}
-use Rattle.ch_text.proofs.Moves.{gave-more}
+use Rattle.ch_text.proofs.Moves.{gave-more, took-none}
 use Rattle.ch_run.specs.Run.{Reading, reading}
-use Rattle.ch_run.specs.Ask.{AreAnswered, IsRequestText, IsTextOfRequest, ReadsAndAnswers, Serves, TellsFirst, TextOf}
+use Rattle.ch_run.specs.Ask.{AreAnswered, IsRequestText, IsTextOfRequest, MayFollow, ReadsAndAnswers, ReadsSome, Serves, TellsFirst, TextOf}
 use Rattle.ch_run.specs.Ask.{no_places, places_then, whole_in}
 use Rattle.ch_run.specs.Serving.{Ends, GoesOn, HasAnswered}
 use Rattle.ch_graph.specs.Graph.{Network}
@@ -25,31 +24,14 @@ use Rattle.ch_job.specs.declared.options.Options.{Options}
 use Rattle.ch_run.specs.Source.{IsServing, order_built, order_for_queries}
 use Rattle.ch_run.specs.Text.{writes_routes}
 use Rattle.ch_run.proofs.Texts.{text_in}
-use Rattle.ch_run.proofs.Answered.{answered_none, ends_memory, ends_well}
+use Rattle.ch_run.proofs.Answered.{ends_memory, none_ahead}
 
--- reads gave these bytes: up to the end if it has come
-abbrev AreRead : Bool → {J : Type 0} → (reads : J → List ℕ → Result ℕ DeviceFault → J → Type 0) → (start : J) → List ℕ → (now : J) →
-    Type 0
-AreRead true reads start read now = GaveAll reads start read now
-AreRead false reads start read now = Gave reads start read now
-
--- the run ends so after these bytes were read
-serves_end : {J : Type 0} (reads : J → List ℕ → Result ℕ DeviceFault → J → Type 0) (start now : J) {IsTextOf : TextOf} {n : ℕ}
-    {S : Type 0} {gives : S → List ℕ → Result ℕ DeviceFault → S → Type 0} {old new : S} {read : List ℕ} (ended : Bool)
-    (r : Result Unit RunFault) → OnOk r (ended ≡ true) → AreRead ended reads start read now →
-    Ends IsTextOf gives n ended read old new r → Serves IsTextOf gives n (reading reads start now) old new r
-serves_end reads start now {n = n} {read = read} ended r full input ends =
-    record { answered = ends.answered; read = at r ended full input ends.told; output = ends.output }
-  where
-    at : (r : Result Unit RunFault) (ended : Bool) → OnOk r (ended ≡ true) → AreRead ended reads start read now →
-        ((left : List ℕ) → MayCome ended left → TellsFirst ends.answered r (told_by n (read ++ left))) →
-        ReadsAndAnswers n (reading reads start now) ends.answered r
-    at (Ok done) true full input told =
-        (read, input, subst (λ bytes. TellsFirst ends.answered (Ok done) (told_by n bytes)) (append-nil read) (told [] (λ e. refl)))
-    at (Ok done) false full input told = cc
-    at (Err (RunFault.Device which)) ended full input told = absurd (told [] (λ e. refl)).2
-    at (Err fault) true full input told = (read, inr (input, told [] (λ e. refl)))
-    at (Err fault) false full input told = (read, inl (input, λ left. told left (λ e. cc)))
+-- a run that ends in a fault, and in no failed read, has read some bytes
+reads_some : (n : ℕ) (requests : Reading) (answered : List Request) (fault : RunFault) (rest : Told) → MayFollow {T = Unit} (Err fault) rest →
+    ReadsSome requests (λ read left. TellsFirst {T = Unit} answered (Err fault) (told_by n (read ++ left))) →
+    ReadsAndAnswers {T = Unit} n requests answered (Err fault)
+reads_some n requests answered (RunFault.Device which) rest follows some = absurd follows
+reads_some n requests answered fault rest follows some = some
 
 -- bytes were read and fed to a reader, which is in this standing, and all requests that it gave are answered
 pub record HasServed {J : Type 0} (reads : J → List ℕ → Result ℕ DeviceFault → J → Type 0) (start now : J) {S : Type 0}
@@ -59,19 +41,35 @@ pub record HasServed {J : Type 0} (reads : J → List ℕ → Result ℕ DeviceF
   pub gave : Gave reads start read now
   pub has : HasAnswered IsTextOf gives n false read reader [] old new held written
 
--- at the start, nothing was read
+-- at the start, nothing was read and nothing is answered
 pub served_none : {J : Type 0} {reads : J → List ℕ → Result ℕ DeviceFault → J → Type 0} {start : J} {S : Type 0} {IsTextOf : TextOf}
     {gives : S → List ℕ → Result ℕ DeviceFault → S → Type 0} {n : ℕ} {output : S} →
     HasServed reads start start IsTextOf gives n (starting n) output output no_places 0
-served_none {IsTextOf = IsTextOf} {gives} {n} {output} = record { read = []; gave = (0, refl); has = answered_none IsTextOf gives n output }
+served_none {gives = gives} {output = output} = record {
+  read = [];
+  gave = (0, refl);
+  has = record {
+    answered = [];
+    told = λ left may. refl;
+    is = record {
+      output = record { text = []; answers = refl; took = took-none gives output };
+      places = refl;
+      count = omega arith;
+    };
+  };
+}
 
 module _ {J : Type 0} {reads : J → List ℕ → Result ℕ DeviceFault → J → Type 0} {start now : J} {S : Type 0} {IsTextOf : TextOf}
     {gives : S → List ℕ → Result ℕ DeviceFault → S → Type 0} {n : ℕ} {reader : Standing} {old output : S} {held : PlaceList} {written : ℕ}
     (h : HasServed reads start now IsTextOf gives n reader old output held written) where
   -- the run ends in a fault that answering ends in
-  pub serves_stopped : {new : S} {fault : RunFault} → Ends IsTextOf gives n false h.read old new (Err fault) →
+  pub serves_stopped : {new : S} {fault : RunFault} → Ends IsTextOf gives n false h.read old new fault →
       Serves {T = Unit} IsTextOf gives n (reading reads start now) old new (Err fault)
-  serves_stopped {fault = fault} ends = serves_end reads start now false (Err fault) tt h.gave ends
+  serves_stopped {fault = fault} ends = record {
+    answered = ends.answered;
+    read = reads_some n _ _ fault _ (ends.told [] (λ e. refl)).2 (h.read, inl (h.gave, λ left. ends.told left (λ e. cc)));
+    output = ends.output;
+  }
 
   -- the run ends for want of memory
   pub serves_memory : Serves {T = Unit} IsTextOf gives n (reading reads start now) old output (Err RunFault.Memory)
@@ -84,15 +82,24 @@ module _ {J : Type 0} {reads : J → List ℕ → Result ℕ DeviceFault → J �
       Serves IsTextOf gives n (reading reads start end) old new r
   serves_all {end} buffer reader' new held' written' r room call on up =
       let k = h.has in
-      let all : GaveAll reads start h.read end = record { last = now; reads = h.gave; buffer = buffer; room = room; call = call } in
-      serves_end reads start end true r (on_ok_weaker r (λ up. refl) up) all
-      (at r (on h.read old (record { answered = k.answered; told = λ left may. k.told left (λ e. cc); is = k.is })) up)
+      at r (on h.read old (record { answered = k.answered; told = λ left may. k.told left (λ e. cc); is = k.is })) up
     where
+      all : GaveAll reads start h.read end
+      all = record { last = now; reads = h.gave; buffer = buffer; room = room; call = call }
+
       at : (r : Result Unit RunFault) → MatchResult r (λ _. HasAnswered IsTextOf gives n true h.read reader' [] old new held' written')
-          (λ fault. Ends IsTextOf gives n true h.read old new (Err fault)) → OnOk r (IsUsedUp true reader') →
-          Ends IsTextOf gives n true h.read old new r
-      at (Ok done) last up = ends_well last refl up
-      at (Err fault) last up = last
+          (λ fault. Ends IsTextOf gives n true h.read old new fault) → OnOk r (IsUsedUp true reader') →
+          Serves IsTextOf gives n (reading reads start end) old new r
+      at (Ok done) last up = record {
+        answered = last.answered;
+        read = (h.read, all, (_, ap (told_by n) (sym (append-nil h.read)) ∙ last.told [] (λ e. refl), none_ahead reader' up));
+        output = last.is.output;
+      }
+      at (Err fault) last up = record {
+        answered = last.answered;
+        read = reads_some n _ _ fault _ (last.told [] (λ e. refl)).2 (h.read, inr (all, last.told [] (λ e. refl)));
+        output = last.output;
+      }
 
   -- one more read gave bytes, and these were fed to the reader
   pub one_read : {next : J} {buffer : List ℕ} {count : ℕ} → reads now buffer (Ok count) next → 0 < count → count ≤ length buffer →

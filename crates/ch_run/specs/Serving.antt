@@ -12,7 +12,7 @@ use Rattle.ch_read.specs.declared.request_fault.RequestFault.TheVariants.{Line, 
 use Rattle.ch_read.specs.declared.request_fault.RequestError.{RequestError}
 use Rattle.ch_read.specs.declared.request_fault.RequestError.TheVariants.{Fault, NoMemory}
 use Rattle.ch_read.specs.Reading.{capped_number}
-use Rattle.ch_read.specs.Requests.{IsStopped, IsUsedUp, MayCome, Standing, after_these, ahead, query_from, route_from, told_by}
+use Rattle.ch_read.specs.Requests.{IsErrorAhead, IsUsedUp, MayCome, Standing, after_these, ahead, query_from, route_from, told_by}
 use Rattle.ch_run.specs.declared.fault.RunFault.{RunFault}
 use Rattle.ch_run.specs.declared.run.batch.Then.{Then}
 use Rattle.ch_run.specs.declared.run.batch.Then.TheVariants.{More, Nothing, Stop}
@@ -23,12 +23,12 @@ use Rattle.ch_run.specs.Ask.{AreAnswered, TellsFirst, TextOf, TookAnswers, faile
 use Rattle.ch_text.specs.Moves.{Took, TookUntilFault}
 use Rattle.ch_text.specs.declared.device.DeviceFault.{DeviceFault}
 
--- these bytes were read, and the run ends so after the requests that it answered, whatever bytes may be left
+-- these bytes were read, and the run ends in this fault after the requests that it answered, whatever bytes may be left
 pub record Ends {S : Type 0} (IsTextOf : TextOf) (gives : S → List ℕ → Result ℕ DeviceFault → S → Type 0) (n : ℕ) (ended : Bool)
-    (read : List ℕ) (old new : S) (result : Result Unit RunFault) : Type 0 where
+    (read : List ℕ) (old new : S) (fault : RunFault) : Type 0 where
   pub answered : List Request
-  pub told : (left : List ℕ) → MayCome ended left → TellsFirst answered result (told_by n (read ++ left))
-  pub output : TookAnswers IsTextOf gives old new (failed_write result) answered
+  pub told : (left : List ℕ) → MayCome ended left → TellsFirst {T = Unit} answered (Err fault) (told_by n (read ++ left))
+  pub output : TookAnswers IsTextOf gives old new (failed_write {T = Unit} (Err fault)) answered
 
 -- the output took the answers to these requests, `written` bytes, and `held` are the places that were given last
 pub record IsAnswered {S : Type 0} (IsTextOf : TextOf) (gives : S → List ℕ → Result ℕ DeviceFault → S → Type 0) (old new : S)
@@ -53,7 +53,7 @@ abbrev pub GoesOn : {S : Type 0} → TextOf → (gives : S → List ℕ → Resu
 GoesOn {S} IsTextOf gives n ended reader reader' waiting waiting' output output' held held' written written' result =
     (read : List ℕ) (old : S) → HasAnswered IsTextOf gives n ended read reader waiting old output held written →
     MatchResult result (λ _. HasAnswered IsTextOf gives n ended read reader' waiting' old output' held' written')
-    (λ fault. Ends IsTextOf gives n ended read old output' (Err fault))
+    (λ fault. Ends IsTextOf gives n ended read old output' fault)
 
 -- the output took this text after `before` bytes, or the beginning of the text, up to a write that failed. Or it took nothing, for want
 -- of memory
@@ -71,18 +71,11 @@ request_refusal (Fault (Line fault)) = RunFault.Read Which.Requests fault
 request_refusal (Fault (Cells line)) = RunFault.CellsAt line
 request_refusal NoMemory = RunFault.Memory
 
--- the reader stopped for this fault: it is the fault of the next request, or a lack of memory
-abbrev pub IsStop : (ended : Bool) → Standing → RunFault → Type 0
-IsStop ended reader (RunFault.Read which fault) = (which ≡ Which.Requests) × IsStopped ended reader (Line fault)
-IsStop ended reader (RunFault.CellsAt line) = IsStopped ended reader (Cells line)
-IsStop ended reader RunFault.Memory = ⊤
-IsStop ended reader _ = ⊥
-
 -- what comes after a batch of requests, where `gave` is the standing after these and `new` that of the reader
 abbrev pub IsAfter : (ended : Bool) → (gave new : Standing) → Then → Type 0
 IsAfter ended gave new More = gave ≡ new
 IsAfter ended gave new Nothing = (gave ≡ new) × IsUsedUp ended new
-IsAfter ended gave new (Stop fault) = IsStop ended gave fault
+IsAfter ended gave new (Stop error) = IsErrorAhead ended gave error
 
 -- a query of these nodes: with its route, or as the run answers queries
 abbrev pub asked_for : Bool → ℕ × ℕ → Request

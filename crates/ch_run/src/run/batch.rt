@@ -25,8 +25,8 @@ pub(crate) enum Then {
     More,
     /// No further request is whole.
     Nothing,
-    /// The run stops with this fault.
-    Stop(RunFault),
+    /// The reader stopped for this error.
+    Stop(RequestError),
 }
 
 /// Gathers the requests that are whole, or the first of them, if there are more than `TOGETHER`.
@@ -40,17 +40,17 @@ pub(crate) fn gather(alloc: Global, reader: &mut RequestReader, ended: bool) -> 
     for _ in 0..TOGETHER {
         match reader.next(alloc, ended) {
             Ok(Some(request)) => {
-                if requests.push(request).is_err() {
-                    let then = Then::Stop(RunFault::Memory);
+                let Ok(()) = requests.push(request) else {
+                    let then = Then::Stop(RequestError::NoMemory);
                     return Batch { requests, then };
-                }
+                };
             }
             Ok(None) => {
                 let then = Then::Nothing;
                 return Batch { requests, then };
             }
             Err(error) => {
-                let then = Then::Stop(refusal(error));
+                let then = Then::Stop(error);
                 return Batch { requests, then };
             }
         }
@@ -60,7 +60,7 @@ pub(crate) fn gather(alloc: Global, reader: &mut RequestReader, ended: bool) -> 
 }
 
 /// Returns the fault of a run whose reader of requests gives this error.
-fn refusal(error: RequestError) -> RunFault
+pub(crate) fn refusal(error: RequestError) -> RunFault
     ensures { result ≡ request_refusal error }
 {
     match error {

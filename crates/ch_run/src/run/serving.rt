@@ -8,7 +8,7 @@ ghost use Rattle.ch_run.specs.Run.{reading};
 ghost use Rattle.ch_run.specs.Serving.{GoesOn, IsRoomFor, places_of};
 
 use super::answering::{Answering, Room, answer_requests};
-use super::batch::{Then, gather};
+use super::batch::{Then, gather, refusal};
 use super::inputs::counts_one_more;
 use crate::fault::{RunFault, Which};
 use crate::plan::{Crew, Gate};
@@ -105,7 +105,7 @@ fn answer_whole<'a, R: Threads + Sync, O: Output, G: Gate>(
         match batch.then {
             Then::More => {}
             Then::Nothing => return Ok(()),
-            Then::Stop(fault) => return Err(fault),
+            Then::Stop(error) => return Err(refusal(error)),
         }
     }
     Err(RunFault::Memory)

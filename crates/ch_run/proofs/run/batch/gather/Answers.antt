@@ -3,14 +3,7 @@ use Rattle.std.proofs.Common.{◌≡◌, [], refl, sym, ◌∙◌, subst}
 use Rattle.std.proofs.lemmas.List.{append-nil}
 use Rattle.ch_read.specs.Requests.{Gives}
 use Rattle.ch_read.proofs.Requests.{gives_more}
-use Rattle.ch_run.proofs.Answered.{not_pushed, refused}
 use Rattle.ch_run.proofs.run.batch.gather.Goals as goal
-
-pub returns-then-is_err-clause-given : goal.returns-then-is_err-clause-given
-returns-then-is_err-clause-given c =
-    let same : c.push.new.self.items ≡ c.loop.requests.items = not_pushed c.push.result c.loop.requests.items _
-    c.push.new.self.items (sym c.is_err.ensures.value ∙ c.if-is_err.true) c.push.ensures.items in
-    (c.loop.reader, rw same c.loop.invariant.given, tt)
 
 pub returns-in-Ok-None-clause-given : goal.returns-in-Ok-None-clause-given
 returns-in-Ok-None-clause-given c =
@@ -23,8 +16,7 @@ returns-in-Ok-None-clause-given c =
     )
 
 pub returns-in-Err-clause-given : goal.returns-in-Err-clause-given
-returns-in-Err-clause-given c =
-    (c.loop.reader, c.loop.invariant.given, rw c.refusal.ensures (refused c.args.ended c.loop.reader c.in-Err.error c.in-Err.ensures.fault))
+returns-in-Err-clause-given c = (c.loop.reader, c.loop.invariant.given, c.in-Err.ensures.fault)
 
 pub returns-clause-given : goal.returns-clause-given
 returns-clause-given c = (c.loop.reader, c.loop.invariant.given, refl)

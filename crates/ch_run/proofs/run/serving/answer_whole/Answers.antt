@@ -28,8 +28,9 @@ pub returns-in-Stop-clause-answered : goal.returns-in-Stop-clause-answered
 returns-in-Stop-clause-answered g c =
     let given = c.gather-batch.ensures.given in
     let answers = rw c.deref.ensures.value at c.in_ok-answer_requests.ensures.answers in
-    let next = rw c.in-Stop.is at given.2 in λ read old h.
-    ends_stopped (answers c.args.ended given.0 read old (batch_waits (c.loop.invariant.answered read old h) given.1)) c.in-Stop.fault next
+    let next = rw c.in-Stop.is at given.2 in
+    rw c.refusal.ensures (λ read old h.
+    ends_stopped (answers c.args.ended given.0 read old (batch_waits (c.loop.invariant.answered read old h) given.1)) c.in-Stop.error next)
 
 pub loop-preserved : goal.loop-preserved
 loop-preserved g c =
