@@ -1,5 +1,5 @@
 -- The requests so far, with the one that was not kept or the fault that came, are what the reader gave.
-use Rattle.std.proofs.Common.{◌≡◌, [], refl, sym, ◌∙◌, subst}
+use Rattle.std.proofs.Common.{[], refl, subst}
 use Rattle.std.proofs.lemmas.List.{append-nil}
 use Rattle.ch_read.specs.Requests.{Gives}
 use Rattle.ch_read.proofs.Requests.{gives_more}
