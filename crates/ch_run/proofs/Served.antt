@@ -27,7 +27,8 @@ use Rattle.ch_run.proofs.Texts.{text_in}
 use Rattle.ch_run.proofs.Answered.{ends_memory, none_ahead}
 
 -- a run that ends in a fault, and in no failed read, has read some bytes
-reads_some : (n : ℕ) (requests : Reading) (answered : List Request) (fault : RunFault) (rest : Told) → MayFollow {T = Unit} (Err fault) rest →
+reads_some : (n : ℕ) (requests : Reading) (answered : List Request) (fault : RunFault) (rest : Told) →
+    MayFollow {T = Unit} (Err fault) rest →
     ReadsSome requests (λ read left. TellsFirst {T = Unit} answered (Err fault) (told_by n (read ++ left))) →
     ReadsAndAnswers {T = Unit} n requests answered (Err fault)
 reads_some n requests answered (RunFault.Device which) rest follows some = absurd follows
