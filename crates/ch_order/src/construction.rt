@@ -3,7 +3,7 @@ mod alone;
 mod like;
 mod quick;
 
-ghost use Rattle.std.specs.Prelude.{◌≡◌, ℕ, ◌<◌, ◌≤◌, ◌^◌, ◌++◌, All, IfOk, None, OnOk, length, map, slice_set, take};
+ghost use Rattle.std.specs.Prelude.{◌≡◌, ℕ, ◌<◌, ◌≤◌, ◌^◌, ◌++◌, All, IfOk, None, OnOk, length, map, slice_set};
 ghost use Rattle.ch_graph.specs.Graph.{IsWithinLimits};
 ghost use Rattle.ch_contract.specs.Built.{IsHierarchy, IsHierarchyInTurn};
 ghost use Rattle.ch_contract.specs.Like.{IsHierarchyFrom};
@@ -64,25 +64,23 @@ pub fn build_in_turn<R: Threads + Sync, G: Gate>(
 {
     ask_ahead(crew.alloc, graph)?;
     let nodes = all_nodes(crew.alloc, graph.nodes())?;
-    contract_in_turn(crew, graph, nodes.as_slice(), 0, hops, by)
+    contract_in_turn(crew, graph, &[], nodes.as_slice(), hops, by)
 }
 
-/// Builds the contraction hierarchy of a graph, one node after the other. The first `given` nodes of the list are
-/// contracted as they come in it, and the others in this order. The list has each node once.
+/// Builds the contraction hierarchy of a graph, one node after the other. The nodes `given` are contracted first, as they
+/// come, and then the others in this order. The two lists together have each node once.
 fn contract_in_turn<R: Threads + Sync, G: Gate>(
     crew: &Crew<'_, R, G>,
     graph: &Graph,
-    nodes: &[u32],
-    given: usize,
+    given: &[u32],
+    others: &[u32],
     hops: HopBound,
     by: OrderBy,
 ) -> Result<Hierarchy, AllocError>
-    requires nodes { IsOrderOf graph.now.nodes nodes.now }
-    requires given { given ≤ length nodes.now }
-    ensures { IfOk result (IsHierarchyFrom by graph.now hops.number (take given nodes.now)) }
+    requires order { IsOrderOf graph.now.nodes (given.now ++ others.now) }
+    ensures { IfOk result (IsHierarchyFrom by graph.now hops.number given.now) }
 {
-    let (first, others) = nodes.split_at(given);
-    let begun = Construction::after(crew.alloc, crew.gate, graph, first, hops)?;
+    let begun = Construction::after(crew.alloc, crew.gate, graph, given, hops)?;
     let mut construction = begun.rank(crew, others, hops, by)?;
     while let Some(node) = construction.next() {
         crew.gate

@@ -1,5 +1,5 @@
 //! The construction of a hierarchy by the caller alone.
-ghost use Rattle.std.specs.Prelude.{◌≡◌, ◌<◌, ◌≤◌, All, Err, IfOk, length, take};
+ghost use Rattle.std.specs.Prelude.{◌≡◌, ◌<◌, ◌++◌, All, Err, IfOk};
 ghost use Rattle.ch_graph.specs.Graph.{IsWithinLimits};
 ghost use Rattle.ch_contract.specs.Built.{IsHierarchyBy};
 ghost use Rattle.ch_contract.specs.Like.{IsHierarchyFrom, IsHierarchyLike};
@@ -8,7 +8,7 @@ ghost use Rattle.ch_hierarchy.specs.Kept.{IsKept};
 ghost use Rattle.ch_hierarchy.specs.Saved.{IsOrderOf};
 
 use super::Construction;
-use super::like::{OrderError, given_count};
+use super::like::{OrderError, split_given};
 use crate::priority::PriorityJob;
 use ch_contract::memory::ask_ahead;
 use ch_contract::order::all_nodes;
@@ -31,7 +31,7 @@ pub fn build_alone(alloc: Global, graph: &Graph, hops: HopBound) -> Result<Hiera
 {
     ask_ahead(alloc, graph)?;
     let nodes = all_nodes(alloc, graph.nodes())?;
-    contract_in_turn(alloc, graph, nodes.as_slice(), 0, hops)
+    contract_in_turn(alloc, graph, &[], nodes.as_slice(), hops)
 }
 
 /// Builds the contraction hierarchy of a graph in an order like a given one, as [`build_like`](crate::build_like) does.
@@ -54,25 +54,23 @@ pub fn build_like_alone(
     ensures limits { IsWithinLimits graph.now }
 {
     ask_ahead(alloc, graph)?;
-    let first = given_count(alloc, graph, given, fresh)?;
-    Ok(contract_in_turn(alloc, graph, given, first, hops)?)
+    let (first, others) = split_given(alloc, graph, given, fresh)?;
+    Ok(contract_in_turn(alloc, graph, first, others, hops)?)
 }
 
-/// Builds the contraction hierarchy of a graph, one node after the other. The first `given` nodes of the list are
-/// contracted as they come in it, and the others by depth. The list has each node once.
+/// Builds the contraction hierarchy of a graph, one node after the other. The nodes `given` are contracted first, as they
+/// come, and then the others by depth. The two lists together have each node once.
 fn contract_in_turn(
     alloc: Global,
     graph: &Graph,
-    nodes: &[u32],
-    given: usize,
+    given: &[u32],
+    others: &[u32],
     hops: HopBound,
 ) -> Result<Hierarchy, AllocError>
-    requires nodes { IsOrderOf graph.now.nodes nodes.now }
-    requires given { given ≤ length nodes.now }
-    ensures { IfOk result (IsHierarchyFrom OrderBy.Depth graph.now hops.number (take given nodes.now)) }
+    requires order { IsOrderOf graph.now.nodes (given.now ++ others.now) }
+    ensures { IfOk result (IsHierarchyFrom OrderBy.Depth graph.now hops.number given.now) }
 {
-    let (first, others) = nodes.split_at(given);
-    let begun = Construction::after(alloc, &Open, graph, first, hops)?;
+    let begun = Construction::after(alloc, &Open, graph, given, hops)?;
     let mut construction = begun.rank_alone(alloc, others, hops)?;
     while let Some(node) = construction.next() {
         construction = construction.contract_alone(alloc, node, hops)?;

@@ -1,5 +1,5 @@
 //! The construction of a hierarchy in an order like a given one.
-ghost use Rattle.std.specs.Prelude.{◌≡◌, ◌≤◌, Some, Err, IfOk};
+ghost use Rattle.std.specs.Prelude.{◌≡◌, ◌++◌, Some, Err, IfOk, take};
 ghost use Rattle.ch_graph.specs.Graph.{IsWithinLimits};
 ghost use Rattle.ch_hierarchy.specs.Kept.{IsKept};
 ghost use Rattle.ch_hierarchy.specs.Saved.{IsOrderOf};
@@ -74,21 +74,22 @@ pub fn build_like<R: Threads + Sync, G: Gate>(
     ensures limits { IsWithinLimits graph.now }
 {
     ask_ahead(crew.alloc, graph)?;
-    let first = given_count(crew.alloc, graph, given, fresh)?;
+    let (first, others) = split_given(crew.alloc, graph, given, fresh)?;
     let by = OrderBy::Depth;
-    Ok(contract_in_turn(crew, graph, given, first, hops, by)?)
+    Ok(contract_in_turn(crew, graph, first, others, hops, by)?)
 }
 
-/// Returns how many nodes come in the given order, if it has each node of the graph once and these per cent are
-/// ordered afresh.
-pub(super) fn given_count(
+/// Splits a given order into the nodes that come in this order and those that are ordered afresh, if it has each node of
+/// the graph once and these per cent are ordered afresh.
+pub(super) fn split_given<'a>(
     alloc: Global,
     graph: &Graph,
-    given: &[u32],
+    given: &'a [u32],
     fresh: Percent,
-) -> Result<usize, OrderError>
+) -> Result<(&'a [u32], &'a [u32]), OrderError>
     ensures order { IfOk result (λ _. IsOrderOf graph.now.nodes given.now) }
-    ensures count { IfOk result (λ k. k ≡ count_of graph.now.nodes fresh.number) }
+    ensures first { IfOk result (λ (first, others). first.now ≡ take (count_of graph.now.nodes fresh.number) given.now) }
+    ensures parts { IfOk result (λ (first, others). first.now ++ others.now ≡ given.now) }
     ensures refused { result ≡ Err OrderError.Order → IsOrderOf graph.now.nodes given.now → ⊥ }
 {
     let nodes = graph.nodes();
@@ -97,5 +98,5 @@ pub(super) fn given_count(
     };
     drop(levels);
     let afresh = u64::from(nodes) * u64::from(fresh.number) / 100;
-    Ok(given.len() - afresh as usize)
+    Ok(given.split_at(given.len() - afresh as usize))
 }

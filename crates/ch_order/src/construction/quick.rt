@@ -1,6 +1,6 @@
 //! The construction of a hierarchy whose first nodes come in a given order, and the others in an order that takes little
 //! time to find.
-ghost use Rattle.std.specs.Prelude.{◌≡◌, ℕ, ◌^◌, ◌<◌, ◌≤◌, All, Err, IfOk, OnOk, length, take};
+ghost use Rattle.std.specs.Prelude.{◌≡◌, ℕ, ◌^◌, ◌<◌, ◌≤◌, ◌++◌, All, Err, IfOk, OnOk, length, take};
 ghost use Rattle.ch_graph.specs.Graph.{IsWithinLimits};
 ghost use Rattle.ch_contract.specs.Like.{given_count as count_of};
 ghost use Rattle.ch_order.specs.Quick.{IsHierarchyAfter, HaveKeys};
@@ -9,7 +9,7 @@ ghost use Rattle.ch_hierarchy.specs.Kept.{IsKept};
 ghost use Rattle.ch_hierarchy.specs.Saved.{IsOrderOf};
 
 use super::Construction;
-use super::like::{OrderError, given_count};
+use super::like::{OrderError, split_given};
 use crate::priority::PriorityJob;
 use ch_contract::memory::ask_ahead;
 use ch_contract::{HopBound, OrderBy, Percent};
@@ -70,25 +70,23 @@ pub fn build_like_quickly<R: Threads + Sync, G: Gate>(
     ensures limits { IsWithinLimits graph.now }
 {
     ask_ahead(crew.alloc, graph)?;
-    let first = given_count(crew.alloc, graph, given, fresh)?;
-    Ok(contract_quickly(crew, graph, given, first, hops)?)
+    let (first, others) = split_given(crew.alloc, graph, given, fresh)?;
+    Ok(contract_quickly(crew, graph, first, others, hops)?)
 }
 
-/// Builds a contraction hierarchy of a graph. The first `given` nodes of the list are contracted as they come in it, and
-/// then the others. The list has each node once.
+/// Builds a contraction hierarchy of a graph. The nodes `given` are contracted first, as they come, and then the others. The
+/// two lists together have each node once.
 fn contract_quickly<R: Threads + Sync, G: Gate>(
     crew: &Crew<'_, R, G>,
     graph: &Graph,
-    nodes: &[u32],
-    given: usize,
+    given: &[u32],
+    others: &[u32],
     hops: HopBound,
 ) -> Result<Hierarchy, AllocError>
-    requires nodes { IsOrderOf graph.now.nodes nodes.now }
-    requires given { given ≤ length nodes.now }
-    ensures { IfOk result (IsHierarchyAfter graph.now hops.number (take given nodes.now)) }
+    requires order { IsOrderOf graph.now.nodes (given.now ++ others.now) }
+    ensures { IfOk result (IsHierarchyAfter graph.now hops.number given.now) }
 {
-    let (first, others) = nodes.split_at(given);
-    let begun = Construction::after(crew.alloc, crew.gate, graph, first, hops)?;
+    let begun = Construction::after(crew.alloc, crew.gate, graph, given, hops)?;
     let queued = begun.queue(others);
     let mut construction = queued.rank_if_due(crew, others, others.len(), hops)?;
     let mut due = others.len() / PARTS * DUE_PARTS;

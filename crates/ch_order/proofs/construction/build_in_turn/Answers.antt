@@ -5,8 +5,8 @@ use Rattle.ch_contract.proofs.theory.GivenNodes.{numbers_given}
 use Rattle.ch_contract.proofs.theory.GivenOrders.{in_turn_from}
 use Rattle.ch_order.proofs.construction.build_in_turn.Goals as goal
 
-pub contract_in_turn-requires-clause-nodes : goal.contract_in_turn-requires-clause-nodes
-contract_in_turn-requires-clause-nodes g c lifetimes bounds =
+pub contract_in_turn-requires-clause-order : goal.contract_in_turn-requires-clause-order
+contract_in_turn-requires-clause-order g c lifetimes bounds =
     numbers_given _ _ _ _ c.as_slice.ensures.value c.in_ok-nodes.ensures c.nodes.ensures.nodes
 
 pub returns-clause-hierarchy : goal.returns-clause-hierarchy

@@ -2,35 +2,30 @@
 use Rattle.std.proofs.Common.{◌<◌, sym, ◌∙◌, subst, arith}
 use Rattle.std.specs.Prelude.{All}
 use Rattle.std.proofs.lemmas.Result.{IfOk-weaker}
-use Rattle.ch_hierarchy.specs.Saved.{IsOrderOf}
 use Rattle.ch_contract.specs.Legs.{AreLegsWithin}
 use Rattle.ch_order.specs.Progress.{IsStep, AreAll}
 use Rattle.ch_order.specs.Priorities.{IsRanked}
 use Rattle.ch_order.specs.Construction.{progress_of}
 use Rattle.ch_contract.specs.Remaining.{legs_of}
 use Rattle.ch_contract.proofs.theory.GivenNodes.{other_nodes}
-use Rattle.ch_order.proofs.StepsMade.{IsAfterSomeSteps, steps_at_start, steps_next, steps_count, steps_node, steps_at_end}
+use Rattle.ch_order.proofs.StepsMade.{steps_at_start, steps_next, steps_count, steps_node, steps_at_end}
 use Rattle.ch_order.proofs.StepsMade.{steps_within, steps_depth, steps_levelled}
 use Rattle.ch_order.proofs.construction.contract_in_turn.Goals as goal
 
 pub rank-requires-clause-nodes : goal.rank-requires-clause-nodes
 rank-requires-clause-nodes g c lifetimes bounds =
-    let order = subst (IsOrderOf c.args.graph.now.nodes) c.split_at.ensures.by_index.0 c.requires.nodes in
-    subst (λ n. All (λ x. x < n) c.split_at.result.1.now) (sym c.in_ok-begun.ensures.nodes) (other_nodes _ _ _ order)
+    subst (λ n. All (λ x. x < n) c.args.others.now) (sym c.in_ok-begun.ensures.nodes) (other_nodes _ _ _ c.requires.order)
 
 pub loop-node-init : goal.loop-node-init
 loop-node-init g c =
     let first = c.in_ok-construction.ensures in
     let begun = c.in_ok-begun.ensures in
-    let parts = c.split_at.result in
-    let order = subst (IsOrderOf c.args.graph.now.nodes) c.split_at.ensures.by_index.0 c.requires.nodes in
-    let ranked = subst (λ n. IsRanked c.args.by n c.args.hops.number parts.1.now (progress_of c.in_ok-begun.begun)
-    (progress_of c.in_ok-construction.construction)) begun.nodes first.ranked in
-    let start = steps_at_start c.args.by c.args.graph.now c.args.hops.number parts.0.now parts.1.now _ _ order begun.after ranked in (
+    let ranked = subst (λ n. IsRanked c.args.by n c.args.hops.number c.args.others.now (progress_of c.in_ok-begun.begun)
+    (progress_of c.in_ok-construction.construction)) begun.nodes first.ranked in (
       first.sizes,
       first.nodes ∙ begun.nodes,
-      subst (λ l. IsAfterSomeSteps c.args.by c.args.graph.now c.args.hops.number l (progress_of c.in_ok-construction.construction))
-          c.split_at.ensures.front start,
+      steps_at_start c.args.by c.args.graph.now c.args.hops.number c.args.given.now c.args.others.now _ _ c.requires.order begun.after
+          ranked,
       first.ready c.args.hops.number begun.ready,
     )
 

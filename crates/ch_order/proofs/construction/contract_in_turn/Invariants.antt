@@ -1,12 +1,12 @@
 -- The construction has made some steps in this order after the given nodes, and each turn contracts one more node.
-use Rattle.std.proofs.Common.{◌≡◌, ◌-◌, take}
+use Rattle.std.proofs.Common.{◌≡◌, ◌-◌}
 use Rattle.ch_order.specs.Construction.{IsSized, IsJudging, progress_of}
 use Rattle.ch_order.proofs.StepsMade.{IsAfterSomeSteps}
 use Rattle.ch_order.proofs.construction.contract_in_turn.Given as goal
 
 abbrev pub invariant-loop-node : goal.invariant-loop-node
 invariant-loop-node g l = IsSized l.construction × (l.construction.remaining.nodes ≡ l.graph.nodes)
-    × IsAfterSomeSteps l.by l.graph l.hops.number (take l.given l.nodes) (progress_of l.construction)
+    × IsAfterSomeSteps l.by l.graph l.hops.number l.given (progress_of l.construction)
     × IsJudging l.hops.number l.construction
 
 abbrev pub decreases-loop-node : goal.decreases-loop-node

@@ -6,8 +6,9 @@ use Rattle.ch_contract.proofs.theory.GivenNodes.{numbers_given}
 use Rattle.ch_contract.proofs.theory.GivenOrders.{in_turn_from}
 use Rattle.ch_order.proofs.construction.alone.build_alone.Goals as goal
 
-pub contract_in_turn-requires-clause-nodes : goal.contract_in_turn-requires-clause-nodes
-contract_in_turn-requires-clause-nodes c = numbers_given _ _ _ _ c.as_slice.ensures.value c.in_ok-nodes.ensures c.nodes.ensures.nodes
+pub contract_in_turn-requires : goal.contract_in_turn-requires
+contract_in_turn-requires c =
+    record { order = numbers_given _ _ _ _ c.as_slice.ensures.value c.in_ok-nodes.ensures c.nodes.ensures.nodes }
 
 pub returns-clause-hierarchy : goal.returns-clause-hierarchy
 returns-clause-hierarchy c =

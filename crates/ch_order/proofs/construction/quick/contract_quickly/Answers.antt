@@ -2,27 +2,24 @@
 use Rattle.std.proofs.Common.{◌<◌, sym, ◌∙◌, ap, subst, arith}
 use Rattle.std.specs.Prelude.{All}
 use Rattle.std.proofs.lemmas.Result.{IfOk-weaker}
-use Rattle.ch_hierarchy.specs.Saved.{IsOrderOf}
 use Rattle.ch_contract.specs.Legs.{AreLegsWithin}
 use Rattle.ch_contract.specs.Remaining.{legs_of}
 use Rattle.ch_contract.proofs.theory.GivenNodes.{other_nodes}
 use Rattle.ch_order.specs.Progress.{IsContraction, AreAll}
 use Rattle.ch_order.specs.Construction.{progress_of}
 use Rattle.ch_order.proofs.ConstructionCalls.{taken_step}
-use Rattle.ch_order.proofs.QuickSteps.{IsAfterAny, next_key, any_at_start, any_rekeyed, any_within, any_depth, any_node, any_count}
+use Rattle.ch_order.proofs.QuickSteps.{next_key, any_at_start, any_rekeyed, any_within, any_depth, any_node, any_count}
 use Rattle.ch_order.proofs.QuickSteps.{any_next, any_at_end, any_levelled}
 use Rattle.ch_order.proofs.construction.quick.contract_quickly.Goals as goal
 
 pub queue-queued-requires-clause-nodes : goal.queue-queued-requires-clause-nodes
 queue-queued-requires-clause-nodes g c =
-    let order = subst (IsOrderOf c.args.graph.now.nodes) c.split_at.ensures.by_index.0 c.requires.nodes in
-    subst (λ n. All (λ x. x < n) c.split_at.result.1.now) (sym c.in_ok-begun.ensures.nodes) (other_nodes _ _ _ order)
+    subst (λ n. All (λ x. x < n) c.args.others.now) (sym c.in_ok-begun.ensures.nodes) (other_nodes _ _ _ c.requires.order)
 
 pub rank_if_due-requires-clause-nodes : goal.rank_if_due-requires-clause-nodes
 rank_if_due-requires-clause-nodes g c κs within =
-    let order = subst (IsOrderOf c.args.graph.now.nodes) c.split_at.ensures.by_index.0 c.requires.nodes in
-    subst (λ n. All (λ x. x < n) c.split_at.result.1.now) (sym (c.queue-queued.ensures.nodes ∙ c.in_ok-begun.ensures.nodes))
-    (other_nodes _ _ _ order)
+    subst (λ n. All (λ x. x < n) c.args.others.now) (sym (c.queue-queued.ensures.nodes ∙ c.in_ok-begun.ensures.nodes))
+    (other_nodes _ _ _ c.requires.order)
 
 pub rank_if_due-requires-clause-ready : goal.rank_if_due-requires-clause-ready
 rank_if_due-requires-clause-ready g c κs within = c.queue-queued.ensures.ready c.args.hops.number c.in_ok-begun.ensures.ready
@@ -31,14 +28,12 @@ pub loop-least-init : goal.loop-least-init
 loop-least-init g c =
     let first = c.in_ok-construction.ensures in
     let begun = c.in_ok-begun.ensures in
-    let parts = c.split_at.result in
-    let order = subst (IsOrderOf c.args.graph.now.nodes) c.split_at.ensures.by_index.0 c.requires.nodes in
     let queued = c.queue-queued.ensures in
-    let start = any_at_start c.args.graph.now c.args.hops.number parts.0.now parts.1.now _ _ order begun.after queued.queued in (
+    let start = any_at_start c.args.graph.now c.args.hops.number c.args.given.now c.args.others.now _ _ c.requires.order begun.after
+    queued.queued in (
       first.sizes,
       first.nodes ∙ queued.nodes ∙ begun.nodes,
-      subst (λ l. IsAfterAny c.args.graph.now c.args.hops.number l (progress_of c.in_ok-construction.construction))
-          c.split_at.ensures.front (any_rekeyed _ _ _ _ start _ first.rekeyed),
+      any_rekeyed _ _ _ _ start _ first.rekeyed,
       first.ready,
     )
 
@@ -61,9 +56,8 @@ take-requires g c =
 
 pub rank_if_due-requires-in-Some-clause-nodes : goal.rank_if_due-requires-in-Some-clause-nodes
 rank_if_due-requires-in-Some-clause-nodes g c κs within =
-    let order = subst (IsOrderOf c.args.graph.now.nodes) c.split_at.ensures.by_index.0 c.requires.nodes in
     let nodes = c.in_ok-taken.ensures.taken.nodes ∙ c.in_ok-judged.ensures.nodes ∙ c.loop-least.invariant.1 in
-    subst (λ n. All (λ x. x < n) c.split_at.result.1.now) (sym nodes) (other_nodes _ _ _ order)
+    subst (λ n. All (λ x. x < n) c.args.others.now) (sym nodes) (other_nodes _ _ _ c.requires.order)
 
 pub loop-least-smaller : goal.loop-least-smaller
 loop-least-smaller g c =
