@@ -1,0 +1,306 @@
+#!/usr/bin/python3
+"""Tests the answers of the library for C: distances, tables, routes, near rows, sums, and hierarchies that it builds.
+
+Makes the library where that is needed. Answers are those of the program and of Dijkstra's algorithm on the shipped graphs, and hierarchies those of
+an independent program. Four threads, with a handle each, answer what one does. The last line is 'N passed, N failed'.
+"""
+import itertools
+import random
+import re
+import tempfile
+import threading
+from pathlib import Path
+
+from helpers import in_process
+from helpers.cases import Case
+from helpers.in_process import ALL, NO_DISTANCE, Handle, Library, statuses
+from helpers.running import ROOT, Count, build, run
+from helpers.writing import write_list, write_queries
+from oracles.dijkstra import arcs_ahead, distances_from
+from oracles.reading import graph_of
+from oracles.rules import text_like
+
+GRAPHS = ROOT / "examples/first.gr", ROOT / "examples/liechtenstein.gr"
+STATUS = statuses()
+# How many questions of each kind are compared on a graph.
+ASKED = 400
+# The sources, and the targets, of a table of sums: so many that it is worth their time to find a tree for each.
+SIDE = 16
+# Arcs between the same nodes: the second is the first of least weight from node 1 to node 2. The third leads back.
+PARALLEL = b"p sp 3 6\na 1 2 5\na 1 2 4\na 2 1 4\na 1 2 4\na 2 3 7\na 2 2 0\n"
+# New weights: by a factor of each arc, a jam on some, and all equal.
+WEIGHTS = {
+    "weights times 0.5 to 3": lambda draw, weight: int(weight * draw.uniform(0.5, 3)),
+    "some arcs ten times as slow": lambda draw, weight: weight * (10 if draw.random() < 0.05 else 1),
+    "all weights 1": lambda draw, weight: 1,
+}
+
+
+def words_of(text):
+    """The distances of a text of `dist` or `table`, as words."""
+    return [NO_DISTANCE if word == "-" else int(word) for word in text]
+
+
+def asked_of_program(folder, graph, hierarchy, pairs, sources, targets, limit):
+    """The program's distances, cells and routes, each route as its nodes."""
+    write_queries(folder / "pairs.p2p", [(source + 1, target + 1) for source, target in pairs])
+    for name, nodes in ("from.ss", sources), ("to.ss", targets):
+        write_list(folder / name, [node + 1 for node in nodes])
+    routes = run(["dist", "--routes", "--saved", hierarchy, graph, "pairs.p2p"], folder)
+    cells = run(["table", "--saved", hierarchy, "--within", str(limit), graph, "from.ss", "to.ss"], folder)
+    assert routes.status == cells.status == 0, (routes, cells)
+    distances, nodes = [], []
+    for letter, *numbers in (line.split() for line in routes.out.decode().splitlines()):
+        if letter == "d":
+            distances.append(numbers[2])
+            nodes.append([] if numbers[2] == "-" else [int(numbers[0]) - 1])
+        elif letter == "a":
+            nodes[-1].append(int(numbers[1]) - 1)
+    return words_of(distances), words_of([word for line in cells.out.decode().splitlines() for word in line.split()[2:]]), nodes
+
+
+def compare_answers(tally, folder, library, graph, hierarchy):
+    """Distances, cells and routes are those of the program."""
+    count, _ = graph_of(graph)
+    draw = random.Random(f"library {graph.name}")
+    pairs = [(draw.randrange(count), draw.randrange(count)) for _ in range(ASKED)]
+    sources, targets = ([draw.randrange(count) for _ in range(40)] for _ in range(2))
+    limit = 9_000
+    distances, cells, routes = asked_of_program(folder, graph, hierarchy, pairs, sources, targets, limit)
+    status, handle, _ = library.open(graph.read_bytes(), hierarchy.read_bytes())
+    tally.expect(status == STATUS["OK"] and library.nodes(handle) == (0, count), f"{graph.name} opens")
+    tally.expect(library.distances(handle, *map(list, zip(*pairs))) == (0, distances), f"{graph.name}: distances")
+    tally.expect(library.table(handle, sources, targets, limit) == (0, cells), f"{graph.name}: a table within {limit}")
+    whole = library.table(handle, sources, targets)
+    for place, (source, target) in enumerate((source, target) for source in sources for target in targets):
+        tally.expect(library.distances(handle, [source], [target]) == (0, [whole[1][place]]), f"{graph.name}: the cell of {source} and {target}")
+    for (source, target), distance, nodes in zip(pairs, distances, routes):
+        wanted = 0, distance, len(nodes), nodes
+        status, weight, length, came = library.route(handle, source, target, count)
+        tally.expect((status, weight, length, came[:length]) == wanted, f"{graph.name}: the route from {source} to {target}")
+    library.close(handle)
+
+
+def compare_many_routes(tally, library, graph, hierarchy):
+    """Many routes in one call are those of single calls, also where they come in parts, and their weights those of Dijkstra's algorithm."""
+    count, arcs = graph_of(graph)
+    draw = random.Random(f"library routes {graph.name}")
+    sources, targets = ([draw.randrange(count) for _ in range(ASKED)] for _ in range(2))
+    ahead = arcs_ahead(arcs)
+    away = {source: distances_from(source + 1, ahead) for source in set(sources)}
+    status, handle, _ = library.open(graph.read_bytes(), hierarchy.read_bytes())
+    single = [library.route(handle, source, target, count) for source, target in zip(sources, targets)]
+    owed = [nodes[:length] for _, _, length, nodes in single]
+    weights = [away[source].get(target + 1, NO_DISTANCE) for source, target in zip(sources, targets)]
+    for room in sum(map(len, owed)), max(map(len, owed)), count:
+        came, begin = [], 0
+        while begin < len(sources):
+            status, routes, found, ends, nodes, _ = library.routes(handle, sources[begin:], targets[begin:], room)
+            tally.expect(status == STATUS["OK" if begin + routes == len(sources) else "TOO_SHORT"] and routes > 0, f"{graph.name}: {routes} routes into {room}")
+            came += [(weight, nodes[start:end]) for weight, start, end in zip(found[:routes], [0, *ends], ends[:routes])]
+            begin += max(1, routes)
+        tally.expect(came == [*zip(weights, owed)], f"{graph.name}: many routes into a room of {room}")
+    first = {}
+    for line, (start, end, weight) in enumerate(arcs):
+        if (start, end) not in first or weight < arcs[first[start, end]][2]:
+            first[start, end] = line
+    room = sum(map(len, owed))
+    lines = [line for way in owed for line in [ALL, *(first[one + 1, other + 1] for one, other in zip(way, way[1:]))][:len(way)]]
+    told = library.routes(handle, sources, targets, room, lines_room=room)
+    tally.expect(told[0] == 0 and told[5] == lines, f"{graph.name}: the lines of arcs")
+    for values in [weight for _, _, weight in arcs], [draw.randrange(1 << 50) for _ in arcs]:
+        sums = [sum(values[line] for line in lines[begin + 1:end]) for begin, end in zip([0, *told[3]], told[3])]
+        tally.expect(library.route_sums(handle, sources, targets, values) == (0, len(sources), weights, sums), f"{graph.name}: sums along routes")
+    for begin, end, weight in zip([0, *told[3]], told[3], weights):
+        tally.expect(begin == end or sum(arcs[line][2] for line in lines[begin + 1:end]) == weight, f"{graph.name}: the weights on the lines of a route")
+    library.close(handle)
+
+
+def compare_table_sums(tally, library, graph, hierarchy):
+    """Sums along the routes of all pairs of a table are those on the lines of these routes, for the same values again and for others."""
+    count, arcs = graph_of(graph)
+    draw = random.Random(f"library sums of tables {graph.name}")
+    status, handle, _ = library.open(graph.read_bytes(), hierarchy.read_bytes())
+    rows, columns = ([draw.randrange(count) for _ in range(SIDE)] for _ in range(2))
+    sources, targets = map(list, zip(*itertools.product(rows, columns)))
+    room = sum(library.route(handle, source, target, count)[2] for source, target in zip(sources, targets))
+    _, _, weights, ends, _, lines = library.routes(handle, sources, targets, room, lines_room=room)
+    first, second = ([draw.randrange(1 << 40) for _ in arcs] for _ in range(2))
+    changed = [*first]
+    for line in {*lines} - {ALL}:
+        changed[line] += 1
+    for values in first, first, second, changed, first:
+        sums = [sum(values[line] for line in lines[begin + 1:end]) for begin, end in zip([0, *ends], ends)]
+        told = library.route_sums(handle, sources, targets, values)
+        tally.expect(told == (0, len(sources), weights, sums), f"{graph.name}: sums along the routes of a table")
+    library.close(handle)
+
+
+def near_of_program(folder, graph, hierarchy, options, sources, places):
+    """The program's near rows: the pairs of a weight and a node of each source."""
+    write_list(folder / "from.ss", [node + 1 for node in sources or []])
+    write_list(folder / "to.ss", [node + 1 for node in places])
+    lists = ["to.ss"] if sources is None else ["from.ss", "to.ss"]
+    told = run(["near", "--saved", hierarchy, *options, *["--all"] * (sources is None), graph, *lists], folder)
+    assert told.status == 0, told
+    rows = [list(map(int, line.split()[1:])) for line in told.out.decode().splitlines()]
+    return [[(weight, node - 1) for node, weight in zip(row[2::2], row[3::2])] for row in rows]
+
+
+def compare_near(tally, folder, library, graph, hierarchy):
+    """Near rows are those of the program: of some sources by searches, and of all nodes by the sweep."""
+    count, _ = graph_of(graph)
+    draw = random.Random(f"library near {graph.name}")
+    status, handle, _ = library.open(graph.read_bytes(), hierarchy.read_bytes())
+    for most, limit, is_from in (3, NO_DISTANCE, 0), (ALL, 9_000, 0), (1, NO_DISTANCE, 1), (5, 4_000, 1):
+        places, some = ([draw.randrange(count) for _ in range(30)] for _ in range(2))
+        words = [["--count", str(most)] * (most != ALL), ["--within", str(limit)] * (limit != NO_DISTANCE), ["--from"] * is_from]
+        options = [word for part in words for word in part]
+        tally.expect(library.near_places(handle, places, limit, most, is_from) == 0, f"{graph.name}: places")
+        for sources in some, None:
+            listed = range(count) if sources is None else sources
+            owed = near_of_program(folder, graph, hierarchy, options, sources, places)
+            if sources is None:
+                tally.expect(library.near_sweep(handle) == 0, f"{graph.name}: the sweep")
+            status, rows, ends, weights, found = library.near_rows(handle, list(listed), sum(map(len, owed)))
+            tally.expect((status, rows) == (0, len(owed)), f"{graph.name}: near rows {options} {status} {rows}")
+            pairs = [[*zip(weights[begin:end], (places[place] for place in found[begin:end]))] for begin, end in zip([0, *ends], ends)]
+            tally.expect(pairs == owed, f"{graph.name}: near rows {options} of {'all' if sources is None else 'some'} nodes")
+            by_place = [[*zip(weights[begin:end], found[begin:end])] for begin, end in zip([0, *ends], ends)]
+            tally.expect(all(row == sorted(row) for row in by_place), f"{graph.name}: rows are in order")
+    library.close(handle)
+
+
+def compare_sums(tally, library, graph, hierarchy):
+    """Sums over near rows are those of Dijkstra's algorithm: of some sources by searches, and of all nodes after the sweep."""
+    count, arcs = graph_of(graph)
+    draw = random.Random(f"library sums {graph.name}")
+    status, handle, _ = library.open(graph.read_bytes(), hierarchy.read_bytes())
+    for most, is_from in (NO_DISTANCE, 0), (9_000, 0), (9_000, 1):
+        places, some = ([draw.randrange(count) for _ in range(30)] for _ in range(2))
+        values, limits = [draw.randrange(1 << 40) for _ in places], [0, 4_000, 9_000, 2_000, NO_DISTANCE - 1]
+        ahead = arcs_ahead(arcs if is_from else [(end, start, weight) for start, end, weight in arcs])
+        away = [distances_from(place + 1, ahead) for place in places]
+        tally.expect(library.near_places(handle, places, most, ALL, is_from) == 0, f"{graph.name}: places of sums")
+        for sources in some, range(count):
+            near = [[(row[source + 1], value) for row, value in zip(away, values) if source + 1 in row and row[source + 1] <= most] for source in sources]
+            owed = [sum(value for weight, value in row if weight <= limit) for row in near for limit in limits]
+            if sources is not some:
+                tally.expect(library.near_sweep(handle) == 0, f"{graph.name}: the sweep of sums")
+            tally.expect(library.near_sums(handle, sources, values, limits) == (0, len(sources), owed), f"{graph.name}: sums within {most} of {len(sources)} nodes")
+    library.close(handle)
+
+
+def tell_lines(tally, library):
+    """The line of the arc of least weight, of several the first, by a hierarchy that is built."""
+    status, handle, _ = library.open(PARALLEL, b"")
+    told = library.routes(handle, [0, 1, 2, 1], [2, 0, 0, 1], 9, lines_room=9)
+    owed = (0, 4, [11, 4, NO_DISTANCE, 0], [3, 5, 5, 6], [0, 1, 2, 1, 0, 1, 7, 7, 7], [ALL, 1, 4, ALL, 2, ALL, 7, 7, 7])
+    tally.expect((status, told) == (0, owed), f"lines of arcs between the same nodes: {told}")
+    tally.expect(library.routes(handle, [0], [2], 3, lines_room=2)[0] == STATUS["LENGTHS"], "fewer lines than nodes")
+    told = library.route_sums(handle, [0, 2, 1], [2, 0, 0], [1, 10, 100, 1_000, 10_000, 100_000])
+    tally.expect(told == (0, 3, [11, NO_DISTANCE, 4], [10_010, 0, 100]), f"sums on lines of arcs between the same nodes: {told}")
+    library.close(handle)
+
+
+def graph_text(nodes, arcs):
+    """The bytes of a graph."""
+    return "".join([f"p sp {nodes} {len(arcs)}\n", *(f"a {start} {end} {weight}\n" for start, end, weight in arcs)]).encode()
+
+
+def compare_built(tally, library, graph):
+    """Without a saved hierarchy, one is built: the one that `chtab save --deep` writes."""
+    status, handle, _ = library.open(graph.read_bytes(), b"")
+    owed = run(["save", "--deep", graph], graph.parent).out
+    tally.expect((status, *library.save(handle, len(owed))) == (0, 0, len(owed), owed), f"{graph.name}: the hierarchy that is built")
+    library.close(handle)
+
+
+def compare_like(tally, library, graph):
+    """In the order of another network: the answers are those of Dijkstra's algorithm by the new arcs, the other network answers as it did, and with
+    100 per cent afresh the hierarchy is the one that is built."""
+    count, arcs = graph_of(graph)
+    draw = random.Random(f"library like {graph.name}")
+    status, handle, _ = library.open(graph.read_bytes(), b"")
+    pairs = [[draw.randrange(count) for _ in range(40)] for _ in range(2)]
+    before = library.distances(handle, *pairs)
+    for name, weight_of in WEIGHTS.items():
+        new = [(start, end, weight_of(draw, weight)) for start, end, weight in arcs if draw.random() < 0.98]
+        new += [(draw.randint(1, count), draw.randint(1, count), draw.randint(0, 9_000)) for _ in range(3)]
+        text, ahead = graph_text(count, new), arcs_ahead(new)
+        away = {source: distances_from(source + 1, ahead) for source in set(pairs[0])}
+        owed = [away[source].get(target + 1, NO_DISTANCE) for source, target in zip(*pairs)]
+        built = library.open(text, b"")[1]
+        whole = library.save(built, library.save(built, 0)[1])
+        for fresh in 0, 5, 50, 100:
+            status, other, _ = library.open_like(text, handle, fresh)
+            tally.expect(status == 0 and library.distances(other, *pairs) == (0, owed), f"{graph.name}: {name} in the order of another network, {fresh} per cent afresh")
+            tally.expect(fresh < 100 or library.save(other, whole[1]) == whole, f"{graph.name}: {name}, all afresh")
+            library.close(other)
+        library.close(built)
+    tally.expect(library.distances(handle, *pairs) == before, f"{graph.name}: the network that gave its order")
+    library.close(handle)
+
+
+def compare_orders(tally, library):
+    """Of random graphs, in the order of another one with as many nodes: the hierarchy is that of an independent program."""
+    for seed in range(60):
+        case, draw = Case(f"library orders {seed}"), random.Random(f"library orders {seed}")
+        arcs = [(draw.randint(1, case.nodes), draw.randint(1, case.nodes), draw.randrange(99)) for _ in range(2 * case.nodes)]
+        status, handle, _ = library.open(graph_text(case.nodes, arcs), b"")
+        text = library.save(handle, library.save(handle, 0)[1])[2].decode()
+        given = [int(node) for node in re.findall(r"^o (\d+)$", text, re.MULTILINE)]
+        for fresh in 0, 5, draw.randrange(101), 100:
+            owed = text_like(case.nodes, case.arcs, 5, given, fresh).encode()
+            status, other, _ = library.open_like(graph_text(case.nodes, case.arcs), handle, fresh)
+            tally.expect((status, *library.save(other, len(owed))) == (0, 0, len(owed), owed), f"the hierarchy of graph {seed} in another order, {fresh} per cent afresh")
+            library.close(other)
+        library.close(handle)
+
+
+def ask_in_threads(tally, library, graph, hierarchy):
+    """Four threads, with a handle each, answer what one does."""
+    count, _ = graph_of(graph)
+    draw = random.Random("library threads")
+    pairs = [[draw.randrange(count) for _ in range(2_000)] for _ in range(2)]
+    status, first, _ = library.open(graph.read_bytes(), hierarchy.read_bytes())
+    handles = [first, *(Handle() for _ in range(3))]
+    shared = [library.share(first, handle) for handle in handles[1:]]
+    answers = [None] * len(handles)
+
+    def ask(place):
+        answers[place] = library.distances(handles[place], *pairs)
+
+    threads = [threading.Thread(target=ask, args=(place,)) for place in range(len(handles))]
+    for thread in threads:
+        thread.start()
+    for thread in threads:
+        thread.join()
+    tally.expect([status, *shared] == [0] * 4 and answers[0][0] == 0 and answers.count(answers[0]) == 4, "four threads answer the same")
+    tally.expect([library.close(handle) for handle in handles] == [0] * 4, "four handles close")
+
+
+def main():
+    build()
+    in_process.make()
+    tally, library = Count(), Library()
+    compare_orders(tally, library)
+    tell_lines(tally, library)
+    with tempfile.TemporaryDirectory() as kept:
+        folder = Path(kept)
+        for graph in GRAPHS:
+            saved = folder / f"{graph.stem}.ch"
+            saved.write_bytes(run(["save", graph], folder).out)
+            compare_answers(tally, folder, library, graph, saved)
+            compare_near(tally, folder, library, graph, saved)
+            compare_many_routes(tally, library, graph, saved)
+            compare_table_sums(tally, library, graph, saved)
+            compare_sums(tally, library, graph, saved)
+            compare_built(tally, library, graph)
+            compare_like(tally, library, graph)
+        ask_in_threads(tally, library, GRAPHS[1], saved)
+    tally.finish()
+
+
+if __name__ == "__main__":
+    main()
