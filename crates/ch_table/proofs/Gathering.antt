@@ -10,11 +10,11 @@ use Rattle.ch_work.specs.Pieces.{pieces_of, MeanEach, AreValues}
 use Rattle.ch_work.proofs.PieceLists.{covers, piece_split, zipped_append}
 use Rattle.ch_table.specs.Table.{IsRowBy, IsGathered, AreGathered}
 
-module _ {X : Type 0} (R : List ℕ → X → Type 0) (items : List ℕ) (p : ℕ) where
+module _ {A X : Type 0} (R : List A → X → Type 0) (items : List A) (p : ℕ) where
   -- the values of the pieces from piece k on are those of parts, which together are the items from there on
   parts_from : (k : ℕ) (values : List X) → length items ≤ (k + length values) * p →
       MeanEach (λ from to x. R (slice_range items from to) x) (length items) p k values →
-      (parts : List (List ℕ)) × (flat_map (λ part. part) parts ≡ drop (k * p) items) × AllZip R parts values
+      (parts : List (List A)) × (flat_map (λ part. part) parts ≡ drop (k * p) items) × AllZip R parts values
   parts_from k [] le h = ([], sym (drop_all (k * p) items (omega (arith, le))), tt)
   parts_from k (x ∷ values) le h =
       let next : (k + 1) * p ≡ k * p + p = omega arith in
@@ -23,9 +23,9 @@ module _ {X : Type 0} (R : List ℕ → X → Type 0) (items : List ℕ) (p : �
       (piece ∷ rest.0, ap (λ l. piece ++ l) (rest.1 ∙ ap (λ i. drop i items) next) ∙ piece_split items (k * p) p, (h.0, rest.2))
 
 -- the values of all pieces are those of parts of all items
-pub parts_of : {X : Type 0} (R : List ℕ → X → Type 0) (items : List ℕ) (n p : ℕ) (values : List X) → n ≡ length items → 0 < p →
+pub parts_of : {A X : Type 0} (R : List A → X → Type 0) (items : List A) (n p : ℕ) (values : List X) → n ≡ length items → 0 < p →
     AreValues (λ from to x. R (slice_range items from to) x) n p 0 (pieces_of n p) values →
-    (parts : List (List ℕ)) × (flat_map (λ part. part) parts ≡ items) × AllZip R parts values
+    (parts : List (List A)) × (flat_map (λ part. part) parts ≡ items) × AllZip R parts values
 parts_of {X = X} R items n p values count positive h =
     let start : 0 * p ≡ 0 = omega arith in
     let all : length items ≤ (0 + length values) * p = rw (h.0, sym count) (covers n p positive) in
