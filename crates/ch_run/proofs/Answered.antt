@@ -29,16 +29,17 @@ module _ {A B : Type 0} (IsTextOf : TextOf) (from : A → Request) (places : Pla
     (stay : (x : A) → places_then places (from x) ≡ places) (P : A → B → Type 0) (line : A → B → List ℕ)
     (so : (x : A) (y : B) → P x y → IsTextOf places (from x) (line x y)) (joined : List A → List B → List ℕ) (none : joined [] [] ≡ [])
     (more : (x : A) (y : B) (xs : List A) (ys : List B) → joined (x ∷ xs) (y ∷ ys) ≡ line x y ++ joined xs ys) where
-  pub each_answered : (xs : List A) (ys : List B) → AllZip P xs ys → AreAnswered IsTextOf places (map from xs) (joined xs ys)
-  each_answered [] [] h = none
-  each_answered (x ∷ xs) (y ∷ ys) h = (
+  pub each_answered : (xs : List A) (ys : List B) (text : List ℕ) → AllZip P xs ys → text ≡ joined xs ys →
+      AreAnswered IsTextOf places (map from xs) text
+  each_answered [] [] text h is = is ∙ none
+  each_answered (x ∷ xs) (y ∷ ys) text h is = (
     line x y,
     joined xs ys,
-    more x y xs ys,
+    is ∙ more x y xs ys,
     so x y h.0,
-    subst (λ (p : PlaceList). AreAnswered IsTextOf p (map from xs) (joined xs ys)) (sym (stay x)) (each_answered xs ys h.1),
+    subst (λ (p : PlaceList). AreAnswered IsTextOf p (map from xs) (joined xs ys)) (sym (stay x)) (each_answered xs ys _ h.1 refl),
   )
-  each_answered _ _ h = absurd h
+  each_answered _ _ text h is = absurd h
 
 -- no query gives places
 pub asked_stay : (routed : Bool) (places : PlaceList) (query : ℕ × ℕ) → places_then places (asked_for routed query) ≡ places
@@ -51,9 +52,8 @@ module _ (IsTextOf : TextOf) (routed : Bool) (places : PlaceList) (g : Network) 
   split : (P : ℕ × ℕ → Answer → Type 0) (written : Answer → List ℕ) →
       ((query : ℕ × ℕ) (a : Answer) → P query a → IsTextOf places (asked_for routed query) (written a)) → HasText written P queries text →
       AreAnswered IsTextOf places (map (asked_for routed) queries) text
-  split P written so h = subst (AreAnswered IsTextOf places (map (asked_for routed) queries)) (sym h.2)
-      (each_answered IsTextOf (asked_for routed) places (asked_stay routed places) P (λ query a. written a) so
-      (λ queries answers. flat_map written answers) refl (λ query a queries answers. refl) queries h.0 h.1)
+  split P written so h = each_answered IsTextOf (asked_for routed) places (asked_stay routed places) P (λ query a. written a) so
+      (λ queries answers. flat_map written answers) refl (λ query a queries answers. refl) queries h.0 text h.1 h.2
 
   split_by : (routes : Bool) →
       ((query : ℕ × ℕ) (one : List ℕ) → IsTextBy routes g From (query ∷ []) one → IsTextOf places (asked_for routed query) one) →

@@ -1,5 +1,5 @@
 -- The first of the requests that came together.
-use Rattle.std.proofs.Common.{◌≡◌, ℕ, ◌<◌, Bool, true, false, List, [], ◌∷◌, length, take, drop, map, get_or}
+use Rattle.std.proofs.Common.{◌≡◌, ℕ, ◌<◌, Bool, true, false, List, [], ◌∷◌, length, drop, map, get_or, drop-cons}
 use Rattle.std.proofs.Common.{Option, Some, None, refl, sym, ap, ◌∙◌, subst, arith}
 use Rattle.std.specs.Prelude.{All}
 use Rattle.std.specs.List.{flat_map, zip}
@@ -25,8 +25,7 @@ use Rattle.ch_run.proofs.Answered.{each_answered}
 
 -- requests are their first one and the rest
 pub front : (requests : List Request) (d r : Request) → 0 < length requests → get_or requests 0 d ≡ r → requests ≡ r ∷ drop 1 requests
-front [] d r some is = absurd (omega arith)
-front (x ∷ requests) d r some is = ap (λ (y : Request). y ∷ requests) is
+front requests d r some is = drop-cons requests 0 d some ∙ ap (λ (first : Request). first ∷ drop 1 requests) is
 
 module _ {A : Type 0} {from : A → Request} {requests : List Request} {values : List A} (first : AreFirstOf from requests values) where
   -- a property of the requests of these values holds of the values
@@ -57,20 +56,11 @@ pub asked_within : (n : ℕ) (routed : Bool) (pair : ℕ × ℕ) → IsRequest n
 asked_within n true pair is = is
 asked_within n false pair is = is
 
-take_one : (r : Request) (rest : List Request) → take 1 (r ∷ rest) ≡ r ∷ []
-take_one r [] = refl
-take_one r (x ∷ rest) = refl
-
 -- a request that is answered alone
 pub one_answered : {IsTextOf : TextOf} {places : PlaceList} (r : Request) {rest : List Request} {text : List ℕ} → IsTextOf places r text →
     AnswersFirst IsTextOf places (places_then places r) (r ∷ rest) text 1
-one_answered {IsTextOf} {places} r {rest} {text} is = record {
-  some = omega arith;
-  few = omega arith;
-  answers = subst (λ (rs : List Request). AreAnswered IsTextOf places rs text) (sym (take_one r rest))
-      (text, [], sym (append-nil text), is, refl);
-  places = ap (places_after places) (sym (take_one r rest));
-}
+one_answered r {text = text} is =
+    record { some = omega arith; few = omega arith; answers = (text, [], sym (append-nil text), is, refl); places = refl }
 
 -- without places, a near row is empty
 no_row : (g : Network) (direction : Direction) (limit : Option ℕ) (s : ℕ) → IsNearestRow g direction limit None [] s []
@@ -94,8 +84,7 @@ pub near_answered : (options : Options) (g : Network) (H : LevelsAndLegs) → Is
 near_answered options g H limits kept within near same sources text h =
     let limit = limit_of options within in
     let nodes = near.targets in
-    subst (AreAnswered (IsTextOfRequest options g H) (places_of (Some near)) (map (near_row_of within) sources)) (sym h.2)
-    (each_answered (IsTextOfRequest options g H) (near_row_of within) (places_of (Some near)) (λ s. refl)
+    each_answered (IsTextOfRequest options g H) (near_row_of within) (places_of (Some near)) (λ s. refl)
     (IsNearRow near.hierarchy limit near.count nodes) (λ s row. near_row_text nodes (s, row))
     (λ s row is. (
       row ∷ [],
@@ -106,4 +95,4 @@ near_answered options g H limits kept within near same sources text h =
       ),
       sym (append-nil (near_row_text nodes (s, row))),
     ))
-    (λ sources rows. flat_map (near_row_text nodes) (zip sources rows)) refl (λ s row sources rows. refl) sources h.0 h.1)
+    (λ sources rows. flat_map (near_row_text nodes) (zip sources rows)) refl (λ s row sources rows. refl) sources h.0 text h.1 h.2

@@ -40,7 +40,4 @@ returns-clause-first g c =
 pub returns-clause-room : goal.returns-clause-room
 returns-clause-room g c =
     let searched = rw c.in-Some.is at c.requires.room.near in
-    record {
-      scratches = c.requires.room.scratches;
-      near = rw c.in_ok-push_searched.ensures.same searched;
-    }
+    record { scratches = c.requires.room.scratches; near = rw c.in_ok-push_searched.ensures.same searched }
