@@ -18,7 +18,7 @@ use Rattle.ch_run.proofs.Counted.{CountsCalls, CountsReads, listed_after, reads_
 use Rattle.ch_run.proofs.Stories.{dist_told, near_told, save_told, table_told}
 use Rattle.ch_run.proofs.Tells.{Met, MetSource, ReportsWrites, Written}
 use Rattle.ch_line.specs.Inputs.{AreRead, IsOwn, RefusesAsked, RunsFor, RunsOver, TellsOver, WritesFor, WritesText}
-use Rattle.ch_line.specs.Inputs.{question_inputs, sources_after, sources_before, sources_read}
+use Rattle.ch_line.specs.Inputs.{question_inputs, sources_after, sources_before}
 use Rattle.ch_line.proofs.Read.{source-told, sources-told}
 
 module _ {I J O : Type 0} {gives : Calls I} (origin : I → ℕ) {failed : I → ℕ} (counts : CountsReads gives failed) {gives_requests : Calls J}

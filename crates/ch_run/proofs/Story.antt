@@ -1,6 +1,6 @@
 -- Steps of the story of a run.
-use Rattle.std.proofs.Common.{◌≡◌, ℕ, List, Option, Some, None, Result, Ok, Err, inl, inr, refl, sym, ◌∙◌, subst}
-use Rattle.std.specs.Prelude.{IsErrAnd, OnErr, ⊤}
+use Rattle.std.proofs.Common.{◌≡◌, ℕ, List, Option, Some, None, Result, Ok, Err, inl, inr, refl, sym, subst}
+use Rattle.std.specs.Prelude.{IsErrAnd, ⊤}
 use Rattle.ch_graph.specs.Graph.{Network}
 use Rattle.ch_read.specs.declared.form.Form.TheVariants as Form
 use Rattle.ch_read.specs.Names.{NamesNodes}
@@ -9,39 +9,21 @@ use Rattle.ch_text.specs.declared.device.DeviceFault.{DeviceFault}
 use Rattle.ch_run.specs.declared.fault.RunFault.{RunFault}
 use Rattle.ch_run.specs.declared.fault.Which.{Which}
 use Rattle.ch_run.specs.Run.{NoFile, NoInput, OneInput, OrderFile, Reading, ReadingIf, SavedFile, SourceReading}
-use Rattle.ch_run.specs.Story.{Cells, IsOrderRefusedOn, IsRefused, IsSavedRefusedOn, Loads, LoadsSource}
-use Rattle.ch_run.specs.Story.{Reads, ReadsIf, Writes}
+use Rattle.ch_run.specs.Story.{EndsAtIf, IsOrderRefusedOn, IsRefused, IsSavedRefusedOn, Loads, LoadsSource, Reads, ReadsIf, Writes}
 use Rattle.ch_run.specs.NearRun.{AreSources, sources_among}
-use Rattle.ch_run.proofs.Owed.{ends_as, err_as}
+use Rattle.ch_run.proofs.Owed.{err_as}
 
--- a story that holds also holds if the call ended in a fault
-pub at_err : {T : Type 0} (r : Result T RunFault) (story : Type 0) → story → OnErr r story
-at_err (Ok done) story is = tt
-at_err (Err e) story is = is
+-- at each end of a run: its story went so, what that tells was written, and the inputs are the same ones
+pub ended : {Went Written Same : Type 0} → (Went → Written) → Went → Same → record { went : Went; written : Written; same : Same }
+ended told went same = record { went = went; written = told went; same = same }
 
 -- the story of a call whose result s the run passes on, as r, is a part of the story of the run
-pub reads_as : {S T V : Type 0} (s : Result S RunFault) (r : Result T RunFault) (which : Which) (input : Reading)
+reads_as : {S T V : Type 0} (s : Result S RunFault) (r : Result T RunFault) (which : Which) (input : Reading)
     {names : List ℕ → V → Type 0} (refuses : List ℕ → RunFault → Type 0) {before later : Type 0} {none next : V → Type 0} →
     ((P : RunFault → Type 0) → IsErrAnd s P → before → IsErrAnd r P × later) → ((value : V) → none value → next value) →
     Reads which input names refuses s before none → Reads which input names refuses r later next
 reads_as s r which input refuses stop go (inl (ends, at)) = inl (stop _ ends at)
 reads_as s r which input refuses stop go (inr (bytes, value, all, named, on)) = inr (bytes, value, all, named, go value on)
-
--- the same of an input that only some runs have
-pub if_as : {S T V : Type 0} (s : Result S RunFault) (r : Result T RunFault) (which : Which) (input : ReadingIf)
-    (names : List ℕ → V → Type 0) (refuses : List ℕ → RunFault → Type 0) {before later : Type 0} (none next : Option V → Type 0) →
-    ((P : RunFault → Type 0) → IsErrAnd s P → before → IsErrAnd r P × later) → ((value : Option V) → none value → next value) →
-    ReadsIf which input names refuses s before none → ReadsIf which input names refuses r later next
-if_as s r which NoInput names refuses none next stop go reads = go None reads
-if_as s r which (OneInput input) names refuses none next stop go reads =
-    reads_as s r which input refuses stop (λ value. go (Some value)) reads
-
--- the same of lists that make too many cells
-pub cells_as : {S T : Type 0} (from to : List ℕ) (e : RunFault) (r : Result T RunFault) {later next : Type 0} →
-    IsErrAnd r (λ other. other ≡ e) → Cells {T = S} from to (Err e) ⊤ ⊥ → later → Cells from to r later next
-cells_as from to e r is (inl (many, same, at)) rest =
-    let cells : e ≡ RunFault.Cells = cc in inl (many, ends_as r e is ∙ rw cells refl, rest)
-cells_as from to e r is (inr (few, none)) rest = absurd none
 
 -- the same of a run that loads
 loads_as : {S T : Type 0} (s : Result S RunFault) (r : Result T RunFault) (graph : Reading) (source : SourceReading) {unread later : Type 0}
@@ -78,6 +60,13 @@ pub loads_on : {S T : Type 0} (graph : Reading) (source : SourceReading) (r : Re
     (next : Network → Option LevelsAndLegs → Type 0) {unread later : Type 0} (done : S) (g : Network) (h : Option LevelsAndLegs) →
     next g h → Loads {T = S} graph source unread (Ok done) ⊤ (λ k l. (g ≡ k) × (h ≡ l)) → Loads graph source unread r later next
 loads_on graph source r next done g h goes = loads_serving graph source r next done g (λ k l. h ≡ l) (λ l is. subst (next g) is goes)
+
+-- a run that stopped at an input that only some runs have stops its story there
+pub if_stops : {T V : Type 0} (r : Result T RunFault) (which : Which) (input : ReadingIf) (names : List ℕ → V → Type 0)
+    (refuses : List ℕ → RunFault → Type 0) (later : Type 0) (next : Option V → Type 0) (e : RunFault) → IsErrAnd r (λ other. other ≡ e) →
+    EndsAtIf which input refuses e → later → ReadsIf which input names refuses r later next
+if_stops r which NoInput names refuses later next e is ends rest = absurd ends
+if_stops r which (OneInput input) names refuses later next e is ends rest = inl (err_as r e _ is ends, rest)
 
 -- the run goes on with the sources, which were read, or which are all nodes
 pub sources_on : {T : Type 0} (input : ReadingIf) (nodes : ℕ) (from : List ℕ) (refuses : List ℕ → RunFault → Type 0)

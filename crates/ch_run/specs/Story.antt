@@ -50,6 +50,11 @@ HasEnded input refuses fault = ReadsAll input (λ bytes. refuses bytes fault)
 abbrev pub EndsAt : Which → Reading → (refuses : List ℕ → RunFault → Type 0) → RunFault → Type 0
 EndsAt which input refuses fault = IsOf which fault × HasEnded input refuses fault
 
+-- the same of an input that only some runs have
+abbrev pub EndsAtIf : Which → ReadingIf → (refuses : List ℕ → RunFault → Type 0) → RunFault → Type 0
+EndsAtIf which NoInput refuses fault = ⊥
+EndsAtIf which (OneInput input) refuses fault = EndsAt which input refuses fault
+
 -- the run stopped at this input, and left what comes later as it was. Or it read the input to its end, its bytes name a value, and the
 -- run went on with that value
 abbrev pub Reads : {T V : Type 0} → Which → Reading → (names : List ℕ → V → Type 0) → (refuses : List ℕ → RunFault → Type 0) →

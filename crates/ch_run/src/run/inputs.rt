@@ -3,14 +3,17 @@ ghost use Rattle.std.specs.Prelude.{true, ◌≡◌, ◌<◌, ◌≤◌, All, If
 ghost use Rattle.ch_graph.specs.declared.limits.TheConstants.{MOST_LISTED, MOST_QUERIES};
 ghost use Rattle.ch_text.specs.Device.{CanCountOneMore};
 ghost use Rattle.ch_text.specs.Moves.{GaveAll};
+ghost use Rattle.ch_job.specs.Job.{sources_map};
+ghost use Rattle.ch_run.specs.NearRun.{AreSources, nodes_of_sources, sources_reading};
 ghost use Rattle.ch_run.specs.Run.{IsUnread, ReadsGraph, ReadsNodes, ReadsQueries, reading};
 ghost use Rattle.ch_read.specs.declared.form.Form.TheVariants as FormOf;
-ghost use Rattle.ch_run.specs.Story.{EndsAt, IsRefused};
+ghost use Rattle.ch_run.specs.Story.{EndsAt, EndsAtIf, IsRefused};
 ghost use Rattle.ch_query.specs.Replies.{AreQueries};
 
 use crate::fault::{RunFault, Which};
 use crate::plan::{Crew, Gate};
 use ch_graph::Graph;
+use ch_job::Sources;
 use ch_read::{read_graph_by, read_nodes, read_queries};
 use ch_text::{Input, ReadAllFault, read_all};
 use std::alloc::Global;
@@ -59,6 +62,27 @@ pub(crate) fn nodes_from<I: Input>(
 {
     let bytes = bytes_from(alloc, input, which)?;
     which.judged(read_nodes(alloc, &bytes, graph.nodes()))
+}
+
+/// Reads the sources to their end, as a list of nodes of this graph. All nodes as sources stay all nodes, and
+/// nothing is read.
+pub(crate) fn sources_from<J: Input + Drop>(
+    alloc: Global,
+    sources: &mut Sources<J>,
+    graph: &Graph,
+) -> Result<Sources<Vec<u32>>, RunFault>
+    ensures value { IfOk result (λ from. AreSources (sources_reading J.read_gives sources.old sources.new) graph.now.nodes (nodes_of_sources graph.now.nodes from)) }
+    ensures within { IfOk result (λ from. All (λ node. node < graph.now.nodes) (nodes_of_sources graph.now.nodes from)) }
+    ensures ends { IfErr result (EndsAtIf Which.Sources (sources_reading J.read_gives sources.old sources.new) (IsRefused (FormOf.Nodes graph.now.nodes))) }
+    ensures same { sources_map J.origin sources.new ≡ sources_map J.origin sources.old }
+{
+    match sources {
+        Sources::All => Ok(Sources::All),
+        Sources::Listed(list) => {
+            let list = nodes_from(alloc, list, graph, Which::Sources)?;
+            Ok(Sources::Listed(list))
+        }
+    }
 }
 
 /// Returns whether the count of failures of an input has room for one more. An input that has no room is not read.

@@ -1,10 +1,9 @@
 //! A graph, and a saved hierarchy or an order if there is one. Both are read to their end and checked.
-ghost use Rattle.std.specs.Prelude.{◌≡◌, ◌<◌, ◌≤◌, Some, IfOk, IfErr, IsNone, IsOkAnd, MatchResult, ⊤};
+ghost use Rattle.std.specs.Prelude.{◌≡◌, ◌<◌, ◌≤◌, Some, IfOk, IfErr, IsOkAnd, MatchResult, ⊤};
 ghost use Rattle.ch_graph.specs.Saved.{OrderAndLegs};
 ghost use Rattle.ch_hierarchy.specs.Hierarchy.{LevelsAndLegs};
 ghost use Rattle.ch_hierarchy.specs.Kept.{IsKept};
 ghost use Rattle.ch_contract.specs.Like.{IsHierarchyLike};
-ghost use Rattle.ch_job.specs.declared.source.Source.TheVariants as SourceOf;
 ghost use Rattle.ch_job.specs.Job.{source_map};
 ghost use Rattle.ch_run.specs.Loaded.{IsRight};
 ghost use Rattle.ch_run.specs.Run.{reading, ReadsAll};
@@ -93,7 +92,6 @@ pub(crate) fn loaded_from<R: Threads + Sync, I: Input, S: Input + Drop, G: Gate>
 ) -> Result<Loaded, RunFault>
     ensures went { Loads (reading I.read_gives graph.old graph.new) (source_reading S.read_gives source.old source.new) (source.new ≡ source.old) result ⊤ (λ g h.
         IsOkAnd result (λ loaded. (loaded.graph ≡ g) × IsInPlaceOf named g h loaded.saved)) }
-    ensures built { IfOk result (λ loaded. IsNone loaded.saved → source.old ≡ SourceOf.Built) }
     ensures same_graph { I.origin graph.new ≡ I.origin graph.old }
     ensures same_source { source_map S.origin source.new ≡ source_map S.origin source.old }
 {

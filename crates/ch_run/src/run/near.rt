@@ -7,11 +7,11 @@ ghost use Rattle.ch_run.specs.Run.{Delivers, reading};
 ghost use Rattle.ch_run.specs.Source.{source_reading};
 ghost use Rattle.ch_run.specs.Text.{IsNearTextFor};
 
+use super::inputs::{nodes_from, sources_from};
 use super::loading::{Loaded, loaded_from};
 use super::near_texts::near_by;
-use super::node_lists::{NodeLists, node_lists_from};
 use super::output::write_text;
-use crate::fault::RunFault;
+use crate::fault::{RunFault, Which};
 use crate::orders::quick_order;
 use crate::plan::{Crew, Gate};
 use ch_job::{Options, Source, Sources};
@@ -72,8 +72,9 @@ pub fn run_near<
         × (sources_map J.origin sources.new ≡ sources_map J.origin sources.old) × (L.origin targets.new ≡ L.origin targets.old) }
 {
     let loaded = loaded_from(crew, graph, source, false)?;
-    let lists = node_lists_from(crew.alloc, sources, targets, loaded.graph())?;
-    let text = near_of(crew, loaded, &lists, options)?;
+    let sources = sources_from(crew.alloc, sources, loaded.graph())?;
+    let targets = nodes_from(crew.alloc, targets, loaded.graph(), Which::Targets)?;
+    let text = near_of(crew, loaded, &sources, &targets, options)?;
     write_text(output, &text)
 }
 
@@ -81,13 +82,14 @@ pub fn run_near<
 fn near_of<R: Threads + Sync, G: Gate>(
     crew: &Crew<'_, R, G>,
     loaded: Loaded,
-    lists: &NodeLists,
+    sources: &Sources<Vec<u32>>,
+    targets: &[u32],
     options: &Options,
 ) -> Result<Vec<u8>, AllocError>
-    requires lists { AreNodeLists loaded.graph.nodes (nodes_of_sources loaded.graph.nodes lists.now.sources) lists.now.targets.items }
-    ensures { IfOk result (λ text. IsNearTextFor options.now loaded.graph (nodes_of_sources loaded.graph.nodes lists.now.sources) lists.now.targets.items text.items) }
+    requires lists { AreNodeLists loaded.graph.nodes (nodes_of_sources loaded.graph.nodes sources.now) targets.now }
+    ensures { IfOk result (λ text. IsNearTextFor options.now loaded.graph (nodes_of_sources loaded.graph.nodes sources.now) targets.now text.items) }
 {
     let order = quick_order(crew.plan.workers(), loaded.graph().nodes());
     let hierarchy = loaded.hierarchy(crew, options.hops, order)?;
-    near_by(crew, &hierarchy, &lists.sources, &lists.targets, options)
+    near_by(crew, &hierarchy, sources, targets, options)
 }

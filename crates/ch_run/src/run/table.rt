@@ -8,15 +8,16 @@ ghost use Rattle.ch_run.specs.Source.{source_reading};
 ghost use Rattle.ch_run.specs.Stories.{RunsTable};
 ghost use Rattle.ch_run.specs.TableRun.{IsTabledBy};
 
-use super::lists::{Lists, lists_from};
+use super::inputs::nodes_from;
 use super::loading::{Loaded, loaded_from};
 use super::output::write_parts;
 use super::texts::table_parts_by;
-use crate::fault::RunFault;
+use crate::fault::{RunFault, Which};
 use crate::orders::quick_order;
 use crate::plan::{Crew, Gate};
 use ch_job::{Options, Source};
 use ch_text::{Input, Output};
+use ch_work::limits::MOST_CELLS;
 use std::alloc::AllocError;
 use std::thread::Threads;
 
@@ -69,29 +70,28 @@ pub fn run_table<
         × (J.origin sources.new ≡ J.origin sources.old) × (L.origin targets.new ≡ L.origin targets.old) }
 {
     let loaded = loaded_from(crew, graph, source, false)?;
-    let lists = lists_from(crew.alloc, sources, targets, loaded.graph())?;
-    let parts = table_of(crew, loaded, &lists, options)?;
+    let sources = nodes_from(crew.alloc, sources, loaded.graph(), Which::Sources)?;
+    let targets = nodes_from(crew.alloc, targets, loaded.graph(), Which::Targets)?;
+    if sources.len() * targets.len() > MOST_CELLS as usize {
+        return Err(RunFault::Cells);
+    }
+    let parts = table_of(crew, loaded, &sources, &targets, options)?;
     write_parts(output, &parts)
 }
 
-/// Returns the text of the table of these lists, by the hierarchy that serves, in parts.
+/// Returns the text of the table from these sources to these targets, by the hierarchy that serves, in parts.
 fn table_of<R: Threads + Sync, G: Gate>(
     crew: &Crew<'_, R, G>,
     loaded: Loaded,
-    lists: &Lists,
+    sources: &[u32],
+    targets: &[u32],
     options: &Options,
 ) -> Result<Vec<Vec<u8>>, AllocError>
-    requires lists { AreLists loaded.graph.nodes lists.now.sources.items lists.now.targets.items }
-    ensures text { IfOk result (λ parts. IsTableText loaded.graph options.now.within lists.now.sources.items lists.now.targets.items (flat_map (λ part. part.items) parts.items)) }
+    requires lists { AreLists loaded.graph.nodes sources.now targets.now }
+    ensures text { IfOk result (λ parts. IsTableText loaded.graph options.now.within sources.now targets.now (flat_map (λ part. part.items) parts.items)) }
     ensures length { IfOk result (λ parts. length (flat_map (λ part. part.items) parts.items) < 2 ^ 64) }
 {
     let order = quick_order(crew.plan.workers(), loaded.graph().nodes());
     let hierarchy = loaded.hierarchy(crew, options.hops, order)?;
-    table_parts_by(
-        crew,
-        &hierarchy,
-        &lists.sources,
-        &lists.targets,
-        options.within,
-    )
+    table_parts_by(crew, &hierarchy, sources, targets, options.within)
 }

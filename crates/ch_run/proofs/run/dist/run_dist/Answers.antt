@@ -1,53 +1,43 @@
 -- The run goes as its story says at each end, so the output takes the text that answers the queries, or its first bytes.
-use Rattle.std.proofs.Common.{inl, inr, refl}
+use Rattle.std.proofs.Common.{inl, inr, refl, rules}
 use Rattle.ch_run.proofs.Owed.{err_as}
 use Rattle.ch_run.proofs.Stories.{dist_told}
-use Rattle.ch_run.proofs.Story.{loads_serving, loads_stops, writes_none, writes_weaker}
+use Rattle.ch_run.proofs.Story.{ended, loads_serving, loads_stops, writes_none, writes_weaker}
 use Rattle.ch_run.proofs.Texts.{text_in_place}
 use Rattle.ch_run.specs.Source.{IsInPlaceOf}
 use Rattle.ch_run.specs.Text.{writes_routes}
 use Rattle.ch_run.proofs.run.dist.run_dist.Goals as goal
 
--- the story, as far as it went
-pub returns-in_err-loaded-clause-went : goal.returns-in_err-loaded-clause-went
-returns-in_err-loaded-clause-went g c = loads_stops _ _ _ _ _ _ c.from_residual.ensures.1 (refl, refl) c.in_err-loaded.ensures.went
+pub returns-in_err-loaded : goal.returns-in_err-loaded
+returns-in_err-loaded g c = ended (λ went. (dist_told c.args.options.now went).later.1.delivers)
+    (loads_stops _ _ _ _ _ _ c.from_residual.ensures.1 (refl, refl) c.in_err-loaded.ensures.went) (search rules)
 
-pub returns-in_err-queries-clause-went : goal.returns-in_err-queries-clause-went
-returns-in_err-queries-clause-went g c =
+pub returns-in_err-queries : goal.returns-in_err-queries
+returns-in_err-queries g c =
     let ends = rw c.graph.ensures.graph at c.in_err-queries.ensures.read in
-    loads_serving _ _ _ _ _ _ _ (λ h place. inl (err_as _ _ _ c.from_residual-in_err-queries.ensures.1 ends, refl))
-    c.in_ok-loaded.ensures.went
+    ended (λ went. (dist_told c.args.options.now went).later.1.delivers)
+    (loads_serving _ _ _ _ _ _ _ (λ h place. inl (err_as _ _ _ c.from_residual-in_err-queries.ensures.1 ends, refl))
+    c.in_ok-loaded.ensures.went) (search rules)
 
-pub returns-in_err-text-clause-went : goal.returns-in_err-text-clause-went
-returns-in_err-text-clause-went g c =
+pub returns-in_err-text : goal.returns-in_err-text
+returns-in_err-text g c =
     let read = rw c.graph.ensures.graph at c.in_ok-queries.ensures.read in
-    loads_serving _ _ _ _ _ _ _
-    (λ h place. inr (read.0, _, read.1, read.2, writes_none _ _ _ _ c.from_residual-in_err-text.ensures.1)) c.in_ok-loaded.ensures.went
+    ended (λ went. (dist_told c.args.options.now went).later.1.delivers)
+    (loads_serving _ _ _ _ _ _ _ (λ h place.
+    inr (read.0, _, read.1, read.2, writes_none _ _ _ _ c.from_residual-in_err-text.ensures.1)) c.in_ok-loaded.ensures.went) (search rules)
 
-pub returns-clause-went : goal.returns-clause-went
-returns-clause-went g c =
+pub returns : goal.returns
+returns g c =
     let read = rw c.graph.ensures.graph at c.in_ok-queries.ensures.read in
     let options = c.args.options.now in
     let network = c.in_ok-loaded.loaded.graph in
     let saved = c.in_ok-loaded.loaded.saved in
-    loads_serving _ _ _ _ _ _ (λ k l. IsInPlaceOf c.writes_routes.result k l saved)
+    ended (λ went. (dist_told options went).later.1.delivers)
+    (loads_serving _ _ _ _ _ _ (λ k l. IsInPlaceOf c.writes_routes.result k l saved)
     (λ h place.
     let mine = text_in_place (writes_routes options) options.order options.hops.number network h saved (rw c.writes_routes.ensures at place)
     _ _ c.in_ok-text.ensures in
     let wrote = writes_weaker _ _ _ _ _ c.write_text.result (rw c.deref-2.ensures.value (rw c.deref.ensures.value at mine))
     c.write_text.ensures.wrote in
     inr (read.0, _, read.1, read.2, wrote))
-    c.in_ok-loaded.ensures.went
-
--- so the output took the text or its beginning
-pub returns-in_err-loaded-clause-written : goal.returns-in_err-loaded-clause-written
-returns-in_err-loaded-clause-written g c = (dist_told c.args.options.now (returns-in_err-loaded-clause-went g c)).later.1.delivers
-
-pub returns-in_err-queries-clause-written : goal.returns-in_err-queries-clause-written
-returns-in_err-queries-clause-written g c = (dist_told c.args.options.now (returns-in_err-queries-clause-went g c)).later.1.delivers
-
-pub returns-in_err-text-clause-written : goal.returns-in_err-text-clause-written
-returns-in_err-text-clause-written g c = (dist_told c.args.options.now (returns-in_err-text-clause-went g c)).later.1.delivers
-
-pub returns-clause-written : goal.returns-clause-written
-returns-clause-written g c = (dist_told c.args.options.now (returns-clause-went g c)).later.1.delivers
+    c.in_ok-loaded.ensures.went) (search rules)

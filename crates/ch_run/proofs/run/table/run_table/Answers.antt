@@ -1,55 +1,61 @@
 -- The run goes as its story says at each end, so the output takes the table, or its first bytes.
-use Rattle.std.proofs.Common.{Err, inr, refl}
-use Rattle.ch_run.proofs.Stories.{table_told}
-use Rattle.ch_run.proofs.Story.{cells_as, loads_serving, loads_stops, reads_as, writes_none, writes_weaker}
+use Rattle.std.proofs.Common.{◌∙◌, inl, inr, refl, arith, rules}
 use Rattle.ch_run.proofs.Owed.{err_as}
-use Rattle.ch_run.specs.declared.run.lists.Lists.{Lists}
-use Rattle.ch_run.specs.declared.fault.Which.{Which}
+use Rattle.ch_run.proofs.Stories.{table_told}
+use Rattle.ch_run.proofs.Story.{ended, loads_serving, loads_stops, writes_none, writes_weaker}
 use Rattle.ch_run.specs.Run.{reading}
-use Rattle.ch_run.specs.Story.{IsRefused}
-use Rattle.ch_read.specs.declared.form.Form.TheVariants as Form
 use Rattle.ch_run.proofs.run.table.run_table.Goals as goal
 
--- the story, as far as it went
-pub returns-in_err-loaded-clause-went : goal.returns-in_err-loaded-clause-went
-returns-in_err-loaded-clause-went g c =
-    loads_stops _ _ _ _ _ _ c.from_residual.ensures.1 (refl, refl, refl) c.in_err-loaded.ensures.went
+pub returns-in_err-loaded : goal.returns-in_err-loaded
+returns-in_err-loaded g c = ended (λ went. (table_told c.args.options.now went).later.1.1.1.delivers)
+    (loads_stops _ _ _ _ _ _ c.from_residual.ensures.1 (refl, refl, refl) c.in_err-loaded.ensures.went) (search rules)
 
-pub returns-in_err-lists-clause-went : goal.returns-in_err-lists-clause-went
-returns-in_err-lists-clause-went g c =
-    let is = c.from_residual-in_err-lists.ensures.1 in
-    let n = c.in_ok-loaded.loaded.graph.nodes in
-    let sources = reading g.J.Input.read_gives c.args.sources.now c.lists_from.new.sources in
-    let targets = reading g.L.Input.read_gives c.args.targets.now c.lists_from.new.targets in
-    loads_serving _ _ _ _ _ _ _ (λ h place. reads_as {S = Lists} (Err _) _ Which.Sources sources (IsRefused (Form.Nodes n))
-    (λ P own at. (err_as _ _ P is own, (at, refl))) (λ from. reads_as {S = Lists} (Err _) _ Which.Targets targets
-    (IsRefused (Form.Nodes n)) (λ P own at. (err_as _ _ P is own, refl)) (λ to cells. cells_as from to _ _ is cells refl))
-    (rw c.graph.ensures.graph at c.in_err-lists.ensures.ends)) c.in_ok-loaded.ensures.went
+pub returns-in_err-sources : goal.returns-in_err-sources
+returns-in_err-sources g c =
+    let ends = rw c.graph.ensures.graph at c.in_err-sources.ensures.read in
+    ended (λ went. (table_told c.args.options.now went).later.1.1.1.delivers)
+    (loads_serving _ _ _ _ _ _ _ (λ h place. inl (err_as _ _ _ c.from_residual-in_err-sources.ensures.1 ends, (refl, refl)))
+    c.in_ok-loaded.ensures.went) (search rules)
 
-pub returns-in_err-parts-clause-went : goal.returns-in_err-parts-clause-went
-returns-in_err-parts-clause-went g c =
-    let lists = rw c.graph.ensures.graph at c.in_ok-lists.ensures.value in
+pub returns-in_err-targets : goal.returns-in_err-targets
+returns-in_err-targets g c =
+    let from = rw c.graph.ensures.graph at c.in_ok-sources.ensures.read in
+    let ends = err_as _ _ _ c.from_residual-in_err-targets.ensures.1 (rw c.graph-2.ensures.graph at c.in_err-targets.ensures.read) in
+    ended (λ went. (table_told c.args.options.now went).later.1.1.1.delivers)
+    (loads_serving _ _ _ _ _ _ _ (λ h place. inr (from.0, _, from.1, from.2, inl (ends, refl))) c.in_ok-loaded.ensures.went) (search rules)
+
+pub returns-then-len : goal.returns-then-len
+returns-then-len g c =
+    let from = rw c.graph.ensures.graph at c.in_ok-sources.ensures.read in
+    let to = rw c.graph-2.ensures.graph at c.in_ok-targets.ensures.read in
+    let many = rw (c.len.ensures ∙ c.in_ok-sources.sources.ok.0, c.len-2.ensures ∙ c.in_ok-targets.targets.ok.0) at c.if-len.true in
+    let graph = reading g.I.Input.read_gives c.args.graph.now c.loaded_from.new.graph in
+    record {
+      went = loads_serving graph _ _ _ _ _ _ (λ h place.
+          inr (from.0, _, from.1, from.2, inr (to.0, _, to.1, to.2, inl (many, refl, refl)))) c.in_ok-loaded.ensures.went;
+      written = λ count is. absurd (let none : ⊥ = cc in none);
+      same = search rules;
+    }
+
+pub returns-in_err-parts : goal.returns-in_err-parts
+returns-in_err-parts g c =
+    let from = rw c.graph.ensures.graph at c.in_ok-sources.ensures.read in
+    let to = rw c.graph-2.ensures.graph at c.in_ok-targets.ensures.read in
+    let few = rw (c.len.ensures ∙ c.in_ok-sources.sources.ok.0, c.len-2.ensures ∙ c.in_ok-targets.targets.ok.0) at c.if-len.false in
     let none = writes_none _ _ _ _ c.from_residual-in_err-parts.ensures.1 in
-    loads_serving _ _ _ _ _ _ _ (λ h place.
-    inr (lists.0.0, _, lists.0.1, lists.0.2, inr (lists.1.0, _, lists.1.1, lists.1.2, inr (lists.2, none)))) c.in_ok-loaded.ensures.went
+    ended (λ went. (table_told c.args.options.now went).later.1.1.1.delivers)
+    (loads_serving _ _ _ _ _ _ _ (λ h place.
+    inr (from.0, _, from.1, from.2, inr (to.0, _, to.1, to.2, inr (λ many. absurd (omega arith), none)))) c.in_ok-loaded.ensures.went)
+    (search rules)
 
-pub returns-clause-went : goal.returns-clause-went
-returns-clause-went g c =
-    let lists = rw c.graph.ensures.graph at c.in_ok-lists.ensures.value in
-    let wrote = writes_weaker _ _ _ _ _ c.write_parts.result (rw c.deref.ensures.value c.in_ok-parts.ensures.text)
-    c.write_parts.ensures.wrote in
-    loads_serving _ _ _ _ _ _ _ (λ h place.
-    inr (lists.0.0, _, lists.0.1, lists.0.2, inr (lists.1.0, _, lists.1.1, lists.1.2, inr (lists.2, wrote)))) c.in_ok-loaded.ensures.went
-
--- so the output took the text or its beginning
-pub returns-in_err-loaded-clause-written : goal.returns-in_err-loaded-clause-written
-returns-in_err-loaded-clause-written g c = (table_told c.args.options.now (returns-in_err-loaded-clause-went g c)).later.1.1.1.delivers
-
-pub returns-in_err-lists-clause-written : goal.returns-in_err-lists-clause-written
-returns-in_err-lists-clause-written g c = (table_told c.args.options.now (returns-in_err-lists-clause-went g c)).later.1.1.1.delivers
-
-pub returns-in_err-parts-clause-written : goal.returns-in_err-parts-clause-written
-returns-in_err-parts-clause-written g c = (table_told c.args.options.now (returns-in_err-parts-clause-went g c)).later.1.1.1.delivers
-
-pub returns-clause-written : goal.returns-clause-written
-returns-clause-written g c = (table_told c.args.options.now (returns-clause-went g c)).later.1.1.1.delivers
+pub returns : goal.returns
+returns g c =
+    let from = rw c.graph.ensures.graph at c.in_ok-sources.ensures.read in
+    let to = rw c.graph-2.ensures.graph at c.in_ok-targets.ensures.read in
+    let few = rw (c.len.ensures ∙ c.in_ok-sources.sources.ok.0, c.len-2.ensures ∙ c.in_ok-targets.targets.ok.0) at c.if-len.false in
+    let text = rw (c.deref-2.ensures.value, c.deref.ensures.value) at c.in_ok-parts.ensures.text in
+    let wrote = writes_weaker _ _ _ _ _ c.write_parts.result (rw c.deref-3.ensures.value text) c.write_parts.ensures.wrote in
+    ended (λ went. (table_told c.args.options.now went).later.1.1.1.delivers)
+    (loads_serving _ _ _ _ _ _ _ (λ h place.
+    inr (from.0, _, from.1, from.2, inr (to.0, _, to.1, to.2, inr (λ many. absurd (omega arith), wrote)))) c.in_ok-loaded.ensures.went)
+    (search rules)
