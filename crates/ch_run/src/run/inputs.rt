@@ -20,6 +20,7 @@ use std::alloc::Global;
 use std::thread::Threads;
 
 /// Reads an input to its end, as a graph. All workers read its bytes.
+#[tactic(auto, using(crate::proofs::Judged::unread_judged))]
 pub(crate) fn graph_from<R: Threads + Sync, I: Input, G: Gate>(
     crew: &Crew<'_, R, G>,
     input: &mut I,
@@ -32,6 +33,7 @@ pub(crate) fn graph_from<R: Threads + Sync, I: Input, G: Gate>(
 }
 
 /// Reads an input to its end, as queries on this graph.
+#[tactic(auto, using(crate::proofs::Judged::unread_judged))]
 pub(crate) fn queries_from<I: Input>(
     alloc: Global,
     input: &mut I,
@@ -48,6 +50,7 @@ pub(crate) fn queries_from<I: Input>(
 }
 
 /// Reads an input to its end, as a list of nodes of this graph.
+#[tactic(auto, using(crate::proofs::Judged::unread_judged))]
 pub(crate) fn nodes_from<I: Input>(
     alloc: Global,
     input: &mut I,

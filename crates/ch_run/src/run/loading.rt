@@ -214,6 +214,7 @@ impl Loaded {
 }
 
 /// Reads an input to its end, as a saved hierarchy on this graph. All workers read its bytes.
+#[tactic(auto, using(crate::proofs::Judged::unread_judged))]
 fn saved_from<R: Threads + Sync, S: Input, G: Gate>(
     crew: &Crew<'_, R, G>,
     input: &mut S,
@@ -229,6 +230,7 @@ fn saved_from<R: Threads + Sync, S: Input, G: Gate>(
 
 /// Reads an input to its end, as an order of the nodes of this graph in the form of a saved hierarchy. All workers read
 /// its bytes, and no leg is kept.
+#[tactic(auto, using(crate::proofs::Judged::unread_judged))]
 fn order_from<R: Threads + Sync, S: Input, G: Gate>(
     crew: &Crew<'_, R, G>,
     input: &mut S,

@@ -4,7 +4,7 @@ use Rattle.ch_read.specs.Names.{NamesGraph}
 use Rattle.ch_run.specs.Story.{IsRefused}
 use Rattle.ch_run.specs.Run.{reading}
 use Rattle.ch_run.specs.declared.fault.Which.{Which}
-use Rattle.ch_run.proofs.Judged.{value_judged, unread_judged}
+use Rattle.ch_run.proofs.Judged.{value_judged}
 use Rattle.ch_run.proofs.run.inputs.graph_from.Goals as goal
 
 pub returns-clause-read : goal.returns-clause-read
@@ -15,7 +15,3 @@ returns-clause-read g c =
     (value_judged Which.Graph input (IsRefused Form.Graph) c.deref.result.now all
     NamesGraph _ (λ value. (c.read_graph_by.ensures.value value).0)
     (λ fault. (c.read_graph_by.ensures.fault fault).0))
-
-pub returns-in_err-bytes-clause-read : goal.returns-in_err-bytes-clause-read
-returns-in_err-bytes-clause-read g c =
-    unread_judged _ _ (IsRefused Form.Graph) _ _ _ c.from_residual.ensures.1 c.in_err-bytes.ensures.unread

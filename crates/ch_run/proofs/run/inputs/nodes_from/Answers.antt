@@ -3,7 +3,7 @@ use Rattle.ch_read.specs.declared.form.Form.TheVariants as Form
 use Rattle.ch_read.specs.Names.{NamesNodes}
 use Rattle.ch_run.specs.Story.{IsRefused}
 use Rattle.ch_run.specs.Run.{reading}
-use Rattle.ch_run.proofs.Judged.{list_judged, unread_judged}
+use Rattle.ch_run.proofs.Judged.{list_judged}
 use Rattle.ch_run.proofs.run.inputs.nodes_from.Goals as goal
 
 pub returns-clause-read : goal.returns-clause-read
@@ -14,7 +14,3 @@ returns-clause-read g c =
     (list_judged c.args.which input (IsRefused (Form.Nodes c.nodes.result)) c.deref.result.now all
     (λ given nodes. NamesNodes given c.nodes.result nodes) _ c.read_nodes.ensures.value
     (λ fault. (c.read_nodes.ensures.fault fault).0))
-
-pub returns-in_err-bytes-clause-read : goal.returns-in_err-bytes-clause-read
-returns-in_err-bytes-clause-read g c =
-    unread_judged _ _ (IsRefused (Form.Nodes c.args.graph.now.nodes)) _ _ _ c.from_residual.ensures.1 c.in_err-bytes.ensures.unread

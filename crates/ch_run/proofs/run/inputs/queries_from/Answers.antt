@@ -4,7 +4,7 @@ use Rattle.ch_read.specs.Names.{NamesQueries}
 use Rattle.ch_run.specs.Story.{IsRefused}
 use Rattle.ch_run.specs.Run.{reading}
 use Rattle.ch_run.specs.declared.fault.Which.{Which}
-use Rattle.ch_run.proofs.Judged.{list_judged, unread_judged}
+use Rattle.ch_run.proofs.Judged.{list_judged}
 use Rattle.ch_run.proofs.run.inputs.queries_from.Goals as goal
 
 pub returns-clause-read : goal.returns-clause-read
@@ -15,7 +15,3 @@ returns-clause-read g c =
     (list_judged Which.Queries input (IsRefused (Form.Queries c.nodes.result)) c.deref.result.now all
     (λ given pairs. NamesQueries given c.nodes.result pairs) _ c.read_queries.ensures.value
     (λ fault. (c.read_queries.ensures.fault fault).0))
-
-pub returns-in_err-bytes-clause-read : goal.returns-in_err-bytes-clause-read
-returns-in_err-bytes-clause-read g c =
-    unread_judged _ _ (IsRefused (Form.Queries c.args.graph.now.nodes)) _ _ _ c.from_residual.ensures.1 c.in_err-bytes.ensures.unread

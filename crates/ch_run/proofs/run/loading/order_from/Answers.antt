@@ -3,7 +3,7 @@ use Rattle.ch_read.specs.Names.{NamesOrder}
 use Rattle.ch_run.specs.Story.{IsOrderRefusedOn}
 use Rattle.ch_run.specs.Run.{reading}
 use Rattle.ch_run.specs.declared.fault.Which.{Which}
-use Rattle.ch_run.proofs.Judged.{list_judged, unread_judged}
+use Rattle.ch_run.proofs.Judged.{list_judged}
 use Rattle.ch_run.proofs.run.loading.order_from.Goals as goal
 
 pub returns-clause-read : goal.returns-clause-read
@@ -15,7 +15,3 @@ returns-clause-read g c =
     (λ given order. NamesOrder given c.args.graph.now.nodes order) _
     (λ items. rw c.nodes.ensures.nodes at c.read_order_by.ensures.value items)
     (λ fault is. rw c.nodes.ensures.nodes at (c.read_order_by.ensures.fault fault).0 is))
-
-pub returns-in_err-bytes-clause-read : goal.returns-in_err-bytes-clause-read
-returns-in_err-bytes-clause-read g c =
-    unread_judged _ _ (IsOrderRefusedOn c.args.graph.now) _ _ _ c.from_residual.ensures.1 c.in_err-bytes.ensures.unread

@@ -3,7 +3,7 @@ use Rattle.ch_read.specs.Names.{NamesSaved}
 use Rattle.ch_run.specs.Story.{IsSavedRefusedOn}
 use Rattle.ch_run.specs.Run.{reading}
 use Rattle.ch_run.specs.declared.fault.Which.{Which}
-use Rattle.ch_run.proofs.Judged.{value_judged, unread_judged}
+use Rattle.ch_run.proofs.Judged.{value_judged}
 use Rattle.ch_run.proofs.run.loading.saved_from.Goals as goal
 
 pub returns-clause-read : goal.returns-clause-read
@@ -15,7 +15,3 @@ returns-clause-read g c =
     (λ given saved. NamesSaved given c.args.graph.now.nodes saved) _
     (λ value. (rw c.nodes.ensures.nodes at c.read_saved_by.ensures.value value).0)
     (λ fault is. rw c.nodes.ensures.nodes at (c.read_saved_by.ensures.fault fault).0 is))
-
-pub returns-in_err-bytes-clause-read : goal.returns-in_err-bytes-clause-read
-returns-in_err-bytes-clause-read g c =
-    unread_judged _ _ (IsSavedRefusedOn c.args.graph.now) _ _ _ c.from_residual.ensures.1 c.in_err-bytes.ensures.unread

@@ -3,6 +3,7 @@ use Rattle.std.proofs.Common.{inl, inr, refl, rules}
 use Rattle.ch_run.proofs.Owed.{err_as}
 use Rattle.ch_run.proofs.Stories.{near_told}
 use Rattle.ch_run.proofs.Story.{ended, if_stops, loads_serving, loads_stops, sources_on, writes_none, writes_weaker}
+use Rattle.ch_run.specs.declared.fault.Which.{Which}
 use Rattle.ch_run.proofs.run.near.run_near.Goals as goal
 
 pub returns-in_err-loaded : goal.returns-in_err-loaded
@@ -14,7 +15,7 @@ returns-in_err-sources g c =
     let ends = rw c.graph.ensures.graph at c.in_err-sources.ensures.ends in
     ended (λ went. (near_told c.args.options.now _ went).later.1.1.delivers)
     (loads_serving _ _ _ _ _ _ _ (λ h place.
-    if_stops _ _ _ _ _ _ _ _ c.from_residual-in_err-sources.ensures.1 ends (refl, refl)) c.in_ok-loaded.ensures.went) (search rules)
+    if_stops _ Which.Sources _ _ _ _ _ _ c.from_residual-in_err-sources.ensures.1 ends (refl, refl)) c.in_ok-loaded.ensures.went) (search rules)
 
 pub returns-in_err-targets : goal.returns-in_err-targets
 returns-in_err-targets g c =
