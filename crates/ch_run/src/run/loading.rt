@@ -129,6 +129,7 @@ fn files_of<S: Drop>(source: &Source<S>) -> u32 {
 }
 
 /// Reads a saved hierarchy to its end, and checks it for the graph.
+#[tactic(auto, using(crate::proofs::Owed::own_as))]
 fn checked_from<R: Threads + Sync, S: Input, G: Gate>(
     crew: &Crew<'_, R, G>,
     saved: &mut S,
@@ -148,6 +149,7 @@ fn checked_from<R: Threads + Sync, S: Input, G: Gate>(
 }
 
 /// Reads an order to its end, and builds the hierarchy of the graph in an order like it.
+#[tactic(auto, using(crate::proofs::Owed::own_as))]
 fn built_from<R: Threads + Sync, S: Input, G: Gate>(
     crew: &Crew<'_, R, G>,
     order: &mut S,

@@ -1,6 +1,5 @@
 -- The order and the graph that were read give the hierarchy, or the first fault of the order ends the run.
 use Rattle.std.proofs.Common.{refl}
-use Rattle.ch_run.proofs.Owed.{own_as}
 use Rattle.ch_run.proofs.run.loading.built_from.Goals as goal
 
 pub returns-in-Ok-clause-value : goal.returns-in-Ok-clause-value
@@ -9,9 +8,6 @@ returns-in-Ok-clause-value g c =
     let built = rw c.deref.ensures.value at c.in-Ok.ensures.hierarchy in
     let each = rw c.deref.ensures.value at c.in-Ok.ensures.order in
     (told.0, told.1, (built.0, (record { order = c.in_ok-given.given.items; legs = told.2.0 }, told.2.1, each, built.1, built.2), built.3))
-
-pub returns-in_err-given-clause-ends : goal.returns-in_err-given-clause-ends
-returns-in_err-given-clause-ends g c = own_as _ _ _ c.from_residual.ensures.1 c.in_err-given.ensures.read
 
 pub returns-in-Err-Order-clause-ends : goal.returns-in-Err-Order-clause-ends
 returns-in-Err-Order-clause-ends g c =
