@@ -13,9 +13,10 @@ returns-in_err-loaded g c = ended (λ went. (near_told c.args.options.now _ went
 pub returns-in_err-sources : goal.returns-in_err-sources
 returns-in_err-sources g c =
     let ends = rw c.graph.ensures.graph at c.in_err-sources.ensures.ends in
+    let is = c.from_residual-in_err-sources.ensures.1 in
     ended (λ went. (near_told c.args.options.now _ went).later.1.1.delivers)
-    (loads_serving _ _ _ _ _ _ _ (λ h place.
-    if_stops _ Which.Sources _ _ _ _ _ _ c.from_residual-in_err-sources.ensures.1 ends (refl, refl)) c.in_ok-loaded.ensures.went) (search rules)
+    (loads_serving _ _ _ _ _ _ _ (λ h place. if_stops _ Which.Sources _ _ _ _ _ _ is ends (refl, refl)) c.in_ok-loaded.ensures.went)
+    (search rules)
 
 pub returns-in_err-targets : goal.returns-in_err-targets
 returns-in_err-targets g c =
