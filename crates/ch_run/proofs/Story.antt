@@ -81,8 +81,7 @@ pub writes_weaker : {T S : Type 0} (takes : S → List ℕ → Result ℕ Device
     (P : List ℕ → Type 0) (r : Result T RunFault) → P text → Writes takes old new (λ bytes. bytes ≡ text) r → Writes takes old new P r
 writes_weaker takes old new text P (Ok done) so wrote = (wrote.0, subst P (sym wrote.1) so, wrote.2)
 writes_weaker takes old new text P (Err (RunFault.Write count)) so wrote = (wrote.0, subst P (sym wrote.1) so, wrote.2)
-writes_weaker takes old new text P (Err RunFault.Memory) so wrote = wrote
-writes_weaker takes old new text P (Err _) so wrote = absurd wrote
+writes_weaker takes old new text P (Err _) so wrote = wrote
 
 -- a run without memory for the text has written nothing
 pub writes_none : {T S : Type 0} (takes : S → List ℕ → Result ℕ DeviceFault → S → Type 0) (x : S) (P : List ℕ → Type 0)
