@@ -12,7 +12,7 @@ use Rattle.ch_contract.specs.Legs.{Legs}
 use Rattle.ch_contract.specs.Contraction.{IsPriorityBy}
 use Rattle.ch_contract.specs.Order.{depth_after, IsPriorityAfter}
 use Rattle.ch_contract.specs.Built.{IsHierarchyInTurn}
-use Rattle.ch_contract.specs.Like.{IsPriorityFrom, IsHierarchyFrom, IsHierarchyLike, IsHierarchyInOrder, given_count}
+use Rattle.ch_contract.specs.Like.{IsPriorityFrom, IsHierarchyFrom, IsHierarchyInOrder, given_count}
 use Rattle.ch_contract.specs.LikeLaws.{HierarchiesFromGivenNodesAreKept, AllAfreshIsByDepth, NoneAfreshIsAsGiven}
 use Rattle.ch_contract.specs.LikeLaws.{HierarchiesAreInTheirOrder}
 use Rattle.ch_contract.proofs.theory.OneInTurn.{taken_at}
@@ -56,11 +56,6 @@ in_turn_from by g h H is = (
 pub from_kept : HierarchiesFromGivenNodesAreKept
 from_kept by g h given H limits hops is =
     hierarchies_with_enough_kept g h H is.0 is.1 limits (hierarchy_with_enough g h H is.0 is.1 limits hops is.2)
-
--- the hierarchy is like the given order if as many nodes are given as the per cent leaves
-pub like_of : (g : Network) (h : ℕ) (given : List ℕ) (fresh k : ℕ) (H : LevelsAndLegs) → k ≡ given_count g.nodes fresh →
-    IsHierarchyFrom Depth g h (take k given) H → IsHierarchyLike g h given fresh H
-like_of g h given fresh k H e is = subst (λ z. IsHierarchyFrom Depth g h (take z given) H) e is
 
 -- if all are ordered afresh, no node is given
 none_given : (n : ℕ) (given : List ℕ) → take (given_count n 100) given ≡ []
