@@ -1,16 +1,20 @@
--- Near rows in the graph, and near rows within a lesser limit.
-use Rattle.std.proofs.Common.{◌≡◌, ℕ, ◌≤◌, List, length, get_or, Option, Some, sym, ap, subst, arith, inl, inr}
-use Rattle.std.specs.Prelude.{slice_index}
+-- Near rows in the graph, near rows within a lesser limit, and the places of near rows.
+use Rattle.std.proofs.Common.{◌≡◌, ℕ, ◌<◌, ◌≤◌, List, length, get_or, Option, Some, Vec, sym, ap, subst, arith, inl, inr}
+use Rattle.std.specs.Prelude.{All, slice_index}
+use Rattle.std.specs.List.{AllZip}
+use Rattle.std.specs.declared.alloc.Global.{Global}
 use Rattle.std.proofs.lemmas.Bool.{cases_lt}
 use Rattle.std.proofs.lemmas.List.Elements.{Contains-get_or}
+use Rattle.std.proofs.lemmas.Slice.Zip.{AllZip-long}
 use Rattle.ch_graph.specs.Graph.{Network, IsWithinLimits}
+use Rattle.ch_graph.proofs.Lists.{zipped_at}
 use Rattle.ch_hierarchy.specs.Hierarchy.{LevelsAndLegs}
 use Rattle.ch_hierarchy.specs.Kept.{IsKept}
 use Rattle.ch_query.specs.Limits.{IsWithin, IsDistanceWithin}
 use Rattle.ch_near.specs.declared.direction.Direction.{Direction}
 use Rattle.ch_near.specs.Direction.{facing}
 use Rattle.ch_near.specs.First.{AreFirst}
-use Rattle.ch_near.specs.Near.{IsDistanceTo, IsWalkTo, IsNearRow, IsNearestRow}
+use Rattle.ch_near.specs.Near.{IsDistanceTo, IsWalkTo, IsNearRow, IsNearestRow, IsWantedRow, Wanted}
 use Rattle.ch_near.proofs.Distances.{least_of, of_least}
 use Rattle.ch_near.proofs.Facing.{distance_in, in_distance}
 
@@ -63,3 +67,20 @@ full_row H limit most k targets s row lesser full near = record {
         )
       ];
 }
+
+-- the places in a near row are places of targets
+pub row_places : (wanted : Wanted) (s : ℕ) (row : List (ℕ × ℕ)) → IsWantedRow wanted s row →
+    All (λ (e : ℕ × ℕ). e.1 < length wanted.targets) row
+row_places wanted s row near i d lt = (near.sound (get_or row i d) (Contains-get_or row i d lt)).0
+
+-- the pairs of a row that is in a vector
+abbrev pub items : Vec (ℕ × ℕ) Global → List (ℕ × ℕ)
+items row = row.items
+
+-- the places in all rows are places of targets
+pub rows_places : (wanted : Wanted) (sources : List ℕ) (rows : List (Vec (ℕ × ℕ) Global)) →
+    AllZip (λ s row. IsWantedRow wanted s (items row)) sources rows → All (λ row. All (λ e. e.1 < length wanted.targets) (items row)) rows
+rows_places wanted sources rows each i d lt =
+    let size = AllZip-long (λ s row. IsWantedRow wanted s (items row)) sources rows each in
+    row_places wanted (get_or sources i 0) (items (get_or rows i d))
+    (zipped_at (λ s row. IsWantedRow wanted s (items row)) sources rows i 0 d each (omega arith))

@@ -38,6 +38,10 @@ pub record Wanted : Type 0 where
   pub limit : Option ℕ
   pub count : Option ℕ
 
+-- this is the wanted near row of s
+abbrev pub IsWantedRow : Wanted → ℕ → List (ℕ × ℕ) → Type 0
+IsWantedRow wanted s row = IsNearRow wanted.hierarchy wanted.limit wanted.count wanted.targets s row
+
 -- the same within another limit
 abbrev pub wanted_within : Wanted → Option ℕ → Wanted
 wanted_within wanted limit = record { hierarchy = wanted.hierarchy; targets = wanted.targets; limit = limit; count = wanted.count }

@@ -16,5 +16,4 @@ pub mod Tells
 pub mod Stories
 pub mod AskStory
 pub mod Counted
-pub mod Nears
 pub mod Loading

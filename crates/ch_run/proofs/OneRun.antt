@@ -17,6 +17,7 @@ use Rattle.ch_contract.proofs.theory.OneInTurn.{one_hierarchy_from}
 use Rattle.ch_contract.proofs.theory.OneOrder.{one_hierarchy}
 use Rattle.ch_job.specs.declared.options.Options.{Options}
 use Rattle.ch_text.specs.SaveText.{IsHierarchyText}
+use Rattle.ch_text.proofs.OneText.{one_hierarchy_text, one_table_text}
 use Rattle.ch_run.specs.DistRun.{IsAnsweredBy}
 use Rattle.ch_run.specs.NearRun.{AreSources, IsNearBy}
 use Rattle.ch_run.specs.Run.{GivesOnly, NoFile, NoInput, OneInput, OrderFile, Reading, ReadingIf, ReadsAll, ReadsGraph, SavedFile}
@@ -25,7 +26,7 @@ use Rattle.ch_run.specs.SaveRun.{IsSavedBy}
 use Rattle.ch_run.specs.Source.{AreLoaded, IsOfRoutes, IsServing, ReadsSaved, WithLoaded}
 use Rattle.ch_run.specs.TableRun.{IsTabledBy}
 use Rattle.ch_run.specs.Text.{IsTextBy, writes_routes}
-use Rattle.ch_run.proofs.OneText.{one_hierarchy_text, one_rows_text, one_table_text, one_text_by}
+use Rattle.ch_run.proofs.OneText.{one_rows_text, one_text_by}
 
 -- the bytes of an input name only one value
 reads_one : {V : Type 0} (input : Reading) (bytes : List ℕ) → GivesOnly input bytes → (names : List ℕ → V → Type 0) →

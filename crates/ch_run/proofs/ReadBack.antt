@@ -1,33 +1,25 @@
 -- The text of a hierarchy that is right for a graph names this hierarchy again.
-use Rattle.std.proofs.Common.{◌≡◌, ℕ, ◌+◌, ◌*◌, ◌<◌, ◌≤◌, List, [], ◌∷◌, ◌++◌, length, map, get_or, Contains, Option, Some}
-use Rattle.std.proofs.Common.{None, true, refl, sym, ◌∙◌, ap, subst, arith, append_assoc, inl, inr}
-use Rattle.std.specs.Prelude.{◌≢◌, AllPairs, codes, decimal, eqb}
-use Rattle.std.specs.List.{flat_map, list_any}
-use Rattle.std.proofs.lemmas.Map.Made.{IsDistinct-from_AllPairs}
-use Rattle.std.proofs.lemmas.Map.Steps.{length-le_from_distinct_below}
-use Rattle.std.proofs.lemmas.Map.Views.{Contains-from_any}
-use Rattle.std.proofs.lemmas.Bool.{eqb-true}
-use Rattle.std.proofs.lemmas.Bool.Decides.{Decides-eqb}
-use Rattle.std.proofs.lemmas.Nat.{mul-add-lt, mul-le, same_from_place}
-use Rattle.std.proofs.lemmas.List.{get_or_default, length-map}
+use Rattle.std.proofs.Common.{◌≡◌, ℕ, ◌+◌, List, [], ◌∷◌, ◌++◌, length, map, get_or, Contains, Option, Some}
+use Rattle.std.proofs.Common.{None, refl, sym, ◌∙◌, ap, subst, arith, append_assoc}
+use Rattle.std.specs.Prelude.{codes, decimal}
+use Rattle.std.specs.List.{flat_map}
+use Rattle.std.proofs.lemmas.Nat.{mul-le}
+use Rattle.std.proofs.lemmas.List.{get_or_default}
 use Rattle.std.proofs.lemmas.List.Concat.{flat_map-append}
-use Rattle.std.proofs.lemmas.List.Elements.{Contains-get_or}
 use Rattle.std.proofs.lemmas.List.Folds.{flat_map-map}
-use Rattle.ch_graph.specs.declared.limits.TheConstants.{MOST_NODES, MOST_WEIGHT}
-use Rattle.ch_graph.specs.declared.cost.Cost.{Cost}
+use Rattle.ch_graph.specs.declared.limits.TheConstants.{MOST_NODES}
 use Rattle.ch_graph.specs.declared.saved.SavedLeg.{SavedLeg}
 use Rattle.ch_graph.specs.Graph.{Network}
 use Rattle.ch_graph.specs.Saved.{OrderAndLegs}
-use Rattle.ch_graph.proofs.Lists.{contains_map_of, pairs_map}
 use Rattle.ch_read.specs.Names.{NamesSaved}
 use Rattle.ch_read.proofs.WrittenLines.{fed, text_of}
 use Rattle.ch_read.proofs.WrittenSaved.{middle_word, order_line, leg_line, saved_lines, IsLegWithin, AreWithin}
 use Rattle.ch_read.proofs.SavedReadBack.{reads_back}
 use Rattle.ch_hierarchy.specs.Hierarchy.{LevelsAndLegs, nodes_of}
-use Rattle.ch_hierarchy.specs.Kept.{IsLeg, IsFounded, IsKept}
-use Rattle.ch_hierarchy.specs.Saved.{NamesHierarchy, IsSamePair}
+use Rattle.ch_hierarchy.specs.Kept.{IsFounded, IsKept}
+use Rattle.ch_hierarchy.specs.Saved.{NamesHierarchy}
 use Rattle.ch_hierarchy.specs.Written.{IsByLevel, written}
-use Rattle.ch_hierarchy.proofs.theory.LegPaths.{down_leg, up_leg}
+use Rattle.ch_hierarchy.proofs.theory.NamedLegs.{few_legs, leg_bounds}
 use Rattle.ch_hierarchy.proofs.theory.SavedLevels.{in_row_below}
 use Rattle.ch_hierarchy.proofs.theory.WrittenLegs.{written_names, written_kept}
 use Rattle.ch_contract.proofs.theory.BuiltKept.{hierarchies_kept}
@@ -64,69 +56,35 @@ same_text s =
     heading_words (decimal (length s.order)) (decimal (length s.legs)) (flat_map order_text s.order) (flat_map leg_text s.legs)
     ∙ ap (λ t. fed (codes "p") (codes "ch" ∷ decimal (length s.order) ∷ decimal (length s.legs) ∷ []) ++ t) parts
 
--- a pair of nodes, as one number
-abbrev pair_of : ℕ → SavedLeg → ℕ
-pair_of n l = l.from * n + l.to
-
--- there are at most as many legs between different pairs of nodes as there are pairs
-few_pairs : (n : ℕ) (legs : List SavedLeg) → ((l : SavedLeg) → Contains legs l → (l.from < n) × (l.to < n)) →
-    AllPairs (λ k l. IsSamePair k l → ⊥) legs → length legs ≤ n * n
-few_pairs n legs ends once = subst (λ q. q ≤ n * n) (length-map legs (pair_of n))
-    (length-le_from_distinct_below (map (pair_of n) legs) (n * n)
-    (IsDistinct-from_AllPairs Decides-eqb (map (pair_of n) legs) (pairs_map (pair_of n) ◌≢◌ legs apart)) below)
-  where
-    apart : AllPairs (λ k l. pair_of n k ≢ pair_of n l) legs
-    apart i j d less lt same =
-        let k = get_or legs i d in
-        let l = get_or legs j d in
-        let a = ends k (Contains-get_or legs i d (omega arith)) in
-        let b = ends l (Contains-get_or legs j d lt) in
-        once i j d less lt (same_from_place k.from k.to l.from l.to n a.1 b.1 same)
-
-    below : (q : ℕ) → list_any (eqb q) (map (pair_of n) legs) ≡ true → q < n * n
-    below q found =
-        let r = contains_map_of (pair_of n) legs q (Contains-from_any eqb-true q (map (pair_of n) legs) found) in
-        let e = ends r.0 r.1 in
-        subst (λ q. q < n * n) r.2 (mul-add-lt r.0.from n r.0.to n e.0 e.1)
-
 module _ (g : Network) (H : LevelsAndLegs) (order : List ℕ) (kept : IsKept g H) (by : IsByLevel H order) where
   names : NamesHierarchy (written H order) H
   names = written_names H order kept.levelled by
 
-  -- the ends of a leg are nodes, and its cost is within the limits
-  leg_bounds : (u w : ℕ) (c : Cost) (m : Option ℕ) → IsLeg H u w c m →
-      (u < nodes_of H) × (w < nodes_of H) × (c.weight ≤ MOST_WEIGHT) × (c.arcs < nodes_of H)
-  leg_bounds u w c m (x, cost, middle, inl (has, node)) = let up = up_leg g H kept u x has in
-      (in_row_below H.up (nodes_of H) u x kept.levelled.up.0 has, rw (← node) up.node, rw (← cost) up.weight, rw (← cost) up.arcs)
-  leg_bounds u w c m (x, cost, middle, inr (has, node)) = let up = down_leg g H kept w x has in
-      (rw (← node) up.node, in_row_below H.down (nodes_of H) w x kept.levelled.down.0 has, rw (← cost) up.weight, rw (← cost) up.arcs)
-
-  -- a leg is within the limits
-  leg_within : (l : SavedLeg) → IsLeg H l.from l.to l.cost l.middle → IsLegWithin g.nodes l
-  leg_within l leg =
-      let ends = leg_bounds l.from l.to l.cost l.middle leg in
+  -- a leg that is written is within the limits of files
+  legs_within : (l : SavedLeg) → Contains (written H order).legs l → IsLegWithin g.nodes l
+  legs_within l h =
+      let leg = (names.legs l.from l.to l.cost l.middle).1 h in
+      let bounds = leg_bounds H kept.levelled l leg in
+      let ends = bounds.0 in
+      let cost = bounds.1 in
       let size = kept.nodes in
       let most = kept.levelled.count in
       record {
         from = omega arith;
         to = omega arith;
-        weight = ends.2;
+        weight = cost.0;
         arcs = omega arith;
         middle = λ v is. (let founded = subst (IsFounded g H l.from l.to l.cost) is (kept.founded l.from l.to l.cost l.middle leg) in
             let inside = in_row_below H.down (nodes_of H) v founded.0 kept.levelled.down.0 founded.2 in omega arith);
       }
-
-  legs_within : (l : SavedLeg) → Contains (written H order).legs l → IsLegWithin g.nodes l
-  legs_within l h = leg_within l ((names.legs l.from l.to l.cost l.middle).1 h)
 
   -- the order and the legs that are written are within the limits of files
   are_within : AreWithin g.nodes (written H order)
   are_within =
       let size = kept.nodes in
       let most = kept.levelled.count in
-      let legs = (written H order).legs in
-      let few = few_pairs g.nodes legs (λ l h. let is = legs_within l h in (is.from, is.to)) names.once in
-      let square = mul-le g.nodes g.nodes MOST_NODES MOST_NODES (omega arith) (omega arith) in
+      let few = few_legs (written H order) H names in
+      let square = mul-le (nodes_of H) (nodes_of H) MOST_NODES MOST_NODES (omega arith) (omega arith) in
       record {
         small = omega arith;
         count = by.nodes.count ∙ kept.nodes;

@@ -71,6 +71,18 @@ module _ {X : Type 0} (M : List ℕ → List (List (Option ℕ)) → X → Type 
       M sources rows x → AreGathered M H limit targets sources (x ∷ [])
   one_part sources rows x are is = (sources ∷ [], append-nil sources, ((rows, are, is), tt))
 
+  -- what holds of no sources, and of each part together with the parts behind it, holds of all sources
+  pub all_parts : (Q : List ℕ → List X → Type 0) → Q [] [] → ((part sources : List ℕ) (x : X) (values : List X) →
+      IsGathered M H limit targets part x → Q sources values → Q (part ++ sources) (x ∷ values)) → (sources : List ℕ) (values : List X) →
+      AreGathered M H limit targets sources values → Q sources values
+  all_parts Q none more sources values h = subst (λ list. Q list values) h.1 (from h.0 values h.2)
+    where
+      from : (parts : List (List ℕ)) (values : List X) → AllZip (IsGathered M H limit targets) parts values →
+          Q (flat_map (λ part. part) parts) values
+      from [] [] each = none
+      from (part ∷ parts) (x ∷ values) each = more part (flat_map (λ part. part) parts) x values each.0 (from parts values each.1)
+      from _ _ each = absurd each
+
 module _ (H : LevelsAndLegs) (limit : Option ℕ) (targets : List ℕ) where
   abbrev items : Vec (Option ℕ) Global → List (Option ℕ)
   items row = row.items
@@ -79,23 +91,12 @@ module _ (H : LevelsAndLegs) (limit : Option ℕ) (targets : List ℕ) where
   AreKept sources rows kept = map items kept.items ≡ rows
 
   -- the rows that were kept in parts are, one after another, the rows of the sources
-  kept_parts : (parts : List (List ℕ)) (values : List (Vec (Vec (Option ℕ) Global) Global)) →
-      AllZip (IsGathered AreKept H limit targets) parts values →
-      AllZip (IsRowBy H limit targets) (flat_map (λ part. part) parts)
-      (map items (flat_map (λ (kept : Vec (Vec (Option ℕ) Global) Global). kept.items) values))
-  kept_parts [] [] h = tt
-  kept_parts [] (kept ∷ values) h = absurd h
-  kept_parts (part ∷ parts) [] h = absurd h
-  kept_parts (part ∷ parts) (kept ∷ values) h =
-      let R = IsRowBy H limit targets in
-      let rest = flat_map (λ (more : Vec (Vec (Option ℕ) Global) Global). more.items) values in
-      let here = subst (AllZip R part) (sym h.0.2) h.0.1 in
-      subst (AllZip R (part ++ flat_map (λ more. more) parts)) (sym (map-append items kept.items rest))
-      (zipped_append R part (map items kept.items) (flat_map (λ more. more) parts) (map items rest) here (kept_parts parts values h.1))
-
   pub kept_rows : (sources : List ℕ) (values : List (Vec (Vec (Option ℕ) Global) Global)) →
       AreGathered AreKept H limit targets sources values →
       AllZip (IsRowBy H limit targets) sources (map items (flat_map (λ (kept : Vec (Vec (Option ℕ) Global) Global). kept.items) values))
-  kept_rows sources values h =
-      subst (λ list. AllZip (IsRowBy H limit targets) list
-      (map items (flat_map (λ (kept : Vec (Vec (Option ℕ) Global) Global). kept.items) values))) h.1 (kept_parts h.0 values h.2)
+  kept_rows =
+      let R = IsRowBy H limit targets in
+      let all : List (Vec (Vec (Option ℕ) Global) Global) → List (Vec (Option ℕ) Global) = flat_map (λ kept. kept.items) in
+      all_parts AreKept H limit targets (λ sources values. AllZip R sources (map items (all values))) tt
+      (λ part sources kept values h so_far. subst (AllZip R (part ++ sources)) (sym (map-append items kept.items (all values)))
+      (zipped_append R part (map items kept.items) sources (map items (all values)) (subst (AllZip R part) (sym h.2) h.1) so_far))

@@ -6,6 +6,7 @@ pub mod Moves
 pub mod Told
 pub mod Distances
 pub mod Routes
+pub mod RowTexts
 pub mod TableText
 pub mod NearText
 pub mod SaveText

@@ -1,10 +1,11 @@
 -- The text of tables.
-use Rattle.std.specs.Prelude.{◌≡◌, ℕ, List, ◌++◌, flat_map, Option, codes}
-use Rattle.std.specs.List.{AllZip, zip}
+use Rattle.std.specs.Prelude.{ℕ, List, ◌++◌, flat_map, Option, codes}
+use Rattle.std.specs.List.{AllZip}
 use Rattle.ch_graph.specs.Graph.{Network}
 use Rattle.ch_graph.specs.Walk.{IsAnswer}
 use Rattle.ch_query.specs.Limits.{IsCut}
 use Rattle.ch_text.specs.Distances.{node_text, weight_text}
+use Rattle.ch_text.specs.RowTexts.{HasRows}
 
 abbrev pub cell_text : Option ℕ → List ℕ
 cell_text cell = codes " " ++ weight_text cell
@@ -23,5 +24,4 @@ IsTableRow g limit targets s cells = AllZip (IsCell g limit s) targets cells
 
 -- the text has a row for each source, in order
 abbrev pub IsTableText : Network → Option ℕ → List ℕ → List ℕ → List ℕ → Type 0
-IsTableText g limit sources targets text =
-    (rows : List (List (Option ℕ))) × AllZip (IsTableRow g limit targets) sources rows × (text ≡ flat_map row_text (zip sources rows))
+IsTableText g limit sources targets text = HasRows (IsTableRow g limit targets) row_text sources text

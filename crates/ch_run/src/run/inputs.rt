@@ -69,7 +69,7 @@ pub(crate) fn nodes_from<I: Input>(
 
 /// Reads the sources to their end, as a list of nodes of this graph. All nodes as sources stay all nodes, and
 /// nothing is read.
-#[tactic(auto, using(crate::proofs::Owed::own_as, crate::proofs::Nears::all_below))]
+#[tactic(auto, using(crate::proofs::Owed::own_as, ch_contract::proofs::code::NodeLists::numbers_below))]
 pub(crate) fn sources_from<J: Input + Drop>(
     alloc: Global,
     sources: &mut Sources<J>,

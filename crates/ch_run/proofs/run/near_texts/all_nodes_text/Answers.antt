@@ -1,8 +1,8 @@
 -- The row that the sweep made for one more node follows the text of those before.
 use Rattle.std.proofs.Common.{◌≡◌, List, ℕ, [], sym, subst, refl, arith}
 use Rattle.ch_text.specs.NearText.{nodes_in_order}
+use Rattle.ch_text.proofs.RowTexts.{next_node}
 use Rattle.ch_run.specs.NearRows.{HasNearRows}
-use Rattle.ch_run.proofs.Nears.{next_node}
 use Rattle.ch_run.proofs.run.near_texts.all_nodes_text.Goals as goal
 
 pub loop-node-init : goal.loop-node-init

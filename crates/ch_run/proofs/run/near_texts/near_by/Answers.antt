@@ -1,5 +1,5 @@
 -- The rows by searches, or by a sweep over all nodes, are those of the graph for which the hierarchy is right.
-use Rattle.ch_run.proofs.Nears.{made_of_graph}
+use Rattle.ch_run.proofs.Texts.{made_of_graph}
 use Rattle.ch_run.proofs.run.near_texts.near_by.Goals as goal
 
 pub returns-in-All : goal.returns-in-All

@@ -4,10 +4,10 @@ use Rattle.std.specs.declared.alloc.Global.{Global}
 use Rattle.std.proofs.lemmas.Result.{on_ok_weaker}
 use Rattle.std.proofs.lemmas.Slice.Zip.{AllZip-long}
 use Rattle.ch_graph.proofs.Lists.{zipped_map}
-use Rattle.ch_near.specs.Near.{Wanted, wanted_within}
+use Rattle.ch_near.specs.Near.{IsWantedRow, Wanted, wanted_within}
+use Rattle.ch_near.proofs.GraphRows.{items, rows_places}
 use Rattle.ch_text.specs.NearText.{near_row_text}
 use Rattle.ch_run.specs.NearRows.{HasNearRows}
-use Rattle.ch_run.proofs.Nears.{IsWantedRow, items, rows_places}
 use Rattle.ch_run.proofs.RowTexts.{rows_joined}
 use Rattle.ch_run.proofs.run.near_texts.push_searched.Goals as goal
 

@@ -2,10 +2,11 @@
 use Rattle.std.proofs.Common.{◌++◌, ◌∷◌, [], sym, subst}
 use Rattle.std.proofs.lemmas.List.{append-nil}
 use Rattle.std.proofs.lemmas.Result.{on_ok_weaker}
+use Rattle.ch_near.specs.Near.{IsWantedRow}
 use Rattle.ch_near.specs.Sweep.{row_at}
+use Rattle.ch_near.proofs.GraphRows.{row_places}
 use Rattle.ch_text.specs.NearText.{near_row_text}
 use Rattle.ch_run.specs.NearRows.{HasNearRows}
-use Rattle.ch_run.proofs.Nears.{IsWantedRow, row_places}
 use Rattle.ch_run.proofs.RowTexts.{rows_joined}
 use Rattle.ch_run.proofs.run.near_texts.push_swept.Goals as goal
 

@@ -1,6 +1,6 @@
 -- The text of the plain distances answers the queries.
 use Rattle.std.proofs.lemmas.Result.{IfOk-weaker}
-use Rattle.ch_run.proofs.Texts.{short_text}
+use Rattle.ch_text.proofs.GraphTexts.{short_text}
 use Rattle.ch_run.proofs.run.texts.plain_text.Goals as goal
 
 pub returns : goal.returns

@@ -1,14 +1,14 @@
 -- The parts together are the text of the table of the graph, and have fewer than 2^64 bytes.
 use Rattle.std.proofs.Common.{ℕ, ◌<◌, ◌^◌, List, Vec, length, subst}
 use Rattle.std.specs.declared.alloc.Global.{Global}
-use Rattle.ch_run.proofs.Texts.{cells_text}
+use Rattle.ch_text.proofs.GraphTexts.{rows_table}
 use Rattle.ch_run.proofs.Parts.{bytes_of, fewer}
 use Rattle.ch_run.proofs.run.texts.table_parts_by.Goals as goal
 
 pub returns-clause-text : goal.returns-clause-text
 returns-clause-text g c =
     let a = c.args in
-    λ network limits kept. cells_text network a.hierarchy.now limits kept a.within a.sources.now a.targets.now
+    λ network limits kept. rows_table network a.hierarchy.now limits kept a.within a.sources.now a.targets.now
     (bytes_of c.in_ok-parts.parts.items) c.in_ok-parts.ensures
 
 pub returns-clause-length : goal.returns-clause-length
