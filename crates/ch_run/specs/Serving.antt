@@ -16,10 +16,11 @@ use Rattle.ch_read.specs.Requests.{IsErrorAhead, IsUsedUp, MayCome, Standing, af
 use Rattle.ch_run.specs.declared.fault.RunFault.{RunFault}
 use Rattle.ch_run.specs.declared.run.batch.Then.{Then}
 use Rattle.ch_run.specs.declared.run.batch.Then.TheVariants.{More, Nothing, Stop}
+use Rattle.ch_run.specs.declared.run.answering.Answering.{Answering}
 use Rattle.ch_run.specs.declared.run.answering.Room.{Room}
 use Rattle.ch_run.specs.declared.fault.Which.{Which}
 use Rattle.ch_run.specs.Loaded.{GraphAndHierarchy, IsRight}
-use Rattle.ch_run.specs.Ask.{AreAnswered, TellsFirst, TextOf, TookAnswers, failed_write, no_places, places_after}
+use Rattle.ch_run.specs.Ask.{AreAnswered, IsTextOfRequest, TellsFirst, TextOf, TookAnswers, failed_write, no_places, places_after}
 use Rattle.ch_text.specs.Moves.{Took, TookUntilFault}
 use Rattle.ch_text.specs.declared.device.DeviceFault.{DeviceFault}
 
@@ -54,6 +55,10 @@ GoesOn {S} IsTextOf gives n ended reader reader' waiting waiting' output output'
     (read : List ℕ) (old : S) → HasAnswered IsTextOf gives n ended read reader waiting old output held written →
     MatchResult result (λ _. HasAnswered IsTextOf gives n ended read reader' waiting' old output' held' written')
     (λ fault. Ends IsTextOf gives n ended read old output' fault)
+
+-- the text of a request by the options, the graph and the hierarchy that answer requests
+abbrev pub IsAnswerBy : Answering → TextOf
+IsAnswerBy by = IsTextOfRequest by.options.now by.checked.now.graph by.checked.now.hierarchy
 
 -- the output took this text after `before` bytes, or the beginning of the text, up to a write that failed. Or it took nothing, for want
 -- of memory

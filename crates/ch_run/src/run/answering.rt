@@ -2,8 +2,7 @@
 ghost use Rattle.std.specs.Prelude.{◌≡◌, ◌≤◌, Bool, [], None, length, All, OnOk};
 ghost use Rattle.ch_graph.specs.declared.limits.TheConstants.{MOST_LISTED};
 ghost use Rattle.ch_read.specs.Requests.{IsRequest, Standing};
-ghost use Rattle.ch_run.specs.Ask.{IsTextOfRequest};
-ghost use Rattle.ch_run.specs.Serving.{GoesOn, IsRoomFor, places_of};
+ghost use Rattle.ch_run.specs.Serving.{GoesOn, IsAnswerBy, IsRoomFor, places_of};
 
 use super::first::answer_first;
 use super::loading::Checked;
@@ -60,7 +59,7 @@ pub(crate) fn answer_requests<'a, R: Threads + Sync, O: Output, G: Gate>(
     requires room { IsRoomFor by.now.options.now.direction by.now.checked.now room.old }
     requires each { All (IsRequest by.now.checked.now.graph.nodes) requests.now }
     requires few { length requests.now ≤ MOST_LISTED }
-    ensures answers { (ended : Bool) (reader : Standing) → GoesOn (IsTextOfRequest by.now.options.now by.now.checked.now.graph by.now.checked.now.hierarchy) O.write_gives by.now.checked.now.graph.nodes ended
+    ensures answers { (ended : Bool) (reader : Standing) → GoesOn (IsAnswerBy by.now) O.write_gives by.now.checked.now.graph.nodes ended
         reader reader requests.now [] output.old output.new (places_of room.old.near) (places_of room.new.near) written.old written.new result }
     ensures room { OnOk result (IsRoomFor by.now.options.now.direction by.now.checked.now room.new) }
 {

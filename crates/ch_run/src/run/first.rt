@@ -5,9 +5,9 @@ ghost use Rattle.ch_read.specs.Requests.{ArePlaces, AreTwoLists, IsRequest};
 ghost use Rattle.ch_read.specs.RequestLists.{PlaceList};
 ghost use Rattle.ch_read.specs.declared.request.Request.{Request as RequestKind};
 ghost use Rattle.ch_read.specs.declared.request.Request.TheVariants as RequestOf;
-ghost use Rattle.ch_run.specs.Ask.{IsTextOfRequest, limit_of};
+ghost use Rattle.ch_run.specs.Ask.{limit_of};
 ghost use Rattle.ch_run.specs.Text.{writes_routes};
-ghost use Rattle.ch_run.specs.Serving.{AnswersFirst, AreFirstOf, IsRoomFor, asked_for, near_row_of, places_of};
+ghost use Rattle.ch_run.specs.Serving.{AnswersFirst, AreFirstOf, IsAnswerBy, IsRoomFor, asked_for, near_row_of, places_of};
 
 use super::answering::{Answering, Room};
 use super::near_texts::push_searched;
@@ -44,7 +44,7 @@ pub(crate) fn answer_first<'a, R: Threads + Sync, G: Gate>(
     requires some { 0 < length requests.now }
     requires each { All (IsRequest by.now.checked.now.graph.nodes) requests.now }
     requires few { length requests.now ≤ MOST_LISTED }
-    ensures first { IfOk result (λ first. AnswersFirst (IsTextOfRequest by.now.options.now by.now.checked.now.graph by.now.checked.now.hierarchy) (places_of room.old.near) (places_of room.new.near) requests.now first.text.items first.count) }
+    ensures first { IfOk result (λ first. AnswersFirst (IsAnswerBy by.now) (places_of room.old.near) (places_of room.new.near) requests.now first.text.items first.count) }
     ensures room { IfOk result (λ _. IsRoomFor by.now.options.now.direction by.now.checked.now room.new) }
 {
     let rest = &requests[1..];
@@ -75,7 +75,7 @@ fn first_pairs<R: Threads + Sync, G: Gate>(
     requires room { IsRoomFor by.now.options.now.direction by.now.checked.now room.old }
     requires each { All (IsRequest by.now.checked.now.graph.nodes) (asked_for routed first ∷ rest.now) }
     requires few { length rest.now < MOST_LISTED }
-    ensures first { IfOk result (λ answers. AnswersFirst (IsTextOfRequest by.now.options.now by.now.checked.now.graph by.now.checked.now.hierarchy) (places_of room.old.near) (places_of room.new.near) (asked_for routed first ∷ rest.now) answers.text.items answers.count) }
+    ensures first { IfOk result (λ answers. AnswersFirst (IsAnswerBy by.now) (places_of room.old.near) (places_of room.new.near) (asked_for routed first ∷ rest.now) answers.text.items answers.count) }
     ensures room { IfOk result (λ _. IsRoomFor by.now.options.now.direction by.now.checked.now room.new) }
 {
     let pairs = pairs_in_front(crew.alloc, first, rest, routed)?;
@@ -135,7 +135,7 @@ fn first_rows<R: Threads + Sync, G: Gate>(
     requires room { IsRoomFor by.now.options.now.direction by.now.checked.now room.old }
     requires each { All (IsRequest by.now.checked.now.graph.nodes) (near_row_of within source ∷ rest.now) }
     requires few { length rest.now < MOST_LISTED }
-    ensures first { IfOk result (λ answers. AnswersFirst (IsTextOfRequest by.now.options.now by.now.checked.now.graph by.now.checked.now.hierarchy) (places_of room.old.near) (places_of room.new.near) (near_row_of within source ∷ rest.now) answers.text.items answers.count) }
+    ensures first { IfOk result (λ answers. AnswersFirst (IsAnswerBy by.now) (places_of room.old.near) (places_of room.new.near) (near_row_of within source ∷ rest.now) answers.text.items answers.count) }
     ensures room { IfOk result (λ _. IsRoomFor by.now.options.now.direction by.now.checked.now room.new) }
 {
     let mut text = Vec::new(crew.alloc);
@@ -201,7 +201,7 @@ fn first_table<R: Threads + Sync, G: Gate>(
     lists: &TableLists,
 ) -> Result<FirstAnswers, AllocError>
     requires lists { AreTwoLists by.now.checked.now.graph.nodes lists.now }
-    ensures { (places : PlaceList) (rest : List RequestKind) → IfOk result (λ answers. AnswersFirst (IsTextOfRequest by.now.options.now by.now.checked.now.graph by.now.checked.now.hierarchy) places places (RequestOf.Table lists.now ∷ rest) answers.text.items answers.count) }
+    ensures { (places : PlaceList) (rest : List RequestKind) → IfOk result (λ answers. AnswersFirst (IsAnswerBy by.now) places places (RequestOf.Table lists.now ∷ rest) answers.text.items answers.count) }
 {
     let within = limit_of(by.options, lists.within());
     let sources = lists.sources();
@@ -219,7 +219,7 @@ fn take_places<'a, R: Threads + Sync, G: Gate>(
 ) -> Result<FirstAnswers, AllocError>
     requires room { IsRoomFor by.now.options.now.direction by.now.checked.now room.old }
     requires places { ArePlaces by.now.checked.now.graph.nodes places.now }
-    ensures first { (rest : List RequestKind) → IfOk result (λ answers. AnswersFirst (IsTextOfRequest by.now.options.now by.now.checked.now.graph by.now.checked.now.hierarchy) (places_of room.old.near) (places_of room.new.near) (RequestOf.Places places.now ∷ rest) answers.text.items answers.count) }
+    ensures first { (rest : List RequestKind) → IfOk result (λ answers. AnswersFirst (IsAnswerBy by.now) (places_of room.old.near) (places_of room.new.near) (RequestOf.Places places.now ∷ rest) answers.text.items answers.count) }
     ensures room { IfOk result (λ _. IsRoomFor by.now.options.now.direction by.now.checked.now room.new) }
 {
     // The memory of the earlier searches is freed for these.

@@ -1,11 +1,11 @@
 //! Reads requests and answers them as they come.
 ghost use Rattle.std.specs.Prelude.{◌≡◌, ◌+◌, ◌<◌, ◌≤◌, length, [], None, Ok, Err, IfErr, IfOk, OnErr, OnOk};
 ghost use Rattle.ch_read.specs.Requests.{IsUsedUp};
-ghost use Rattle.ch_run.specs.Ask.{IsTextOfRequest, Serves};
+ghost use Rattle.ch_run.specs.Ask.{Serves};
 ghost use Rattle.ch_text.specs.Device.{CanCountOneMore, failures_in};
 ghost use Rattle.ch_text.specs.declared.device.DeviceFault.{DeviceFault as Failure};
 ghost use Rattle.ch_run.specs.Run.{reading};
-ghost use Rattle.ch_run.specs.Serving.{GoesOn, IsRoomFor, places_of};
+ghost use Rattle.ch_run.specs.Serving.{GoesOn, IsAnswerBy, IsRoomFor, places_of};
 
 use super::answering::{Answering, Room, answer_requests};
 use super::batch::{Then, gather, refusal};
@@ -26,7 +26,7 @@ pub(crate) fn serve<R: Threads + Sync, J: Input, O: Output, G: Gate>(
     requests: &mut J,
     output: &mut O,
 ) -> Result<(), RunFault>
-    ensures { Serves (IsTextOfRequest by.now.options.now by.now.checked.now.graph by.now.checked.now.hierarchy) O.write_gives by.now.checked.now.graph.nodes
+    ensures { Serves (IsAnswerBy by.now) O.write_gives by.now.checked.now.graph.nodes
         (reading J.read_gives requests.old requests.new) output.old output.new result }
 {
     if !counts_one_more(requests) {
@@ -50,7 +50,7 @@ fn serve_in<'a, R: Threads + Sync, J: Input, O: Output, G: Gate>(
     requires room { IsRoomFor by.now.options.now.direction by.now.checked.now room.old }
     requires none { room.old.near ≡ None }
     requires requests { CanCountOneMore (J.failed requests.old) }
-    ensures { Serves (IsTextOfRequest by.now.options.now by.now.checked.now.graph by.now.checked.now.hierarchy) O.write_gives by.now.checked.now.graph.nodes
+    ensures { Serves (IsAnswerBy by.now) O.write_gives by.now.checked.now.graph.nodes
         (reading J.read_gives requests.old requests.new) output.old output.new result }
 {
     let mut reader = RequestReader::new(crew.alloc, by.checked.graph().nodes());
@@ -93,7 +93,7 @@ fn answer_whole<'a, R: Threads + Sync, O: Output, G: Gate>(
 ) -> Result<(), RunFault>
     requires room { IsRoomFor by.now.options.now.direction by.now.checked.now room.old }
     requires nodes { reader.old.nodes ≡ by.now.checked.now.graph.nodes }
-    ensures answered { GoesOn (IsTextOfRequest by.now.options.now by.now.checked.now.graph by.now.checked.now.hierarchy) O.write_gives by.now.checked.now.graph.nodes ended
+    ensures answered { GoesOn (IsAnswerBy by.now) O.write_gives by.now.checked.now.graph.nodes ended
         reader.old reader.new [] [] output.old output.new (places_of room.old.near) (places_of room.new.near) written.old written.new result }
     ensures used_up { OnOk result (IsUsedUp ended reader.new) }
     ensures nodes { reader.new.nodes ≡ reader.old.nodes }
