@@ -74,6 +74,7 @@ impl Plan {
     {
         self.wide
     }
+
     /// Whether the workers share a job of `items` items. They do if there are several workers, and at least
     /// `least` items. Otherwise the caller does the job alone.
     pub fn shares(&self, items: usize, least: usize) -> bool
