@@ -84,6 +84,7 @@ answered_append IsTextOf places (x ∷ xs) ys text more h k = (
   answered_append IsTextOf (places_then places x) xs ys h.1 more h.4 k,
 )
 
+-- the places after requests and then more requests
 places_append : (places : PlaceList) (xs ys : List Request) → places_after places (xs ++ ys) ≡ places_after (places_after places xs) ys
 places_append places [] ys = refl
 places_append places (x ∷ xs) ys = places_append (places_then places x) xs ys
@@ -115,6 +116,7 @@ module _ {IsTextOf : TextOf} {S : Type 0} {gives : S → List ℕ → Result ℕ
           (ap (λ l. l ++ more) (sym (take-append-drop count waiting)) ∙ append_assoc (take count waiting) later more)) in
           h.told left may ∙ ap (λ (given : List Request). record { given = given; fault = (ahead reader left).fault }) parts
 
+      -- the text of those before, and then this text, answers them
       now_answered : AreAnswered IsTextOf no_places now (h.is.output.text ++ text)
       now_answered = answered_append IsTextOf no_places h.answered (take count waiting) h.is.output.text text h.is.output.answers
           (subst (λ (p : PlaceList). AreAnswered IsTextOf p (take count waiting) text) h.is.places first.answers)

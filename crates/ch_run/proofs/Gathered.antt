@@ -35,6 +35,7 @@ module _ {A : Type 0} {from : A → Request} {requests : List Request} {values :
       subst (All (IsRequest n)) (sym first.are) (All-take (IsRequest n) (length values) requests each) in
       so (get_or values k d) (subst (IsRequest n) (get_or-map from values k d) (made k (from d) (omega (arith, length-map values from))))
 
+  -- requests that give no places keep those before
   places_stay : ((places : PlaceList) (v : A) → places_then places (from v) ≡ places) → (places : PlaceList) (vs : List A) →
       places_after places (map from vs) ≡ places
   places_stay stay places [] = refl
