@@ -1,8 +1,10 @@
 -- What a story tells of each input and of the output, from its last step back to its first.
-use Rattle.std.proofs.Common.{◌≡◌, ◌⊎◌, ℕ, zero, suc, ◌<◌, List, [], ◌∷◌, Option, Some, None, Result, Ok, Err, inl, inr, refl, sym}
+use Rattle.std.proofs.Common.{◌≡◌, ◌⊎◌, ℕ, ◌<◌, Bool, true, false, List, [], ◌∷◌, Option, Some, None, Result, Ok, Err, inl, inr, refl, sym}
 use Rattle.std.proofs.Common.{ap, subst, arith}
-use Rattle.std.specs.Prelude.{IfErr, IsErrAnd, ⊤}
+use Rattle.std.specs.Prelude.{IfErr, IsErrAnd, cond, nat_lt, ⊤}
+use Rattle.std.specs.List.{filter}
 use Rattle.std.proofs.Math.Logic.{⊎_map}
+use Rattle.std.proofs.lemmas.Bool.Decides.{nat_tests}
 use Rattle.ch_graph.specs.Graph.{Network}
 use Rattle.ch_hierarchy.specs.Hierarchy.{LevelsAndLegs}
 use Rattle.ch_read.specs.declared.form.Form.TheVariants as Form
@@ -27,12 +29,13 @@ step_of Which.Order = 1
 step_of Which.Targets = 3
 step_of _ = 2
 
--- the inputs that are read before this step
+-- the inputs that others may come after
+abbrev pub earlier : List Which
+earlier = Which.Graph ∷ Which.Saved ∷ Which.Order ∷ Which.Sources ∷ []
+
+-- those of them that are read before this step
 abbrev pub read_before : ℕ → List Which
-read_before zero = []
-read_before (suc zero) = Which.Graph ∷ []
-read_before (suc (suc zero)) = Which.Graph ∷ Which.Saved ∷ Which.Order ∷ []
-read_before _ = Which.Graph ∷ Which.Saved ∷ Which.Order ∷ Which.Sources ∷ []
+read_before k = filter (λ which. nat_lt (step_of which) k) earlier
 
 -- the run stops at no input that is read before this step
 abbrev pub GoesPastBefore : {T : Type 0} → Result T RunFault → ℕ → Type 0
@@ -89,16 +92,15 @@ module _ {T : Type 0} (r : Result T RunFault) where
   past_other : (first which : Which) → IsErrAnd r (IsOf first) → (step_of which ≡ step_of first → ⊥) → GoesPast which r
   past_other first which is other = err_own r _ _ is (λ e of stops. other (ap step_of (of_one first which e of stops)))
 
-  -- a run that goes past each input before a step goes past all of them
-  past_all : (k : ℕ) → GoesPastBefore r k → GoesPastAll (read_before k) r
-  past_all zero past = tt
-  past_all (suc zero) past = (past Which.Graph (omega arith), tt)
-  past_all (suc (suc zero)) past =
-      (past Which.Graph (omega arith), (past Which.Saved (omega arith), (past Which.Order (omega arith), tt)))
-  past_all (suc (suc (suc k))) past = (
-    past Which.Graph (omega arith),
-    (past Which.Saved (omega arith), (past Which.Order (omega arith), (past Which.Sources (omega arith), tt))),
-  )
+  -- a run that goes past each input before a step goes past all that are among these
+  past_all : (k : ℕ) (inputs : List Which) → GoesPastBefore r k → GoesPastAll (filter (λ which. nat_lt (step_of which) k) inputs) r
+  past_all k [] past = tt
+  past_all k (which ∷ inputs) past = at (nat_lt (step_of which) k) refl _ (past_all k inputs past)
+    where
+      at : (b : Bool) → nat_lt (step_of which) k ≡ b → (more : List Which) → GoesPastAll more r →
+          GoesPastAll (cond b (which ∷ more) more) r
+      at true is more past_more = (past which (grind (arith, nat_tests)), past_more)
+      at false is more past_more = past_more
 
   -- what is told of an input that the run goes past: it is as it was, or was read to its end
   met_past : {which : Which} {input : Reading} {same accepted : Type 0} {Why : Reading → RunFault → Type 0} → GoesPast which r →
@@ -163,13 +165,13 @@ module _ {T : Type 0} (r : Result T RunFault) (Own : RunFault → Type 0) where
       let told : Met r which input same accepted Why = record {
         why = λ fault stops same. so fault (err_is r _ fault ends same).1;
         calls = ends_report which input refuses r ends;
-        unread = inr (past_all r (step_of which) past, met);
+        unread = inr (past_all r (step_of which) earlier past, met);
       } in
       (err_own r _ _ is own, past, (told, stop is at))
   reads_told which input refuses k less own met so (inr (bytes, value, all, named, rest)) stop go =
       let tail = go value (bytes, all, named) rest in
       let past = λ (other : Which) (before : step_of other < step_of which). tail.1 other (omega arith) in
-      (tail.0, past, (met_past r (tail.1 which less) (inr ((bytes, all), past_all r (step_of which) past, met)), tail.2))
+      (tail.0, past, (met_past r (tail.1 which less) (inr ((bytes, all), past_all r (step_of which) earlier past, met)), tail.2))
 
   -- a run stopped while it loaded, or went on with what it had loaded
   pub loads_told : {unread later L : Type 0} {next : Network → Option LevelsAndLegs → Type 0} (graph : Reading)
