@@ -1,5 +1,6 @@
 //! Graph files.
-ghost use Rattle.ch_graph.specs.Graph.{Network};
+ghost use Rattle.std.specs.Prelude.{IfOk};
+ghost use Rattle.ch_graph.specs.Graph.{Network, IsWithinLimits};
 ghost use Rattle.ch_read.specs.declared.fault.ReadFault.{ReadFault as FaultAt};
 ghost use Rattle.ch_read.specs.Answers.{AnswersWhere};
 ghost use Rattle.ch_read.specs.Checks.{IsFault};
@@ -23,6 +24,7 @@ pub fn read_graph(alloc: Global, bytes: &[u8]) -> Result<Graph, ReadError>
     ensures value { (g : Network) → AnswersWhere result (Ok g) (NamesGraph bytes.now g) }
     ensures fault { (f : FaultAt) →
         AnswersWhere result (Err (ReadError.Fault f)) (IsFault Form.Graph bytes.now f.line f.kind) }
+    ensures limits { IfOk result IsWithinLimits }
 {
     let (heading, arcs, _) = read_items::<InArc, ()>(alloc, Form::Graph, bytes)?;
     Ok(Graph::from_judged(heading.nodes, arcs))
@@ -40,6 +42,7 @@ pub fn read_graph_by<R: Threads + Sync, G: Gate>(
     ensures value { (g : Network) → AnswersWhere result (Ok g) (NamesGraph bytes.now g) }
     ensures fault { (f : FaultAt) →
         AnswersWhere result (Err (ReadError.Fault f)) (IsFault Form.Graph bytes.now f.line f.kind) }
+    ensures limits { IfOk result IsWithinLimits }
 {
     read_graph_in_sections(crew, SECTION, bytes)
 }
@@ -57,6 +60,7 @@ pub fn read_graph_in_sections<R: Threads + Sync, G: Gate>(
     ensures value { (g : Network) → AnswersWhere result (Ok g) (NamesGraph bytes.now g) }
     ensures fault { (f : FaultAt) →
         AnswersWhere result (Err (ReadError.Fault f)) (IsFault Form.Graph bytes.now f.line f.kind) }
+    ensures limits { IfOk result IsWithinLimits }
 {
     let (heading, arcs, _) = read_items_by::<R, G, InArc, ()>(crew, size, Form::Graph, bytes)?;
     Ok(Graph::from_judged(heading.nodes, arcs))

@@ -1,5 +1,6 @@
 //! Reads inputs to their end, and judges them.
 ghost use Rattle.std.specs.Prelude.{true, ◌≡◌, ◌<◌, ◌≤◌, All, IfOk, IfErr, MatchResult, vec_len};
+ghost use Rattle.ch_graph.specs.Graph.{IsWithinLimits};
 ghost use Rattle.ch_graph.specs.declared.limits.TheConstants.{MOST_LISTED, MOST_QUERIES};
 ghost use Rattle.ch_text.specs.Device.{CanCountOneMore};
 ghost use Rattle.ch_text.specs.Moves.{GaveAll};
@@ -26,6 +27,7 @@ pub(crate) fn graph_from<R: Threads + Sync, I: Input, G: Gate>(
     input: &mut I,
 ) -> Result<Graph, RunFault>
     ensures read { MatchResult result (ReadsGraph (reading I.read_gives input.old input.new)) (EndsAt Which.Graph (reading I.read_gives input.old input.new) (IsRefused FormOf.Graph)) }
+    ensures limits { IfOk result IsWithinLimits }
     ensures same { I.origin input.new ≡ I.origin input.old }
 {
     let bytes = bytes_from(crew.alloc, input, Which::Graph)?;

@@ -97,8 +97,6 @@ pub(crate) fn loaded_from<R: Threads + Sync, I: Input, S: Input + Drop, G: Gate>
 {
     crew.gate.watch(Stage::Reading, 0, files_of(source));
     let graph = graph_from(crew, graph)?;
-    // The contract of this call says that the graph keeps the limits.
-    let _ = graph.arcs();
     match source {
         Source::Built => Ok(Loaded { graph, saved: None }),
         Source::Saved(saved) => {

@@ -13,14 +13,14 @@ pub returns-in_err-hierarchy-in-Saved-clause-went : goal.returns-in_err-hierarch
 returns-in_err-hierarchy-in-Saved-clause-went g c =
     let read = c.in_ok-graph.ensures.read in
     let ends = err_as _ _ _ c.from_residual-in_err-hierarchy-in-Saved.ensures.1 c.in_err-hierarchy-in-Saved.ensures.ends in
-    rw c.in-Saved.is (inr (read.0, c.in_ok-graph.graph, read.1, (read.2, c.arcs.ensures.limits), inl (ends, tt)))
+    rw c.in-Saved.is (inr (read.0, c.in_ok-graph.graph, read.1, (read.2, c.in_ok-graph.ensures.limits), inl (ends, tt)))
 
 pub returns-in_ok-hierarchy-in-Saved-clause-went : goal.returns-in_ok-hierarchy-in-Saved-clause-went
 returns-in_ok-hierarchy-in-Saved-clause-went g c =
     let read = c.in_ok-graph.ensures.read in
     let told = c.in_ok-hierarchy-in-Saved.ensures.value in
     let place = own_place c.args.named c.in_ok-graph.graph _ c.in_ok-hierarchy-in-Saved.hierarchy refl told.2.2.1 in
-    let limits = c.arcs.ensures.limits in
+    let limits = c.in_ok-graph.ensures.limits in
     rw c.in-Saved.is (inr (read.0, _, read.1, (read.2, limits), inr (told.0, _, told.1, told.2, (refl, place))))
 
 -- the order was read in vain, or the hierarchy was built like it
@@ -28,11 +28,11 @@ pub returns-in_err-hierarchy-in-Like-clause-went : goal.returns-in_err-hierarchy
 returns-in_err-hierarchy-in-Like-clause-went g c =
     let read = c.in_ok-graph.ensures.read in
     let ends = err_as _ _ _ c.from_residual-in_err-hierarchy-in-Like.ensures.1 c.in_err-hierarchy-in-Like.ensures.ends in
-    rw c.in-Like.is (inr (read.0, c.in_ok-graph.graph, read.1, (read.2, c.arcs.ensures.limits), inl (ends, tt)))
+    rw c.in-Like.is (inr (read.0, c.in_ok-graph.graph, read.1, (read.2, c.in_ok-graph.ensures.limits), inl (ends, tt)))
 
 pub returns-in_ok-hierarchy-in-Like-clause-went : goal.returns-in_ok-hierarchy-in-Like-clause-went
 returns-in_ok-hierarchy-in-Like-clause-went g c =
     let read = c.in_ok-graph.ensures.read in
     let told = c.in_ok-hierarchy-in-Like.ensures.value in
-    let limits = c.arcs.ensures.limits in
+    let limits = c.in_ok-graph.ensures.limits in
     rw c.in-Like.is (inr (read.0, _, read.1, (read.2, limits), inr (told.0, told.2.0, told.1, told.2.1, (refl, told.2.2))))
