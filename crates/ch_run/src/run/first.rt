@@ -1,29 +1,24 @@
 //! Answers the first of the requests that came together.
-ghost use Rattle.std.specs.Prelude.{◌≡◌, ◌<◌, ◌≤◌, ◌||◌, true, false, ⊤, ◌∷◌, List, None, length, map, All, IfOk, MatchOption};
+ghost use Rattle.std.specs.Prelude.{◌≡◌, ◌<◌, ◌≤◌, true, false, ⊤, ◌∷◌, List, None, length, map, All, IfOk, MatchOption};
 ghost use Rattle.ch_graph.specs.declared.limits.TheConstants.{MOST_LISTED};
 ghost use Rattle.ch_read.specs.Requests.{ArePlaces, AreTwoLists, IsRequest};
 ghost use Rattle.ch_read.specs.RequestLists.{PlaceList};
 ghost use Rattle.ch_read.specs.declared.request.Request.{Request as RequestKind};
 ghost use Rattle.ch_read.specs.declared.request.Request.TheVariants as RequestOf;
 ghost use Rattle.ch_run.specs.Ask.{limit_of};
-ghost use Rattle.ch_run.specs.Text.{writes_routes};
 ghost use Rattle.ch_run.specs.Serving.{AnswersFirst, AreFirstOf, IsAnswerBy, IsRoomFor, asked_for, near_row_of, places_of};
 
 use super::answering::{Answering, Room};
-use super::near_texts::push_searched;
+use super::near_texts::{ROWS_TOGETHER, push_searched};
 use super::texts::{answers_in, table_by};
 use crate::plan::{Crew, Gate};
-use crate::routes::writes_routes;
+use crate::routes::has_routes;
 use ch_job::Options;
 use ch_near::NearTargets;
 use ch_read::{NearPlaces, Request, TableLists};
 use ch_text::push_near_row;
 use std::alloc::{AllocError, Global};
 use std::thread::Threads;
-
-/// The most near rows that are made together. The pairs of this many rows are in memory beside their
-/// text.
-const ROWS_TOGETHER: usize = 4096;
 
 /// The text that answers the first of some requests, and the number of these.
 #[derive(Drop)]
@@ -49,11 +44,8 @@ pub(crate) fn answer_first<'a, R: Threads + Sync, G: Gate>(
 {
     let rest = &requests[1..];
     match &requests[0] {
-        Request::Query(from, to) => {
-            let routes = writes_routes(by.options);
-            first_pairs(crew, by, room, (*from, *to), rest, false, routes)
-        }
-        Request::Route(from, to) => first_pairs(crew, by, room, (*from, *to), rest, true, true),
+        Request::Query(from, to) => first_pairs(crew, by, room, (*from, *to), rest, false),
+        Request::Route(from, to) => first_pairs(crew, by, room, (*from, *to), rest, true),
         Request::Near(source, within) => first_rows(crew, by, room, *source, *within, rest),
         Request::Table(lists) => first_table(crew, by, lists),
         Request::Places(places) => take_places(crew, by, room, places),
@@ -61,7 +53,7 @@ pub(crate) fn answer_first<'a, R: Threads + Sync, G: Gate>(
 }
 
 /// Answers a query, and with it the queries like it that come right after it. All have their routes, or
-/// all are answered as the run answers queries. Their text has routes if `routes`.
+/// all are answered as the run answers queries.
 fn first_pairs<R: Threads + Sync, G: Gate>(
     crew: &Crew<'_, R, G>,
     by: &Answering<'_>,
@@ -69,9 +61,7 @@ fn first_pairs<R: Threads + Sync, G: Gate>(
     first: (u32, u32),
     rest: &[Request],
     routed: bool,
-    routes: bool,
 ) -> Result<FirstAnswers, AllocError>
-    requires routes { routes ≡ (routed || writes_routes by.now.options.now) }
     requires room { IsRoomFor by.now.options.now.direction by.now.checked.now room.old }
     requires each { All (IsRequest by.now.checked.now.graph.nodes) (asked_for routed first ∷ rest.now) }
     requires few { length rest.now < MOST_LISTED }
@@ -85,7 +75,7 @@ fn first_pairs<R: Threads + Sync, G: Gate>(
         by.checked.hierarchy(),
         &mut room.scratches,
         &pairs,
-        routes,
+        has_routes(by.options, routed),
     )?;
     Ok(FirstAnswers { text, count })
 }

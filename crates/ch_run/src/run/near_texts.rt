@@ -21,9 +21,8 @@ use ch_text::{push_near_row, push_near_rows};
 use std::alloc::AllocError;
 use std::thread::Threads;
 
-/// The number of sources whose rows are made before their text is. So only the pairs of this many rows
-/// are in memory beside the text.
-const PORTION: usize = 4096;
+/// The most near rows that are made together. The pairs of this many rows are in memory beside their text.
+pub(crate) const ROWS_TOGETHER: usize = 4096;
 
 /// Returns the text of the near rows of these sources, by a hierarchy. One sweep makes the rows of all
 /// nodes. It also serves a list of at least half as many sources as nodes, rounded down: it needs no search
@@ -66,7 +65,7 @@ fn searched_text<R: Threads + Sync, G: Gate>(
     ensures { IfOk result (λ text. HasNearRows near.old sources.now text.items) }
 {
     let mut text = Vec::new(crew.alloc);
-    for portion in sources.chunks(PORTION) {
+    for portion in sources.chunks(ROWS_TOGETHER) {
         push_searched(crew, near, portion, within, &mut text)?;
     }
     Ok(text)

@@ -14,7 +14,7 @@ answers_in-requires-clause-queries g c = λ kept valid.
 pub returns-clause-first : goal.returns-clause-first
 returns-clause-first g c =
     let right = c.hierarchy.ensures.right in
-    let text = rw (c.hierarchy.ensures.hierarchy, c.deref.ensures.value, c.requires.routes) at c.in_ok-text.ensures.text in
+    let text = rw (c.hierarchy.ensures.hierarchy, c.deref.ensures.value, c.has_routes.ensures) at c.in_ok-text.ensures.text in
     first_answered c.in_ok-pairs.ensures (asked_stay c.args.routed)
     (c.len-count.ensures ∙ sym c.deref.ensures.len ∙ ap length c.deref.ensures.value) refl
     (split_answers c.args.by.now.options.now c.args.routed c.args.by.now.checked.now.graph
