@@ -3,6 +3,7 @@
 ghost use Rattle.std.specs.Prelude.{◌≡◌};
 ghost use Rattle.ch_run.specs.Source.{order_built, order_for_queries, quick_order};
 
+use crate::plan::Plan;
 use crate::routes::writes_routes;
 use ch_job::{Options, OrderBy};
 
@@ -21,13 +22,13 @@ pub(crate) fn building_order(options: &Options) -> OrderBy
     }
 }
 
-/// Returns the order in which `workers` workers build the hierarchy that answers a list of queries, on a
+/// Returns the order in which the workers of a plan build the hierarchy that answers a list of queries, on a
 /// graph of `nodes` nodes. With routes it is the order of the options. Without routes it is [`quick_order`].
-pub(crate) fn order_for_queries(options: &Options, workers: u32, nodes: u32) -> OrderBy
-    ensures { result ≡ order_for_queries options.now workers nodes }
+pub(crate) fn order_for_queries(options: &Options, plan: &Plan, nodes: u32) -> OrderBy
+    ensures { result ≡ order_for_queries options.now plan.now.workers nodes }
 {
     if !writes_routes(options) {
-        return quick_order(workers, nodes);
+        return quick_order(plan, nodes);
     }
     options.order
 }
@@ -35,15 +36,15 @@ pub(crate) fn order_for_queries(options: &Options, workers: u32, nodes: u32) -> 
 /// The least number of nodes at which a graph is contracted by rounds, if no answer depends on the order.
 pub(crate) const ROUND_NODES: u32 = 65_536;
 
-/// Returns the order in which `workers` workers build a hierarchy of a graph of `nodes` nodes in the least time.
+/// Returns the order in which the workers of a plan build a hierarchy of a graph of `nodes` nodes in the least time.
 /// It is for answers that do not depend on the order. Workers share the work of rounds, so rounds need at least
 /// two workers and a large graph.
-pub(crate) fn quick_order(workers: u32, nodes: u32) -> OrderBy
-    ensures { result ≡ quick_order workers nodes }
+pub(crate) fn quick_order(plan: &Plan, nodes: u32) -> OrderBy
+    ensures { result ≡ quick_order plan.now.workers nodes }
 {
-    if workers < 2 || nodes < ROUND_NODES {
-        OrderBy::Depth
-    } else {
+    if plan.shares(nodes as usize, ROUND_NODES as usize) {
         OrderBy::Rounds
+    } else {
+        OrderBy::Depth
     }
 }

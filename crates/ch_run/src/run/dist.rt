@@ -77,7 +77,7 @@ fn text_of<R: Threads + Sync, G: Gate>(
     if options.plain {
         return plain_text(crew.alloc, loaded.graph(), queries, crew.gate);
     }
-    let order = order_for_queries(options, crew.plan.workers(), loaded.graph().nodes());
+    let order = order_for_queries(options, &crew.plan, loaded.graph().nodes());
     let hierarchy = loaded.hierarchy(crew, options.hops, order)?;
     answers_by(crew, &hierarchy, queries, writes_routes(options))
 }

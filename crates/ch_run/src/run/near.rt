@@ -89,7 +89,7 @@ fn near_of<R: Threads + Sync, G: Gate>(
     requires lists { AreNodeLists loaded.graph.nodes (nodes_of_sources loaded.graph.nodes sources.now) targets.now }
     ensures { IfOk result (λ text. IsNearTextFor options.now loaded.graph (nodes_of_sources loaded.graph.nodes sources.now) targets.now text.items) }
 {
-    let order = quick_order(crew.plan.workers(), loaded.graph().nodes());
+    let order = quick_order(&crew.plan, loaded.graph().nodes());
     let hierarchy = loaded.hierarchy(crew, options.hops, order)?;
     near_by(crew, &hierarchy, sources, targets, options)
 }

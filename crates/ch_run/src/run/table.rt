@@ -91,7 +91,7 @@ fn table_of<R: Threads + Sync, G: Gate>(
     ensures text { IfOk result (λ parts. IsTableText loaded.graph options.now.within sources.now targets.now (flat_map (λ part. part.items) parts.items)) }
     ensures length { IfOk result (λ parts. length (flat_map (λ part. part.items) parts.items) < 2 ^ 64) }
 {
-    let order = quick_order(crew.plan.workers(), loaded.graph().nodes());
+    let order = quick_order(&crew.plan, loaded.graph().nodes());
     let hierarchy = loaded.hierarchy(crew, options.hops, order)?;
     table_parts_by(crew, &hierarchy, sources, targets, options.within)
 }

@@ -13,6 +13,6 @@ returns g c =
     let H = c.in_ok-hierarchy.hierarchy in
     IfOk-weaker c.answers_by.result _ _ (λ text by.
     text_in (writes_routes options) options.order c.order_for_queries-order.result options.hops.number network c.args.loaded.saved H
-    (λ e. c.order_for_queries-order.ensures ∙ wanted_for_queries options c.workers.result c.nodes.result e)
+    (λ e. c.order_for_queries-order.ensures ∙ wanted_for_queries options c.args.crew.now.plan.workers c.nodes.result e)
     c.in_ok-hierarchy.ensures.serving c.args.queries.now text.items
     (rw c.writes_routes.ensures at (by network c.graph-2.ensures.limits c.in_ok-hierarchy.ensures.kept))) c.answers_by.ensures
