@@ -12,11 +12,12 @@ ghost use Rattle.ch_run.specs.Text.{IsTextBy};
 ghost use Rattle.ch_text.specs.TableText.{IsTableText};
 ghost use Rattle.ch_run.specs.Lists.{AreLists};
 
-use super::workers::{answers_text_by, table_texts};
+use super::workers::{RowTexts, answers_text_by};
 use crate::plan::{Crew, Gate, Stage};
 use ch_contract::Hierarchy;
 use ch_graph::{Graph, plain_distance};
 use ch_query::{Answer, Scratch, answer_all, answer_all_in};
+use ch_table::gather_rows;
 use ch_text::answers_text;
 use ch_work::{joined, length_of};
 use std::alloc::{AllocError, Global};
@@ -113,12 +114,13 @@ pub(crate) fn table_by<R: Threads + Sync, G: Gate>(
     ensures { IfOk result (λ text. (g : Network) → IsWithinLimits g → IsKept g hierarchy.now →
         IsTableText g within sources.now targets.now text.items) }
 {
-    let parts = table_texts(crew, hierarchy, sources, targets, within)?;
+    let parts = table_parts_by(crew, hierarchy, sources, targets, within)?;
     joined(crew.alloc, parts)
 }
 
-/// Returns the text of the table of these lists, by a hierarchy, in parts. The parts have fewer than 2^64
-/// bytes.
+/// Returns the text of the table of these lists, by a hierarchy, in parts: a row for each source, in order. The
+/// workers of the crew share the rows, as [`gather_rows`] says, and each writes those that it makes. The parts have
+/// fewer than 2^64 bytes.
 pub(crate) fn table_parts_by<R: Threads + Sync, G: Gate>(
     crew: &Crew<'_, R, G>,
     hierarchy: &Hierarchy,
@@ -132,7 +134,7 @@ pub(crate) fn table_parts_by<R: Threads + Sync, G: Gate>(
         IsTableText g within sources.now targets.now (flat_map (λ part. part.items) parts.items)) }
     ensures length { IfOk result (λ parts. length (flat_map (λ part. part.items) parts.items) < 2 ^ 64) }
 {
-    let parts = table_texts(crew, hierarchy, sources, targets, within)?;
+    let parts = gather_rows(crew, hierarchy, sources, targets, within, &RowTexts)?;
     if length_of(&parts) == usize::MAX {
         return Err(AllocError);
     }

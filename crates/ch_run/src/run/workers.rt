@@ -1,19 +1,13 @@
 //! Texts that workers share. Each worker makes the texts of ranges of answers or of rows of a table, and
 //! these are joined in order.
-ghost use Rattle.std.specs.Prelude.{◌≡◌, ◌*◌, ◌^◌, ◌<◌, ◌≤◌, length, flat_map, All, IfOk};
+ghost use Rattle.std.specs.Prelude.{◌≡◌, ◌^◌, ◌<◌, length, flat_map, IfOk};
 ghost use Rattle.std.specs.List.{slice_range};
-ghost use Rattle.ch_graph.specs.declared.limits.TheConstants.{MOST_LISTED};
-ghost use Rattle.ch_hierarchy.specs.Hierarchy.{nodes_of};
-ghost use Rattle.ch_query.specs.Distance.{IsKeptForSome};
 ghost use Rattle.ch_text.specs.Routes.{answer_text};
 ghost use Rattle.ch_text.specs.TableText.{row_text};
-ghost use Rattle.ch_run.specs.TableText.{IsTableTextBy};
-ghost use Rattle.ch_work.specs.declared.limits.TheConstants.{MOST_CELLS};
 
 use crate::plan::{Crew, Gate, Open, Plan};
-use ch_contract::Hierarchy;
 use ch_query::Answer;
-use ch_table::{RowJob, gather_rows};
+use ch_table::RowJob;
 use ch_text::{answers_text, push_row};
 use ch_work::{Job, joined, run_pieces};
 use std::alloc::{AllocError, Global};
@@ -64,7 +58,7 @@ impl Job for AnswersJob<'_> {
 }
 
 /// The job that writes the rows of a table.
-struct RowTexts;
+pub(crate) struct RowTexts;
 
 impl RowJob for RowTexts {
     ghost use Rattle.std.specs.List.{zip};
@@ -106,24 +100,4 @@ pub(crate) fn answers_text_by<R: Threads + Sync, G: Gate>(
         &AnswersJob { answers },
     )?;
     joined(crew.alloc, texts)
-}
-
-/// Returns the text of the table of these sources and targets by a hierarchy, in parts: a row for each
-/// source, in order. With a limit `within`, a distance of more than that is none. The workers of the crew
-/// share the rows, as [`gather_rows`] says, and each writes those that it makes.
-pub(crate) fn table_texts<R: Threads + Sync, G: Gate>(
-    crew: &Crew<'_, R, G>,
-    hierarchy: &Hierarchy,
-    sources: &[u32],
-    targets: &[u32],
-    within: Option<u64>,
-) -> Result<Vec<Vec<u8>>, AllocError>
-    requires kept { IsKeptForSome hierarchy.now }
-    requires sources { All (λ s. s < nodes_of hierarchy.now) sources.now }
-    requires targets { All (λ t. t < nodes_of hierarchy.now) targets.now }
-    requires lists { (length sources.now ≤ MOST_LISTED) × (length targets.now ≤ MOST_LISTED) }
-    requires cells { length sources.now * length targets.now ≤ MOST_CELLS }
-    ensures { IfOk result (λ texts. IsTableTextBy hierarchy.now within sources.now targets.now (flat_map (λ text. text.items) texts.items)) }
-{
-    gather_rows(crew, hierarchy, sources, targets, within, &RowTexts)
 }
