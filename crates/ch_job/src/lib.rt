@@ -12,6 +12,6 @@ mod sources;
 
 pub use ch_contract::Percent;
 pub use job::{Job, Question};
-pub use options::{Direction, HopBound, MOST_COUNT, MOST_HOPS, MOST_WITHIN, Options, OrderBy};
+pub use options::{Direction, HopBound, Options, OrderBy};
 pub use source::Source;
 pub use sources::Sources;

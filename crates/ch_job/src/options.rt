@@ -1,17 +1,7 @@
 //! The options of a run, and their limits.
 
 pub use ch_contract::{HopBound, OrderBy};
-use ch_graph::limits;
 pub use ch_near::Direction;
-
-/// The most legs of a witness.
-pub const MOST_HOPS: u32 = limits::MOST_HOPS;
-
-/// The greatest useful limit on the distances of tables and near rows: no distance is greater.
-pub const MOST_WITHIN: u64 = limits::MOST_WEIGHT;
-
-/// The greatest useful number of targets of a near row: no list of targets is longer.
-pub const MOST_COUNT: u32 = limits::MOST_LISTED as u32;
 
 /// The options of a run: how it answers queries, and makes tables and near rows.
 #[derive(Clone, Copy, Debug, PartialEq, Eq)]
@@ -29,7 +19,7 @@ pub struct Options {
     /// greater distance is as if there were no walk. A near row leaves out targets that are farther.
     /// Answers to queries have no limit.
     pub within: Option<u64>,
-    /// The most targets of a near row, from 1 to [`MOST_COUNT`], if there is a limit. Without one, a row
+    /// The most targets of a near row, from 1 to [`MOST_LISTED`](ch_graph::limits::MOST_LISTED), if there is a limit. Without one, a row
     /// has all targets.
     pub count: Option<u32>,
     /// The direction of the distances of near rows.

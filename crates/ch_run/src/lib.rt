@@ -28,10 +28,7 @@ mod plan;
 mod routes;
 mod run;
 
-pub use ch_job::{
-    Direction, HopBound, MOST_COUNT, MOST_HOPS, MOST_WITHIN, Options, OrderBy, Percent, Source,
-    Sources,
-};
+pub use ch_job::{Direction, HopBound, Options, OrderBy, Percent, Source, Sources};
 pub use ch_text::{
     DeviceFault, Input, MemoryInput, MemoryOutput, Output, ReadAllFault, ReadOnce, ReaderInput,
     WriteOnce, WriterOutput, read_all, write_all,
