@@ -230,7 +230,7 @@ LIMITS = (
     ("MOST_NODES", "nodes of a graph"), ("MOST_ARCS", "arcs of a graph"), ("MOST_WEIGHT", "number of nodes times the weight of any arc"),
     ("MOST_QUERIES", "queries of a file"), ("MOST_LISTED", "nodes of a list of sources or of targets"), ("MOST_LEGS", "edges of a saved hierarchy"),
     ("MOST_CELLS", "cells of a table, sources times targets"), ("MOST_WEIGHT", "weight of an edge"), ("MOST_NODES", "arcs that an edge stands for"),
-    ("MOST_WITHIN", "`--within R`"), ("MOST_COUNT", "`--count K`"),
+    ("MOST_WEIGHT", "`--within R`"), ("MOST_LISTED", "`--count K`"),
 )
 INNER_LIMITS = "MOST_SUM", "MOST_PATH_ARCS", "MOST_OFFER"
 

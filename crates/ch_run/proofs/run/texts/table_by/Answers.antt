@@ -8,4 +8,5 @@ pub returns : goal.returns
 returns g c =
     let a = c.args in
     IfOk-weaker c.joined.result _ _ (λ text is network limits kept.
-    subst (IsTableText network a.within a.sources.now a.targets.now) (sym is) (c.in_ok-parts.ensures.text network limits kept)) c.joined.ensures
+    subst (IsTableText network a.within a.sources.now a.targets.now) (sym is)
+    (c.in_ok-parts.ensures.text network limits kept)) c.joined.ensures
