@@ -8,8 +8,7 @@ use crate::crew::crew;
 use crate::examples::{Files, RING, hierarchy};
 use ch_hierarchy::{Hierarchy, Side};
 use ch_query::{
-    Answer, Scratch, Start, answer_all, answer_all_in, distance, ranked_space, route, search_space,
-    spread,
+    Answer, Scratch, Start, answer_all, answer_all_in, distance, ranked_spaces_alone, route, spread,
 };
 use ch_work::{Open, Plan};
 use std::alloc::{AllocError, Global};
@@ -23,6 +22,25 @@ const STALLING: Files = (
     b"p ch 3 6\no 1\no 2\no 3\nl 1 2 10 1 0\nl 2 1 10 1 0\nl 1 3 1 1 0\nl 3 1 1 1 0\n\
       l 2 3 1 1 0\nl 3 2 1 1 0\n",
 );
+
+/// Returns the number of entries of the search space of an end of the long road.
+fn entries(
+    alloc: Global,
+    roads: &Hierarchy,
+    scratch: &mut Scratch,
+    side: Side,
+) -> Result<u64, AllocError>
+    requires kept { IsKeptForSome roads.now }
+    requires nodes { nodes_of roads.now ≡ 3 }
+    requires scratch { scratch.old ≡ 3 }
+    ensures { scratch.new ≡ 3 }
+{
+    let spaces = ranked_spaces_alone(alloc, roads, scratch, &[0], side, None)?;
+    match spaces.first() {
+        Some(space) => Ok(space.len() as u64),
+        None => Ok(0),
+    }
+}
 
 /// Returns the weight of the route from one end of the long road to the other. Then come the numbers of entries
 /// of the spread of an end, of its search space, and of its search space on the other side.
@@ -43,18 +61,9 @@ fn asked(alloc: Global, roads: &Hierarchy, scratch: &mut Scratch) -> Result<[u64
         within: None,
     };
     let reached = spread(alloc, roads, scratch, start)?;
-    let space = search_space(alloc, roads, scratch, start)?;
-    let down = Start {
-        side: Side::Down,
-        ..start
-    };
-    let ranked = ranked_space(alloc, roads, scratch, down)?;
-    Ok([
-        weight,
-        reached.len() as u64,
-        space.len() as u64,
-        ranked.len() as u64,
-    ])
+    let up = entries(alloc, roads, scratch, Side::Up)?;
+    let down = entries(alloc, roads, scratch, Side::Down)?;
+    Ok([weight, reached.len() as u64, up, down])
 }
 
 /// Returns the same as [`asked`]. If a call is refused memory, all calls are made a second time. They use the

@@ -11,7 +11,6 @@ pub mod LegsRead
 pub mod WeighingSteps
 pub mod WeightStalls
 pub mod WeighingEnds
-pub mod NamedSpaces
 pub mod SearchSpaces
 pub mod MoreEntries
 pub mod LoweredWords

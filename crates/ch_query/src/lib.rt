@@ -8,9 +8,9 @@
 //!   room is a [`Scratch`], and one query leaves it clean for the next.
 //! - [`route`] is the one walk that the rules of choice name. It has the least weight, and of the walks of
 //!   that weight the fewest arcs ([`laws`]).
-//! - [`search_space`] lists the nodes that distances lead over, and [`ranked_space`] does the same for
-//!   tables. [`ranked_spaces`] does it for each node of a list, and [`lower_by_search`] lowers the words of a
-//!   row by a search space and buckets.
+//! - [`ranked_spaces`] lists, for each node of a list, the nodes that distances lead over, and
+//!   [`ranked_spaces_alone`] does the same without threads. [`lower_by_search`] lowers the words of a row by
+//!   a search space and buckets.
 //! - [`answer_all`] returns the answers to many queries in their order, for every plan.
 //!
 //! Proved on every hierarchy with levels: [`spread`] lists all that a node reaches by legs to higher nodes,
@@ -37,7 +37,4 @@ pub use routes::query::route;
 pub use scratch::Scratch;
 pub use sides::spread;
 pub use start::Start;
-pub use weights::{
-    Lowering, distance, lower_by_search, ranked_space, ranked_spaces, ranked_spaces_alone,
-    search_space,
-};
+pub use weights::{Lowering, distance, lower_by_search, ranked_spaces, ranked_spaces_alone};

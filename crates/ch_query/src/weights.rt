@@ -10,4 +10,3 @@ mod spaces;
 pub use distances::distance;
 pub use lists::{ranked_spaces, ranked_spaces_alone};
 pub use lowering::{Lowering, lower_by_search};
-pub use spaces::{ranked_space, search_space};

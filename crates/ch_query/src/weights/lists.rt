@@ -16,9 +16,20 @@ use std::alloc::{AllocError, Global};
 use std::marker::Model;
 use std::thread::Threads;
 
-/// Returns the [`ranked_space`] of each of these nodes, in their order. The workers share the nodes, and their
-/// scratches stay in `scratches` for further calls, as in [`run_list_in`]. It reports to the gate when the
-/// searches begin.
+/// Returns the search space of each of these nodes, in their order: nodes that it reaches by legs to higher nodes
+/// in this direction, with the weights of paths, in any order. In place of a node stands its rank, which is the number of
+/// higher nodes. The hierarchy is right for some graph, and the scratches have room for its number of nodes.
+///
+/// A search goes on as that of [`distance`](crate::distance) does, but until no node is left. If a higher node shows a
+/// lighter way to a node, that node is not expanded and has no entry. This is "stall on demand"
+/// (Geisberger, Sanders, Schultes and Delling 2008).
+///
+/// Each node whose least path is a least walk of the graph has an entry with that weight. Distances lead
+/// over these nodes. With a limit `within`, entries weigh at most that, and each such node whose weight is
+/// at most that has an entry. A [`spread`](crate::spread) has the least paths to all nodes.
+///
+/// The workers share the nodes, and their scratches stay in `scratches` for further calls, as in [`run_list_in`]. It
+/// reports to the gate when the searches begin.
 ///
 /// # Errors
 /// `AllocError` if there is no memory. All workers are joined before it returns.

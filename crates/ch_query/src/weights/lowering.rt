@@ -44,7 +44,7 @@ pub trait Lowering {
         ensures { OnOk result (AreLowered (sums self.now weight bucket.now) (words row.old) (words row.new)) };
 }
 
-/// Lowers the words of a row by the search space of a start, as [`ranked_space`](crate::ranked_space) finds it:
+/// Lowers the words of a row by the search space of a start, as [`ranked_spaces`](crate::ranked_spaces) finds it:
 /// by the buckets of its ranks, each with the weight of the rank's node.
 ///
 /// # Errors

@@ -1,12 +1,10 @@
 //! Search spaces: searches by weights that stall, and run until no node is left.
-ghost use Rattle.std.specs.Prelude.{◌≡◌, ◌<◌, ◌≤◌, length, All, IfOk, OnOk};
-ghost use Rattle.std.specs.List.{AllZip};
+ghost use Rattle.std.specs.Prelude.{◌≡◌, ◌<◌, ◌≤◌, IfOk, OnOk};
 ghost use Rattle.ch_graph.specs.declared.limits.TheConstants.{MOST_WEIGHT};
 ghost use Rattle.ch_hierarchy.specs.Hierarchy.{nodes_of};
-ghost use Rattle.ch_hierarchy.specs.Ranked.{rank_of};
 ghost use Rattle.ch_query.specs.Distance.{IsKeptForSome};
 ghost use Rattle.ch_query.specs.Search.{IsEmpty};
-ghost use Rattle.ch_query.specs.SearchSpace.{IsSearchSpace, IsRankedSpace};
+ghost use Rattle.ch_query.specs.SearchSpace.{IsRankedSpace};
 ghost use Rattle.ch_query.specs.Weights.{side_keys, source_of, IsSameWeighing, IsWeighingOn, HasBegunOn, AreUnstalledOn, IsCleanFor};
 
 use super::search::WeightSearch;
@@ -79,12 +77,11 @@ impl WeightSearch {
     }
 }
 
-/// Returns the entries of a [`search_space`] in any order, with ranks in place of nodes. The rank of a node
-/// is the number of higher nodes.
+/// Returns the search space of this start by ranks, as [`ranked_spaces`](crate::ranked_spaces) says of each node.
 ///
 /// # Errors
 /// `AllocError` if there is no memory for the list.
-pub fn ranked_space(
+pub(crate) fn ranked_space(
     alloc: Global,
     hierarchy: &Hierarchy,
     scratch: &mut Scratch,
@@ -100,52 +97,4 @@ pub fn ranked_space(
     weights.gather(hierarchy, found, start)?;
     // `found` keeps its room for the next search. The copy takes the memory of its entries alone.
     Vec::from_slice(alloc, found)
-}
-
-/// Returns nodes that the source reaches by legs to higher nodes in the direction of the start, with the
-/// weights of paths, in order of node. The hierarchy is right for some graph, and the scratch has room for its number
-/// of nodes.
-///
-/// It searches as [`distance`](crate::distance) does, but until no node is left. If a higher node shows a
-/// lighter way to a node, that node is not expanded and has no entry. This is "stall on demand"
-/// (Geisberger, Sanders, Schultes and Delling 2008).
-///
-/// Each node whose least path is a least walk of the graph has an entry with that weight. Distances lead
-/// over these nodes. With a limit `within`, entries weigh at most that, and each such node whose weight is
-/// at most that has an entry. A [`spread`](crate::spread) has the least paths to all nodes.
-///
-/// # Errors
-/// `AllocError` if there is no memory for the list.
-pub fn search_space(
-    alloc: Global,
-    hierarchy: &Hierarchy,
-    scratch: &mut Scratch,
-    start: Start,
-) -> Result<Vec<(u32, u64)>, AllocError>
-    requires kept { IsKeptForSome hierarchy.now }
-    requires scratch { scratch.old ≡ nodes_of hierarchy.now }
-    requires source { start.source < nodes_of hierarchy.now }
-    ensures space { IfOk result (λ list. IsSearchSpace hierarchy.now start.side start.within start.source list.items) }
-    ensures scratch { scratch.new ≡ scratch.old }
-{
-    let ranked = ranked_space(alloc, hierarchy, scratch, start)?;
-    let mut list = named(alloc, hierarchy, &ranked)?;
-    list.sort_unstable();
-    Ok(list)
-}
-
-/// Returns the list with nodes in place of their ranks.
-fn named(
-    alloc: Global,
-    hierarchy: &Hierarchy,
-    ranked: &[(u32, u64)],
-) -> Result<Vec<(u32, u64)>, AllocError>
-    requires { All (λ entry. entry.0 < nodes_of hierarchy.now) ranked.now }
-    ensures { IfOk result (λ list. AllZip (λ entry named. (named.0 < nodes_of hierarchy.now) × (rank_of hierarchy.now named.0 ≡ entry.0) × (named.1 ≡ entry.1)) ranked.now list.items) }
-{
-    let mut list = Vec::with_capacity(alloc, ranked.len())?;
-    for (rank, weight) in ranked {
-        list.push_reserved((hierarchy.node_at(*rank), *weight));
-    }
-    Ok(list)
 }
