@@ -7,7 +7,7 @@ use crate::again::again;
 use crate::crew::crew;
 use crate::examples::{RING, hierarchy};
 use ch_hierarchy::Hierarchy;
-use ch_near::{Direction, NearTargets, near};
+use ch_near::{Direction, NearTargets};
 use ch_work::{Open, Plan};
 use std::alloc::{AllocError, Global};
 use std::process::Abort;
@@ -28,15 +28,8 @@ fn expect_searched<R: Threads + Abort + Sync>(
 {
     let plan = Plan::new(workers, 1, 1);
     let crew = crew(rt, alloc, &plan, &Open);
-    let found = near(
-        &crew,
-        ring,
-        Direction::To,
-        &[3, 4],
-        &[3, 4, 3],
-        None,
-        Some(2),
-    )?;
+    let mut near = NearTargets::search(&crew, ring, Direction::To, &[3, 4, 3], None, Some(2))?;
+    let found = near.rows_within(&crew, &[3, 4], None)?;
     assert!(rt; found.len() == 2);
     assert_eq!(rt; found[0].as_slice(), [(0, 0), (0, 2)].as_slice());
     assert_eq!(rt; found[1].as_slice(), [(0, 1), (4, 0)].as_slice());

@@ -4,8 +4,8 @@
 //! It stands on ch_graph, ch_hierarchy, ch_query and ch_work. These statements are proved on every hierarchy
 //! that is right for a graph, for every plan and gate:
 //!
-//! - Each row of [`near`] has exactly the first targets in order of distance and then of place, with their
-//!   distances. It has as many as are asked for, or all.
+//! - Each row of [`NearTargets::rows_within`] has exactly the first targets in order of distance and then of
+//!   place, with their distances. It has as many as are asked for, or all.
 //! - With a limit, it has only targets whose distance is at most that.
 //! - There is only one such row ([`laws`]).
 //! - The same holds of each row of [`NearTargets::node_rows`].
@@ -26,5 +26,5 @@ mod sweep;
 
 pub use direction::Direction;
 pub use kept::KeptTargets;
-pub use nearest::{NearTargets, near};
+pub use nearest::NearTargets;
 pub use sweep::NodeRows;

@@ -18,33 +18,6 @@ use std::alloc::{AllocError, Global};
 use std::marker::Model;
 use std::thread::Threads;
 
-/// Returns for each source the first `count` targets in order of distance and then of place, or all targets
-/// without such a number. With a limit `within`, a row has only targets whose distance is at most that.
-///
-/// The distances are to the targets or from them. A row has pairs of a distance and a place in the list of
-/// targets, in this order. A target that occurs more than once has each of its places.
-///
-/// # Errors
-/// `AllocError` if there is no memory.
-pub fn near<R: Threads + Sync, G: Gate>(
-    crew: &Crew<'_, R, G>,
-    hierarchy: &Hierarchy,
-    direction: Direction,
-    sources: &[u32],
-    targets: &[u32],
-    within: Option<u64>,
-    count: Option<u32>,
-) -> Result<Vec<Vec<(u64, u32)>>, AllocError>
-    requires kept { IsKeptForSome hierarchy.now }
-    requires sources { All (λ s. s < nodes_of hierarchy.now) sources.now }
-    requires targets { All (λ t. t < nodes_of hierarchy.now) targets.now }
-    requires lists { (length sources.now ≤ MOST_LISTED) × (length targets.now ≤ MOST_LISTED) }
-    ensures { IfOk result (λ rows. AllZip (λ s row. IsNearRow (facing direction hierarchy.now) within count targets.now s row.items) sources.now rows.items) }
-{
-    let mut near = NearTargets::search(crew, hierarchy, direction, targets, within, count)?;
-    near.rows(crew, sources)
-}
-
 /// Targets that were searched from, and can be asked for those nearest to sources. One search from each
 /// target serves any number of sources. The rooms of workers stay from one call to the next.
 #[derive(Drop)]
@@ -70,6 +43,10 @@ impl<'a> Model for NearTargets<'a> {
 
 impl<'a> NearTargets<'a> {
     /// Searches from each target, along its paths to higher nodes. The workers share the targets.
+    ///
+    /// A row will have the first `count` targets in order of distance and then of place, or all targets without such
+    /// a number. With a limit `within`, it has only targets whose distance is at most that. The distances are to the
+    /// targets or from them.
     ///
     /// # Errors
     /// `AllocError` if there is no memory.
@@ -104,34 +81,11 @@ impl<'a> NearTargets<'a> {
         &self.searched.targets
     }
 
-    /// Returns the row of each source, in order, within the limit of the search. The workers share the
-    /// sources.
+    /// Returns the row of each source, in order, within a limit that is at most the one of the search, and holds for
+    /// this call alone. The workers share the sources.
     ///
-    /// # Errors
-    /// `AllocError` if there is no memory. Later calls return the same rows as before.
-    pub fn rows<R: Threads + Sync, G: Gate>(
-        &mut self,
-        crew: &Crew<'_, R, G>,
-        sources: &[u32],
-    ) -> Result<Vec<Vec<(u64, u32)>>, AllocError>
-        requires sources { All (λ s. s < nodes_of self.old.hierarchy) sources.now }
-        requires listed { length sources.now ≤ MOST_LISTED }
-        ensures rows { IfOk result (λ rows. AllZip (λ s row. IsNearRow self.old.hierarchy self.old.limit self.old.count self.old.targets s row.items) sources.now rows.items) }
-        ensures same { self.new ≡ self.old }
-    {
-        let within = self.limit();
-        self.rows_within(crew, sources, within)
-    }
-
-    /// Returns the limit of the search.
-    fn limit(&self) -> Option<u64>
-        ensures { result ≡ self.now.limit }
-    {
-        self.searched.within
-    }
-
-    /// Like [`NearTargets::rows`], within a limit that is at most the one of the search. It holds for this call
-    /// alone.
+    /// A row has pairs of a distance and a place in the list of targets, in this order. A target that occurs more than
+    /// once has each of its places.
     ///
     /// # Errors
     /// `AllocError` if there is no memory. Later calls return the same rows as before.
