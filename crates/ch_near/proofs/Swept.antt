@@ -40,10 +40,6 @@ use Rattle.ch_near.proofs.Distances.{least_of, of_least, one_distance}
 use Rattle.ch_near.proofs.NearRows.{rank_once, spaces_count, down_at, entry_at, down, bucket_among}
 use Rattle.ch_near.proofs.LeastRows.{IsOutdone, places_apart, outdone_by, row_of_offers}
 
--- no rows
-pub rows_none : (wanted : Wanted) → AreRowsTo wanted 0 []
-rows_none wanted = record { size = refl; each = λ v lt low. absurd (omega arith) }
-
 -- one more row
 pub rows_more : (wanted : Wanted) (k : ℕ) (rows : List (List (ℕ × ℕ))) (list : List (ℕ × ℕ)) → AreRowsTo wanted k rows →
     ((v : ℕ) → v < nodes_of wanted.hierarchy → rank_of wanted.hierarchy v ≡ k →

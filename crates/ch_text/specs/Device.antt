@@ -45,11 +45,6 @@ abbrev pub HasGiven : Option (List ℕ) → Option (List ℕ) → List ℕ → T
 HasGiven None new bytes = ⊤
 HasGiven (Some old) new bytes = (old ≡ bytes) × (new ≡ Some [])
 
--- of the known bytes of an input, these were read and these are left
-abbrev pub HasRead : (old new : Option (List ℕ)) → (read left : List ℕ) → Type 0
-HasRead None new read left = ⊤
-HasRead (Some old) new read left = (old ≡ read ++ left) × (new ≡ Some left)
-
 -- an output whose bytes are known has taken these after the earlier ones
 abbrev pub HasTaken : Option (List ℕ) → Option (List ℕ) → List ℕ → Type 0
 HasTaken None new bytes = ⊤

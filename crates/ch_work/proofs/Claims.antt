@@ -4,7 +4,7 @@ use Rattle.std.proofs.Common.{Option, Some, None, MatchOption, IsSomeAnd, refl, 
 use Rattle.std.proofs.Common.{get_or-set_same, get_or-set_other}
 use Rattle.std.proofs.lemmas.List.Elements.{All-push, All-append}
 use mathlib.Core.Logic.{dite}
-use native.Mathlib.Decide.{dec_lt, ℕ_discrete}
+use native.Mathlib.Decide.{ℕ_discrete}
 use Rattle.ch_work.specs.declared.board.known.Known.{Known}
 use Rattle.ch_work.specs.declared.board.known.Size.{Size}
 use Rattle.ch_work.specs.declared.board.Board.{Board}
@@ -15,7 +15,7 @@ use Rattle.ch_work.specs.Counts.{bit, total, times}
 use Rattle.ch_work.specs.Passes.{view_of, IsPassOf, HasEnded}
 use Rattle.ch_work.specs.Pieces.{pieces_of}
 use Rattle.ch_work.specs.Rule.{Settled}
-use Rattle.ch_work.specs.Steps.{nothing_known, with_claim}
+use Rattle.ch_work.specs.Steps.{with_claim}
 use Rattle.ch_work.proofs.Items.{all_at, map_push, next_split, next_done}
 use Rattle.ch_work.proofs.Totals.{total_push, one_same, one_other}
 
@@ -38,16 +38,6 @@ full Q None t positive h = absurd (omega arith)
 full Q (Some x) t positive h = h
 
 module _ {X : Type 0} (m : ℕ → ℕ → X → Type 0) (n p : ℕ) where
-  -- before its first claim a worker has done nothing
-  pub starts : (v : Known) → v ≡ nothing_known (pieces_of n p) 1 → Working m n p v 0 []
-  starts v e = record {
-    pieces = ap (λ (u : Known). u.pieces) e;
-    next_in = omega arith;
-    last = λ q. absurd (omega arith);
-    claims = ap (λ (u : Known). u.claims) e;
-    each = λ k d lt. absurd (omega arith);
-  }
-
   -- after one more claim, and with its piece done
   pub goes_on : (v w : Known) (next k : ℕ) (ds : List (Done X)) (x : X) → Working m n p v next ds → k < pieces_of n p →
       w ≡ with_claim v k → m (k * p) (min (k * p + p) n) x →
@@ -64,11 +54,6 @@ module _ {X : Type 0} (m : ℕ → ℕ → X → Type 0) (n p : ℕ) where
             ∙ sym (map_push (λ (y : Done X). y.number) ds d);
         each = All-push (IsDone m n p) ds d h.each (lt, means);
       }
-
-  -- each claim is greater than those before it, so fewer numbers are left
-  pub nearer : (v : Known) (next k : ℕ) (ds : List (Done X)) → Working m n p v next ds → k < pieces_of n p →
-      ((y : ℕ) → 0 < times y v.claims → y < k) → pieces_of n p - (k + 1) < pieces_of n p - next
-  nearer v next k ds h lt above = dite (dec_lt 0 next) (λ q. let b = above (next - 1) (h.last q) in omega arith) (λ z. omega arith)
 
   module _ (board : Board) where
     -- with no pass yet, nothing is gathered

@@ -1,13 +1,13 @@
 -- Looks, views that are split off and joined, and what a view of all passes knows.
-use Rattle.std.proofs.Common.{◌^◌, ◌≡◌, ◌≢◌, ℕ, zero, suc, ◌+◌, ◌-◌, ◌<◌, ◌==◌, ◌&&◌, nat_lt, min, List, [], ◌∷◌, ◌++◌, set, refl}
-use Rattle.std.proofs.Common.{sym, ap, ◌∙◌, subst, inl, inr, ⊎_elim, arith, add-one, replicate}
+use Rattle.std.proofs.Common.{◌^◌, ◌≡◌, ◌≢◌, ℕ, suc, ◌+◌, ◌-◌, ◌<◌, ◌==◌, ◌&&◌, nat_lt, min, List, [], ◌∷◌, ◌++◌, set, refl}
+use Rattle.std.proofs.Common.{sym, ap, ◌∙◌, subst, inl, inr, ⊎_elim, arith, add-one}
 use Rattle.std.specs.Prelude.{slice_index}
-use Rattle.std.proofs.lemmas.List.{set-get_or, length-replicate, get_or-replicate}
+use Rattle.std.proofs.lemmas.List.{set-get_or}
 use mathlib.Core.Logic.{dite}
-use mathlib.Core.Option.{Option, some, none, some-ne-none, some-injective}
+use mathlib.Core.Option.{Option, some, none}
 use native.Mathlib.Decide.{dec_lt}
 use lib.ListN.{get_elem?}
-use Rattle.atomic_table.specs.Table.{step, Act, Valid, stepped, carried_after, Allows, Splits, Joins, Enters, opening, keeps}
+use Rattle.atomic_table.specs.Table.{step, Act, Valid, stepped, carried_after, Allows, Splits, Joins, Enters, keeps}
 use Rattle.atomic_table.proofs.Lists.{at_set, at_snoc, set_again}
 use Rattle.ch_work.specs.declared.board.known.Known.{Known}
 use Rattle.ch_work.specs.declared.board.known.Size.{Size}
@@ -15,7 +15,6 @@ use Rattle.ch_work.specs.Counts.{bit, total, times, times_at}
 use Rattle.ch_work.specs.Rule.{none_yet, Fits, AllFit, Holds, Kept, IsWhole}
 use Rattle.ch_work.specs.Steps.{nothing_known, with_look, Looks, less_one, one_part, both}
 use Rattle.ch_work.proofs.Totals.{total_grow, total_append, total_push, total_split, total_join, total_whole, pair_cases, bit_one}
-use Rattle.ch_work.proofs.Totals.{none_below}
 use Rattle.ch_work.proofs.Moves.{fits_set, numbers_same, cells_same, knows_below}
 
 module _ (k : Size) (c : ℕ) (ws : List ℕ) (views : List Known) (h : Holds k c ws views) (id : ℕ) (v : Known)
@@ -214,41 +213,6 @@ enters k slots s kept homes fits =
       },
       refl,
     )
-
--- a new board keeps the rule
-pub opens : (pieces cells passes : ℕ) → pieces + passes + 1 < 2 ^ 64 →
-    Kept record { pieces = pieces; cells = cells; passes = passes }
-    (opening (0 ∷ replicate cells none_yet) [] (nothing_known pieces passes))
-opens pieces cells passes room =
-    let k : Size = record { pieces = pieces; cells = cells; passes = passes } in
-    let v = nothing_known pieces passes in record {
-      counter = 0;
-      values = replicate cells none_yet;
-      words = refl;
-      holds = record {
-        room = room;
-        cells = length-replicate cells none_yet;
-        numbers = record {
-          counted = omega arith;
-          claimed = λ x. let e : min 0 pieces ≡ 0 = omega arith in
-              rw e (sym (none_below x));
-          parts = omega arith;
-        };
-        values = record {
-          hit = λ i lt less. let e = get_or-replicate cells i none_yet 0 lt in absurd (omega arith);
-          low = λ i x p. absurd (omega arith);
-          small = λ i x p. absurd (omega arith);
-          shown = λ i x p. absurd (omega arith);
-        };
-        fits = one;
-      };
-    }
-  where
-    one : (j : ℕ) (u : Known) → get_elem? (nothing_known pieces passes ∷ []) j ≡ some u →
-        Fits record { pieces = pieces; cells = cells; passes = passes } u
-    one zero u e = let k : Size = record { pieces = pieces; cells = cells; passes = passes } in subst (λ (y : Known). Fits k y)
-        (some-injective _ _ e) record { pieces = λ q. refl; ended = omega arith; idle = λ z. (refl, refl, refl) }
-    one (suc j) u e = absurd (some-ne-none u (sym e))
 
 -- a view that stands for all passes knows all that was done
 pub settles : (k : Size) (c : ℕ) (ws : List ℕ) (views : List Known) → Holds k c ws views → (id : ℕ) (v : Known) →

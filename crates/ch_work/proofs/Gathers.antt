@@ -15,12 +15,8 @@ use Rattle.ch_work.specs.Passes.{view_of}
 use Rattle.ch_work.proofs.Ends.{settles}
 use Rattle.ch_work.specs.Counts.{bit, total, times, times_at}
 use Rattle.ch_work.specs.Rule.{none_yet, Kept, Sums, Settled, IsWhole, IsLeast, IsRead, read_cell}
-use Rattle.ch_work.specs.Steps.{nothing_known, both}
+use Rattle.ch_work.specs.Steps.{both}
 use Rattle.ch_work.proofs.Totals.{total_append, total_push}
-
--- the empty view is the sum of no views
-pub sums_none : Sums (nothing_known 0 0) []
-sums_none = record { parts = refl; ended = refl; claims = λ x. refl; offers = λ i x. refl; shown = λ i x. refl }
 
 -- one more view is joined
 pub sums_push : (v : Known) (vs : List Known) (w : Known) → Sums v vs → Sums (both v w) (vs ++ w ∷ [])

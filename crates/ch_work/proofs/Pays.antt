@@ -1,5 +1,5 @@
 -- Workers that pay what their pieces owe, and the cells at the end.
-use Rattle.std.proofs.Common.{◌≡◌, ℕ, suc, ◌+◌, ◌-◌, ◌<◌, ◌≤◌, ◌==◌, List, [], ◌∷◌, length, refl, sym, ap, ◌∙◌, subst, arith}
+use Rattle.std.proofs.Common.{◌≡◌, ℕ, suc, ◌+◌, ◌-◌, ◌<◌, ◌≤◌, ◌==◌, List, [], ◌∷◌, length, ap, ◌∙◌, subst, arith}
 use Rattle.std.proofs.Common.{⊎_elim, All, map, slice_index_or, Option, Some, None}
 use Rattle.std.proofs.lemmas.Bool.Decides.{nat_tests}
 use mathlib.Core.Logic.{dite}
@@ -13,7 +13,7 @@ use Rattle.ch_work.specs.Owed.{HasOffered, OffersOwed, Covers, owed_by, Paying, 
 use Rattle.ch_work.specs.Passes.{view_of}
 use Rattle.ch_work.specs.Pieces.{pieces_of}
 use Rattle.ch_work.specs.Rule.{Settled, IsLeast}
-use Rattle.ch_work.specs.Steps.{nothing_known, with_claim}
+use Rattle.ch_work.specs.Steps.{with_claim}
 use Rattle.ch_work.proofs.Claims.{some_ended}
 use Rattle.ch_work.proofs.Totals.{total_push, one_same}
 
@@ -22,15 +22,6 @@ same_of_bit : (a b : ℕ) → 0 < bit (a == b) → a ≡ b
 same_of_bit a b h = grind (arith, nat_tests)
 
 module _ (owes : ℕ → ℕ → ℕ → ℕ → Type 0) (n p : ℕ) where
-  -- before its first claim a worker owes nothing
-  pub begins : (v : Known) → v ≡ nothing_known (pieces_of n p) 1 → Paying owes n p v 0
-  begins v e = subst (λ (u : Known). Paying owes n p u 0) (sym e) record {
-    pieces = refl;
-    next_in = omega arith;
-    last = λ q. absurd (omega arith);
-    pays = record { owed = λ i x q. absurd (omega arith); covers = λ k q. absurd (omega arith) };
-  }
-
   -- one more claim, after its piece has paid what it owes
   pub pays_on : (v u w : Known) (next k : ℕ) → Paying owes n p v next → k < pieces_of n p → u ≡ with_claim v k →
       OffersOwed (owed_by owes n p k) u w → Covers (owed_by owes n p k) w → Paying owes n p w (k + 1)

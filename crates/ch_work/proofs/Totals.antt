@@ -103,10 +103,6 @@ bit_one false = omega arith
 pub below_true : (x c : ℕ) → x < c → bit (nat_lt x c) ≡ 1
 below_true x c h = grind (arith, nat_tests)
 
--- no number is below 0
-pub none_below : (x : ℕ) → bit (nat_lt x 0) ≡ 0
-none_below x = grind (arith, nat_tests)
-
 -- a number that is not equal does not count
 pub one_other : (x y : ℕ) → x ≢ y → bit (x == y) ≡ 0
 one_other x y n = grind (arith, nat_tests)

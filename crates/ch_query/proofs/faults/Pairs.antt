@@ -44,12 +44,6 @@ leg_down_covers H k s t most l h e le =
 abbrev pub IsPairCovered : LevelsAndLegs → Leg → Leg → Type 0
 IsPairCovered H a b = a.node ≢ b.node → MeetsWithin H a.node b.node (cost_sum a.cost b.cost)
 
--- once each leg up from v was read, all pairs of a are covered
-pub all_pairs : (H : LevelsAndLegs) (v : ℕ) (a : Leg) (items : List Leg) (i : ℕ) (d : Leg) → items ≡ row H.up v → length items ≤ i →
-    ((j : ℕ) (d : Leg) → j < i → IsPairCovered H a (get_or items j d)) → IsCoveredFrom H v a
-all_pairs H v a items i d e past each b h =
-    all_read (IsPairCovered H a) items d (λ j lt. each j d (omega arith)) b (subst (λ xs. Contains xs b) (sym e) h)
-
 -- once each leg down to v was read, v is covered
 pub all_covered : (H : LevelsAndLegs) (v : ℕ) (items : List Leg) (i : ℕ) (d : Leg) → items ≡ row H.down v → length items ≤ i →
     ((j : ℕ) (d : Leg) → j < i → IsCoveredFrom H v (get_or items j d)) → IsCovered H v
