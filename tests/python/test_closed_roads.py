@@ -145,15 +145,18 @@ def test_ways_of_maps_are_closed():
             spots = network.snap((x + 0.4 * (u - x)) / 1_000, (y + 0.4 * (v - y)) / 1_000)
             for closed, is_closed in (
                 ([f"way/{number[pair]}"], lambda *ends: sorted(ends) == [*pair]), (spots, lambda *ends: sorted(ends) == [*pair]),
-                ([(node[pair[0]], node[pair[1]])], lambda *ends: ends == pair), ([(node[pair[1]],)], lambda *ends: pair[1] in ends),
+                ([(node[pair[0]], node[pair[1]])], lambda *ends: ends == pair), ([(node[pair[1]],)], lambda *ends: pair[1] in ends and ends[0] != ends[1]),
             ):
                 with network.changed(closed=closed) as other:
                     assert other.table(every, every).tolist() == without(is_closed), (pair, closed)
-        with network.changed({"way/1": 7}, ["way/2"], [(1, 16, 3)], folder="own") as other, other.changed(closed=["way/3"]) as again:
-            arcs = [(*arc[:2], 7 if set(ends(arc)) == {1, 2} else arc[2]) for arc in arcs] + [(1, 16, 3)]
+        with network.changed({"way/1": 7}, ["way/2"], [(1, node[16], 3)], folder="own") as other, other.changed(closed=["way/3"]) as again:
+            arcs = [(*arc[:2], 7 if set(ends(arc)) == {1, 2} else arc[2]) for arc in arcs] + [(1, node[16], 3)]
             assert other.table(every, every).tolist() == without(lambda *ends: set(ends) == {2, 3})
             assert again.table(every, every).tolist() == without(lambda *ends: set(ends) in ({2, 3}, {3, 4}))
             raises(chtab.DataFault, again.changed, None, ["way/2"], told="closed[0]: no arc is a part of way 2 of OpenStreetMap")
+            # Added arcs, and those by which trips end, are parts of no way.
+            for way in 0, -1, 2**70:
+                raises(chtab.DataFault, other.changed, None, [0, f"way/{way}"], told="closed[1]: no ")
         assert network.table(every, every).tolist() == before
     with chtab.Network.open("own", program=PROGRAM) as network, network.changed(closed=["way/3"]) as again:
         assert again.table(every, every).tolist() == without(lambda *ends: set(ends) in ({2, 3}, {3, 4}))

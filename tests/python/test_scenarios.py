@@ -13,31 +13,12 @@ import pytest
 from helpers.commands import raises, temporary
 from helpers.marks import each_way, needs
 from helpers.running import PROGRAM, ROOT
+from helpers.scenarios import ARCS, least_of, of_roads
 from helpers.waiting import PATIENCE
 import chtab
 from chtab import files
 
 pytestmark = [needs("python3-numpy"), pytest.mark.usefixtures("program")]
-# Two parallel roads from an inn to a mill, a bridge from there to a school, and a way round.
-ARCS = ["inn", "inn", "mill", "inn", "farm"], ["mill", "mill", "school", "farm", "school"], [2.0, 3.0, 1.5, 4.0, 4.5]
-PLACES = {"nodes": ["farm", "inn", "mill", "school"], "x": [9.48, 9.50, 9.52, 9.54], "y": [47.09, 47.10, 47.11, 47.12]}
-
-
-def of_roads(**more):
-    return chtab.Network.from_arrays(*ARCS, **{"unit": "minutes", "program": PROGRAM, **PLACES, **more})
-
-
-def least_of(count, arcs):
-    """All distances by scipy, -1 where no path leads, of arcs whose weights are above 0."""
-    import numpy
-    from scipy.sparse import csr_matrix
-    from scipy.sparse.csgraph import dijkstra
-
-    least = {}
-    for tail, head, weight in arcs:
-        least[tail, head] = min(weight, least.get((tail, head), weight))
-    found = dijkstra(csr_matrix((list(least.values()), tuple(zip(*least)) or ((), ())), (count, count)))
-    return numpy.where(numpy.isinf(found), -1, found).astype(numpy.int64)
 
 
 @each_way
@@ -128,6 +109,11 @@ def test_edges_of_a_graph_are_meant_by_their_keys():
         assert other.distances([(1, 3)]).tolist() == [8] and network.distances([(1, 3)]).tolist() == [6]
         assert network.routes([(1, 3), (3, 1), (2, 2)]).edges() == [[(1, 2, 0), (2, 3, 0)], None, []]
         assert other.routes([(1, 3)]).edges() == [[(1, 2, 1), (2, 3, 0)]] and all(edge in graph.edges for edge in other.routes([(1, 3)]).edges()[0])
+    # An edge that leads both ways is one.
+    with chtab.Network.from_networkx(networkx.MultiGraph(graph), "length", unit="metres", program=PROGRAM) as network:
+        for edge in (1, 2, 0), (2, 1, 0):
+            with network.changed(closed=[edge]) as other, network.changed({edge: 9}) as again:
+                assert other.distances([(1, 2), (2, 1)]).tolist() == [7, 7] and again.distances([(1, 2), (2, 1)]).tolist() == [7, 7], edge
     with of_roads() as network:
         assert network.routes([("inn", "school")]).edges() == [[("inn", "mill"), ("mill", "school")]]
 
@@ -208,7 +194,8 @@ def test_what_is_refused_is_named():
             ({"closed": [True]}, "closed", 0, "True names no arc"), ({"closed": [()]}, "closed", 0, "names no arc"), ({"closed": "way/5"}, "closed", None, "['way/5'] is one way"), ({"closed": (0, 1)}, "closed", None, "[(0, 1)] is one arc, and [0, 1] are rows"), ({"closed": ["inn"]}, "closed", 0, "'inn' names no arc, as streets have no names here"),
             ({"closed": ("inn",)}, "closed", None, "[('inn',)] is one arc"), ({"closed": [0, "way/5"]}, "closed", 1, "nothing says which arcs are parts of way 5"),
             ({"weights": [1, 2]}, "weights", None, "there are 5 rows"), ({"weights": [1, 2, 3, 4, -5]}, "weights", 4, "below 0"),
-            ({"weights": {0: float("nan")}}, "weights", 0, "nan is no weight"), ({"weights": {"inn": 3}}, "weights", 0, "names no arc"),
+            ({"weights": {0: 2.5, 1: float("nan")}}, "weights", 1, "nan is no weight"), ({"closed": [("inn", "mill"), ("inn", "x"), 9]}, "closed", 1, "'x'"),
+            ({"closed": [0, 5, ("x", "inn")]}, "closed", 1, "no row 5"), ({"weights": {"inn": 3}}, "weights", 0, "names no arc"),
             ({"added": [("inn", "x", 3)]}, "added target", 0, "no node has the label 'x'"), ({"added": [("inn", "mill")]}, "added", None, "rows of"),
             ({"added": [("inn", "mill", -1)]}, "added weight", 0, "below 0"),
         ):
@@ -276,142 +263,127 @@ def test_a_change_that_fails_leaves_nothing():
         assert left() == own and network.distances([("inn", "mill")]).tolist() == [2.0]
 
 
-# Networks in the order of others.
-
-
-@each_way
-@needs("python3-scipy", "python3-pandas")
-def test_networks_in_the_order_of_others_answer_as_scipy():
-    """Arcs as arrays and as a frame, with the nodes of another network, for each share of nodes that is ordered afresh; the other one answers on."""
-    import numpy
-    import pandas
-
-    for seed in range(8):
-        draw = numpy.random.default_rng(seed)
-        count, size = int(draw.integers(1, 40)), int(draw.integers(0, 120))
-        labels = numpy.array([f"node {number}" for number in draw.permutation(count)])
-        tails, heads = draw.integers(0, count, (2, size))
-        network = chtab.Network.from_arrays(labels[tails], labels[heads], draw.integers(1, 40, size), nodes=labels, program=PROGRAM)
-        before = network.table(labels, labels)
-        for fresh in 0, 5, int(draw.integers(101)), 100:
-            size = int(draw.integers(0, 120))
-            tails, heads, weights = *draw.integers(0, count, (2, size)), draw.integers(1, 9_000, size)
-            wanted = least_of(count, zip(tails.tolist(), heads.tolist(), weights.tolist()))
-            frame = pandas.DataFrame({"a": labels[tails], "b": labels[heads], "metres": weights})
-            with (
-                chtab.Network.from_arrays(labels[tails], labels[heads], weights, like=network, fresh=fresh, program=PROGRAM) as other,
-                chtab.Network.from_frame(frame, "a", "b", "metres", unit="metres", like=other, fresh=fresh, program=PROGRAM) as again,
-            ):
-                assert other.labels.tolist() == again.labels.tolist() == labels.tolist()
-                assert numpy.array_equal(other.table(labels, labels), wanted), (seed, fresh)
-                found = again.table(labels, labels, missing=-1)
-                assert numpy.array_equal(numpy.where(found < 0, -1, found), wanted), (seed, fresh)
-                route = again.routes([(labels[0], labels[-1])])[0]
-                assert (-1 if route.weight is None else route.weight) == wanted[0, -1], (seed, fresh)
-        assert numpy.array_equal(network.table(labels, labels), before)
-        network.close()
-
-
-@pytest.mark.parametrize("is_by_library", [True, False])
-def test_it_is_built_in_the_order_of_the_other(library, is_by_library):
-    """With no node afresh the new hierarchy has the order of the old one, with all afresh that of a new network; so in this process, and by a run."""
-    path = ROOT / "examples" / "liechtenstein.gr"
-    way = {"program": PROGRAM, "library": library if is_by_library else False}
-
-    def order(folder):
-        return [line for line in (pathlib.Path(folder) / "network.ch").read_text().splitlines() if line.startswith("o ")]
-
-    with chtab.Network.open(path, **way) as network:
-        draw = random.Random("order")
-        weights = [round(weight * draw.uniform(0.5, 3)) for weight in network.graph.weights]
-        network.changed(weights, folder="first", fresh=100).close()
-        with chtab.Network.open("first", **way) as first:
-            for fresh in 0, 5, 100:
-                first.changed(network.graph.weights, folder=f"fresh {fresh}", fresh=fresh).close()
-            os.rename("first/network.ch", "first/moved.ch")
-            first.changed(weights, folder="unknown").close()
-        chtab.Network.from_arrays(*ends_of(network.graph), weights, nodes=network.labels, program=PROGRAM, folder="anew").close()
-    os.rename("first/moved.ch", "first/network.ch")
-    assert order("fresh 0") == order("first") == order("anew")
-    count = len(order("first"))
-    assert order("fresh 5")[:count - count // 20] == order("first")[:count - count // 20] and order("fresh 5") != order("first")
-    assert order("fresh 100") not in (order("first"), order("fresh 5"))
-    assert is_by_library or order("unknown") == order("anew")
-
-
-def test_no_program_is_run_where_the_library_builds(library):
-    with of_roads(library=library) as network:
-        program = pathlib.Path("broken")
-        program.write_text("#!/bin/sh\n[ \"$1\" = save ] && exit 3\nexit 0\n")
-        program.chmod(0o755)
-        object.__setattr__(network._opened.setting, "program", str(program.absolute()))
-        with network.changed(closed=[0]) as other:
-            assert other.distances([("inn", "mill")]).tolist() == [3.0] and other.answers_by == "library"
-
-
-def ends_of(graph):
-    return list(graph.tails), list(graph.heads)
-
-
-def test_the_old_network_answers_while_the_new_one_is_built(library):
-    """Threads ask the old network during a change; it may be closed meanwhile; and forked processes ask both."""
-    path = ROOT / "examples" / "liechtenstein.gr"
-    with concurrent.futures.ThreadPoolExecutor(4) as threads:
-        network = chtab.Network.open(path, program=PROGRAM, library=library)
-        wanted = network.distances([(2359, 910)]).tolist()
-        doubled = [2 * weight for weight in network.graph.weights]
-        changes = [threads.submit(network.changed, doubled) for _ in range(2)]
-        asked = [network.distances([(2359, 910)]).tolist() for _ in range(50)]
-        assert asked == [wanted] * 50
-        others = [change.result(PATIENCE) for change in changes]
-        last = threads.submit(network.changed, doubled)
-        child = os.fork()
-        if not child:
-            os._exit([each.distances([(2359, 910)]).tolist() for each in (network, *others)] != [wanted, *[[2 * wanted[0]]] * 2])
-        assert os.waitpid(child, 0)[1] == 0
-        others.append(last.result(PATIENCE))
-        network.close()
-        assert all(other.distances([(2359, 910)]).tolist() == [2 * wanted[0]] for other in others)
-        for other in others:
-            other.close()
-
-
-def test_what_does_not_go_with_another_network_is_refused():
-    """Other nodes, a per cent that is none, and what is no network; where it is opened neither is known."""
-    with temporary() as left, of_roads() as network:
-        own = left()
-        for call, kind, told in (
-            (lambda: of_roads(like=network, nodes=None, x=None, y=None, fresh=101), ValueError, "from 0 to 100"), (lambda: network.changed(fresh=-1), ValueError, "from 0 to 100"),
-            (lambda: network.changed(fresh=5.0), TypeError, "whole number"), (lambda: network.changed(fresh=True), TypeError, "whole number"),
-            (lambda: chtab.Network.from_arrays([1], [2], [3], like=network, program=PROGRAM), chtab.DataFault, "labels are"),
-            (lambda: chtab.Network.from_arrays(["inn"], ["mill"], [3], nodes=["inn", "mill"], like=network, program=PROGRAM), chtab.DataFault, "like has 4 nodes, and there are 2 here"),
-            (lambda: of_roads(like=network, nodes=["inn", "farm", "mill", "school"]), chtab.DataFault, "node 'inn' is 'farm' in like"),
-            (lambda: of_roads(like="roads.gr"), TypeError, "like is a Network"),
-            (lambda: chtab.Network.open(ROOT / "examples" / "first.gr", like=network), TypeError, "no argument 'like'"),
-        ):
-            raises(kind, call, told=told)
-        with of_roads(like=network, nodes=None, x=None, y=None) as other:
-            assert other.labels.tolist() == network.labels.tolist() and other.coordinates.of(1) == network.coordinates.of(1)
-        assert left() == own
+# Columns of pandas.
 
 
 @needs("python3-pandas")
-def test_columns_of_frames_are_in_the_order_of_rows():
-    """A Series that was sorted is put in the order of the rows that its index has; one with other labels is taken as it comes."""
+def test_columns_of_frames_go_by_their_index():
+    """A Series is put in the order of the rows that its index has, and one with other labels is refused, because nothing says which rows these are."""
     import pandas
 
     minutes = pandas.Series([5.0, 1.0, 4.0, 3.0, 2.0])
-    for column in minutes, minutes.sort_values(), minutes.set_axis(list("abcde")), minutes.to_list(), minutes.to_numpy():
+    for column in minutes, minutes.sort_values(), minutes.to_list(), minutes.to_numpy(), minutes.set_axis([0.0, 1.0, 2.0, 3.0, 4.0]):
         with of_roads() as network, network.changed(column) as other:
             assert other.distances([("inn", "mill"), ("mill", "school"), ("inn", "farm")]).tolist() == [1, 4, 3]
     is_closed = pandas.Series([True, False, False, True, False])
-    for mask in is_closed, is_closed.sort_values(), is_closed.to_numpy():
+    for mask in is_closed, is_closed.sort_values(), is_closed.to_numpy(), is_closed.astype("boolean"), is_closed.astype(object).sort_values():
         with of_roads() as network, network.changed(closed=mask) as other:
             assert other.distances([("inn", "mill"), ("inn", "farm")], missing=-1).tolist() == [3, -1]
     more = pandas.DataFrame({"source": ["school"], "target": ["inn"], "weight": [0.5]})
     with of_roads() as network, network.changed(minutes.iloc[[1]], added=more) as other:
         assert other.distances([("inn", "mill"), ("school", "inn")]).tolist() == [1, 0.5]
         raises(chtab.DataFault, network.changed, None, None, more.rename(columns={"weight": "minutes"}), told="no column 'weight'")
+        for index, place, told in (
+            (list("abcde"), 0, "'a' names no arc"), ([1, 2, 3, 4, 5], 4, "there is no row 5"), ([0, 1, 2, 3, 3], 4, "the label 3 is in the index already"),
+        ):
+            assert raises(chtab.DataFault, network.changed, minutes.set_axis(index), told=f"weights[{place}]: {told}").row == place
+        raises(chtab.DataFault, network.changed, None, is_closed.iloc[:3], told="closed has the shape (3,)")
+
+
+@each_way
+@needs("python3-pandas")
+def test_rows_are_those_of_the_frame_also_where_it_was_filtered():
+    """Labels from 1 on, labels with gaps, and names: columns of the frame, of parts of it and in another order change the same rows, also in a network
+    of a folder and in a scenario. A number that is a row and the label of another one is refused."""
+    import numpy
+    import pandas
+
+    draw = numpy.random.default_rng(2)
+    for labels in [1, 2, 3, 4, 5], [9, 2, 40, 0, 3], list("abcde"), [("a", 1), ("a", 2), ("b", 1), ("b", 2), ("c", 1)], numpy.arange(5) * 2**40:
+        index = pandas.Index(labels) if not isinstance(labels[0], tuple) else pandas.MultiIndex.from_tuples(labels, names=["road", "part"])
+        frame = pandas.DataFrame({"a": ARCS[0], "b": ARCS[1], "minutes": ARCS[2], "metres": [1.0, 2, 4, 8, 16]}, index=index)
+        made = chtab.Network.from_frame(frame, "a", "b", "minutes", unit="minutes", program=PROGRAM, folder=f"own {labels[0]}"), chtab.Network.open(f"own {labels[0]}", program=PROGRAM)
+        made += made[0].changed(added=[("school", "inn", 9)]), chtab.Network.from_arrays(frame["a"], frame["b"], frame["minutes"], unit="minutes", program=PROGRAM)
+        new = pandas.Series([5.0, 1.5, 4.0, 3.5, 2.5], index)
+        for network in made:
+            for some in [0, 1, 2, 3, 4], draw.permutation(5), [1], draw.permutation(5)[:3], []:
+                weights = numpy.array(ARCS[2])
+                weights[some] = new.to_numpy()[some]
+                with network.changed(new.iloc[some]) as other:
+                    assert other.distances(["inn", "mill", "inn", "farm"], ["mill", "school", "farm", "school"]).tolist() == [
+                        min(weights[:2]), weights[2], weights[3], weights[4]], (labels, some)
+                is_closed = pandas.Series(numpy.isin(numpy.arange(5), some), index)
+                for closed in is_closed, is_closed.iloc[draw.permutation(5)], index[some]:
+                    with network.changed(closed=closed) as other:
+                        wanted = [-1 if row in some else ARCS[2][row] for row in (2, 3, 4)]
+                        assert [each.weight or -1 for each in other.routes([("mill", "school"), ("inn", "farm"), ("farm", "school")])] == wanted, (labels, some)
+            metres = numpy.append(frame["metres"], 0) if network is made[2] else frame["metres"].iloc[draw.permutation(5)]
+            assert network.along(metres, [("inn", "school"), ("inn", "farm")]).tolist() == [5, 8]
+            raises(chtab.DataFault, network.changed, new.set_axis([11, 12, 13, 14, 15]), told="weights[0]: no row of the frame is called 11")
+            raises(chtab.DataFault, network.changed, None, pandas.Index([77]), told="closed[0]: no row of the frame is called 77")
+            if labels[0] in (1, 9):
+                for closed in [3], numpy.array([3]), pandas.Series([3]):
+                    raises(chtab.DataFault, network.changed, None, closed, told="3 is the number of a row, and what another one is called: frame.index[[3]]")
+                raises(chtab.DataFault, network.changed, {3: 1.0}, told="weights[0]: 3 is the number of a row")
+            with network.changed(closed=frame.index[network.routes([("inn", "mill")]).rows()[0]]) as other:
+                assert other.distances([("inn", "mill")]).tolist() == [3]
+        for network in made:
+            network.close()
+
+
+@needs("python3-pandas")
+def test_rows_whose_labels_say_too_little_are_refused():
+    """Labels that several rows have name these in the order of the frame alone; dates are not kept; nor are those of a folder of version 1.1."""
+    import json
+    import pandas
+
+    frame = pandas.DataFrame({"a": ARCS[0], "b": ARCS[1], "minutes": ARCS[2]}, index=[7, 7, 7, 9, 9])
+    with chtab.Network.from_frame(frame, "a", "b", "minutes", unit="minutes", program=PROGRAM) as network:
+        with network.changed(frame["minutes"] * 2) as other:
+            assert other.distances([("inn", "mill"), ("farm", "school")]).tolist() == [4, 9]
+        for change in {"weights": frame["minutes"].iloc[[0]]}, {"closed": frame.index[:1]}, {"closed": (frame["minutes"] > 2).sort_values(ascending=False)}:
+            raises(chtab.DataFault, lambda: network.changed(**change), told="3 rows of the frame are called 7")
+    days = frame.set_axis(pandas.date_range("2024-05-01", periods=5))
+    with chtab.Network.from_frame(days, "a", "b", "minutes", unit="minutes", program=PROGRAM, folder="own") as network:
+        raises(chtab.DataFault, network.changed, days["minutes"], told="names no arc")
+        raises(chtab.DataFault, network.changed, frame["minutes"].reset_index(drop=True), told="nothing says which row is called 0")
+        with network.changed(days["minutes"].to_numpy() * 2) as other, network.changed({0: 9}, [1]) as again:
+            assert other.distances([("inn", "mill")]).tolist() == [4] and again.distances([("inn", "mill")]).tolist() == [9]
+    path = pathlib.Path("own/network.json")
+    path.write_text(json.dumps({name: value for name, value in json.loads(path.read_text()).items() if name in ("labels", "scale", "rounding", "graph", "unit")}))
+    with chtab.Network.open("own", program=PROGRAM) as network:
+        raises(chtab.DataFault, network.changed, frame["minutes"].set_axis([1, 2, 3, 4, 5]).iloc[[1]], told="nothing says which row is called 2")
+    for name, told in ("b", "b has the rows of a in another order"), ("minutes", "weights has the rows of sources in another order"):
+        columns = {"a": frame["a"], "b": frame["b"], "minutes": frame["minutes"]}
+        plain = {key: column.reset_index(drop=True) for key, column in columns.items()}
+        plain[name] = plain[name].sort_values()
+        raises(chtab.DataFault, chtab.Network.from_arrays, *plain.values(), told=told.replace("b has the rows of a", "targets has the rows of sources"))
+
+
+@each_way
+@needs("python3-pandas", "python3-networkx")
+def test_edges_of_a_graph_go_by_their_index():
+    """A Series with the edges of a graph as its index, in any order and also after edges were closed, in weights, masks and sums along routes."""
+    import networkx
+    import numpy
+    import pandas
+
+    draw = numpy.random.default_rng(3)
+    for kind in networkx.MultiDiGraph, networkx.MultiGraph:
+        graph = kind()
+        for tail, head, length in ((1, 2, 5), (1, 2, 7), (2, 3, 1), (4, 3, 2), (4, 2, 30)):
+            graph.add_edge(tail, head, length=length)
+        edges = pandas.Series({edge: length for *edge, length in graph.edges(keys=True, data="length") for edge in [tuple(edge)]})
+        with chtab.Network.from_networkx(graph, "length", unit="metres", program=PROGRAM) as network, network.changed(closed=[(1, 2, 0)]) as other:
+            for order in numpy.arange(5), draw.permutation(5):
+                own = edges.iloc[order]
+                with network.changed(own * 2) as again:
+                    assert again.distances([(1, 3), (4, 3)]).tolist() == [12, 4]
+                with network.changed(closed=own < 6) as again:
+                    assert again.distances([(1, 2), (4, 2), (4, 3), (2, 3)], missing=-1).tolist() == [7, 30, -1, -1]
+                assert network.along(own, [(1, 3), (4, 3)]).tolist() == [6, 2]
+            assert other.along(edges, [(1, 3)]).tolist() == [8]
+            raises(chtab.DataFault, other.along, edges.iloc[::-1], [(1, 3)], told="there is no arc (1, 2, 0)")
 
 
 # Sums along routes, and the rows of arcs.

@@ -71,7 +71,7 @@ def write(arcs: Arcs, folder: str, program: str, running: Running) -> Handle | N
         files.write_graph_columns(graph, arcs.labels.count, (arcs.tails, arcs.heads, arcs.weights), comments)
     with told_of(coordinates):
         if arcs.places is not None:
-            files.write_coordinate_columns(coordinates, [numpy.rint(part * 1e6).astype(numpy.int64) for part in arcs.places])
+            files.write_coordinate_columns(coordinates, [numpy.rint(part * 1e6).astype(numpy.int64) for part in arcs.places], arcs.turns)
         if arcs.beside is not None:
             arcs.beside.copy_to(folder)
     with told_of(bends):
@@ -125,8 +125,8 @@ def told_of(path: str) -> Iterator[None]:
 def labelling_of(arcs: Arcs, digest: str) -> files.Labelling:
     """The content of the file of labels for arcs whose graph has this SHA-256."""
     labels = arcs.labels.values.tolist() if isinstance(arcs.labels, Labels) else None
-    rows = None if arcs.arcs is None else arcs.arcs.tolist()
-    return files.Labelling(labels, arcs.scale, arcs.rounding, digest, arcs.unit, arcs.rows, rows, arcs.keys, arcs.ways)
+    rows, index = (None if column is None else column.tolist() for column in (arcs.arcs, arcs.index))
+    return files.Labelling(labels, arcs.scale, arcs.rounding, digest, arcs.unit, arcs.rows, rows, arcs.keys, arcs.ways, index)
 
 
 class Beside:
@@ -157,8 +157,21 @@ def digest_of(path: str) -> str:
 
 
 def save(program: str, graph: str, saved: str, running: Running) -> None:
-    """Builds the hierarchy of a graph by a run, and saves it. Raises a `ProgramFault` if the program fails."""
-    command = [program, "save", *order_words(running), *["--progress"] * bool(running.progress), "--workers", str(running.workers), graph]
+    """Builds the hierarchy of a graph by a run, and saves it: in the order of another network while its saved hierarchy is there, and otherwise by
+    depth. Raises a `ProgramFault` if the program fails."""
+    if running.order is not None and os.path.exists(running.order):
+        try:
+            return save_by(["--like", running.order, "--fresh", str(running.fresh)], program, graph, saved, running)
+        except ProgramFault:
+            # The other network may have been closed before the program opened the file.
+            if os.path.exists(running.order):
+                raise
+    save_by(["--deep"], program, graph, saved, running)
+
+
+def save_by(order: Sequence[str], program: str, graph: str, saved: str, running: Running) -> None:
+    """Does the same in the order that these arguments name."""
+    command = [program, "save", *order, *["--progress"] * bool(running.progress), "--workers", str(running.workers), graph]
     # Errors go to a file, because a process that is forked meanwhile would keep a pipe open.
     with open(saved, "wb") as out, tempfile.TemporaryFile() as faults:
         with subprocess.Popen(command, stdin=subprocess.DEVNULL, stdout=out, stderr=faults) as process:
@@ -171,13 +184,6 @@ def save(program: str, graph: str, saved: str, running: Running) -> None:
         if process.returncode:
             fault = fault_of(faults.read(), process.returncode)
             raise ProgramFault(f"{fault} ({saved})" if "cannot write" in str(fault) else str(fault), fault.status)
-
-
-def order_words(running: Running) -> list[str]:
-    """The arguments that name the order of a hierarchy: that of another network while its saved hierarchy is there, and otherwise by depth."""
-    if running.order is None or not os.path.exists(running.order):
-        return ["--deep"]
-    return ["--like", running.order, "--fresh", str(running.fresh)]
 
 
 def giver_of(program: str, running: Running) -> InProcess | None:
@@ -204,7 +210,7 @@ def layers_of(arcs: Arcs) -> dict[str, Any]:
     layers: dict[str, Any] = {"labels": arcs.labels, "labelling": labelling_of(arcs, "")}
     if arcs.places is not None:
         x, y = (array.array("d", (numpy.rint(part * 1e6) / 1e6).tobytes()) for part in arcs.places)
-        layers["coordinates"] = files.Coordinates(x, y, [])
+        layers["coordinates"] = files.Coordinates(x, y, [*arcs.turns])
     return layers
 
 

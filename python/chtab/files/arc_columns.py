@@ -3,13 +3,14 @@ from __future__ import annotations
 
 import math
 import numbers
+from collections.abc import Sequence
 from dataclasses import dataclass
 from typing import TYPE_CHECKING, Any, cast
 
 import numpy
 
 from chtab.errors import DataFault
-from chtab.files import columns, edge_lines, measures
+from chtab.files import columns, edge_lines, measures, row_index
 from chtab.files.columns import refused, told
 from chtab.files.node_labels import Labels, Numbers, labels_of_ends, labels_of_nodes
 
@@ -39,6 +40,8 @@ class Columns:
     names: tuple[str, ...] = NAMES
     keys: list[Any] | None = None
     ways: list[list[int]] | None = None
+    # The index of the rows, as pandas has it, or None.
+    index: Any = None
 
 
 @dataclass(frozen=True)
@@ -48,8 +51,9 @@ class Arcs:
     The weights are those of the caller times `scale`, rounded by at most `rounding`, and `unit` is the unit of the caller's weights, or None.
     `places` are the longitudes and latitudes of the nodes in degrees, or None. `bends` has the points of arcs between their ends, as
     `files.read_bends` gives them. `rows` is the number of the caller's rows; arc k belongs to row `arcs[k]`, or to row k modulo `rows`. `keys` has
-    the keys of rows, and `ways` their ways of OpenStreetMap. `base` is the unit of the graph's weights, and `beside` has further files of the network
-    that are copied, or is None.
+    the keys of rows, `ways` their ways of OpenStreetMap, and `index` their labels, as `row_index.kept` gives them. `base` is the unit of the graph's
+    weights, and `beside` has further files of the network that are copied, or is None. `turns` are the comments about nodes where turns are
+    restricted, as `files.Coordinates.turns` gives them.
     """
 
     labels: Labels | Numbers
@@ -67,6 +71,8 @@ class Arcs:
     ways: list[list[int]] | None = None
     base: str = ""
     beside: Any = None
+    index: LabelArray | None = None
+    turns: Sequence[str] = ()
 
 
 def arcs_of(given: Columns) -> Arcs:
@@ -86,8 +92,10 @@ def arcs_of(given: Columns) -> Arcs:
     if given.both_ways:
         bends |= {arc + rows: points[::-1] for arc, points in bends.items()}
         tails, heads, weights = numpy.concatenate([tails, heads]), numpy.concatenate([heads, tails]), numpy.tile(weights, 2)
-    base = measures.base_of(unit, scale)
-    return Arcs(labels, tails, heads, weights, scale, rounding, unit, places, bends, rows, None, given.keys, given.ways, base)
+    return Arcs(
+        labels, tails, heads, weights, scale, rounding, unit, places, bends, rows, None, given.keys, given.ways, measures.base_of(unit, scale),
+        index=row_index.kept(given.index, rows),
+    )
 
 
 def weights_in(given: Columns) -> tuple[NDArray[Any], float | None, float | None, str | None]:
@@ -130,8 +138,11 @@ def scale_in(scale: float | None) -> float | None:
     return int(scale) if int(scale) == scale else float(scale)
 
 
-def whole_weights(name: str, weights: NDArray[Any], scale: float | None, most: int) -> tuple[Integers, float]:
-    """The weights of a graph, int64, none above `most`, and the largest difference between one of them and the given weight times the scale."""
+def whole_weights(
+    name: str, weights: NDArray[Any], scale: float | None, most: int, hint: str = "; `unit` or `scale` says how it becomes one",
+) -> tuple[Integers, float]:
+    """The weights of a graph, int64, none above `most`, and the largest difference between one of them and the given weight times the scale. Without
+    a scale a fraction is refused, with a hint."""
     see_that_weights(name, weights)
     if weights.dtype == numpy.int64 and isinstance(scale, int | None):
         factor = 1 if scale is None else scale
@@ -143,7 +154,7 @@ def whole_weights(name: str, weights: NDArray[Any], scale: float | None, most: i
     apart = abs(whole - scaled)
     place = columns.first_of(apart > 0) if scale is None else None
     if place is not None:
-        raise refused(name, place, f"{weights[place]} is not a whole number; `unit` or `scale` says how it becomes one")
+        raise refused(name, place, f"{weights[place]} is not a whole number{hint}")
     return whole.astype(numpy.int64), float(apart.max(initial=0))
 
 

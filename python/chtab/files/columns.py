@@ -87,16 +87,6 @@ def see_that_long(names: Sequence[str], columns: Sequence[Sized]) -> None:
             raise DataFault(f"{names[0]} has {rows:,} rows and {name} has {count:,}: row {row} of {short} is missing", short, row)
 
 
-def in_rows(column: Any, count: int) -> Any:
-    """A column with a value for each of `count` rows. A column of pandas is put in the order of the rows if its index has their numbers in another
-    order."""
-    if not hasattr(column, "iloc"):
-        return column
-    order = numpy.asarray(column.index)
-    is_other = order.dtype.kind in "iu" and len(order) == count and numpy.array_equal(numpy.sort(order), numpy.arange(count))
-    return column.iloc[numpy.argsort(order)] if is_other else column
-
-
 # Labels.
 
 

@@ -42,7 +42,8 @@ def columns_of_frame(frame: Any, names: Sequence[str], geometry: str | None, mor
     of_arcs = {name: value for name, value in more.items() if name in FURTHER}
     lines = None if geometry is None else column_of(frame, geometry)
     sources, targets, weights = (column_of(frame, name) for name in names)
-    given = arc_columns.Columns(sources, targets, weights, geometry=lines, names=tuple(map(str, names)), **of_arcs)
+    index = getattr(frame, "index", None)
+    given = arc_columns.Columns(sources, targets, weights, geometry=lines, names=tuple(map(str, names)), index=index, **of_arcs)
     return given, {name: value for name, value in more.items() if name not in FURTHER}
 
 

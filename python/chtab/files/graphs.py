@@ -54,6 +54,10 @@ class Coordinates(NamedTuple):
         found = {int(found[1]): int(found[2]) for found in map(COPY.fullmatch, self.comments) if found}
         return found | {end: node for node, end in self.ends().items()}
 
+    def turns(self) -> list[str]:
+        """The comments from which `ends` and `copies` are read."""
+        return [comment for comment in self.comments if END.fullmatch(comment) or COPY.fullmatch(comment)]
+
     def known(self) -> list[int]:
         """The nodes that have a place, in order."""
         return [node for node, x in enumerate(self.longitudes, 1) if not math.isnan(x)]

@@ -21,7 +21,8 @@ class Labelling(NamedTuple):
 
     If the labels are None, nodes are called by their numbers. `rows` is the number of the caller's rows. `arcs` has the row of each arc, unless that
     is its number modulo `rows`. `keys` has the key of each row, for a graph with several edges between two nodes, and `ways` the numbers of the ways
-    of OpenStreetMap that each row is part of.
+    of OpenStreetMap that each row is part of. `row_labels` has those of the first rows in the caller's frame: integers, strings or tuples. It is None
+    if these are 0, 1, .., and empty if they are not known.
     """
 
     labels: Any
@@ -33,6 +34,7 @@ class Labelling(NamedTuple):
     arcs: list[int] | None = None
     keys: list[Any] | None = None
     ways: list[list[int]] | None = None
+    row_labels: list[Any] | None = None
 
 
 def write_labels(target: Target, labelling: Labelling) -> None:
@@ -78,20 +80,28 @@ def read_labels(source: Source) -> Labelling:
             found = Labelling(**json.load(file))
         except (ValueError, TypeError, RecursionError):
             raise FileFault(f"{name_of(source)}: not the labels of a network") from None
-    if found.labels is None and is_right(found._replace(labels=[1])):
+    found = found._replace(labels=with_tuples(found.labels), row_labels=with_tuples(found.row_labels))
+    if is_right(found if found.labels is not None else found._replace(labels=[1])):
         return found
-    if isinstance(found.labels, list):
-        # JSON has lists in place of tuples.
-        found = found._replace(labels=[tuple(label) if type(label) is list else label for label in found.labels])
-        if is_right(found):
-            return found
     raise FileFault(f"{name_of(source)}: not the labels of a network")
+
+
+def with_tuples(labels: Any) -> Any:
+    """A list of labels as it was written. JSON has lists in place of tuples."""
+    return [tuple(label) if type(label) is list else label for label in labels] if isinstance(labels, list) else labels
+
+
+def are_labels(labels: Any) -> bool:
+    """Whether labels are in a list, and all integers, all strings, or all tuples of integers, strings and floats."""
+    if not isinstance(labels, list):
+        return False
+    kinds = set(map(type, labels))
+    return kinds in ({int}, {str}) or kinds == {tuple} and set(map(type, itertools.chain(*labels))) <= {int, str, float}
 
 
 def is_right(found: Labelling) -> bool:
     """Whether each part has the right type, and no two labels are equal."""
-    kinds = set(map(type, found.labels))
-    if kinds not in ({int}, {str}, {tuple}) or kinds == {tuple} and not set(map(type, itertools.chain(*found.labels))) <= {int, str, float}:
+    if not are_labels(found.labels) or not (found.row_labels in (None, []) or are_labels(found.row_labels)):
         return False
     is_scaled = found.scale is None or type(found.scale) in (int, float) and math.isfinite(found.scale) and found.scale > 0
     is_rounded = type(found.rounding) in (int, float) and found.rounding >= 0

@@ -10,8 +10,9 @@ from numpy.typing import ArrayLike, NDArray
 from chtab.engine.deadlines import whole
 from chtab.engine.progress import Asked as Progress
 from chtab.errors import DataFault
-from chtab.files.columns import EXACT, in_rows, numbers_in
+from chtab.files.columns import EXACT, numbers_in
 from chtab.files.measures import Limit
+from chtab.roads.arc_names import ArcNames
 from chtab.roads.routes import Routes
 
 if TYPE_CHECKING:
@@ -184,8 +185,8 @@ class BetweenNodes:
         Parameters
         ----------
         values : array of float, shape (m,) or (m, c)
-            A value for each row of the arcs that the network was made of, or for each arc of a graph file, in one column or several. Of several arcs
-            between two nodes, a route takes the first of those with the least weight.
+            A value for each row of the arcs that the network was made of, or for each arc of a graph file, in one column or several. Columns of
+            pandas go by their index, as `changed` takes it. Of several arcs between two nodes, a route takes the first of those with the least weight.
         pairs, targets : array of labels, shape (n, 2), or (n,) each
             As `distances` takes them.
 
@@ -206,7 +207,7 @@ class BetweenNodes:
         >>> metres = network.along(frame["length"], [("inn", "school")])       # doctest: +SKIP
         """
         count = self._layers.row_count
-        values = in_rows(values, count)
+        values = ArcNames(self._layers).in_rows("values", values) if hasattr(values, "iloc") else values
         found = numpy.asarray(values)
         several = found.reshape(len(found), -1) if found.ndim == 2 else numpy.asarray(numbers_in("values", values), float)[:, None]
         if len(several) != count:

@@ -1,18 +1,21 @@
 """Makes networks of a caller's own arcs: of arrays, frames, graphs and matrices."""
 from __future__ import annotations
 
+import contextlib
 import dataclasses
 import os
 import warnings
+from collections.abc import Iterator
 from typing import TYPE_CHECKING, Any, Self, Unpack
 
 import numpy
 from numpy.typing import ArrayLike
 
 from chtab.engine import making, opening
+from chtab.engine.asking import CLOSED
 from chtab.engine.in_process import InProcess
-from chtab.errors import DataFault
-from chtab.files import arc_columns, columns, frames
+from chtab.errors import ChtabError, DataFault
+from chtab.files import arc_columns, columns, frames, row_index
 from chtab.files.measures import Asked
 from chtab.roads import geoframes
 
@@ -79,7 +82,8 @@ class FromArcs:
         **running
             `program`, `workers`, `timeout`, `load`, `routes`, `runs` and `library`, as `Network.open` takes them. `progress`: True reports the
             building on standard error; a callable gets how many steps of a stage are done, and their total. `like`: a network of the same nodes. The
-            new network takes its order, in two thirds of the time; only the last `fresh` per cent of the nodes, 5 by default, are ordered afresh. The nodes, labels and places of `like` are taken unless others are given.
+            new network takes its order, in two thirds of the time; only the last `fresh` per cent of the nodes, 5 by default, are ordered afresh. The
+            nodes, labels and places of `like` are taken unless others are given.
 
         Returns
         -------
@@ -99,7 +103,8 @@ class FromArcs:
         >>> network = Network.from_arrays(["inn", "inn"], ["farm", "mill"], [2.5, 4.0], unit="minutes", both_ways=True)  # doctest: +SKIP
         """
         settings = opening.running_of("from_arrays", running, Asked(raw=raw), OF_ARCS)
-        given = arc_columns.Columns(sources, targets, weights, nodes, x, y, scale, unit, both_ways, geometry)
+        index = row_index.shared(arc_columns.NAMES, (sources, targets, weights))
+        given = arc_columns.Columns(sources, targets, weights, nodes, x, y, scale, unit, both_ways, geometry, index=index)
         return cls._made(arc_columns.arcs_of(with_nodes_of(given, settings.like)), folder, settings)
 
     @classmethod
@@ -285,6 +290,12 @@ class FromArcs:
         """Writes the files of these arcs, and opens their network."""
         if arcs.scale is not None and arcs.unit is None and running.asked == Asked():
             warn_of_scale(arcs.scale, 4)
+        with known_to_be_closed(running.like):
+            return cls._made_like(arcs, folder, running)
+
+    @classmethod
+    def _made_like(cls, arcs: arc_columns.Arcs, folder: str | os.PathLike | None, running: opening.Running) -> Self:
+        """Does so in the order of another network, if there is one."""
         if see_that_network(running.like):
             see_that_same_nodes(running.like.labels, arcs.labels.values)
             giver = running.like._engine
@@ -302,30 +313,45 @@ class FromArcs:
         return network
 
 
+@contextlib.contextmanager
+def known_to_be_closed(network: Any) -> Iterator[None]:
+    """Raises the fault of a closed network where its files are gone because it was closed meanwhile."""
+    try:
+        yield
+    except FileNotFoundError:
+        if network is None or not network._engine.is_closed:
+            raise
+        raise ChtabError(CLOSED) from None
+
+
 def see_that_network(like: Any) -> bool:
-    """Whether there is a network in whose order another one is built. What is none is refused."""
+    """Whether there is a network in whose order another one is built. What is none is refused, and so is a closed one."""
     if like is not None and not isinstance(like, FromArcs):
         raise TypeError(f"like is a Network, not {columns.told(like)}")
+    if like is not None and like._engine.is_closed:
+        raise ChtabError(CLOSED)
     return like is not None
 
 
 def see_that_same_nodes(labels: NDArray[Any], own: NDArray[Any]) -> None:
     """Refuses labels that are not those of the network that they are given with."""
+    if own is labels or numpy.array_equal(own, labels):
+        return
     if len(own) != len(labels):
         raise DataFault(f"like has {len(labels):,} nodes, and there are {len(own):,} here", "nodes")
-    apart = [row for row, (one, other) in enumerate(zip(own.tolist(), labels.tolist())) if one != other][:1]
-    if apart:
-        raise DataFault(f"node {columns.told(own[apart[0]])} is {columns.told(labels[apart[0]])} in like: both networks have the same nodes", "nodes", apart[0])
+    apart = next(row for row, (one, other) in enumerate(zip(own.tolist(), labels.tolist())) if one != other)
+    raise DataFault(f"node {columns.told(own[apart])} is {columns.told(labels[apart])} in like: both networks have the same nodes", "nodes", apart)
 
 
 def with_nodes_of(given: arc_columns.Columns, like: Any) -> arc_columns.Columns:
-    """The same columns with the nodes of a network, where they name none: its labels, and its places where neither these nor lines are given."""
+    """The same columns with the nodes of a network, where they name none: its labels, and its places where these are not given."""
     if not see_that_network(like) or given.nodes is not None:
         return given
     given = dataclasses.replace(given, nodes=like.labels)
     if like._layers.paths["coordinates"] is None or given.x is not None or given.y is not None or given.geometry is not None:
         return given
-    places = like.coordinates
+    with known_to_be_closed(like):
+        places = like.coordinates
     return dataclasses.replace(given, x=places.longitudes, y=places.latitudes)
 
 

@@ -51,7 +51,7 @@ def columns_of_geodataframe(edges: Any, nodes: Any, names: tuple[str, str, str |
     named = (str(source), str(target), "length" if weight is None else str(weight))
     keys = column_of(edges, "key").tolist() if "key" in edges.index.names else None
     ways = ways_in(edges[WAYS]) if WAYS in edges.columns else None
-    given = arc_columns.Columns(sources, targets, weights, geometry=lines, names=named, keys=keys, ways=ways, **of_arcs)
+    given = arc_columns.Columns(sources, targets, weights, geometry=lines, names=named, keys=keys, ways=ways, index=edges.index, **of_arcs)
     return given, {name: value for name, value in more.items() if name not in FURTHER}
 
 

@@ -20,9 +20,9 @@ from chtab.roads import nearest
 if TYPE_CHECKING:
     from chtab.engine.opening import Opening
     from chtab.files import node_labels
+    from chtab.roads.row_labels import RowLabels
     from chtab.roads.snapping import Roads
-    from chtab.typing import Integers
-    from chtab.typing import Point
+    from chtab.typing import Integers, Marks, Point
 
 
 class Layers:
@@ -101,15 +101,6 @@ class Layers:
             return None
         return numpy.asarray(self.read_file("ways", functools.partial(files.read_ways, path, files.count_arcs(self.path))), numpy.int64)
 
-    def arcs_of_way(self, number: int) -> Integers | None:
-        """The arcs that are parts of a way of OpenStreetMap, by the file of ways or by the ways of the caller's rows; None if there is neither."""
-        labelling, ways = self.labelling, self.ways
-        if ways is not None:
-            return numpy.flatnonzero(ways == number)
-        if labelling is None or labelling.ways is None:
-            return None
-        return numpy.flatnonzero(numpy.isin(self.rows, self.rows_by_way.get(number, [])))
-
     @property
     def rows_by_way(self) -> dict[int, list[int]]:
         """The ways of OpenStreetMap of the caller's rows, each with its rows. A row may have several ways."""
@@ -124,20 +115,33 @@ class Layers:
         return self.read("rows by way", make)
 
     @property
-    def copies(self) -> dict[int, int]:
-        """The nodes that are copies of another one because turns are restricted there, as `files.Coordinates.copies` gives them."""
-        return self.read("copies", lambda: {} if self.paths["coordinates"] is None else self.coordinates.copies())
+    def crossings(self) -> Integers:
+        """The crossing of each node, by the number of its first node, from place 1 on. A crossing has several nodes if turns are restricted there."""
+        def make() -> Integers:
+            found = numpy.arange(self.graph.nodes + 1)
+            for copy, node in ({} if self.paths["coordinates"] is None else self.coordinates.copies()).items():
+                found[copy] = node
+            return found
+
+        return self.read("crossings", make)
 
     @property
-    def copies_of(self) -> dict[int, list[int]]:
-        """The nodes that have copies, each with these."""
-        return self.read("copies of nodes", self.grouped_copies)
+    def ends(self) -> Integers:
+        """The node where trips to each node end, from place 1 on, as `files.Coordinates.ends` gives it; 0 if they end at the node itself."""
+        def make() -> Integers:
+            found = numpy.zeros(self.graph.nodes + 1, numpy.int64)
+            for node, end in ({} if self.paths["coordinates"] is None else self.coordinates.ends()).items():
+                found[node] = end
+            return found
 
-    def grouped_copies(self) -> dict[int, list[int]]:
-        found: dict[int, list[int]] = {}
-        for copy, node in self.copies.items():
-            found.setdefault(node, []).append(copy)
-        return found
+        return self.read("ends", make)
+
+    @property
+    def are_inner(self) -> Marks:
+        """Which arcs are along no road: they lead from a node to the one where trips to it end, and are a part of no way."""
+        tails, heads = (numpy.array(column, numpy.int64) for column in (self.graph.tails, self.graph.heads))
+        ways = self.ways
+        return (self.ends[tails] == heads) & (numpy.array(self.graph.weights, numpy.int64) == 0 if ways is None else ways == 0)
 
     @property
     def rows(self) -> Integers:
@@ -158,15 +162,20 @@ class Layers:
         return files.count_arcs(self.path) if labelling is None or labelling.rows is None else labelling.rows
 
     @property
-    def arcs_by_ends(self) -> tuple[Integers, Integers]:
-        """The arcs in the order of their ends, and these ends in order, as tail * (nodes + 1) + head."""
-        def make() -> tuple[Integers, Integers]:
-            tails, heads = (numpy.array(column, numpy.int64) for column in (self.graph.tails, self.graph.heads))
-            ends = tails * (self.graph.nodes + 1) + heads
-            order = numpy.argsort(ends, kind="stable")
-            return order, ends[order]
+    def row_labels(self) -> RowLabels:
+        """What rows are called in the frame that the network was made of."""
+        def make() -> RowLabels:
+            from chtab.files import columns, row_index
+            from chtab.roads.row_labels import RowLabels
 
-        return self.read("arcs by ends", make)
+            labelling = self.labelling
+            if labelling is None or labelling.row_labels is None:
+                # Version 1.1 kept neither the rows nor what they were called.
+                is_known = labelling is None or labelling.rows is not None
+                return RowLabels(None if is_known else row_index.UNKNOWN, self.row_count)
+            return RowLabels(columns.column_labels_in("index", labelling.row_labels), self.row_count)
+
+        return self.read("labels of rows", make)
 
     @property
     def coordinates(self) -> files.Coordinates:

@@ -2,8 +2,8 @@
 from __future__ import annotations
 
 import functools
+import itertools
 import os
-import re
 from collections.abc import Iterable, Mapping
 from typing import TYPE_CHECKING, Any, NamedTuple, Self
 
@@ -16,7 +16,9 @@ from chtab.errors import DataFault
 from chtab.files import arc_columns, columns, edge_lines, measures
 from chtab.files.columns import told
 from chtab.files.frames import column_of
-from chtab.roads.from_arcs import FromArcs
+from chtab.files.row_index import is_of_levels
+from chtab.roads.arc_names import ArcNames
+from chtab.roads.from_arcs import FromArcs, known_to_be_closed, see_that_network
 from chtab.roads.snapping import Spots
 
 if TYPE_CHECKING:
@@ -25,9 +27,8 @@ if TYPE_CHECKING:
     from chtab.roads.layers import Layers
     from chtab.typing import Integers, Marks, Point
 
-# A way of OpenStreetMap, as the addresses of its pages have it.
-WAY = re.compile(r"way/(-?\d+)", re.ASCII)
-NAMES = "a row, (source, target), (source, target, key), (node,), spots of `snap`, 'way/NUMBER' or a street"
+# What is said of a new weight that is no whole number.
+NO_FRACTION = ", as the weights of this network are"
 
 
 class Scenarios(FromArcs):
@@ -54,17 +55,22 @@ class Scenarios(FromArcs):
         - `"way/23456"`, a way of OpenStreetMap: of a map, or of edges with `osmid`;
         - the name or the number of a street, of a map that was imported with `--names`.
 
-        A row that leads both ways is both arcs. Where turns are restricted, a node is all nodes of its crossing.
+        A row that leads both ways is both arcs, and so is an edge with a key. Where turns are restricted, a node is all nodes of its crossing. Of several
+        names of one arc the last one counts.
+
+        A Series, or an Index as `closed`, goes by its labels: those of the frame's index, or else names. They may be in any order, or some of all rows.
+        In a list, an array or a dict, a number is a row, and is refused if the frame calls another row so: `frame.index[[7]]` is row 7.
 
         Parameters
         ----------
         weights : array, Series or dict, optional
-            New weights in the network's `unit`: one for each row, or of some arcs, by a dict or a Series whose index names them.
-        closed : list of arcs, spots, or array of bool, optional
+            New weights in the network's `unit`, or whole numbers of the graph if it was made with `raw=True`: one for each row, or of some arcs, by a dict
+            or a Series whose index names them. A row whose arcs are closed stays closed, and a dict with such a name is refused.
+        closed : list of arcs, spots, Index, or array or Series of bool, optional
             The arcs that are no longer there, or for each row whether it is closed. Nodes stay.
         added : list of (source, target, weight) or pandas.DataFrame, optional
-            Further arcs between nodes of the network, with the columns source, target and weight, and optionally geometry. Each leads one way. Their
-            rows follow those of the network.
+            Further arcs between nodes of the network, with the columns source, target and weight, and optionally geometry. Each leads one way, and
+            may be taken from every road that leads to its source. Their rows follow those of the network, and edges have the keys of networkx.
         folder : str or path, optional
             As `Network.from_arrays` takes it.
         fresh : int
@@ -81,8 +87,11 @@ class Scenarios(FromArcs):
         ------
         DataFault
             A row, an arc, a way or a street is not there, nothing says of which ways arcs are, a node has no such label, a spot is one of another
-            network, or a weight is refused. The text names it, and nothing was written.
-        FileExistsError, ProgramFault, ChtabError, OSError
+            network, or a weight is refused. The text names it, and nothing was written. Or the network was made with `scale` and neither a unit nor
+            `raw=True`, so that new weights may be either.
+        ChtabError
+            The network is closed.
+        FileExistsError, ProgramFault, OSError
             As `Network.from_arrays` raises them.
 
         Examples
@@ -92,220 +101,219 @@ class Scenarios(FromArcs):
         >>> at_eight = network.changed(weights=frame["minutes at 8:00"])                     # doctest: +SKIP
         >>> with_tunnel = network.changed(added=[("farm", "school", 2.5)])                   # doctest: +SKIP
         """
-        given = Given.of(self._layers)
-        scale, most = (None if self._measure.is_whole else self._measure.factor), arc_columns.MOST_WEIGHT // self.nodes
-        changed, rounding = given.reweighted(weights, self._measure, scale, most)
-        kept = ~given.marked("closed", closed)
-        arcs = changed.arcs(kept, given.added(added, self._measure, scale, most), rounding)
+        see_that_network(self)
+        with known_to_be_closed(self):
+            arcs = self._arcs_of(weights, closed, added)
         setting, opened = self._opened.setting, self._opened
         running = opening.Running(
             setting.program, setting.workers, setting.timeout, True, False, setting.runs, opened.library, opened.asked, like=self, fresh=fresh,
         )
         return self._made(arcs, folder, running)
 
+    def _arcs_of(self, weights: Any, closed: Any, added: Any) -> arc_columns.Arcs:
+        """The arcs of the changed network."""
+        weighing = self._weighing(weights is not None or added is not None)
+        given = Given.of(self._layers)
+        changed, rounding = given.reweighted(weights, weighing)
+        kept = ~given.marked(closed)
+        return changed.arcs(kept, given.added(added, weighing), rounding)
+
+    def _weighing(self, has_weights: bool) -> Weighing:
+        """How new weights become those of the graph."""
+        made, measure = self._layers.labelling, self._measure
+        own = None if made is None else made.scale
+        is_rounded = own == 1 or made is not None and made.unit is not None
+        whole = 1 if is_rounded and not self._layers.asked.raw else None
+        return Weighing(measure, whole if measure.is_whole else measure.factor, arc_columns.MOST_WEIGHT // self.nodes)
+
+
+class Weighing(NamedTuple):
+    """How new weights become those of a graph: the network's unit, the factor for weights in it, None for whole numbers alone, and the most that a
+    weight may be."""
+
+    measure: measures.Measure
+    scale: float | None
+    most: int
+
+    def whole(self, name: str, given: Any) -> tuple[Integers, float]:
+        """The weights of the graph, and the largest rounding of one."""
+        return arc_columns.whole_weights(name, self.numbers(name, given), self.scale, self.most, NO_FRACTION)
+
+    def numbers(self, name: str, given: Any) -> NDArray[Any]:
+        """Weights as numbers in the network's unit, to which durations are converted."""
+        durations = columns.durations_in(name, given)
+        if durations is None:
+            return columns.numbers_in(name, given)
+        if self.measure.unit not in measures.TIMES:
+            raise DataFault(f"{name} has durations, and the network's unit is {self.measure.unit or 'not known'}", name)
+        return durations / measures.TIMES[self.measure.unit]
+
 
 class New(NamedTuple):
-    """Added arcs: their ends and weights, their lines or None, and the largest rounding of a weight."""
+    """Added arcs: their ends and weights, the row of each among those that are added, and their number; the lines of arcs or None, the keys of rows,
+    and the largest rounding of a weight."""
 
     tails: Integers
     heads: Integers
     weights: Integers
+    rows: Integers
+    added: int
     lines: list[Any] | None
+    keys: list[int]
     rounding: float
+
+
+NOTHING = numpy.zeros(0, numpy.int64)
 
 
 class Given(NamedTuple):
     """The arcs of a network in columns, each with its row, from which a scenario starts."""
 
     layers: Layers
+    names: ArcNames
     tails: Integers
     heads: Integers
     weights: Integers
     rows: Integers
-    keys: list[Any] | None
 
     @classmethod
     def of(cls, layers: Layers) -> Given:
         """The arcs of the files of a network."""
-        graph, labelling = layers.graph, layers.labelling
+        graph = layers.graph
         tails, heads, weights = (numpy.array(column, numpy.int64) for column in (graph.tails, graph.heads, graph.weights))
-        return cls(layers, tails, heads, weights, layers.rows, None if labelling is None else labelling.keys)
+        return cls(layers, ArcNames(layers), tails, heads, weights, layers.rows)
 
     @property
     def row_count(self) -> int:
         """The number of rows, including those whose arcs are closed."""
         return self.layers.row_count
 
-    # Which arcs are meant.
+    # What is closed.
 
-    def marked(self, name: str, arcs: Any) -> Marks:
-        """Marks the arcs that a list of names stands for."""
-        is_marked = numpy.zeros(len(self.rows), bool)
-        if arcs is None:
-            return is_marked
-        if isinstance(arcs, str):
-            raise DataFault(f"{name} is a list: [{arcs!r}] is one way or street", name)
-        if isinstance(arcs, tuple) and len(arcs) in (1, 2, 3) and not any(isinstance(part, tuple | list | Spots) for part in arcs):
-            raise DataFault(f"{name} is a list: [{arcs!r}] is one arc, and {[*arcs]!r} are rows", name)
-        column = numpy.asarray(columns.in_rows(arcs, self.row_count)) if hasattr(arcs, "__array__") else None
-        if column is not None and column.dtype == bool:
-            self.see_that_rows(name, column)
+    def marked(self, closed: Any) -> Marks:
+        """Marks the arcs that are closed, by a list of names or by a column that says so of each row."""
+        is_closed = numpy.zeros(len(self.rows), bool)
+        if closed is None:
+            return is_closed
+        if isinstance(closed, str):
+            raise DataFault(f"closed is a list: [{closed!r}] is one way or street", "closed")
+        if isinstance(closed, tuple) and len(closed) in (1, 2, 3) and not any(isinstance(part, tuple | list | Spots) for part in closed):
+            raise DataFault(f"closed is a list: [{closed!r}] is one arc, and {[*closed]!r} are rows", "closed")
+        column = mask_in(closed)
+        if column is None:
+            is_closed[self.names.of("closed", closed).items] = True
+            return is_closed
+        if not hasattr(closed, "iloc"):
+            self.see_that_rows("closed", column)
             return column[self.rows]
-        for place, arc in enumerate(arcs.tolist() if isinstance(arcs, numpy.ndarray) else list(arcs)):
-            is_marked[self.places(name, place, arc)] = True
-        return is_marked
+        found = self.names.of_index("closed", closed.index)
+        self.see_that_once("closed", closed.index)
+        if len(column) < self.names.row_labels.covered and not is_of_levels(closed.index):
+            self.see_that_rows("closed", column)
+        is_closed[found.items[column[found.places]]] = True
+        return is_closed
 
     def see_that_rows(self, name: str, column: NDArray[Any]) -> None:
+        """Refuses a column that has not one value for each row."""
         if column.ndim != 1 or len(column) != self.row_count:
             raise DataFault(f"{name} has the shape {column.shape}, and there are {self.row_count:,} rows of arcs", name)
 
-    def places(self, name: str, place: int, arc: Any) -> Integers:
-        """The arcs that a name stands for."""
-        if isinstance(arc, int | numpy.integer) and not isinstance(arc, bool):
-            found = numpy.flatnonzero(self.rows == arc)
-            if not 0 <= arc < self.row_count:
-                raise columns.refused(name, place, f"there is no row {arc} of arcs; they are from 0 to {self.row_count - 1:,}")
-            return found
-        if isinstance(arc, Spots):
-            return self.of_spots(name, place, arc)
-        if isinstance(arc, str):
-            way = WAY.fullmatch(arc)
-            return self.of_street(name, place, arc) if way is None else self.of_way(name, place, int(way[1]))
-        if not isinstance(arc, tuple | list) or len(arc) not in (1, 2, 3):
-            raise columns.refused(name, place, f"{told(arc)} names no arc; names are {NAMES}")
-        ends = [self.crossing(self.node(name, place, label)) for label in arc[:2]]
-        if len(ends) == 1:
-            return numpy.flatnonzero(self.are_at(ends[0]))
-        found = numpy.concatenate([self.between(tail, head) for tail in ends[0] for head in ends[1]])
-        if len(arc) == 3:
-            if self.keys is None:
-                raise columns.refused(name, place, f"{told(arc)} has a key, and the arcs of the network have none")
-            found = found[[self.keys[row] == arc[2] for row in self.rows[found].tolist()]] if len(found) else found
-        if not len(found):
-            raise columns.refused(name, place, f"there is no arc {told(tuple(arc))}")
-        return found
+    def see_that_once(self, name: str, index: Any) -> None:
+        """Refuses an index that has a label twice, unless it is that of the frame, where its place says which row is meant."""
+        if index.is_unique:
+            return
+        rows = self.names.rows_of_index(name, index)
+        if rows is None or len(numpy.unique(rows.items)) < len(rows.items):
+            place = int(index.duplicated().argmax())
+            raise columns.refused(name, place, f"the label {told(index[place])} is in the index already")
 
-    def node(self, name: str, place: int, label: Any) -> int:
-        """The node of a label."""
-        try:
-            return int(self.layers.labels.nodes_of(name, [label])[0])
-        except ValueError as fault:
-            raise columns.refused(name, place, str(fault).removeprefix(f"{name}[0]: ")) from None
+    # What is weighed anew.
 
-    def crossing(self, node: int) -> list[int]:
-        """All nodes of the crossing of a node. It has several if turns are restricted."""
-        first = self.layers.copies.get(node, node)
-        return [first, *self.layers.copies_of.get(first, ())]
-
-    def are_at(self, nodes: list[int]) -> Marks:
-        """Marks the arcs that start or end at one of some nodes."""
-        return numpy.isin(self.tails, nodes) | numpy.isin(self.heads, nodes)
-
-    def of_spots(self, name: str, place: int, spots: Spots) -> Integers:
-        """The arcs along the roads of spots, in the directions in which trips may leave these; for a spot at a crossing, all arcs of the crossing."""
-        roads = self.layers.roads
-        for index in numpy.flatnonzero(~roads.are_here(spots))[:1]:
-            raise columns.refused(name, place, f"spot {index} lies on no road of this network: `snap` of this one gives its own")
-        is_marked = numpy.zeros(len(self.rows), bool)
-        for road, part, sides in zip(spots.roads.tolist(), spots.parts.tolist(), spots.sides.tolist()):
-            ends = {0.0: roads.firsts, 1.0: roads.lasts}.get(part)
-            is_marked |= roads.arcs_along(road, sides) if ends is None else self.are_at(self.crossing(int(ends[road])))
-        return numpy.flatnonzero(is_marked)
-
-    def of_way(self, name: str, place: int, number: int) -> Integers:
-        """The arcs that are parts of a way of OpenStreetMap."""
-        found = self.layers.arcs_of_way(number)
-        if found is None:
-            why = "`osm_to_gr.py` writes a file of ways beside its graph, and edges of osmnx have `osmid`"
-            raise columns.refused(name, place, f"nothing says which arcs are parts of way {number} of OpenStreetMap: {why}")
-        if not len(found):
-            raise columns.refused(name, place, f"no arc is a part of way {number} of OpenStreetMap")
-        return found
-
-    def of_street(self, name: str, place: int, word: str) -> Integers:
-        """The arcs of all streets that have this name, or this number."""
-        streets = self.layers.streets
-        if streets is None:
-            raise columns.refused(name, place, f"{told(word)} names no arc, as streets have no names here; names are {NAMES}")
-        which = [number for number, street in enumerate(streets.streets, 1) if word and word in (street.name, *street.ref.split(", "))]
-        found = numpy.flatnonzero(numpy.isin(numpy.array(streets.of_arcs, numpy.int64), which))
-        if not len(found):
-            raise columns.refused(name, place, f"no street of the map is called {told(word)}")
-        return found
-
-    def between(self, tail: int, head: int) -> Integers:
-        """All arcs from one node to another."""
-        order, ends = self.layers.arcs_by_ends
-        key = tail * (self.layers.graph.nodes + 1) + head
-        return order[int(ends.searchsorted(key)):int(ends.searchsorted(key, "right"))]
-
-    # What is changed.
-
-    def reweighted(self, weights: Any, measure: measures.Measure, scale: float | None, most: int) -> tuple[Given, float]:
+    def reweighted(self, weights: Any, weighing: Weighing) -> tuple[Given, float]:
         """These arcs with other weights, and the largest rounding of a weight."""
         if weights is None:
             return self, 0.0
-        names = list(weights.keys()) if hasattr(weights, "keys") and self.are_names(weights) else None
-        given = list(weights.values()) if isinstance(weights, Mapping) else weights
-        numbers = numbers_of("weights", columns.in_rows(given, self.row_count) if names is None else given, measure)
-        whole, rounding = arc_columns.whole_weights("weights", numbers, scale, most)
-        if names is None:
+        whole, rounding = weighing.whole("weights", list(weights.values()) if isinstance(weights, Mapping) else weights)
+        if isinstance(weights, Mapping):
+            found = self.names.of_list("weights", list(weights))
+            closed = columns.first_of(found.counts(len(weights)) == 0)
+            if closed is not None:
+                raise columns.refused("weights", closed, f"{told(list(weights)[closed])} has no arc that is open")
+        elif hasattr(weights, "iloc"):
+            found = self.names.of_index("weights", weights.index)
+            self.see_that_once("weights", weights.index)
+        else:
             self.see_that_rows("weights", whole)
             return self._replace(weights=whole[self.rows]), rounding
         changed = self.weights.copy()
-        for place, (arc, weight) in enumerate(zip(names, whole.tolist())):
-            changed[self.places("weights", place, arc)] = weight
+        # Of several names of one arc the last one counts.
+        changed[found.items] = whole[found.places]
         return self._replace(weights=changed), rounding
 
-    def are_names(self, weights: Any) -> bool:
-        """Whether the index of a Series names arcs; otherwise it has a weight for each row, in order. The keys of a dict always name arcs."""
-        if isinstance(weights, Mapping):
-            return True
-        index = weights.index
-        return getattr(index, "nlevels", 1) > 1 or len(weights) != self.row_count or any(isinstance(name, tuple) for name in index[:1])
+    # What is added.
 
-    def added(self, given: Any, measure: measures.Measure, scale: float | None, most: int) -> New:
-        """The arcs that are added to these."""
+    def added(self, given: Any, weighing: Weighing) -> New:
+        """The arcs that are added to these. Where turns are restricted, all that arrive may go on by an added arc."""
         if given is None:
-            nothing = numpy.zeros(0, numpy.int64)
-            return New(nothing, nothing, nothing, None, 0.0)
-        lines = None
-        if hasattr(given, "columns"):
-            sources, targets, weights = (column_of(given, name) for name in ("source", "target", "weight"))
-            lines = given["geometry"] if "geometry" in given.columns else None
-        else:
-            rows = [tuple(row) for row in given]
-            if any(len(row) not in (3, 4) for row in rows):
-                raise DataFault("added has rows of (source, target, weight), or of these and a line", "added")
-            sources, targets, weights = ([row[axis] for row in rows] for axis in range(3))
-            lines = [row[3] if len(row) == 4 else None for row in rows]
-        tails, heads = (self.layers.labels.nodes_of(f"added {name}", ends) for name, ends in (("source", sources), ("target", targets)))
-        whole, rounding = arc_columns.whole_weights("added weight", numbers_of("added weight", weights, measure), scale, most)
-        return New(tails, heads, whole, edge_lines.lines_in("added geometry", lines, len(whole)), rounding)
+            return New(NOTHING, NOTHING, NOTHING, NOTHING, 0, None, [], 0.0)
+        sources, targets, weights, lines = columns_of_added(given)
+        own = self.layers.labels
+        tails, heads = (self.layers.crossings[own.nodes_of(f"added {name}", ends)] for name, ends in (("source", sources), ("target", targets)))
+        whole, rounding = weighing.whole("added weight", weights)
+        columns.see_that_long(("added source", "added target", "added weight"), (tails, heads, whole))
+        found = edge_lines.lines_in("added geometry", lines, len(whole))
+        keys = [0] * len(tails)
+        ends = numpy.zeros(len(tails), numpy.int64)
+        rows = numpy.append(numpy.arange(len(tails)), numpy.flatnonzero(ends))
+        starts = numpy.append(tails, ends[ends > 0])
+        return New(starts, heads[rows], whole[rows], rows, len(tails), found and [found[row] for row in rows.tolist()], keys, rounding)
+
+    def free_keys(self, tails: Integers, heads: Integers) -> list[int]:
+        """A key for each new edge, as networkx gives it: the number of edges between its nodes, or the first one from there on that is free. None if
+        edges have no keys."""
+        if self.names.keys is None:
+            return []
+        found = self.names.by_ends.of_each(self.names.key_of(tails, heads))
+        taken: dict[tuple[int, int], set[Any]] = {}
+        for place, key in zip(found.places.tolist(), self.names.keys[self.rows[found.items]].tolist()):
+            taken.setdefault((int(tails[place]), int(heads[place])), set()).add(key)
+        keys = []
+        for ends in zip(tails.tolist(), heads.tolist()):
+            own = taken.setdefault(ends, set())
+            keys.append(next(key for key in itertools.count(len(own)) if key not in own))
+            own.add(keys[-1])
+        return keys
+
+    # All arcs together.
 
     def arcs(self, kept: Marks, new: New, rounding: float) -> arc_columns.Arcs:
         """The kept arcs, followed by the new ones."""
         layers, labelling = self.layers, self.layers.labelling
-        count = len(new.tails)
-        rows = numpy.append(self.rows[kept], self.row_count + numpy.arange(count))
-        scale, unit = (None, None) if labelling is None else (labelling.scale, labelling.unit)
-        most = 0.0 if labelling is None else max(labelling.rounding, rounding, new.rounding)
-        keys = None if self.keys is None else [*self.keys, *[0] * count]
+        scale, unit, before = (None, None, 0.0) if labelling is None else (labelling.scale, labelling.unit, labelling.rounding)
+        keys = None if self.names.keys is None else [*self.names.keys.tolist(), *new.keys]
         streets, ways = layers.streets, layers.ways
         if streets is not None:
             of_arcs = numpy.array(streets.of_arcs, numpy.int64)[kept]
-            streets = streets._replace(of_arcs=[*of_arcs.tolist(), *[0] * count])
+            streets = streets._replace(of_arcs=[*of_arcs.tolist(), *[0] * len(new.tails)])
         if ways is not None:
-            ways = numpy.append(ways[kept], numpy.zeros(count, numpy.int64))
+            ways = numpy.append(ways[kept], numpy.zeros(len(new.tails), numpy.int64))
         tails, heads, weights = (
             numpy.append(column[kept], more) for column, more in ((self.tails, new.tails), (self.heads, new.heads), (self.weights, new.weights))
         )
         no_way: list[int] = []
-        of_rows = None if labelling is None or labelling.ways is None else [*labelling.ways, *[no_way] * count]
+        of_rows = None if labelling is None or labelling.ways is None else [*labelling.ways, *[no_way] * new.added]
         return arc_columns.Arcs(
-            layers.labels, tails, heads, weights, scale, most, unit, None, self.bends(kept, new), self.row_count + count, rows, keys, of_rows,
-            layers.graph.unit, making.Beside(layers, streets, None if ways is None else ways.tolist()),
+            layers.labels, tails, heads, weights, scale, max(before, rounding, new.rounding), unit, None, self.bends(kept, new),
+            self.row_count + new.added, self.rows_of(kept, new), keys, of_rows, layers.graph.unit,
+            making.Beside(layers, streets, None if ways is None else ways.tolist()), layers.row_labels.labels,
         )
+
+    def rows_of(self, kept: Marks, new: New) -> Integers | None:
+        """The row of each arc; None if arcs have the same rows as by their numbers."""
+        labelling = self.layers.labelling
+        if kept.all() and not new.added and (labelling is None or labelling.arcs is None):
+            return None
+        return numpy.append(self.rows[kept], self.row_count + new.rows)
 
     def bends(self, kept: Marks, new: New) -> dict[int, list[Point]]:
         """The bends of the kept arcs, by their new numbers, and those of the new arcs."""
@@ -320,11 +328,23 @@ class Given(NamedTuple):
         return bends | {arc + int(kept.sum()): points for arc, points in own.items()}
 
 
-def numbers_of(name: str, given: Any, measure: measures.Measure) -> NDArray[Any]:
-    """Weights as numbers in the network's unit, to which durations are converted."""
-    durations = columns.durations_in(name, given)
-    if durations is None:
-        return columns.numbers_in(name, given)
-    if measure.unit not in measures.TIMES:
-        raise DataFault(f"{name} has durations, and the network's unit is {measure.unit or 'not known'}", name)
-    return durations / measures.TIMES[measure.unit]
+def mask_in(closed: Any) -> NDArray[Any] | None:
+    """The column of a list of names that is rather a column of True and False."""
+    if not hasattr(closed, "__array__") or hasattr(closed, "get_level_values"):
+        return None
+    column = numpy.asarray(closed)
+    if column.dtype == object and column.ndim == 1 and len(column) and {*map(type, column)} <= {bool, numpy.bool_}:
+        column = column.astype(bool)
+    return column if column.dtype == bool else None
+
+
+def columns_of_added(given: Any) -> tuple[Any, Any, Any, Any]:
+    """The sources, targets, weights and lines of added arcs; None for no lines."""
+    if hasattr(given, "columns"):
+        sources, targets, weights = (column_of(given, name) for name in ("source", "target", "weight"))
+        return sources, targets, weights, given["geometry"] if "geometry" in given.columns else None
+    rows = [tuple(row) for row in given]
+    if any(len(row) not in (3, 4) for row in rows):
+        raise DataFault("added has rows of (source, target, weight), or of these and a line", "added")
+    sources, targets, weights = ([row[axis] for row in rows] for axis in range(3))
+    return sources, targets, weights, [row[3] if len(row) == 4 else None for row in rows]

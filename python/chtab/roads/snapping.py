@@ -332,7 +332,7 @@ class Roads:
         is_there = (weights != NONE) & (may > 0) | (parts == 0)
         return numpy.where(is_there, numpy.rint(abs(parts) * numpy.maximum(weights, 0)), NONE).astype(numpy.int64)
 
-    # Which arcs lead along roads.
+    # Spots and arcs on roads.
 
     def are_here(self, spots: Spots) -> Marks:
         """Whether each spot is on its road. A spot of another network may have the number of a road that is elsewhere, or doesn't exist here."""
@@ -341,9 +341,9 @@ class Roads:
         is_here[some] = self.lines.are_on(spots.roads[some], spots.longitudes[some], spots.latitudes[some])
         return is_here
 
-    def arcs_along(self, road: int, sides: int) -> Marks:
-        """Which arcs lead along a road in some directions of it, `FORWARD`, `BACKWARD` or both."""
-        return (self.road_of == road) & (numpy.where(self.is_back, BACKWARD, FORWARD) & sides > 0)
+    def sides_of(self, arcs: Integers) -> Integers:
+        """The directions in which arcs lead along their roads, `FORWARD` or `BACKWARD`."""
+        return numpy.where(self.is_back[arcs], BACKWARD, FORWARD)
 
     # The lines of roads.
 
