@@ -118,6 +118,26 @@ def test_edges_of_a_graph_are_meant_by_their_keys():
         assert network.routes([("inn", "school")]).edges() == [[("inn", "mill"), ("mill", "school")]]
 
 
+@needs("python3-scipy", "python3-networkx", "python3-shapely")
+def test_added_edges_have_free_keys():
+    """Keys are those that networkx gives, and name the added edge alone, also where edges were closed or added before."""
+    import networkx
+
+    graph = networkx.MultiDiGraph()
+    for tail, head, key in (1, 2, 0), (2, 3, 1), (2, 3, "a"), (3, 1, 0):
+        graph.add_edge(tail, head, key=key, length=10)
+    added = [(1, 2, 5), (2, 3, 4), (1, 2, 3), (1, 3, 1), (3, 1, 2)]
+    with chtab.Network.from_networkx(graph, "length", unit="metres", program=PROGRAM) as network, network.changed(added=added) as other:
+        more = [(tail, head, graph.add_edge(tail, head, length=weight)) for tail, head, weight in added]
+        for (tail, head, key), (_, _, weight) in zip(more, added):
+            with other.changed({(tail, head, key): 0.25}) as again:
+                assert again.routes([(tail, head)])[0].weight == 0.25 and again.routes([(tail, head)]).edges() == [[(tail, head, key)]]
+        with other.changed(closed=[(1, 2, 0), (3, 1, 0)]) as again, again.changed(closed=more) as last:
+            assert again.distances([(1, 2), (3, 1)]).tolist() == [3, 2] and last.distances([(1, 2), (3, 1)], missing=-1).tolist() == [-1, -1]
+        with other.changed(closed=more) as again:
+            assert [again.distances([pair])[0] for pair in ((1, 2), (2, 3), (3, 1))] == [10, 10, 10]
+
+
 @each_way
 @needs("python3-scipy", "python3-shapely")
 def test_labels_places_and_bends_stay():

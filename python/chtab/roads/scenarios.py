@@ -262,7 +262,7 @@ class Given(NamedTuple):
         whole, rounding = weighing.whole("added weight", weights)
         columns.see_that_long(("added source", "added target", "added weight"), (tails, heads, whole))
         found = edge_lines.lines_in("added geometry", lines, len(whole))
-        keys = [0] * len(tails)
+        keys = self.free_keys(tails, heads)
         ends = numpy.zeros(len(tails), numpy.int64)
         rows = numpy.append(numpy.arange(len(tails)), numpy.flatnonzero(ends))
         starts = numpy.append(tails, ends[ends > 0])
