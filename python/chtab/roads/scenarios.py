@@ -263,7 +263,8 @@ class Given(NamedTuple):
         columns.see_that_long(("added source", "added target", "added weight"), (tails, heads, whole))
         found = edge_lines.lines_in("added geometry", lines, len(whole))
         keys = self.free_keys(tails, heads)
-        ends = numpy.zeros(len(tails), numpy.int64)
+        # Arcs leave a node of restricted turns for those that start there, and the node where trips to it end, to which each other arc leads.
+        ends = self.layers.ends[tails]
         rows = numpy.append(numpy.arange(len(tails)), numpy.flatnonzero(ends))
         starts = numpy.append(tails, ends[ends > 0])
         return New(starts, heads[rows], whole[rows], rows, len(tails), found and [found[row] for row in rows.tolist()], keys, rounding)
