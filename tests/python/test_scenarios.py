@@ -139,6 +139,41 @@ def test_added_edges_have_free_keys():
 
 
 @each_way
+@needs("python3-networkx")
+def test_new_weights_are_in_the_unit_of_those_that_were_given():
+    """With a unit, with whole weights and with raw=True it is known what a number means; where weights were multiplied alone, new ones are refused."""
+    import networkx
+
+    graph = networkx.DiGraph()
+    graph.add_edge(1, 2, length=5)
+    graph.add_edge(2, 3, length=1.5)
+    for more, unit, weight in (
+        ({"unit": "metres"}, 1, 8.25), ({"unit": "kilometres"}, 1, 8.25), ({"raw": True}, 1_000, 8), ({"scale": 10, "unit": "steps"}, 1, 8.5), ({"scale": 1, "raw": True}, 1, 8),
+        ({"unit": "milliseconds"}, 1, 8),
+    ):
+        with chtab.Network.from_networkx(graph, "length", program=PROGRAM, **more) as network:
+            with network.changed({(1, 2): weight}, added=[(3, 1, weight)]) as other, network.changed([weight * 2, weight]) as again:
+                assert other.distances([(1, 2), (3, 1)]).tolist() == [weight, weight] and again.distances([(1, 3)]).tolist() == [3 * weight], more
+                assert network.distances([(1, 2)]).tolist() == [5 * unit]
+            if more.get("raw"):
+                raises(chtab.DataFault, network.changed, {(1, 2): 8.5}, told="8.5 is not a whole number, as the weights of this network are")
+    with pytest.warns(FutureWarning):
+        network = chtab.Network.from_networkx(graph, "length", program=PROGRAM, folder="own")
+    for change in {"weights": {(1, 2): 8}}, {"weights": [8, 8]}, {"added": [(1, 2, 8)]}, {"weights": {(1, 2): 8.5}, "closed": [0]}:
+        fault = raises(chtab.DataFault, lambda: network.changed(**change), told="the network was made with scale=1000 and without a unit")
+        assert "raw=True" in str(fault)
+    with network, network.changed(closed=[(2, 3)]) as other:
+        assert other.distances([(1, 2), (2, 3)]).tolist() == [5_000, -1]
+    for more, weight in ({"raw": True}, 8_000), ({"scale": 1_000}, 8), ({"scale": 1_000, "unit": "metres"}, 8):
+        with chtab.Network.open("own", program=PROGRAM, **more) as network, network.changed({(1, 2): weight}) as other:
+            assert other.distances([(1, 2)]).tolist() == [weight]
+    with pytest.warns(FutureWarning):
+        network = chtab.Network.from_networkx(graph, "length", 1, program=PROGRAM)
+    with network, network.changed({(1, 2): 8.25}) as other:
+        assert other.distances([(1, 2)]).tolist() == [8] and 0.25 <= other.rounding <= 0.5
+
+
+@each_way
 @needs("python3-scipy", "python3-shapely")
 def test_labels_places_and_bends_stay():
     """A closed arc before others doesn't move their bends; a new road has its own; a folder keeps all of it."""

@@ -122,6 +122,9 @@ class Scenarios(FromArcs):
         """How new weights become those of the graph."""
         made, measure = self._layers.labelling, self._measure
         own = None if made is None else made.scale
+        if has_weights and made is not None and made.unit is None and own not in (None, 1) and self._layers.asked == measures.Asked():
+            text = f"the network was made with scale={own:g} and without a unit, so that new weights may be yours, or the graph's whole numbers"
+            raise DataFault(f"{text}: make it with unit='seconds' or another unit, or with raw=True for whole numbers", "weights")
         is_rounded = own == 1 or made is not None and made.unit is not None
         whole = 1 if is_rounded and not self._layers.asked.raw else None
         return Weighing(measure, whole if measure.is_whole else measure.factor, arc_columns.MOST_WEIGHT // self.nodes)
