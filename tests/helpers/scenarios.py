@@ -1,6 +1,11 @@
-"""For the tests of networks that are made of others: a small network, and right answers."""
+"""For the tests of networks that are made of others: a small network, a map where turns are restricted, and right answers."""
+import pathlib
+
+from helpers import maps
 from helpers.running import PROGRAM
+from oracles import dijkstra
 import chtab
+from chtab import files
 
 # Two parallel roads from an inn to a mill, a bridge from there to a school, and a way round.
 ARCS = ["inn", "inn", "mill", "inn", "farm"], ["mill", "mill", "school", "farm", "school"], [2.0, 3.0, 1.5, 4.0, 4.5]
@@ -22,3 +27,24 @@ def least_of(count, arcs):
         least[tail, head] = min(weight, least.get((tail, head), weight))
     found = dijkstra(csr_matrix((list(least.values()), tuple(zip(*least)) or ((), ())), (count, count)))
     return numpy.where(numpy.isinf(found), -1, found).astype(numpy.int64)
+
+
+def with_turns():
+    """The files of a grid of roads where turns are restricted: of some roads one turn, and of one road all of them. The numbers of the map's nodes."""
+    nodes = {1 + 3 * y + x: (x, y) for y in range(3) for x in range(3)}
+    ends = [(1 + 3 * y + x, 2 + 3 * y + x) for y in range(3) for x in range(2)] + [(1 + 3 * y + x, 4 + 3 * y + x) for y in range(2) for x in range(3)]
+    turns = [
+        ([("way", 1 + ends.index(one), "from"), ("node", via, "via"), ("way", 1 + ends.index(other), "to")], {"type": "restriction", "restriction": word})
+        for one, via, other, word in (((4, 5), 5, (5, 8), "no_left_turn"), ((2, 5), 5, (5, 6), "only_right_turn"), ((8, 9), 9, (6, 9), "no_right_turn"), ((8, 9), 9, (8, 9), "no_u_turn"))
+    ]
+    pathlib.Path("turns.osm").write_text(maps.osm(nodes, [([*pair], maps.ROAD) for pair in ends], turns))
+    maps.tool("osm_to_gr", "--quiet", "--turns", "--bends", "turns.osm", "turns")
+    return [int(name) for name in files.read_names("turns.nodes").values()]
+
+
+def trips_of(arcs, names, nodes):
+    """The weights of trips between all nodes of the map, from where they start to where they end, by Dijkstra's algorithm; -1 where none leads."""
+    ahead, ends = dijkstra.arcs_ahead(arcs), files.read_coordinates("turns.co").ends()
+    begins = [names.index(node) + 1 for node in nodes]
+    rows = [dijkstra.distances_from(begin, ahead) for begin in begins]
+    return [[row.get(ends.get(target, target), -1) for target in begins] for row in rows]

@@ -8,6 +8,7 @@ from helpers import columns, maps
 from helpers.commands import raises
 from helpers.marks import each_way, needs
 from helpers.running import PROGRAM
+from helpers.scenarios import trips_of, with_turns
 from oracles import dijkstra
 import chtab
 from chtab import files
@@ -165,27 +166,6 @@ def test_ways_of_maps_are_closed():
         raises(chtab.DataFault, network.changed, None, [0, "way/3"], told="closed[1]: nothing says which arcs are parts of way 3 of OpenStreetMap: `osm_to_gr.py`")
 
 
-def with_turns():
-    """The files of a grid of roads where turns are restricted: of some roads one turn, and of one road all of them. The numbers of the map's nodes."""
-    nodes = {1 + 3 * y + x: (x, y) for y in range(3) for x in range(3)}
-    ends = [(1 + 3 * y + x, 2 + 3 * y + x) for y in range(3) for x in range(2)] + [(1 + 3 * y + x, 4 + 3 * y + x) for y in range(2) for x in range(3)]
-    turns = [
-        ([("way", 1 + ends.index(one), "from"), ("node", via, "via"), ("way", 1 + ends.index(other), "to")], {"type": "restriction", "restriction": word})
-        for one, via, other, word in (((4, 5), 5, (5, 8), "no_left_turn"), ((2, 5), 5, (5, 6), "only_right_turn"), ((8, 9), 9, (6, 9), "no_right_turn"), ((8, 9), 9, (8, 9), "no_u_turn"))
-    ]
-    pathlib.Path("turns.osm").write_text(maps.osm(nodes, [([*pair], maps.ROAD) for pair in ends], turns))
-    maps.tool("osm_to_gr", "--quiet", "--turns", "--bends", "turns.osm", "turns")
-    return [int(name) for name in files.read_names("turns.nodes").values()]
-
-
-def trips_of(arcs, names, nodes):
-    """The weights of trips between all nodes of the map, from where they start to where they end, by Dijkstra's algorithm; -1 where none leads."""
-    ahead, ends = dijkstra.arcs_ahead(arcs), files.read_coordinates("turns.co").ends()
-    begins = [names.index(node) + 1 for node in nodes]
-    rows = [dijkstra.distances_from(begin, ahead) for begin in begins]
-    return [[row.get(ends.get(target, target), -1) for target in begins] for row in rows]
-
-
 @each_way
 @needs("python3-scipy", "python3-shapely")
 def test_roads_are_added_where_turns_are_restricted():
@@ -199,20 +179,25 @@ def test_roads_are_added_where_turns_are_restricted():
         # By one road all that arrive at node 9 have to stay there.
         assert {names[end - 1] for end in ends.values()} == {5, 9} and len(names) > 12
         begin = {node: names.index(node) + 1 for node in nodes}
-        spots = network.snap(*zip(*(coordinates.of(begin[node]) for node in nodes)))
-        assert network.trip_table(spots, spots).tolist() == trips_of(arcs, names, nodes)
+        places = list(zip(*(coordinates.of(begin[node]) for node in nodes)))
+
+        def trips(network):
+            spots = network.snap(*places)
+            return network.trip_table(spots, spots).tolist()
+
+        assert trips(network) == trips_of(arcs, names, nodes)
         for tail, head in (9, 1), (5, 7), (5, 5), (3, 9), (9, 5):
             copies = [number for number, name in enumerate(names, 1) if name == tail]
             more = [(copy, begin[head], 5) for copy in copies]
             wanted = trips_of([*arcs, *more], names, nodes)
             for source in {begin[tail], copies[-1]}:
                 with network.changed(added=[(source, begin[head], 5)]) as other, other.changed(closed=[(begin[tail], begin[head])] if tail != head else [len(arcs)]) as again:
-                    assert other.trip_table(spots, spots).tolist() == wanted, (tail, head)
+                    assert trips(other) == wanted, (tail, head)
                     left = [arc for arc in arcs if (names[arc[0] - 1], names[arc[1] - 1]) != (tail, head) or tail == head]
-                    assert again.trip_table(spots, spots).tolist() == trips_of(left, names, nodes), (tail, head)
+                    assert trips(again) == trips_of(left, names, nodes), (tail, head)
                     assert {len(arcs)} >= {*other.routes([(begin[tail], begin[head])]).rows()[0].tolist()} or tail == head
             with network.changed(closed=[(begin[tail],)], added=[(begin[head], begin[tail], 5)]) as other:
-                assert other.trips(spots[nodes.index(head)], spots[nodes.index(tail)]).tolist() == [5 if head != tail else 0]
+                assert head == tail or other.distances([(begin[head], ends.get(begin[tail], begin[tail]))]).tolist() == [5]
 
 
 @needs("python3-scipy", "python3-networkx", "python3-shapely")

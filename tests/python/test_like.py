@@ -3,15 +3,20 @@ import concurrent.futures
 import os
 import pathlib
 import random
+import threading
 
 import pytest
 
 from helpers.commands import raises, temporary
 from helpers.marks import each_way, needs
 from helpers.running import PROGRAM, ROOT
-from helpers.scenarios import least_of, of_roads
+from helpers.scenarios import PLACES, least_of, of_roads, trips_of, with_turns
 from helpers.waiting import PATIENCE
 import chtab
+from chtab.engine import library as calls
+from chtab.engine import making
+from chtab.files import arc_columns
+from chtab.roads import scenarios
 
 pytestmark = [needs("python3-numpy"), pytest.mark.usefixtures("program")]
 
@@ -130,3 +135,142 @@ def test_what_does_not_go_with_another_network_is_refused():
         with of_roads(like=network, nodes=None, x=None, y=None) as other:
             assert other.labels.tolist() == network.labels.tolist() and other.coordinates.of(1) == network.coordinates.of(1)
         assert left() == own
+
+
+@each_way
+@needs("python3-scipy", "python3-shapely")
+def test_turns_stay_restricted_in_a_network_of_the_same_nodes():
+    """New weights as arrays, on a map where turns are restricted: trips start and end where those of the map do, also after the folder is opened."""
+    import numpy
+
+    names = with_turns()
+    nodes = sorted(set(names))
+    with chtab.Network.open("turns.gr", program=PROGRAM) as network:
+        graph, coordinates = network.graph, network.coordinates
+        tails, heads, weights = (numpy.array(column, numpy.int64) for column in (graph.tails, graph.heads, graph.weights))
+        weights *= numpy.random.default_rng(6).integers(1, 5, len(weights))
+        wanted = trips_of(zip(tails.tolist(), heads.tolist(), weights.tolist()), names, nodes)
+        places = list(zip(*(coordinates.of(names.index(node) + 1) for node in nodes)))
+        own = {"nodes": network.labels, "x": coordinates.longitudes, "y": coordinates.latitudes}
+        for more in {}, own, {"folder": "own"}:
+            with chtab.Network.from_arrays(tails, heads, weights, like=network, program=PROGRAM, **more) as other:
+                spots = other.snap(*places)
+                assert other.trip_table(spots, spots).tolist() == wanted and other.coordinates.turns() == coordinates.turns() != [], [*more]
+                with other.changed(closed=[(names.index(4) + 1, names.index(5) + 1)]) as again:
+                    left = [arc for arc in zip(tails.tolist(), heads.tolist(), weights.tolist()) if (names[arc[0] - 1], names[arc[1] - 1]) != (4, 5)]
+                    spots = again.snap(*places)
+                    assert again.trip_table(spots, spots).tolist() == trips_of(left, names, nodes)
+        with chtab.Network.open("own", program=PROGRAM) as other:
+            assert other.trip_table(other.snap(*places), other.snap(*places)).tolist() == wanted
+        kept = graph.weights != numpy.zeros(len(weights))
+        fault = raises(chtab.DataFault, lambda: chtab.Network.from_arrays(tails[kept], heads[kept], weights[kept], like=network, program=PROGRAM), told="turns are restricted in like")
+        assert f"node {names.index(5) + 1} end at the node {coordinates.ends()[names.index(5) + 1]}" in str(fault)
+
+
+@needs("python3-pandas", "python3-geopandas")
+def test_places_are_those_of_the_other_network():
+    """Lines of arcs replace no places: a node without a line keeps its own, in frames and in GeoDataFrames."""
+    import geopandas
+    import pandas
+    from shapely.geometry import LineString
+
+    lines = [LineString([(9.50, 47.10), (9.505, 47.13), (9.52, 47.11)]), None]
+    frame = pandas.DataFrame({"a": ["inn", "inn"], "b": ["mill", "farm"], "minutes": [2.0, 4.0], "line": lines})
+    edges = geopandas.GeoDataFrame(frame[["a", "b", "minutes"]].iloc[:1], geometry=lines[:1], crs="EPSG:4326")
+    with of_roads() as network:
+        for made in (
+            lambda: chtab.Network.from_frame(frame, "a", "b", "minutes", geometry="line", unit="minutes", like=network, program=PROGRAM),
+            lambda: chtab.Network.from_geodataframe(edges, None, "a", "b", "minutes", unit="minutes", like=network, program=PROGRAM),
+        ):
+            with made() as other:
+                assert other.labels.tolist() == PLACES["nodes"] and other.coordinates.longitudes.tolist() == PLACES["x"]
+                assert len(other.routes([("inn", "mill")]).to_geojson()["features"][0]["geometry"]["coordinates"]) == 3
+
+
+# Networks that are closed.
+
+
+def with_files(folder):
+    """A network of files, without a saved hierarchy."""
+    os.makedirs(folder, exist_ok=True)
+    for name, text in ("own.gr", "p sp 2 2\na 1 2 5\na 2 1 4\n"), ("own.co", "p aux sp co 2\nv 1 9500000 47100000\nv 2 9520000 47110000\n"):
+        (pathlib.Path(folder) / name).write_text(text)
+    return chtab.Network.open(pathlib.Path(folder) / "own.gr", program=PROGRAM)
+
+
+@each_way
+def test_a_closed_network_is_neither_changed_nor_followed():
+    """Its files may be there or gone, and what they hold may be known already: each call says that it is closed, and leaves nothing behind."""
+    for make, arcs in (of_roads, (["inn"], ["mill"], [3])), (lambda: with_files("own"), ([1], [2], [3])):
+        for is_known in False, True:
+            with temporary() as left:
+                network = make()
+                if is_known:
+                    network.graph, network.coordinates
+                network.close()
+                for call in (
+                    lambda: network.changed(closed=[0]), lambda: network.changed({0: 3}), lambda: network.changed(added=[(*arcs[0], *arcs[1], 3)]),
+                    lambda: chtab.Network.from_arrays(*arcs, like=network, program=PROGRAM), lambda: network.changed(folder="new"),
+                    lambda: chtab.Network.from_arrays(*arcs, nodes=network.labels, like=network, program=PROGRAM),
+                ):
+                    raises(chtab.ChtabError, call, told="the network is closed")
+                assert left() == [] and not os.path.exists("new")
+
+
+def closing_at(monkeypatch, owner, name, close):
+    """Calls `close` once, where something of the package is called."""
+    real, is_left = getattr(owner, name), [True]
+
+    def called(*words, **more):
+        if is_left:
+            is_left.pop()
+            close()
+        return real(*words, **more)
+
+    monkeypatch.setattr(owner, name, called)
+    return is_left
+
+
+@each_way
+def test_the_old_network_may_close_at_any_step(monkeypatch):
+    """At each step of a change the old network is closed, at once or by another thread: the change succeeds, or says that the network is closed."""
+    steps = [
+        (scenarios, "ArcNames"), (arc_columns, "whole_weights"), (making, "Beside"), (making, "write"), (making.Beside, "copy_to"), (making, "giver_of"), (making, "save"),
+        (making, "save_by"), (making, "save_like"), (calls.Handle, "open_like"),
+    ]
+    passed = 0
+    for owner, name in steps:
+        for is_beside in False, True:
+            with temporary() as left, monkeypatch.context() as patch:
+                network, threads = of_roads(), []
+
+                def close():
+                    if not is_beside:
+                        return network.close()
+                    threads.append(threading.Thread(target=network.close))
+                    threads[0].start()
+
+                is_left = closing_at(patch, owner, name, close)
+                try:
+                    with network.changed({0: 2.5}, closed=[1], added=[("mill", "farm", 1)]) as other:
+                        assert other.distances([("inn", "mill"), ("mill", "farm")]).tolist() == [2.5, 1], name
+                        passed += not is_left
+                except chtab.ChtabError as fault:
+                    assert str(fault) == "the network is closed", (name, fault)
+                for thread in threads:
+                    thread.join(PATIENCE)
+                network.close()
+                assert left() == [], name
+    assert passed
+
+
+def test_an_order_that_is_gone_is_made_anew():
+    """Where the saved hierarchy of the old network goes before the program opens it, the new one is built by depth; other faults stay faults."""
+    program = pathlib.Path("chtab")
+    program.write_text(f"#!/bin/sh\n[ \"$2\" = --like ] && rm \"$3\"\nexec {PROGRAM} \"$@\"\n")
+    program.chmod(0o755)
+    with of_roads(program=program.absolute(), library=False, folder="own") as network, network.changed(closed=[0]) as other:
+        assert not os.path.exists("own/network.ch") and other.distances([("inn", "mill")]).tolist() == [3]
+    program.write_text(f"#!/bin/sh\n[ \"$2\" = --like ] && echo 'chtab: out of memory' >&2 && exit 3\nexec {PROGRAM} \"$@\"\n")
+    with of_roads(program=program.absolute(), library=False) as network:
+        raises(chtab.ProgramFault, network.changed, None, [0], told="out of memory")

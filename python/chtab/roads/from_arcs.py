@@ -83,7 +83,7 @@ class FromArcs:
             `program`, `workers`, `timeout`, `load`, `routes`, `runs` and `library`, as `Network.open` takes them. `progress`: True reports the
             building on standard error; a callable gets how many steps of a stage are done, and their total. `like`: a network of the same nodes. The
             new network takes its order, in two thirds of the time; only the last `fresh` per cent of the nodes, 5 by default, are ordered afresh. The
-            nodes, labels and places of `like` are taken unless others are given.
+            nodes, labels and places of `like` are taken unless others are given, and so are the nodes where turns are restricted.
 
         Returns
         -------
@@ -236,7 +236,7 @@ class FromArcs:
         """
         given, running = geoframes.columns_of_geodataframe(edges, nodes, (source, target, weight), more)
         settings = opening.running_of("from_geodataframe", running, Asked(raw=raw), (*OF_ARCS, *ENDS))
-        return cls._made(arc_columns.arcs_of(given), folder, settings)
+        return cls._made(arc_columns.arcs_of(with_nodes_of(given, settings.like)), folder, settings)
 
     @classmethod
     def from_sparse(
@@ -298,6 +298,7 @@ class FromArcs:
         """Does so in the order of another network, if there is one."""
         if see_that_network(running.like):
             see_that_same_nodes(running.like.labels, arcs.labels.values)
+            arcs = with_turns_of(arcs, running.like)
             giver = running.like._engine
             running = dataclasses.replace(running, giver=giver if isinstance(giver, InProcess) else None, order=running.like._opened.setting.saved)
         opened, kept, handle = opening.made(arcs, folder, running)
@@ -348,11 +349,27 @@ def with_nodes_of(given: arc_columns.Columns, like: Any) -> arc_columns.Columns:
     if not see_that_network(like) or given.nodes is not None:
         return given
     given = dataclasses.replace(given, nodes=like.labels)
-    if like._layers.paths["coordinates"] is None or given.x is not None or given.y is not None or given.geometry is not None:
+    if like._layers.paths["coordinates"] is None or given.x is not None or given.y is not None:
         return given
     with known_to_be_closed(like):
         places = like.coordinates
     return dataclasses.replace(given, x=places.longitudes, y=places.latitudes)
+
+
+def with_turns_of(arcs: arc_columns.Arcs, like: Any) -> arc_columns.Arcs:
+    """The same arcs with what a network says of nodes where turns are restricted: which of them are one crossing, and where trips end. Arcs that
+    don't lead to where trips end are refused."""
+    if arcs.places is None or like._layers.paths["coordinates"] is None or not like.coordinates.turns():
+        return arcs
+    ends = like._layers.ends
+    is_met = numpy.zeros(len(ends), bool)
+    is_met[arcs.tails[arcs.heads == ends[arcs.tails]]] = True
+    apart = columns.first_of((ends > 0) & ~is_met)
+    if apart is not None:
+        labels = like.labels[[apart - 1, int(ends[apart]) - 1]].tolist()
+        text = "turns are restricted in like, where trips to the node {} end at the node {}, and no arc leads there from it here".format(*map(columns.told, labels))
+        raise DataFault(f"{text}: give the arcs of `like.graph` with other weights, or leave `like` out", "targets")
+    return dataclasses.replace(arcs, turns=like.coordinates.turns())
 
 
 def warn_of_scale(scale: float, level: int) -> None:
