@@ -22,10 +22,12 @@ pytestmark = [needs("python3-numpy"), pytest.mark.usefixtures("program")]
 
 
 @each_way
-@needs("python3-scipy")
+@needs("python3-scipy", "python3-pandas")
 def test_random_changes_answer_as_scipy():
-    """Weights by row, by a dict and by a Series; arcs closed by row, by mask and by pair; arcs added; and changes of what was changed before."""
+    """Weights by row, by a dict and by a Series of all rows or of some; arcs closed by row, by mask and by pair; arcs added; shares of nodes that are
+    ordered afresh; and changes of what was changed before."""
     import numpy
+    import pandas
 
     for seed in range(12):
         draw = numpy.random.default_rng(seed)
@@ -44,15 +46,19 @@ def test_random_changes_answer_as_scipy():
             total = max(total, getattr(network, "total", size))
             if draw.random() < 0.6:
                 new = draw.integers(1, 40, total)
-                change["weights"] = new if draw.random() < 0.5 or not rows else {int(row): int(new[row]) for row in draw.choice(list(rows), min(3, len(rows)), replace=False)}
-                chosen = change["weights"]
-                for row in rows:
-                    if not isinstance(chosen, dict) or row in chosen:
-                        rows[row] = [(tail, head, int(new[row])) for tail, head, _ in rows[row]]
+                some = draw.choice(list(rows), min(3, len(rows)), replace=False).tolist() if rows and draw.random() < 0.6 else range(total)
+                series = pandas.Series(new).iloc[draw.permutation(total)]
+                if len(some) == total:
+                    change["weights"] = new if draw.random() < 0.5 else series
+                else:
+                    change["weights"] = {row: int(new[row]) for row in some} if draw.random() < 0.5 else series[series.index.isin(some)]
+                for row in set(some) & set(rows):
+                    rows[row] = [(tail, head, int(new[row])) for tail, head, _ in rows[row]]
             if draw.random() < 0.6 and rows:
                 some = draw.choice(list(rows), min(4, len(rows)), replace=False).tolist()
                 if draw.random() < 0.5:
-                    change["closed"] = numpy.isin(numpy.arange(total), some) if draw.random() < 0.5 else some
+                    mask = pandas.Series(numpy.isin(numpy.arange(total), some))
+                    change["closed"] = [some, numpy.array(some), mask.to_numpy(), mask.iloc[draw.permutation(total)]][draw.integers(4)]
                     rows = {row: own for row, own in rows.items() if row not in some}
                 else:
                     tail, head, _ = rows[some[0]][0]
@@ -64,7 +70,7 @@ def test_random_changes_answer_as_scipy():
                 change["added"] = [(str(labels[tail]), str(labels[head]), weight) for tail, head, weight in more]
                 rows |= {total + place: [arc] for place, arc in enumerate(more)}
                 total += 3
-            other = network.changed(**change)
+            other = network.changed(**change, fresh=int(draw.choice([0, 5, 20, 60, 100])))
             wanted = least_of(count, [arc for own in rows.values() for arc in own])
             assert numpy.array_equal(other.table(labels, labels), wanted), (seed, change)
             assert numpy.array_equal(other.labels, network.labels) and numpy.array_equal(network.table(labels, labels), before), (seed, change)

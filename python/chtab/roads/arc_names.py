@@ -47,11 +47,19 @@ class ArcNames:
     """
 
     def __init__(self, layers: Layers) -> None:
-        graph = layers.graph
         self.layers, self.rows, self.row_labels = layers, layers.rows, layers.row_labels
-        self.tails, self.heads = (layers.crossings[numpy.array(column, numpy.int64)] for column in (graph.tails, graph.heads))
 
     # Arcs by what is looked for. Arcs within a crossing, by which trips end there, are found by their rows alone.
+
+    @functools.cached_property
+    def tails(self) -> Integers:
+        """The crossings where arcs start."""
+        return self.layers.crossings[numpy.array(self.layers.graph.tails, numpy.int64)]
+
+    @functools.cached_property
+    def heads(self) -> Integers:
+        """The crossings where arcs end."""
+        return self.layers.crossings[numpy.array(self.layers.graph.heads, numpy.int64)]
 
     @functools.cached_property
     def between(self) -> Integers:
