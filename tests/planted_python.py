@@ -3,8 +3,8 @@
 
   planted_python.py [NAME..]
 
-NAME is a bug, without `.edit`; without a name each bug is tried. An edit names the check that finds it: `found by: tests/SCRIPT CHECK`. In a copy of
-the repository the check passes without the bug, and fails with it because of what it compares, or because nothing answers it: a name that is gone, or
+NAME is a bug, without `.edit`; without a name each bug is tried. An edit names the check that finds it: `found by: tests/SCRIPT CHECK`, where SCRIPT may
+be a file of tests/python, whose tests pytest runs. In a copy of the repository the check passes without the bug, and fails with it because of what it compares, or because nothing answers it: a name that is gone, or
 text that is no Python, is no such finding.
 The last line is 'N passed, N failed'.
 """
@@ -22,7 +22,7 @@ from helpers.planting import pairs_of
 from helpers.running import PROGRAM, ROOT, Count
 
 # What a check needs of the repository, beside the program and the library for C.
-NEEDED = "python", "tests", "tools", "examples", "packaging", "include", "chtab", "VERSION"
+NEEDED = "python", "tests", "tools", "examples", "packaging", "include", "chtab", "VERSION", "crates.txt", "pytest.ini"
 # What a check raises that compares, or whose service doesn't answer; what Python raises for code that is none; and the status of a check that did not hold.
 FOUND = re.compile(r"^(?:AssertionError|TimeoutError|ConnectionResetError|http\.client\.RemoteDisconnected)", re.MULTILINE)
 BROKEN, FAILED = re.compile(r"\b(?:Attribute|Import|Name|Syntax|UnboundLocal)Error\b"), 1
@@ -44,7 +44,7 @@ sys.exit(0 if holds(check) else 1)
 
 def found_by(edit):
     """The script and the check that find a bug."""
-    return re.search(r"^found by: tests/(\w+)\.py (\w+)$", edit.read_text(), re.MULTILINE).groups()
+    return re.search(r"^found by: tests/((?:python/)?\w+)\.py (\w+)$", edit.read_text(), re.MULTILINE).groups()
 
 
 def copied(folder):
@@ -63,10 +63,10 @@ def copied(folder):
 
 def outcome(folder, script, check, **environment):
     """The status of a check in the copy, and what it printed."""
+    by_pytest = "-m", "pytest", "--quiet", "--tb=native", "-rs", f"tests/{script}.py::{check}"
+    command = [PYTHON, *(by_pytest if script.startswith("python/") else ("-c", RUN, script, check))]
     try:
-        done = subprocess.run(
-            [PYTHON, "-c", RUN, script, check], cwd=folder, stdout=subprocess.PIPE, stderr=subprocess.STDOUT, text=True, timeout=MOST, env=os.environ | environment
-        )
+        done = subprocess.run(command, cwd=folder, stdout=subprocess.PIPE, stderr=subprocess.STDOUT, text=True, timeout=MOST, env=os.environ | environment)
         return done.returncode, done.stdout
     except subprocess.TimeoutExpired as fault:
         return None, str(fault)

@@ -135,6 +135,7 @@ def test_added_edges_have_free_keys():
     added = [(1, 2, 5), (2, 3, 4), (1, 2, 3), (1, 3, 1), (3, 1, 2)]
     with chtab.Network.from_networkx(graph, "length", unit="metres", program=PROGRAM) as network, network.changed(added=added) as other:
         more = [(tail, head, graph.add_edge(tail, head, length=weight)) for tail, head, weight in added]
+        assert other.routes([(1, 2), (2, 3), (1, 3), (3, 1)]).edges() == [[(1, 2, 2)], [(2, 3, 2)], [(1, 3, 0)], [(3, 1, 1)]]
         for (tail, head, key), (_, _, weight) in zip(more, added):
             with other.changed({(tail, head, key): 0.25}) as again:
                 assert again.routes([(tail, head)])[0].weight == 0.25 and again.routes([(tail, head)]).edges() == [[(tail, head, key)]]

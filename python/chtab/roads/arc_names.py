@@ -236,12 +236,10 @@ class ArcNames:
         """The arcs that are parts of ways of OpenStreetMap."""
         numbers = [int(way[1]) for way in map(WAY.fullmatch, names) if way]
         labelling, ways = self.layers.labelling, self.layers.ways
-        if 0 in numbers:
-            raise refused(name, int(places[numbers.index(0)]), "no way of OpenStreetMap has the number 0")
         if ways is not None:
-            # Numbers of ways have at most 64 bits, and no arc is a part of any other.
-            found = Groups.of(ways).of_each(numpy.array([number if abs(number) < 2**63 else 0 for number in numbers], numpy.int64))
-            found = Found(found.items[ways[found.items] != 0], found.places[ways[found.items] != 0])
+            parts = numpy.flatnonzero(ways != 0)
+            # Numbers of ways have at most 64 bits, and no arc is a part of any other, nor of one with the number 0.
+            found = Groups.of(ways[parts], parts).of_each(numpy.array([number if abs(number) < 2**63 else 0 for number in numbers], numpy.int64))
         elif labelling is not None and labelling.ways is not None:
             found = self.of_items(self.layers.rows_by_way, numbers, self.by_row)
         else:
