@@ -1,9 +1,11 @@
 """Tests networks that are built in the order of others, by `like` and by `changed`: their answers, and what happens where the other one is closed."""
 import concurrent.futures
+import json
 import os
 import pathlib
 import random
 import threading
+import tracemalloc
 
 import pytest
 
@@ -16,7 +18,7 @@ import chtab
 from chtab.engine import library as calls
 from chtab.engine import making
 from chtab.files import arc_columns
-from chtab.roads import scenarios
+from chtab.roads import from_arcs, scenarios
 
 pytestmark = [needs("python3-numpy"), pytest.mark.usefixtures("program")]
 
@@ -169,9 +171,10 @@ def test_turns_stay_restricted_in_a_network_of_the_same_nodes():
 
 @needs("python3-pandas", "python3-geopandas")
 def test_places_are_those_of_the_other_network():
-    """Lines of arcs replace no places: a node without a line keeps its own, in frames and in GeoDataFrames."""
+    """Lines of arcs replace no places: a node without a line keeps its own, in frames and in GeoDataFrames. A matrix has its rows."""
     import geopandas
     import pandas
+    import scipy.sparse
     from shapely.geometry import LineString
 
     lines = [LineString([(9.50, 47.10), (9.505, 47.13), (9.52, 47.11)]), None]
@@ -185,6 +188,34 @@ def test_places_are_those_of_the_other_network():
             with made() as other:
                 assert other.labels.tolist() == PLACES["nodes"] and other.coordinates.longitudes.tolist() == PLACES["x"]
                 assert len(other.routes([("inn", "mill")]).to_geojson()["features"][0]["geometry"]["coordinates"]) == 3
+        matrix = scipy.sparse.csr_matrix(([7.0], ([1], [2])), (4, 4))
+        with chtab.Network.from_sparse(matrix, unit="minutes", like=network, program=PROGRAM) as other:
+            assert other.distances([("inn", "mill")]).tolist() == [7] and other.coordinates.longitudes.tolist() == PLACES["x"]
+        raises(chtab.DataFault, lambda: chtab.Network.from_sparse(matrix[:3, :3], like=network, unit="minutes"), told="nodes has 4 rows, and the matrix 3")
+
+
+def test_little_is_kept_for_what_stays_as_it_was():
+    """Labels are compared without a list of them, and the rows of arcs are written only where they are no longer those of their numbers."""
+    import numpy
+
+    labels = numpy.array([f"node {number}" for number in range(50_000)], object)
+    others = labels.copy()
+    tracemalloc.start()
+    try:
+        from_arcs.see_that_same_nodes(labels, labels)
+        from_arcs.see_that_same_nodes(labels, others)
+        assert tracemalloc.get_traced_memory()[1] < 200_000
+    finally:
+        tracemalloc.stop()
+    others[7] = "elsewhere"
+    assert raises(chtab.DataFault, from_arcs.see_that_same_nodes, labels, others, told="node 'elsewhere' is 'node 7' in like").row == 7
+    with of_roads() as network:
+        for folder, change, rows in ("same", {"weights": {0: 9}}, None), ("less", {"closed": [1]}, [0, 2, 3, 4]):
+            network.changed(**change, folder=folder).close()
+            assert json.loads(pathlib.Path(folder, "network.json").read_text())["arcs"] == rows
+        with chtab.Network.open("less", program=PROGRAM) as other:
+            other.changed({4: 1}, folder="last").close()
+        assert json.loads(pathlib.Path("last/network.json").read_text())["arcs"] == [0, 2, 3, 4]
 
 
 # Networks that are closed.

@@ -1,6 +1,7 @@
 """The index of a frame or of columns of pandas: what the rows of a caller's arcs are called. pandas is not imported."""
 from __future__ import annotations
 
+import collections
 from collections.abc import Sequence
 from typing import TYPE_CHECKING, Any
 
@@ -50,8 +51,9 @@ def shared(names: Sequence[str], given: Sequence[Any]) -> Any:
         return None
     first, index = own[0]
     for name, other in own[1:]:
-        if len(other) == len(index) and not other.equals(index):
-            if other.sort_values().equals(index.sort_values()):
-                raise DataFault(f"{name} has the rows of {first} in another order: give columns of one frame, or arrays", name)
-            return UNKNOWN
+        if other.equals(index):
+            continue
+        if len(other) == len(index) and collections.Counter(other) == collections.Counter(index):
+            raise DataFault(f"{name} has the rows of {first} in another order: give columns of one frame, or arrays", name)
+        return UNKNOWN
     return index

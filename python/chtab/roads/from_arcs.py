@@ -251,7 +251,7 @@ class FromArcs:
         matrix : sparse matrix or array of scipy, shape (n, n)
             The weights. A 0 that is stored is an arc of weight 0.
         nodes : array of labels, shape (n,), optional
-            The labels of rows and columns. Without it these are 0, 1, ..
+            The labels of rows and columns. Without it these are those of `like`, or 0, 1, ..
         x, y, scale, unit, both_ways, raw, folder : as `from_arrays` has them
             Places, the unit, and where files are.
         **running
@@ -277,13 +277,14 @@ class FromArcs:
             raise DataFault("matrix is a sparse matrix of scipy with as many rows as columns", "matrix")
         rows = matrix.tocsr(copy=True)
         rows.sum_duplicates()
-        labels = numpy.arange(rows.shape[0]) if nodes is None else nodes
+        is_like = see_that_network(settings.like) and nodes is None
+        labels = settings.like.labels if is_like else numpy.arange(rows.shape[0]) if nodes is None else nodes
         stored = rows.tocoo()
         known = columns.column_labels_in("nodes", labels)
         if len(known) != rows.shape[0]:
             raise DataFault(f"nodes has {len(known):,} rows, and the matrix {rows.shape[0]:,}", "nodes")
-        given = arc_columns.Columns(known[stored.row], known[stored.col], stored.data, labels, x, y, scale, unit, both_ways)
-        return cls._made(arc_columns.arcs_of(given), folder, settings)
+        given = arc_columns.Columns(known[stored.row], known[stored.col], stored.data, None if is_like else labels, x, y, scale, unit, both_ways)
+        return cls._made(arc_columns.arcs_of(with_nodes_of(given, settings.like)), folder, settings)
 
     @classmethod
     def _made(cls, arcs: arc_columns.Arcs, folder: str | os.PathLike | None, running: opening.Running) -> Self:

@@ -206,7 +206,7 @@ class Given(NamedTuple):
         if column is None:
             is_closed[self.names.of("closed", closed).items] = True
             return is_closed
-        if not hasattr(closed, "iloc"):
+        if not hasattr(closed, "iloc") or column.ndim != 1:
             self.see_that_rows("closed", column)
             return column[self.rows]
         found = self.names.of_index("closed", closed.index)
