@@ -212,8 +212,10 @@ class ArcNames:
         for number, (place, label) in enumerate(zip(places.tolist(), labels.tolist() if isinstance(labels, numpy.ndarray) else labels)):
             try:
                 [nodes[number]] = own.nodes_of(name, [label])
-            except (ValueError, TypeError) as fault:
+            except ValueError as fault:
                 raise refused(name, place, str(fault).removeprefix(f"{name}[0]: ")) from None
+            except TypeError:
+                raise refused(name, place, f"{told(label)} is no label; labels are {getattr(own, 'kind', columns.INTEGERS)}") from None
         return nodes
 
     def of_spots(self, name: str, places: Integers, given: Sequence[Spots]) -> Found:

@@ -16,7 +16,6 @@ from chtab.errors import DataFault
 from chtab.files import arc_columns, columns, edge_lines, measures
 from chtab.files.columns import told
 from chtab.files.frames import column_of
-from chtab.files.row_index import is_of_levels
 from chtab.roads.arc_names import ArcNames
 from chtab.roads.from_arcs import FromArcs, known_to_be_closed, see_that_network
 from chtab.roads.snapping import Spots
@@ -209,10 +208,10 @@ class Given(NamedTuple):
         if not hasattr(closed, "iloc") or column.ndim != 1:
             self.see_that_rows("closed", column)
             return column[self.rows]
+        if len(column) < self.names.row_labels.covered and self.names.rows_of_index("closed", closed.index) is not None:
+            self.see_that_rows("closed", column)
         found = self.names.of_index("closed", closed.index)
         self.see_that_once("closed", closed.index)
-        if len(column) < self.names.row_labels.covered and not is_of_levels(closed.index):
-            self.see_that_rows("closed", column)
         is_closed[found.items[column[found.places]]] = True
         return is_closed
 
