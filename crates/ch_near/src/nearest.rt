@@ -14,7 +14,7 @@ use crate::searched::Searched;
 use crate::spaces::search_targets;
 use ch_hierarchy::Hierarchy;
 use ch_work::{Crew, Gate, Stage, run_list_in};
-use std::alloc::{AllocError, Global};
+use std::alloc::AllocError;
 use std::marker::Model;
 use std::thread::Threads;
 

@@ -1,5 +1,5 @@
 //! Answers the first of the requests that came together.
-ghost use Rattle.std.specs.Prelude.{◌≡◌, ◌<◌, ◌≤◌, true, false, ⊤, ◌∷◌, List, None, length, map, All, IfOk, MatchOption};
+ghost use Rattle.std.specs.Prelude.{◌≡◌, ◌<◌, ◌≤◌, true, false, ⊤, ◌∷◌, List, None, length, All, IfOk, MatchOption};
 ghost use Rattle.ch_graph.specs.declared.limits.TheConstants.{MOST_LISTED};
 ghost use Rattle.ch_read.specs.Requests.{ArePlaces, AreTwoLists, IsRequest};
 ghost use Rattle.ch_read.specs.RequestLists.{PlaceList};

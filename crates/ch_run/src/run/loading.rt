@@ -1,17 +1,15 @@
 //! A graph, and a saved hierarchy or an order if there is one. Both are read to their end and checked.
-ghost use Rattle.std.specs.Prelude.{◌≡◌, ◌<◌, ◌≤◌, Some, IfOk, IfErr, IsOkAnd, MatchResult, ⊤};
+ghost use Rattle.std.specs.Prelude.{◌≡◌, ◌<◌, Some, IfOk, IfErr, IsOkAnd, MatchResult, ⊤};
 ghost use Rattle.ch_graph.specs.Saved.{OrderAndLegs};
 ghost use Rattle.ch_hierarchy.specs.Hierarchy.{LevelsAndLegs};
 ghost use Rattle.ch_hierarchy.specs.Kept.{IsKept};
-ghost use Rattle.ch_contract.specs.Like.{IsHierarchyLike};
 ghost use Rattle.ch_job.specs.Job.{source_map};
 ghost use Rattle.ch_run.specs.Loaded.{IsRight};
 ghost use Rattle.ch_run.specs.Run.{reading, ReadsAll};
-ghost use Rattle.ch_read.specs.declared.form.Form.TheVariants as FormOf;
-ghost use Rattle.ch_read.specs.Names.{NamesGraph, NamesOrder, NamesSaved};
+ghost use Rattle.ch_read.specs.Names.{NamesOrder, NamesSaved};
 ghost use Rattle.ch_graph.specs.Graph.{IsWithinLimits};
-ghost use Rattle.ch_hierarchy.specs.Saved.{IsOrderOf, NamesKept};
-ghost use Rattle.ch_run.specs.Story.{EndsAt, IsOrderRefusedOn, IsRefused, IsSavedRefusedOn, Loads, NamesLike};
+ghost use Rattle.ch_hierarchy.specs.Saved.{NamesKept};
+ghost use Rattle.ch_run.specs.Story.{EndsAt, IsOrderRefusedOn, IsSavedRefusedOn, Loads, NamesLike};
 ghost use Rattle.ch_run.specs.Source.{IsInPlaceOf, IsServing, ReadsSaved, source_reading};
 
 use super::inputs::{bytes_from, graph_from};
