@@ -2,7 +2,6 @@
 ghost use Rattle.std.specs.Prelude.{◌≡◌, ◌≢◌, ◌<◌, ◌≤◌, None, length, All, IfOk, OnOk};
 ghost use Rattle.ch_graph.specs.declared.limits.TheConstants.{MOST_LISTED};
 ghost use Rattle.ch_hierarchy.specs.Hierarchy.{nodes_of};
-ghost use Rattle.ch_near.specs.Near.{IsNearRow};
 ghost use Rattle.ch_near.specs.Kept.{AreKeptIn, IsRowOf, asked_by};
 ghost use Rattle.ch_query.specs.Distance.{IsKeptForSome};
 

@@ -1,8 +1,7 @@
 //! Targets that were searched from.
-ghost use Rattle.std.specs.Prelude.{◌≡◌, ◌<◌, ◌≤◌, length, All, IfOk};
+ghost use Rattle.std.specs.Prelude.{◌≡◌, ◌<◌, ◌≤◌, length, IfOk};
 ghost use Rattle.std.specs.List.{AllZip};
 ghost use Rattle.ch_graph.specs.declared.limits.TheConstants.{MOST_LISTED};
-ghost use Rattle.ch_hierarchy.specs.Hierarchy.{nodes_of};
 ghost use Rattle.ch_hierarchy.specs.declared.side.Side.TheVariants.{Down};
 ghost use Rattle.ch_near.specs.Direction.{facing};
 ghost use Rattle.ch_near.specs.Searched.{AreSearched, asked_of};

@@ -3,10 +3,9 @@ ghost use Rattle.std.specs.Prelude.{◌≡◌, ◌<◌, ◌≤◌, [], ◌∷◌
 ghost use Rattle.ch_graph.specs.declared.limits.TheConstants.{MOST_WEIGHT};
 ghost use Rattle.ch_hierarchy.specs.Hierarchy.{nodes_of};
 ghost use Rattle.ch_near.specs.Buckets.{IsBucketAmong};
-ghost use Rattle.ch_near.specs.Near.{IsNearRow};
 ghost use Rattle.ch_near.specs.Offers.{AreOffered, AreUnoffered};
 ghost use Rattle.ch_near.specs.Sums.{IsSumOf};
-ghost use Rattle.ch_near.specs.Sweep.{AreNodeRows, AreRowsTo, IsOwed, entry_of_leg, row_at};
+ghost use Rattle.ch_near.specs.Sweep.{AreNodeRows, AreRowsTo, entry_of_leg, row_at};
 
 use crate::first::sort_and_cut;
 use crate::nearest::NearTargets;

@@ -3,7 +3,7 @@ mod alone;
 mod like;
 mod quick;
 
-ghost use Rattle.std.specs.Prelude.{◌≡◌, ℕ, ◌<◌, ◌≤◌, ◌^◌, ◌++◌, All, IfOk, None, OnOk, length, map, slice_set};
+ghost use Rattle.std.specs.Prelude.{◌≡◌, ℕ, ◌<◌, ◌^◌, ◌++◌, All, IfOk, None, length, slice_set};
 ghost use Rattle.ch_graph.specs.Graph.{IsWithinLimits};
 ghost use Rattle.ch_contract.specs.Built.{IsHierarchy, IsHierarchyInTurn};
 ghost use Rattle.ch_contract.specs.Like.{IsHierarchyFrom};
@@ -120,10 +120,8 @@ struct Construction {
 }
 
 impl Construction {
-    ghost use Rattle.std.specs.Prelude.{MatchOption, slice_index};
+    ghost use Rattle.std.specs.Prelude.{MatchOption};
     ghost use Rattle.ch_queue.specs.Queue.{HasNone};
-    ghost use Rattle.ch_contract.specs.Legs.{AreLegsWithin};
-    ghost use Rattle.ch_contract.specs.Remaining.{legs_of};
     ghost use Rattle.ch_contract.specs.Rooms.{IsIdleRoom};
     ghost use Rattle.ch_hierarchy.specs.Hierarchy.{LevelsAndLegs, IsLevelled};
     ghost use Rattle.ch_order.specs.Progress.{AreAll, IsNext, IsOpen, IsStep};

@@ -21,14 +21,8 @@ abbrev pub IsTight : LevelsAndLegs → Side → ℕ → ℕ → Cost → Type 0
 IsTight H Up s v c = IsUp H s v c × IsLeastMeeting H s v c
 IsTight H Down s v c = IsDown H v s c × IsLeastMeeting H v s c
 
--- nodes and weights within the limit, in order of node. Each weight is that of an upward path from s. Each tight node
--- whose least weight is within the limit has an entry with it
-pub record IsSearchSpace (H : LevelsAndLegs) (side : Side) (limit : Option ℕ) (s : ℕ) (list : List (ℕ × ℕ)) : Type 0 where
-  pub order : AllPairs (λ a b. a.0 < b.0) list
-  pub sound : (v x : ℕ) → Contains list (v, x) → IsPathWeight (rows_of H side) s v x × IsWithin limit x
-  pub whole : (v : ℕ) (c : Cost) → IsTight H side s v c → IsWithin limit c.weight → Contains list (v, c.weight)
-
--- the same by the ranks of nodes, in any order
+-- ranks of nodes with weights within the limit, each rank once, in any order. Each weight is that of an upward path from s.
+-- Each tight node whose least weight is within the limit has an entry with it
 pub record IsRankedSpace (H : LevelsAndLegs) (side : Side) (limit : Option ℕ) (s : ℕ) (list : List (ℕ × ℕ)) : Type 0 where
   pub distinct : AllPairs (λ a b. a.0 ≢ b.0) list
   pub sound : (rank x : ℕ) → Contains list (rank, x) →

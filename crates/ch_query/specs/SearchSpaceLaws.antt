@@ -4,9 +4,9 @@ use Rattle.ch_hierarchy.specs.Hierarchy.{LevelsAndLegs}
 use Rattle.ch_hierarchy.specs.declared.side.Side.TheVariants.{Up, Down}
 use Rattle.ch_query.specs.Distance.{IsKeptForSome}
 use Rattle.ch_query.specs.Limits.{IsWithin, IsDistanceWithin}
-use Rattle.ch_query.specs.SearchSpace.{IsSearchSpace}
+use Rattle.ch_query.specs.SearchSpace.{IsRankedSpace}
 
--- x is the sum of the weights of one node in two lists
+-- x is the sum of the weights of one node in two lists by rank
 abbrev pub IsSharedSum : List (ℕ × ℕ) → List (ℕ × ℕ) → ℕ → Type 0
 IsSharedSum ups downs x = (v a b : ℕ) × Contains ups (v, a) × Contains downs (v, b) × (a + b ≡ x)
 
@@ -20,5 +20,5 @@ IsLeastSharedSum limit ups downs answer = MatchOption answer ((x : ℕ) → IsSh
 abbrev pub SearchSpacesGiveDistances : Type 0
 SearchSpacesGiveDistances = (H : LevelsAndLegs) (limit : Option ℕ) (s t : ℕ) (ups downs : List (ℕ × ℕ)) (answer : Option ℕ) →
     IsKeptForSome H →
-    IsSearchSpace H Up limit s ups → IsSearchSpace H Down limit t downs → IsLeastSharedSum limit ups downs answer →
+    IsRankedSpace H Up limit s ups → IsRankedSpace H Down limit t downs → IsLeastSharedSum limit ups downs answer →
     IsDistanceWithin H limit s t answer

@@ -16,7 +16,7 @@ use ch_hierarchy::Hierarchy;
 use ch_work::{Crew, Gate, Stage, run_list, run_list_in};
 use query_job::QueryJob;
 use route_job::RouteJob;
-use std::alloc::{AllocError, Global};
+use std::alloc::AllocError;
 use std::marker::Model;
 use std::thread::Threads;
 

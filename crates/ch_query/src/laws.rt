@@ -16,7 +16,7 @@ pub fn routes_are_least_walks()
 {}
 
 /// Take a hierarchy that is right for a graph, and two search spaces within the same limit: one up from a
-/// node, and one down to another.
+/// node, and one down to another, as [`ranked_spaces`](crate::ranked_spaces) lists them.
 ///
 /// The distance is the least sum within the limit of the two weights for one node. If there is no such sum,
 /// there is no walk of a weight within the limit.

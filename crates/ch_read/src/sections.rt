@@ -1,5 +1,5 @@
 //! Reads files in sections that workers share.
-ghost use Rattle.std.specs.Prelude.{◌≡◌, ◌<◌, ◌++◌, true, [], List, length, slice_index, Some, IfOk, MatchOption, MatchResult};
+ghost use Rattle.std.specs.Prelude.{◌≡◌, ◌<◌, ◌++◌, true, length, slice_index, Some, IfOk, MatchOption, MatchResult};
 ghost use Rattle.std.specs.List.{flat_map};
 ghost use Rattle.ch_read.specs.declared.form.Part.TheVariants as Part;
 ghost use Rattle.ch_read.specs.Words.{lines};

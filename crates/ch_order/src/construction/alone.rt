@@ -79,9 +79,6 @@ fn contract_in_turn(
 }
 
 impl Construction {
-    ghost use Rattle.std.specs.Prelude.{slice_index};
-    ghost use Rattle.ch_contract.specs.Legs.{AreLegsWithin};
-    ghost use Rattle.ch_contract.specs.Remaining.{legs_of};
     ghost use Rattle.ch_order.specs.Priorities.{IsRanked};
     ghost use Rattle.ch_order.specs.Progress.{IsStep};
     ghost use Rattle.ch_order.specs.Construction.{IsSized, IsJudging, IsReadyFor, progress_of};

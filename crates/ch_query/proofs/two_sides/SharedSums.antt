@@ -18,7 +18,7 @@ use Rattle.ch_hierarchy.proofs.code.Ranked.{rank_one}
 use Rattle.ch_hierarchy.proofs.theory.KeptWalks.{kept_has_walks, meetings_are_distances}
 use Rattle.ch_query.specs.Distance.{IsKeptForSome, IsLeastWeight}
 use Rattle.ch_query.specs.Limits.{IsWithin, IsCut, IsDistanceWithin}
-use Rattle.ch_query.specs.SearchSpace.{IsPathWeight, IsTight, IsSearchSpace, IsRankedSpace}
+use Rattle.ch_query.specs.SearchSpace.{IsPathWeight, IsTight, IsRankedSpace}
 use Rattle.ch_query.specs.SearchSpaceLaws.{IsSharedSum, IsLeastSharedSum}
 use Rattle.ch_query.proofs.two_sides.Distances.{weight_is_distance}
 use Rattle.ch_query.proofs.one_side.End.{least_reached}
@@ -135,14 +135,6 @@ module _ (H : LevelsAndLegs) (k : IsKeptForSome H) (limit : Option ℕ) (s t : �
         let never = (law.never s t).0 away in
         record { whole = None; least = never; distance = weight_is_distance H s t None never; cut = no_sum_cuts never o sum }
   ]
-
--- two search spaces within a limit give the distance within that limit
-pub spaces_give_distance : (H : LevelsAndLegs) (limit : Option ℕ) (s t : ℕ) (ups downs : List (ℕ × ℕ)) (answer : Option ℕ) →
-    IsKeptForSome H → IsSearchSpace H Up limit s ups →
-    IsSearchSpace H Down limit t downs → IsLeastSharedSum limit ups downs answer → IsDistanceWithin H limit s t answer
-spaces_give_distance H limit s t ups downs answer k up down least =
-    least_sum_is_distance H k limit s t (λ v x. Contains ups (v, x)) (λ v x. Contains downs (v, x)) up.sound up.whole down.sound
-    down.whole answer least
 
 -- the weight that a ranked space has for a node, found by the node's rank
 module _ (H : LevelsAndLegs) (levelled : IsLevelled H) (side : Side) (limit : Option ℕ) (s : ℕ) (list : List (ℕ × ℕ))

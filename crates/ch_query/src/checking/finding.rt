@@ -1,5 +1,5 @@
 //! Finds the first of many items that is not right, with one worker or several.
-ghost use Rattle.std.specs.Prelude.{ℕ, ◌≡◌, ◌<◌, ◌≤◌, ◌↔◌, IfOk, IfSome, IsTrue};
+ghost use Rattle.std.specs.Prelude.{ℕ, ◌≡◌, ◌<◌, ◌↔◌, IfOk, IfSome, IsTrue};
 ghost use Rattle.ch_query.specs.Finding.{IsFirstWithout, IsWithoutBelow, first_some};
 
 use ch_work::{Crew, Gate, RoomJob, run_pieces_in};

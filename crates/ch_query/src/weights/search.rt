@@ -9,7 +9,6 @@
 ghost use Rattle.std.specs.Prelude.{◌≡◌, ℕ, ◌<◌, ◌≤◌, length, slice_set, map, Some, true, false, IfOk, MatchOption};
 ghost use Rattle.ch_graph.specs.declared.limits.TheConstants.{MOST_WEIGHT};
 ghost use Rattle.ch_hierarchy.specs.Hierarchy.{nodes_of, IsLevelled};
-ghost use Rattle.ch_hierarchy.specs.Ranked.{rank_of};
 ghost use Rattle.ch_query.specs.Distance.{IsKeptForSome, IsLeastWeight};
 ghost use Rattle.ch_query.specs.Underway.{IsTouched};
 ghost use Rattle.ch_query.specs.Weights.{known_cost, is_idle_on, weight_cost, source_of, IsSizedFor, IsWeighingAt, IsSameWeighing, UnreachedStateIsUnkeyed, HasGoneOn, ShowsWeight, AtRank, IsCleanFor, IsLeastSoFar, IsLeastState, AreKeysFrom, count_unsettled_states, without_state};
