@@ -1,5 +1,5 @@
 //! The choice of a round: the keys of nodes, and the split of the remaining nodes into the round and the rest.
-ghost use Rattle.std.specs.Prelude.{◌≡◌, ℕ, ◌^◌, ◌<◌, ◌≤◌, ◌↔◌, ◌++◌, ◌∷◌, [], if◌then◌else◌, All, AllPairs, IfOk, IsTrue, OnOk, length, slice_index};
+ghost use Rattle.std.specs.Prelude.{◌≡◌, ◌^◌, ◌<◌, ◌≤◌, ◌↔◌, ◌++◌, ◌∷◌, [], if◌then◌else◌, All, AllPairs, IfOk, IsTrue, OnOk, length, slice_index};
 ghost use Rattle.std.specs.List.{AllZip};
 ghost use Rattle.ch_rounds.specs.FirstAround.{IsFirstBy};
 ghost use Rattle.ch_contract.specs.Remaining.{legs_of};

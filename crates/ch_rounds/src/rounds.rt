@@ -1,5 +1,5 @@
 //! Builds the hierarchy of a graph by rounds: nodes that are more than two legs apart are contracted together.
-ghost use Rattle.std.specs.Prelude.{◌≡◌, ℕ, ◌+◌, ◌*◌, ◌<◌, nat_lt, ◌≤◌, ◌^◌, ◌↔◌, All, AllPairs, Contains, IfOk, List, OnOk, length, pos, replicate, slice_index, true};
+ghost use Rattle.std.specs.Prelude.{◌≡◌, ℕ, ◌+◌, ◌*◌, ◌<◌, nat_lt, ◌≤◌, ◌^◌, ◌↔◌, All, Contains, IfOk, List, OnOk, length, pos, replicate, slice_index, true};
 ghost use Rattle.std.specs.List.{list_any, range_with_len};
 ghost use Rattle.ch_graph.specs.Graph.{IsWithinLimits};
 ghost use Rattle.ch_hierarchy.specs.Kept.{IsKept};

@@ -1,5 +1,5 @@
 //! Tables whose cells are shared by all workers.
-ghost use Rattle.std.specs.Prelude.{◌≡◌, ◌*◌, ◌<◌, ◌≤◌, length, map, vec_len, All, IfOk};
+ghost use Rattle.std.specs.Prelude.{◌≡◌, ◌*◌, ◌<◌, ◌≤◌, length, map, All, IfOk};
 ghost use Rattle.std.specs.List.{AllZip};
 ghost use Rattle.ch_graph.specs.declared.limits.TheConstants.{MOST_LISTED};
 ghost use Rattle.ch_hierarchy.specs.Hierarchy.{nodes_of};

@@ -1,6 +1,5 @@
 //! Pieces that several workers claim, and their values in order.
-ghost use Rattle.std.specs.Prelude.{◌≡◌, ℕ, ◌+◌, ◌*◌, ◌<◌, ◌≤◌, min, length, vec_len, slice_index_or, All, IfOk, IfSome, IsSomeAnd, None};
-ghost use Rattle.ch_work.specs.declared.limits.TheConstants.{MOST_WORKERS};
+ghost use Rattle.std.specs.Prelude.{◌≡◌, ℕ, ◌+◌, ◌*◌, ◌<◌, min, length, vec_len, slice_index_or, All, IfOk, IsSomeAnd, None};
 ghost use Rattle.ch_work.specs.Claims.{numbers, IsDone, IsHand, HasWorked, AreGathered};
 ghost use Rattle.ch_work.specs.Counts.{times};
 ghost use Rattle.ch_work.specs.Passes.{view_of, IsPassOf};

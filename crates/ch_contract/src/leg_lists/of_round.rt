@@ -1,5 +1,5 @@
 //! The lists of one side, changed for all nodes of a round.
-ghost use Rattle.std.specs.Prelude.{◌≡◌, ◌≢◌, ◌<◌, length, All, AllPairs, IfOk, OnOk};
+ghost use Rattle.std.specs.Prelude.{◌≡◌, ◌≢◌, ◌<◌, length, All, AllPairs, IfOk};
 ghost use Rattle.std.specs.List.{AllZip};
 ghost use Rattle.ch_contract.specs.LegLists.{AreRows, legs_at};
 ghost use Rattle.ch_contract.specs.RoundSides.{AreAllAside, AreAway, ArePutInTurn, AreTiesOf, AreUntied};

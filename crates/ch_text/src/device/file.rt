@@ -7,7 +7,7 @@ ghost use Rattle.std.specs.Prelude.{◌≡◌, ◌+◌, ◌≤◌, ℕ, false, L
 ghost use Rattle.std.specs.Io.{ReadsAtMost, WritesAtMost};
 ghost use Rattle.std.specs.Io.KnownBytes.{ReadConsumes, WriteAppends};
 ghost use Rattle.std.specs.declared.io.Error.{Error as IoError};
-ghost use Rattle.ch_text.specs.Calls.{IsClosedBy, IsDeviceRead, IsDeviceWrite, IsReadOf, IsWriteOf};
+ghost use Rattle.ch_text.specs.Calls.{IsDeviceRead, IsDeviceWrite, IsReadOf, IsWriteOf};
 ghost use Rattle.ch_text.specs.Device.{CanCountOneMore, ClosesAtFault, idle_writes, failures_in};
 ghost use Rattle.ch_text.specs.Told.{reader_tells, writer_tells};
 
