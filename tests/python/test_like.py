@@ -98,7 +98,7 @@ def ends_of(graph):
 
 
 def test_the_old_network_answers_while_the_new_one_is_built(library):
-    """Threads ask the old network during a change; it may be closed meanwhile; and forked processes ask both."""
+    """Threads ask the old network during a change, and so do forked processes, which ask both; it is closed before the new ones."""
     path = ROOT / "examples" / "liechtenstein.gr"
     with concurrent.futures.ThreadPoolExecutor(4) as threads:
         network = chtab.Network.open(path, program=PROGRAM, library=library)

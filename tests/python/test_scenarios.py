@@ -5,8 +5,8 @@ The network that was there answers as before, and labels, places and bends are t
 import concurrent.futures
 import os
 import pathlib
-import random
 import time
+import warnings
 
 import pytest
 
@@ -169,8 +169,10 @@ def test_new_weights_are_in_the_unit_of_those_that_were_given():
     for change in {"weights": {(1, 2): 8}}, {"weights": [8, 8]}, {"added": [(1, 2, 8)]}, {"weights": {(1, 2): 8.5}, "closed": [0]}:
         fault = raises(chtab.DataFault, lambda: network.changed(**change), told="the network was made with scale=1000 and without a unit")
         assert "raw=True" in str(fault)
-    with network, network.changed(closed=[(2, 3)]) as other:
-        assert other.distances([(1, 2), (2, 3)]).tolist() == [5_000, -1]
+    with warnings.catch_warnings():
+        warnings.simplefilter("error")
+        with network, network.changed(closed=[(2, 3)]) as other:
+            assert other.distances([(1, 2), (2, 3)]).tolist() == [5_000, -1]
     for more, weight in ({"raw": True}, 8_000), ({"scale": 1_000}, 8), ({"scale": 1_000, "unit": "metres"}, 8):
         with chtab.Network.open("own", program=PROGRAM, **more) as network, network.changed({(1, 2): weight}) as other:
             assert other.distances([(1, 2)]).tolist() == [weight]

@@ -289,7 +289,8 @@ class FromArcs:
     @classmethod
     def _made(cls, arcs: arc_columns.Arcs, folder: str | os.PathLike | None, running: opening.Running) -> Self:
         """Writes the files of these arcs, and opens their network."""
-        if arcs.scale is not None and arcs.unit is None and running.asked == Asked():
+        # Whoever changes a network was warned when it was made.
+        if arcs.scale is not None and arcs.unit is None and arcs.beside is None and running.asked == Asked():
             warn_of_scale(arcs.scale, 4)
         with known_to_be_closed(running.like):
             return cls._made_like(arcs, folder, running)
