@@ -186,7 +186,7 @@ class BetweenNodes:
         ----------
         values : array of float, shape (m,) or (m, c)
             A value for each row of the arcs that the network was made of, or for each arc of a graph file, in one column or several. Columns of
-            pandas go by their index, as `changed` takes it. Of several arcs between two nodes, a route takes the first of those with the least weight.
+            pandas go by their index, as in `changed`. Of several arcs between two nodes, a route takes the first of those with the least weight.
         pairs, targets : array of labels, shape (n, 2), or (n,) each
             As `distances` takes them.
 

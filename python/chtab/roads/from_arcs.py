@@ -369,8 +369,9 @@ def with_turns_of(arcs: arc_columns.Arcs, like: Any) -> arc_columns.Arcs:
     apart = columns.first_of((ends > 0) & ~is_met)
     if apart is not None:
         labels = like.labels[[apart - 1, int(ends[apart]) - 1]].tolist()
-        text = "turns are restricted in like, where trips to the node {} end at the node {}, and no arc leads there from it here".format(*map(columns.told, labels))
-        raise DataFault(f"{text}: give the arcs of `like.graph` with other weights, or leave `like` out", "targets")
+        text = "turns are restricted in like, where trips to the node {} end at the node {}, and no arc leads there from it here: give the arcs of " \
+            "`like.graph` with other weights, or leave `like` out"
+        raise DataFault(text.format(*map(columns.told, labels)), "targets")
     return dataclasses.replace(arcs, turns=like.coordinates.turns())
 
 

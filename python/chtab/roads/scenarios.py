@@ -51,30 +51,27 @@ class Scenarios(FromArcs):
         - `(source, target)`, all arcs from one node to another; `(source, target, key)`, the edge of a graph of networkx or osmnx with this key;
           `(node,)`, all arcs to and from a node;
         - spots of `snap`: at each place the road, in both directions, or the crossing if it is less than a metre away;
-        - `"way/23456"`, a way of OpenStreetMap: of a map, or of edges with `osmid`;
-        - the name or the number of a street, of a map that was imported with `--names`.
+        - `"way/23456"`, a way of OpenStreetMap, or the name or the number of a street of a map that was imported with `--names`.
 
-        A row that leads both ways is both arcs, and so is an edge with a key. Where turns are restricted, a node is all nodes of its crossing. Of several
-        names of one arc the last one counts.
-
-        A Series, or an Index as `closed`, goes by its labels: those of the frame's index, or else names. They may be in any order, or some of all rows.
-        In a list, an array or a dict, a number is a row, and is refused if the frame calls another row so: `frame.index[[7]]` is row 7.
+        A row that leads both ways is both arcs, and so is an edge with a key. Where turns are restricted, a node is all nodes of its crossing. A
+        Series, or an Index as `closed`, goes by its labels in any order: those of the frame's index, or else names. In a list, an array or a dict a
+        number is a row, and is refused if the frame calls another row so: `frame.index[[7]]` is row 7.
 
         Parameters
         ----------
         weights : array, Series or dict, optional
-            New weights in the network's `unit`, or whole numbers of the graph if it was made with `raw=True`: one for each row, or of some arcs, by a dict
-            or a Series whose index names them. A row whose arcs are closed stays closed, and a dict with such a name is refused.
+            New weights in the network's `unit`, or with `raw=True` those of the graph: one for each row, or of some arcs by their names, of which
+            the last one of an arc counts. A row whose arcs are closed stays closed, and as a name in a dict it is refused.
         closed : list of arcs, spots, Index, or array or Series of bool, optional
             The arcs that are no longer there, or for each row whether it is closed. Nodes stay.
         added : list of (source, target, weight) or pandas.DataFrame, optional
-            Further arcs between nodes of the network, with the columns source, target and weight, and optionally geometry. Each leads one way, and
-            may be taken from every road that leads to its source. Their rows follow those of the network, and edges have the keys of networkx.
+            Further arcs between nodes of the network, with the columns source, target and weight, and optionally geometry. Each leads one way, from
+            all roads that lead to its source. Their rows follow those of the network, and edges have the keys of networkx.
         folder : str or path, optional
             As `Network.from_arrays` takes it.
         fresh : int
-            How many per cent of the nodes are ordered afresh, from 0 to 100. More of them make building slower, and answers
-            faster if the weights differ much. The answers themselves are the same.
+            How many per cent of the nodes are ordered afresh, from 0 to 100. More of them make building slower, and answers faster if the weights
+            differ much. The answers themselves are the same.
 
         Returns
         -------
@@ -85,13 +82,10 @@ class Scenarios(FromArcs):
         Raises
         ------
         DataFault
-            A row, an arc, a way or a street is not there, nothing says of which ways arcs are, a node has no such label, a spot is one of another
-            network, or a weight is refused. The text names it, and nothing was written. Or the network was made with `scale` and neither a unit nor
-            `raw=True`, so that new weights may be either.
-        ChtabError
-            The network is closed.
-        FileExistsError, ProgramFault, OSError
-            As `Network.from_arrays` raises them.
+            A name stands for nothing, a node has no such label, or a weight is refused: the text names it, and nothing was written. Or the network
+            was made with `scale`, and neither with a unit nor with `raw=True`, so that new weights may be either.
+        FileExistsError, ProgramFault, ChtabError, OSError
+            As `Network.from_arrays` raises them, or the network is closed.
 
         Examples
         --------
