@@ -53,7 +53,7 @@ class Scenarios(FromArcs):
         - spots of `snap`: at each place the road, in both directions, or the crossing if it is less than a metre away;
         - `"way/23456"`, a way of OpenStreetMap, or the name or the number of a street of a map that was imported with `--names`.
 
-        A row that leads both ways is both arcs, and so is an edge with a key. Where turns are restricted, a node is all nodes of its crossing. A
+        A row that leads both ways is both arcs, also by the key of its edge. Where turns are restricted, a node is all nodes of its crossing. A
         Series, or an Index as `closed`, goes by its labels in any order: those of the frame's index, or else names. In a list, an array or a dict a
         number is a row, and is refused if the frame calls another row so: `frame.index[[7]]` is row 7.
 
