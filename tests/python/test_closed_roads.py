@@ -155,7 +155,7 @@ def test_ways_of_maps_are_closed():
             assert other.table(every, every).tolist() == without(lambda *ends: set(ends) == {2, 3})
             assert again.table(every, every).tolist() == without(lambda *ends: set(ends) in ({2, 3}, {3, 4}))
             raises(chtab.DataFault, again.changed, None, ["way/2"], told="closed[0]: no arc is a part of way 2 of OpenStreetMap")
-            # Added arcs, and those by which trips end, are parts of no way.
+            # Added arcs, and those with which trips end, are parts of no way.
             for way in 0, -1, 2**70:
                 raises(chtab.DataFault, other.changed, None, [0, f"way/{way}"], told="closed[1]: no ")
         assert network.table(every, every).tolist() == before

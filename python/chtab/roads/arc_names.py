@@ -49,7 +49,7 @@ class ArcNames:
     def __init__(self, layers: Layers) -> None:
         self.layers, self.rows, self.row_labels = layers, layers.rows, layers.row_labels
 
-    # Arcs by what is looked for. Arcs within a crossing, by which trips end there, are found by their rows alone.
+    # Arcs by what is looked for. Arcs within a crossing, with which trips end there, are found by their rows alone.
 
     @functools.cached_property
     def tails(self) -> Integers:
