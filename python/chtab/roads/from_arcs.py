@@ -82,7 +82,7 @@ class FromArcs:
         **running
             `program`, `workers`, `timeout`, `load`, `routes`, `runs` and `library`, as `Network.open` takes them. `progress`: True reports the
             building on standard error; a callable gets how many steps of a stage are done, and their total. `like`: a network of the same nodes. The
-            new network takes its order, in two thirds of the time; only the last `fresh` per cent of the nodes, 5 by default, are ordered afresh. The
+            new network takes its order, in three fifths of the time; only the last `fresh` per cent of the nodes, 5 by default, are ordered afresh. The
             nodes, labels and places of `like` are taken unless others are given, and so are the nodes where turns are restricted.
 
         Returns

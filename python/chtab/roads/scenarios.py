@@ -76,7 +76,7 @@ class Scenarios(FromArcs):
         Returns
         -------
         Network
-            The changed network. It is built in the order of this one, in two thirds of the time of a new network. Only if the program answers, and
+            The changed network. It is built in the order of this one, in three fifths of the time of a new network. Only if the program answers, and
             this network was opened without a saved hierarchy, it is built anew.
 
         Raises
