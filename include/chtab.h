@@ -18,9 +18,10 @@
  * nothing, unless its comment says so, and the handle is as before. You may pass a closed handle, wrong nodes, wrong
  * lengths or faulty files: each call tests what it gets, and returns a status.
  *
- * Threads. Make one call at a time with a handle. Give each thread a handle of its own with chtab_share: they share one
- * network in memory. Do not call from a signal handler. In a forked child of a process that had threads, do not call with
- * the handles of the parent: open new ones.
+ * Threads. Make one call at a time with a handle: if two threads use one at once, a call may return CHTAB_OK with a wrong
+ * answer, and the network may be lost. Give each thread a handle of its own with chtab_share: they share one network in
+ * memory. Do not call from a signal handler. In a forked child of a process that had threads, do not call with the handles
+ * of the parent: open new ones.
  *
  * Your duties. The library cannot test these:
  *   - A pointer is not NULL, even if its length is 0, and points to as many elements as its length says.

@@ -83,6 +83,49 @@ def compare_names(tally):
     tally.expect(ctypes.sizeof(Handle) == 16, "a handle has 16 bytes")
 
 
+# The header's types for those of the library, and its names of parameters that have another one there.
+NAMES = {"second": "handle"}
+TYPES = {"u8": "uint8_t", "u32": "uint32_t", "u64": "uint64_t", "Handle": "chtab", "Fault": "chtab_fault", "Found": "chtab_found"}
+
+
+def in_header(name, kind):
+    """A parameter of the library as the header declares it: a slice is a pointer and a length, and the allocator is no parameter of C."""
+    if kind == "Global":
+        return []
+    is_lent, is_changed, is_slice, item = re.fullmatch(r"(&?)(mut )?(\[?)(\w+)\]?", kind).groups()
+    name, declared_type = NAMES.get(name, name), TYPES[item]
+    if not is_lent:
+        return [f"{declared_type} {name}"]
+    pointer = f"{'' if is_changed else 'const '}{declared_type} *{name}"
+    return [pointer, f"size_t {name}_len"] if is_slice else [pointer]
+
+
+def exports():
+    """The parameters of each call of the library, in order, as the header declares them."""
+    found = re.findall(r'pub extern "C" fn (\w+)\((.*?)\) -> u32', (SOURCES / "handle.rt").read_text(), re.DOTALL)
+    return {name: [part for each in re.findall(r"(\w+): ([^,\n]+)", listed) for part in in_header(*each)] for name, listed in found}
+
+
+def fields(path, name):
+    """The members of a type of the library that C sees, in order, as the header declares them."""
+    body = re.search(rf"^#\[repr\(C\)\]\n(?:#.*\n)*pub struct {name} \{{\n(.*?)^\}}", path.read_text(), re.MULTILINE | re.DOTALL)[1]
+    return [f"{TYPES[kind]} {member}" for member, kind in re.findall(r"^    pub (\w+): (\w+),$", body, re.MULTILINE)]
+
+
+def compare_types(tally):
+    """Each function of the header has the parameters of the library's call, by order, name and type. The structures have the same members."""
+    text = re.sub(r"/\*.*?\*/", "", HEADER.read_text(), flags=re.DOTALL)
+    declarations = {name: [] if listed == "void" else [" ".join(part.split()) for part in listed.split(",")]
+                    for name, listed in re.findall(r"^uint32_t (chtab_\w+)\((.*?)\);", text, re.MULTILINE | re.DOTALL)}
+    tally.expect(declarations.keys() == exports().keys() == declared(), f"the header has {sorted(declarations)}, handle.rt {sorted(exports())}")
+    for name, parameters in exports().items():
+        tally.expect(declarations.get(name) == parameters, f"{name}: the header has {declarations.get(name)}, the library {parameters}")
+    for name, path, own in ("chtab_found", "answers.rt", "Found"), ("chtab_fault", "faults.rt", "Fault"):
+        listed = re.search(rf"typedef struct {name} {{(.*?)}}", text, re.DOTALL)[1]
+        members = [" ".join(part.split()) for part in listed.split(";") if part.strip()]
+        tally.expect(members == fields(SOURCES / path, own), f"{name}: the header has {members}, the library {fields(SOURCES / path, own)}")
+
+
 def flags():
     """How the example is compiled and linked, by pkg-config where it is there."""
     if shutil.which("pkg-config"):
@@ -230,6 +273,7 @@ def main():
             saved[graph].write_bytes(run(["save", graph], folder).out)
         compile_header(tally, folder)
         compare_names(tally)
+        compare_types(tally)
         run_example(tally, folder, saved)
         refuse_memory(tally, folder, saved)
         run_page(tally, folder)
