@@ -3,6 +3,10 @@ pub mod Customizing
 pub mod Metric
 pub mod Relaxing
 pub mod Written
+pub mod LegPairs
+pub mod LoweredPairs
+pub mod StepPairs
+pub mod Flat
 pub mod RelaxedRows
 pub mod Steps
 pub mod Opened

@@ -34,6 +34,6 @@ AreOfArcs n order rows arcs ups downs = IsMetric n order rows (λ i. legs_of arc
 abbrev pub IsPut : List ℕ → InArc → List (List Leg) → List (List Leg) → List (List Leg) → List (List Leg) → Type 0
 IsPut levels a ups downs new_ups new_downs =
     ((slice_index levels a.from < slice_index levels a.to)
-        × (new_ups ≡ slice_set ups a.from (map (lightened a.to a.weight) (row ups a.from))) × (new_downs ≡ downs))
+    × (new_ups ≡ slice_set ups a.from (map (lightened a.to a.weight) (row ups a.from))) × (new_downs ≡ downs))
     ⊎ ((slice_index levels a.to ≤ slice_index levels a.from) × (new_ups ≡ ups)
-        × (new_downs ≡ slice_set downs a.to (map (lightened a.from a.weight) (row downs a.to))))
+    × (new_downs ≡ slice_set downs a.to (map (lightened a.from a.weight) (row downs a.to))))

@@ -62,13 +62,13 @@ RelaxingKeepsMetrics =
     (n : ℕ) (order : List ℕ) (rows : List (List ℕ)) (T : ℕ → Legs) (k : ℕ) (firsts seconds : List Leg) (old new : List (List Leg)) →
     k < n → ((i j : ℕ) → i < n → j < n → slice_index order i ≡ slice_index order j → i ≡ j) → AreHigher n order rows →
     ((x w : ℕ) → x ≢ slice_index order k → w ≢ slice_index order k → x ≢ w →
-        T (k + 1) x w ≡ leg_over_at n (slice_index order k) (T k) x w) →
+    T (k + 1) x w ≡ leg_over_at n (slice_index order k) (T k) x w) →
     ((i : ℕ) → k < i → i < n → (Contains (slice_index_or rows (slice_index order k) []) (slice_index order i) → ⊥) →
-        HasNone (T k) (slice_index order k) (slice_index order i)) →
+    HasNone (T k) (slice_index order k) (slice_index order i)) →
     HasLegs (λ x. T k x (slice_index order k)) (slice_index_or rows (slice_index order k) []) firsts →
     HasLegs (T k (slice_index order k)) (slice_index_or rows (slice_index order k) []) seconds →
     IsMetric n order rows (λ i. T (min i k)) old → AreRelaxed n (slice_index order k) firsts seconds old new →
-        IsMetric n order rows (λ i. T (min i (k + 1))) new
+    IsMetric n order rows (λ i. T (min i (k + 1))) new
 
 -- an order of nodes, and for each node the nodes of its pairs that come later
 pub record OrderAndPairs : Type 0 where
@@ -92,4 +92,4 @@ pub record AreFor (g : Network) (order : List ℕ) (rows : List (List ℕ)) : Ty
 abbrev pub AreMetricsAt : Network → List ℕ → List (List ℕ) → ℕ → List (List Leg) → List (List Leg) → Type 0
 AreMetricsAt g order rows k ups downs =
     IsMetric g.nodes order rows (λ i. legs_after g order (min i k)) ups
-        × IsMetric g.nodes order rows (λ i. turned_legs (legs_after g order (min i k))) downs
+    × IsMetric g.nodes order rows (λ i. turned_legs (legs_after g order (min i k))) downs

@@ -7,6 +7,7 @@
 
 mod customizing;
 pub mod laws;
+mod leg_pair;
 mod lowering;
 mod metric;
 mod pairs;

@@ -20,8 +20,11 @@ module _ (n : ℕ) (order : List ℕ) (rows : List (List ℕ)) (parents : (k : �
       at (inl none) more = absurd (none j below p)
       at (inr h) more =
           let later = h.1 in
-          let small : h.0 < n = elim (h.2 j below p) [ inl same ↦ subst (λ z. z < n) same below | inr rest ↦ let less = rest.0 in
-              omega arith ] in
+          let small : h.0 < n = elim (h.2 j below p) [
+            | inl same ↦ subst (λ z. z < n) same below
+            | inr rest ↦ let less = rest.0 in
+                omega arith
+          ] in
           let own : IsParent n order rows i h.0 = record { later = (h.1, small); rest = h.2 } in
           elim (h.2 j below p) [
             | inl same ↦ (h.0 ∷ [], (own, sym same))

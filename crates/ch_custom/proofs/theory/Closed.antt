@@ -58,8 +58,8 @@ module _ (f : ℕ → Option Label) (ends : List ℕ) (legs : List Leg) (has : H
       | inl m ↦ at x m.0 m.1 m.2 (is_live m.0) refl
       | inr none ↦
           let gone : f x ≡ None =
-              out x (λ c. let m = contains_map_of node_of legs x (subst (λ (z : List ℕ). Contains z x) (sym has.ends) c) in
-              none m.0 m.1 m.2) in
+          out x (λ c. let m = contains_map_of node_of legs x (subst (λ (z : List ℕ). Contains z x) (sym has.ends) c) in
+          none m.0 m.1 m.2) in
           absent x gone ∙ sym gone
     ],
   )
@@ -105,16 +105,19 @@ module _ (g : Network) (order levels : List ℕ) (rows : List (List ℕ)) (limit
               )
           | inr le ↦ elim (cases_eq at.0 i) [
             | inl same ↦
-                let own : v i ≡ x = ap v (sym same) ∙ at.2 in
-                (none_unless (L i (v i) x) (λ l e. (within i (omega arith) (v i) x l e).ends.2 own),
-                    none_unless (L i x (v i)) (λ l e. (within i (omega arith) x (v i) l e).ends.2 (sym own)))
+                let own : v i ≡ x = ap v (sym same) ∙ at.2 in (
+                  none_unless (L i (v i) x) (λ l e. (within i (omega arith) (v i) x l e).ends.2 own),
+                  none_unless (L i x (v i)) (λ l e. (within i (omega arith) x (v i) l e).ends.2 (sym own)),
+                )
             | inr ne ↦
                 let gone = gone_steps g.nodes g.nodes order L pairs at.0 i (omega arith) (omega arith) (v i) in
                 (ap (L i (v i)) (sym at.2) ∙ gone.1, ap (λ z. L i z (v i)) (sym at.2) ∙ gone.0)
           ]
         ]
-    | inr past ↦ (none_unless (L i (v i) x) (λ l e. let q = (within i (omega arith) (v i) x l e).ends.1 in omega arith),
-        none_unless (L i x (v i)) (λ l e. let q = (within i (omega arith) x (v i) l e).ends.0 in omega arith))
+    | inr past ↦ (
+      none_unless (L i (v i) x) (λ l e. let q = (within i (omega arith) (v i) x l e).ends.1 in omega arith),
+      none_unless (L i x (v i)) (λ l e. let q = (within i (omega arith) x (v i) l e).ends.0 in omega arith),
+    )
   ]
 
   -- the hierarchy of the arrays
@@ -133,19 +136,23 @@ module _ (g : Network) (order levels : List ℕ) (rows : List (List ℕ)) (limit
   pub hierarchy_in : IsHierarchyIn (Lowers g.nodes) g closed_hierarchy order L
   hierarchy_in = record {
     contracted = taken g order rows limits ready;
-    sizes = (levelled_by.count ∙ (nodes g order rows limits ready).count, length-map ups (λ r. filter is_live r)
-        ∙ are.0.size, length-map downs (λ r. filter is_live r) ∙ are.1.size);
+    sizes = (
+      levelled_by.count ∙ (nodes g order rows limits ready).count,
+      length-map ups (λ r. filter is_live r)
+          ∙ are.0.size,
+      length-map downs (λ r. filter is_live r) ∙ are.1.size,
+    );
     level = λ i lt. let count = (nodes g order rows limits ready).count in levelled_by.each i (omega arith);
     up = λ i lt.
         let e : min i g.nodes ≡ i = omega arith in
         let has = subst (λ z. HasLegs (L z (v i)) (slice_index_or rows (v i) []) (row ups (v i))) e (are.0.each i lt) in
         subst (AreLegsFrom (L i) (v i)) (sym (row_up ups are.0.size i lt))
-            (live_row (L i (v i)) _ _ has (ready.sound.ordered (v i)) (λ x not. (none_there i x lt not).0));
+        (live_row (L i (v i)) _ _ has (ready.sound.ordered (v i)) (λ x not. (none_there i x lt not).0));
     down = λ i lt.
         let e : min i g.nodes ≡ i = omega arith in
         let has = subst (λ z. HasLegs (λ x. L z x (v i)) (slice_index_or rows (v i) []) (row downs (v i))) e (are.1.each i lt) in
         subst (AreLegsTo (L i) (v i)) (sym (row_up downs are.1.size i lt))
-            (live_row (λ x. L i x (v i)) _ _ has (ready.sound.ordered (v i)) (λ x not. (none_there i x lt not).1));
+        (live_row (λ x. L i x (v i)) _ _ has (ready.sound.ordered (v i)) (λ x not. (none_there i x lt not).1));
   }
 
   -- it is levelled
@@ -154,15 +161,15 @@ module _ (g : Network) (order levels : List ℕ) (rows : List (List ℕ)) (limit
       let size = ready.size in
       let count = ready.sound.count in
       levelled g closed_hierarchy order L
-          (hierarchy_by (Lowers g.nodes) (ContractsWithPairs g.nodes) g closed_hierarchy order L hierarchy_in (λ i lt step. pairs i lt))
-          limits.size.0 (opening_within g limits)
+      (hierarchy_by (Lowers g.nodes) (ContractsWithPairs g.nodes) g closed_hierarchy order L hierarchy_in (λ i lt step. pairs i lt))
+      limits.size.0 (opening_within g limits)
 
   -- it is right for the graph
   pub is_kept : IsKept g closed_hierarchy
   is_kept =
       hierarchies_with_enough_kept g 1 closed_hierarchy order L limits
-          (hierarchy_with_enough g 1 closed_hierarchy order L limits (grind arith, grind arith)
-          (lowered_are_contracted g order closed_hierarchy L limits hierarchy_in))
+      (hierarchy_with_enough g 1 closed_hierarchy order L limits (grind arith, grind arith)
+      (lowered_are_contracted g order closed_hierarchy L limits hierarchy_in))
 
   -- the same for rows that are those of the arrays
   pub levelled_rows : (up down : List (List Leg)) → up ≡ map (λ r. filter is_live r) ups → down ≡ map (λ r. filter is_live r) downs →

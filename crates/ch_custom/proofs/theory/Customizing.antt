@@ -43,7 +43,7 @@ overridden v (t ∷ list) u w before s c from to =
 
     at : (b : Bool) → (t.from == u && t.to == w) ≡ b → (t ≡ s) ⊎ Contains list s → (Contains list s → IsOverridden v list u w before) →
         (r : Shortcut) × Contains (t ∷ list) r × (r.from ≡ u) × (r.to ≡ w)
-            × (cond b (Some (shortcut_label v t)) (leg_after_shortcuts v list u w before) ≡ Some (shortcut_label v r))
+        × (cond b (Some (shortcut_label v t)) (leg_after_shortcuts v list u w before) ≡ Some (shortcut_label v r))
     at true e c more = let is = same_ends u w t.from t.to e in (t, contains_head t list, is.0, is.1, refl)
     at false e (inl same) more = absurd (true≢false (sym (met same) ∙ e))
     at false e (inr later) more = let r = more later in (r.0, contains_tail r.0 t list r.1, r.2, r.3, r.4)
@@ -118,8 +118,8 @@ module _ (n : ℕ) (L : Legs) (v : ℕ) (limits : AreLegsWithin n L) (list : Lis
         at true true false e f k = stays u w (λ s from to is.
             let l = dearer sum (L u w) k in
             is.needed (subst (λ c. HasWitness L v s.from s.to c 1) (sym (costs s from to is))
-                (subst (λ z. HasWitness L v z s.to sum 1) (sym from)
-                (subst (λ z. HasWitness L v u z sum 1) (sym to) (own_witness 1 L v u w l.0 sum (omega arith) nu nw l.1 l.2)))))
+            (subst (λ z. HasWitness L v z s.to sum 1) (sym from)
+            (subst (λ z. HasWitness L v u z sum 1) (sym to) (own_witness 1 L v u w l.0 sum (omega arith) nu nw l.1 l.2)))))
         at true false z e f k =
             stays u w (λ s from to is. let few : sum.arcs < n = subst (λ (c : Cost). c.arcs < n) (costs s from to is) is.arcs in
             grind (arith, nat_tests))
@@ -168,8 +168,8 @@ lowered_within n m order L start step (suc k) le =
     let e : k + 1 ≡ suc k = omega arith in
     let before = lowered_within n m order L start step k (omega arith) in
     subst (λ z. AreLegsWithin n (L z)) e
-        (within_more n (L k) (slice_index order k) (L (k + 1)) before
-        (pairs_by_needed n 1 _ _ _ ((contracting_is_lowering n (L k) (slice_index order k) (L (k + 1)) before).1 (step k (omega arith)))))
+    (within_more n (L k) (slice_index order k) (L (k + 1)) before
+    (pairs_by_needed n 1 _ _ _ ((contracting_is_lowering n (L k) (slice_index order k) (L (k + 1)) before).1 (step k (omega arith)))))
 
 -- the hierarchy of lowered legs is one of contracted nodes
 pub lowered_are_contracted : LoweredAreContracted
@@ -177,7 +177,7 @@ lowered_are_contracted g order H L limits is =
     let start = subst (AreLegsWithin g.nodes) (sym (one_map (L 0) (opening g) is.contracted.start)) (opening_within g limits) in
     hierarchy_by (Lowers g.nodes) (Contracts g.nodes 1) g H order L is (λ i lt step.
     (contracting_is_lowering g.nodes (L i) (slice_index order i) (L (i + 1))
-        (lowered_within g.nodes g.nodes order L start is.contracted.step i (omega arith))).1 step)
+    (lowered_within g.nodes g.nodes order L start is.contracted.step i (omega arith))).1 step)
 
 -- a lowered leg was there before, or both legs over v were
 lowered_cases : (n : ℕ) (L : Legs) (v u w : ℕ) (l : Label) → legs_lowered n L v u w ≡ Some l → ((k : Label) × (L u w ≡ Some k))
@@ -254,7 +254,7 @@ module _ (g : Network) (order : List ℕ) (L : ℕ → Legs) (rows : List (List 
           | inr two ↦
               let past = later k i two.0 lt (inl two.2) in
               topology.closed k i j past before below ((known k i past (omega arith)).1 (rw two.2 refl))
-                  ((known k j (omega arith) below).0 (rw two.3 refl))
+              ((known k j (omega arith) below).0 (rw two.3 refl))
         ]),
     (λ some.
         let l = some_of (L (k + 1) (node j) (node i)) some in
@@ -263,7 +263,7 @@ module _ (g : Network) (order : List ℕ) (L : ℕ → Legs) (rows : List (List 
           | inr two ↦
               let past = later k i two.1 lt (inr two.3) in
               topology.closed k i j past before below ((known k i past (omega arith)).0 (rw two.3 refl))
-                  ((known k j (omega arith) below).1 (rw two.2 refl))
+              ((known k j (omega arith) below).1 (rw two.2 refl))
         ]),
   )
 

@@ -34,8 +34,11 @@ contains_snoc (z ∷ xs) x y c = elim (contains_cons z y (xs ++ x ∷ []) c) [
 -- the place of a node in an order
 pub placed : (n : ℕ) (order : List ℕ) (x : ℕ) → IsOrderOf n order → x < n → (i : ℕ) × (i < n) × (slice_index order i ≡ x)
 placed n order x is lt =
-    taken_at n order x (is.count, (λ i d below. subst (λ z. z < n) (sym (number_at order i d below)) (is.within i below)),
-    λ i j d first below e. is.distinct i j first below (sym (number_at order i d (omega arith)) ∙ e ∙ number_at order j d below)) lt
+    taken_at n order x (
+      is.count,
+      (λ i d below. subst (λ z. z < n) (sym (number_at order i d below)) (is.within i below)),
+      λ i j d first below e. is.distinct i j first below (sym (number_at order i d (omega arith)) ∙ e ∙ number_at order j d below),
+    ) lt
 
 module _ (p : ℕ) (others : List ℕ) (without : ℕ) (old new : List (List ℕ)) (m : IsMerged p others without old new)
     (below : p < length old) where
@@ -97,7 +100,7 @@ module _ (g : Network) (order levels : List ℕ) (arcs : List InArc) (old : List
             let one = level_at i below in
             let two = level_at q lt in
             let at : slice_index levels (slice_index order i) ≡ slice_index levels (slice_index order q) =
-                ap (slice_index levels) (same ∙ sym is) in
+            ap (slice_index levels) (same ∙ sym is) in
             (h.0, omega (arith, h.1), h.2, h.3)
       ]
       | inr ne ↦ leads_up i w below (subst (λ z. Contains z w) (other_row p others without old new m within (slice_index order i) ne) c)
@@ -127,7 +130,7 @@ module _ (g : Network) (order levels : List ℕ) (arcs : List InArc) (old : List
   arc_put arc lo hi new low high rising ends m =
       let p = place_at lo low in
       let one : (y : ℕ) → Contains (hi ∷ []) y → hi ≡ y =
-          λ y c. elim (contains_cons hi y [] c) [ inl is ↦ is | inr rest ↦ absurd (contains_none y rest) ] in
+      λ y c. elim (contains_cons hi y [] c) [ inl is ↦ is | inr rest ↦ absurd (contains_none y rest) ] in
       let up : (y : ℕ) → Contains (hi ∷ []) y → y ≢ lo → (j : ℕ) × (p.0 < j) × (j < g.nodes) × (slice_index order j ≡ y) = λ y c ne.
       let same = one y c in
       let h = place_at hi high in
@@ -151,10 +154,22 @@ module _ (g : Network) (order levels : List ℕ) (arcs : List InArc) (old : List
           let from : arc.from ≡ b.from = ap (λ (z : InArc). z.from) is in
           let to : arc.to ≡ b.to = ap (λ (z : InArc). z.to) is in
           elim ends [
-            | inl e ↦ elim at [ inl f ↦ inl (f.0 ∙ sym from ∙ e.0, f.1 ∙ sym to ∙ e.1) | inr f ↦ inr (f.0 ∙ sym to ∙ e.1, f.1 ∙ sym from
-                ∙ e.0) ]
-            | inr e ↦ elim at [ inl f ↦ inr (f.0 ∙ sym from ∙ e.0, f.1 ∙ sym to ∙ e.1) | inr f ↦ inl (f.0 ∙ sym to ∙ e.1, f.1 ∙ sym from
-                ∙ e.0) ]
+            | inl e ↦ elim at [
+              | inl f ↦ inl (f.0 ∙ sym from ∙ e.0, f.1 ∙ sym to ∙ e.1)
+              | inr f ↦ inr (
+                f.0 ∙ sym to ∙ e.1,
+                f.1 ∙ sym from
+                    ∙ e.0,
+              )
+            ]
+            | inr e ↦ elim at [
+              | inl f ↦ inr (f.0 ∙ sym from ∙ e.0, f.1 ∙ sym to ∙ e.1)
+              | inr f ↦ inl (
+                f.0 ∙ sym to ∙ e.1,
+                f.1 ∙ sym from
+                    ∙ e.0,
+              )
+            ]
           ]
 
       of_arc : (i j : ℕ) → i < j → j < g.nodes → IsMerged lo (hi ∷ []) lo old new → AreRowsFor g order levels arcs new →
@@ -166,9 +181,9 @@ module _ (g : Network) (order levels : List ℕ) (arcs : List InArc) (old : List
           elim at [
             | inl e ↦
                 let ne : hi ≢ lo = λ same. let q : slice_index levels (slice_index order i) ≡ slice_index levels (slice_index order j) =
-                    ap (slice_index levels) (e.0 ∙ sym same ∙ sym e.1) in omega arith in
+                ap (slice_index levels) (e.0 ∙ sym same ∙ sym e.1) in omega arith in
                 subst (λ z. Contains (nodes_row new z) (slice_index order j)) (sym e.0)
-                    (subst (Contains (nodes_row new lo)) (sym e.1) (m.union.added hi (contains_head hi []) ne))
+                (subst (Contains (nodes_row new lo)) (sym e.1) (m.union.added hi (contains_head hi []) ne))
             | inr e ↦
                 let a : slice_index levels (slice_index order i) ≡ slice_index levels hi = ap (slice_index levels) e.0 in
                 let b : slice_index levels (slice_index order j) ≡ slice_index levels lo = ap (slice_index levels) e.1 in
@@ -182,7 +197,7 @@ module _ (g : Network) (order levels : List ℕ) (arcs : List InArc) (old : List
 pub handed_more : (g : Network) (order levels : List ℕ) (k : ℕ) (old new : List (List ℕ)) (parent : ℕ) →
     AreHandedOn g order levels k old → k < g.nodes → Contains (nodes_row old (slice_index order k)) parent →
     ((y : ℕ) → Contains (nodes_row old (slice_index order k)) y → slice_index levels parent ≤ slice_index levels y) →
-        IsMerged parent (nodes_row old (slice_index order k)) parent old new → AreHandedOn g order levels (k + 1) new
+    IsMerged parent (nodes_row old (slice_index order k)) parent old new → AreHandedOn g order levels (k + 1) new
 handed_more g order levels k old new parent h lt has least m =
     record { rows_for = next; parents = λ i before small. of_place i before small }
   where
@@ -197,7 +212,7 @@ handed_more g order levels k old new parent h lt has least m =
     up y c ne =
         let q = leads_up g order levels g.arcs old a k y lt c in
         let one : slice_index levels parent ≡ its.0 + 1 = ap (slice_index levels) (sym its.3)
-            ∙ level_at g order levels g.arcs old a its.0 its.2 in
+        ∙ level_at g order levels g.arcs old a its.0 its.2 in
         let two : slice_index levels y ≡ q.0 + 1 = ap (slice_index levels) (sym q.3) ∙ level_at g order levels g.arcs old a q.0 q.2 in
         let le = least y c in
         elim (cases_eq q.0 its.0) [
@@ -222,7 +237,7 @@ handed_more g order levels k old new parent h lt has least m =
         let one = level_at g order levels g.arcs old a i (omega arith) in
         let two = level_at g order levels g.arcs old a its.0 its.2 in
         let same : slice_index levels (slice_index order i) ≡ slice_index levels (slice_index order its.0) =
-            ap (slice_index levels) (e ∙ sym its.3) in
+        ap (slice_index levels) (e ∙ sym its.3) in
         let past = its.1 in
         omega arith)
 
@@ -248,16 +263,19 @@ handed_more g order levels k old new parent h lt has least m =
                 let one = level_at g order levels g.arcs old a j lt in
                 let two = level_at g order levels g.arcs old a its.0 its.2 in
                 let same : slice_index levels (slice_index order j) ≡ slice_index levels (slice_index order its.0) =
-                    ap (slice_index levels) (is ∙ sym its.3) in
+                ap (slice_index levels) (is ∙ sym its.3) in
                 inl (omega arith)
             | inr ne ↦
                 let u = up (slice_index order j) was ne in
                 let one = level_at g order levels g.arcs old a j lt in
                 let two = level_at g order levels g.arcs old a u.0 u.2 in
                 let same : slice_index levels (slice_index order u.0) ≡ slice_index levels (slice_index order j) =
-                    ap (slice_index levels) u.3 in
-                inr (omega (arith, u.1), subst (λ z. Contains (nodes_row new z) (slice_index order j)) (sym its.3)
-                    (m.union.added (slice_index order j) was ne))
+                ap (slice_index levels) u.3 in
+                inr (
+                  omega (arith, u.1),
+                  subst (λ z. Contains (nodes_row new z) (slice_index order j)) (sym its.3)
+                      (m.union.added (slice_index order j) was ne),
+                )
           ],
     )
 
@@ -324,19 +342,19 @@ rows_none g order levels rows limits is leveled same =
 pub arc_next : (g : Network) (order levels : List ℕ) (arcs : List InArc) (k : ℕ) (d : InArc) (old new : List (List ℕ)) (lo hi : ℕ) →
     IsWithinLimits g → arcs ≡ g.arcs → k < length arcs → AreRowsFor g order levels (take k g.arcs) old →
     IsRising levels lo hi → (((get_or arcs k d).from ≡ lo) × ((get_or arcs k d).to ≡ hi))
-        ⊎ (((get_or arcs k d).from ≡ hi) × ((get_or arcs k d).to ≡ lo)) → IsMerged lo (hi ∷ []) lo old new →
-        AreRowsFor g order levels (take (k + 1) g.arcs) new
+    ⊎ (((get_or arcs k d).from ≡ hi) × ((get_or arcs k d).to ≡ lo)) → IsMerged lo (hi ∷ []) lo old new →
+    AreRowsFor g order levels (take (k + 1) g.arcs) new
 arc_next g order levels arcs k d old new lo hi limits same lt a rising ends m =
     let inside : k < length g.arcs = subst (λ z. k < length z) same lt in
     let is = limits.each k d inside in
     let e = subst (λ z. (((get_or z k d).from ≡ lo) × ((get_or z k d).to ≡ hi))
-        ⊎ (((get_or z k d).from ≡ hi) × ((get_or z k d).to ≡ lo))) same ends in
+    ⊎ (((get_or z k d).from ≡ hi) × ((get_or z k d).to ≡ lo))) same ends in
     let both : (lo < g.nodes) × (hi < g.nodes) = elim e [
       | inl f ↦ (subst (λ z. z < g.nodes) f.0 is.ends.0, subst (λ z. z < g.nodes) f.1 is.ends.1)
       | inr f ↦ (subst (λ z. z < g.nodes) f.1 is.ends.1, subst (λ z. z < g.nodes) f.0 is.ends.0)
     ] in
     subst (λ z. AreRowsFor g order levels z new) (sym (take_more g.arcs k d inside))
-        (arc_put g order levels (take k g.arcs) old a (get_or g.arcs k d) lo hi new both.0 both.1 rising e m)
+    (arc_put g order levels (take k g.arcs) old a (get_or g.arcs k d) lo hi new both.0 both.1 rising e m)
 
 -- all arcs are put in
 pub arcs_all : (g : Network) (order levels : List ℕ) (k : ℕ) (rows : List (List ℕ)) → length g.arcs ≤ k →
@@ -374,8 +392,8 @@ rising_of g order levels arcs rows a x y bx by le =
 pub arc_next_down : (g : Network) (order levels : List ℕ) (arcs : List InArc) (k : ℕ) (d : InArc) (old new : List (List ℕ)) →
     IsWithinLimits g → arcs ≡ g.arcs → k < length arcs → AreRowsFor g order levels (take k g.arcs) old →
     slice_index levels (get_or arcs k d).to ≤ slice_index levels (get_or arcs k d).from →
-        IsMerged (get_or arcs k d).to ((get_or arcs k d).from ∷ []) (get_or arcs k d).to old new →
-        AreRowsFor g order levels (take (k + 1) g.arcs) new
+    IsMerged (get_or arcs k d).to ((get_or arcs k d).from ∷ []) (get_or arcs k d).to old new →
+    AreRowsFor g order levels (take (k + 1) g.arcs) new
 arc_next_down g order levels arcs k d old new limits same lt a le m =
     let inside : k < length g.arcs = subst (λ z. k < length z) same lt in
     let is = limits.each k d inside in
@@ -383,7 +401,7 @@ arc_next_down g order levels arcs k d old new limits same lt a le m =
     let to : (get_or arcs k d).to < g.nodes = subst (λ (z : InArc). z.to < g.nodes) (sym e) is.ends.1 in
     let from : (get_or arcs k d).from < g.nodes = subst (λ (z : InArc). z.from < g.nodes) (sym e) is.ends.0 in
     arc_next g order levels arcs k d old new (get_or arcs k d).to (get_or arcs k d).from limits same lt a
-        (rising_of g order levels (take k g.arcs) old a _ _ to from le) (inr (refl, refl)) m
+    (rising_of g order levels (take k g.arcs) old a _ _ to from le) (inr (refl, refl)) m
 
 -- a row without nodes
 pub empty_of : (xs : List ℕ) → (length xs == 0) ≡ true → xs ≡ []

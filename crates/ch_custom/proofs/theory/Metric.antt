@@ -21,13 +21,18 @@ lowered_none n v one others before held = record {
   held = held;
 }
 
--- all legs of the row are lowered
-pub lowered_all : (n v : ℕ) (one : Leg) (others before : List Leg) (place : ℕ) (after : List Leg) →
-    AreLoweredTo n v one others before place after → length before ≤ place → AreLoweredOver n v one others before after
-lowered_all n v one others before place after a past = record {
+-- the legs of the row that are not lowered yet have no leg to be lowered with
+pub lowered_rest : (n v : ℕ) (one : Leg) (others before : List Leg) (place : ℕ) (after : List Leg) →
+    AreLoweredTo n v one others before place after →
+    ((l : Leg) (k : ℕ) (d : Leg) → Contains others l → place ≤ k → k < length before → l.node < (get_or before k d).node) →
+    AreLoweredOver n v one others before after
+lowered_rest n v one others before place after a less = record {
   size = a.size;
   nodes = a.nodes;
-  lowered = λ k d l lt c e. a.lowered k d l (omega arith) lt c e;
+  lowered = λ k d l lt c e. elim (cases_lt k place) [
+    | inl first ↦ a.lowered k d l first lt c e
+    | inr past ↦ absurd (let more = less l k d c past lt in omega arith)
+  ];
   kept = a.kept;
 }
 
@@ -58,16 +63,6 @@ none_there others next x row before after l c e =
       ]
     ]
 
--- a node that is at least x, and not x, is greater
-pub greater : (others : List Leg) (next x : ℕ) (d e : Leg) → next < length others → x ≤ (get_or others next d).node →
-    ((get_or others next e).node ≡ x → ⊥) → x < (get_or others next d).node
-greater others next x d e lt le ne =
-    let same : (get_or others next d).node ≡ (get_or others next e).node = ap (λ (z : Leg). z.node) (get_or_default others next d e lt) in
-    elim (cases_eq (get_or others next e).node x) [
-      | inl is ↦ absurd (ne is)
-      | inr apart ↦ omega arith
-    ]
-
 module _ (n v : ℕ) (one : Leg) (others before : List Leg) (place : ℕ) (after : List Leg)
     (a : AreLoweredTo n v one others before place after) (inside : place < length before) where
   -- the leg at this place has no leg to be lowered with
@@ -89,13 +84,13 @@ module _ (n v : ℕ) (one : Leg) (others before : List Leg) (place : ℕ) (after
   pub lowered_here : (next : ℕ) (r d : Leg) → IsRow others → next < length others →
       (get_or others next d).node ≡ (get_or before place d).node → r.node ≡ (get_or before place d).node →
       held_leg r ≡ leg_over n v (held_leg one) (held_leg (get_or others next d)) (held_leg (get_or before place d)) → IsHeld r →
-          AreLoweredTo n v one others before (place + 1) (set after place r)
+      AreLoweredTo n v one others before (place + 1) (set after place r)
   lowered_here next r d row lt node mine low is =
       let size = a.size in
       let there : place < length after = omega arith in
       let here : (e : Leg) → get_or (set after place r) place e ≡ r = λ e. get_or-set_same after place r e there in
       let other : (k : ℕ) (e : Leg) → k ≢ place → get_or (set after place r) k e ≡ get_or after k e =
-          λ k e ne. get_or-set_other after place k r e ne in
+      λ k e ne. get_or-set_other after place k r e ne in
       let old : (e : Leg) → get_or before place e ≡ get_or before place d = λ e. get_or_default before place e d inside in
       record {
         size = length-set after place r ∙ a.size;
@@ -107,13 +102,13 @@ module _ (n v : ℕ) (one : Leg) (others before : List Leg) (place : ℕ) (after
         lowered = λ k e l first below c eq. elim (cases_eq k place) [
           | inl same ↦
               let its : l.node ≡ (get_or others next d).node = eq ∙ ap (λ z. (get_or before z e).node) same
-                  ∙ ap (λ (z : Leg). z.node) (old e) ∙ sym node in
+              ∙ ap (λ (z : Leg). z.node) (old e) ∙ sym node in
               let found : l ≡ get_or others next d = at_node others next l d row lt c its in
               subst (λ z. held_leg (get_or (set after place r) z e) ≡ leg_over n v (held_leg one) (held_leg l)
-                  (held_leg (get_or before z e))) (sym same)
+              (held_leg (get_or before z e))) (sym same)
               (ap held_leg (here e) ∙ low
-                  ∙ ap (λ (z : Leg). leg_over n v (held_leg one) (held_leg z) (held_leg (get_or before place d))) (sym found)
-                  ∙ ap (λ (z : Leg). leg_over n v (held_leg one) (held_leg l) (held_leg z)) (sym (old e)))
+              ∙ ap (λ (z : Leg). leg_over n v (held_leg one) (held_leg z) (held_leg (get_or before place d))) (sym found)
+              ∙ ap (λ (z : Leg). leg_over n v (held_leg one) (held_leg l) (held_leg z)) (sym (old e)))
           | inr ne ↦ ap held_leg (other k e ne) ∙ a.lowered k e l (omega arith) below c eq
         ];
         kept = λ k e below none. elim (cases_eq k place) [
@@ -129,7 +124,7 @@ module _ (n v : ℕ) (one : Leg) (others before : List Leg) (place : ℕ) (after
   pub lowered_now : (next : ℕ) (r d e : Leg) (row : List Leg) → IsRow others → next < length others →
       (get_or others next d).node ≡ (get_or after place e).node → r.node ≡ (get_or after place e).node →
       held_leg r ≡ leg_over n v (held_leg one) (held_leg (get_or others next d)) (held_leg (get_or after place e)) → IsHeld r →
-          row ≡ set after place r → AreLoweredTo n v one others before (place + 1) row
+      row ≡ set after place r → AreLoweredTo n v one others before (place + 1) row
   lowered_now next r d e row is lt node mine low held eq =
       let same : get_or after place e ≡ get_or before place e = a.later place e (omega arith) inside in
       let swap : get_or others next d ≡ get_or others next e = get_or_default others next d e lt in
@@ -138,7 +133,7 @@ module _ (n v : ℕ) (one : Leg) (others before : List Leg) (place : ℕ) (after
       (ap (λ (z : Leg). z.node) (sym swap) ∙ node ∙ ap (λ (z : Leg). z.node) same)
       (mine ∙ ap (λ (z : Leg). z.node) same)
       (low ∙ ap (λ (z : Leg). leg_over n v (held_leg one) (held_leg z) (held_leg (get_or after place e))) swap
-          ∙ ap (λ (z : Leg). leg_over n v (held_leg one) (held_leg (get_or others next e)) (held_leg z)) same)
+      ∙ ap (λ (z : Leg). leg_over n v (held_leg one) (held_leg (get_or others next e)) (held_leg z)) same)
       held)
 
   -- no other leg has the node of this place
@@ -150,15 +145,4 @@ module _ (n v : ℕ) (one : Leg) (others before : List Leg) (place : ℕ) (after
       let same : get_or after place e ≡ get_or before place e = a.later place e (omega arith) inside in
       subst (AreLoweredTo n v one others before (place + 1)) (sym eq)
       (lowered_past (λ l d c at. none_there others next (get_or after place e).node is less more l c (at
-          ∙ ap (λ (z : Leg). z.node) (get_or_default before place d e inside ∙ sym same))))
-
-  -- the other legs that were passed have lesser nodes than all later ones of the row
-  pub passed : (next : ℕ) (f : Leg) → IsRow before →
-      ((k : ℕ) (d : Leg) → k < next → (get_or others k d).node < (get_or after place f).node) → (k j : ℕ) (d e : Leg) → k < next →
-      place + 1 ≤ j → j < length before → (get_or others k d).node < (get_or before j e).node
-  passed next f is less k j d e lt past below =
-      let one = less k d lt in
-      let same : (get_or after place f).node ≡ (get_or before place e).node =
-          ap (λ (z : Leg). z.node) (a.later place f (omega arith) inside ∙ get_or_default before place f e inside) in
-      let two = is place j e (omega arith) below in
-      omega arith
+      ∙ ap (λ (z : Leg). z.node) (get_or_default before place d e inside ∙ sym same))))

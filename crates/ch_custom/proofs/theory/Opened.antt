@@ -94,17 +94,17 @@ lightened_row S T nodes legs y weight has light here other = record {
       elim (cases_eq m.0.node y) [
         | inl is ↦
             ap held_leg (sym m.2) ∙ lightened_here y weight m.0 (S m.0.node) is light (has.each m.0 m.1)
-                ∙ ap (λ z. arc_label_of (Some (lesser_weight weight (S z)))) is ∙ ap arc_label_of (sym here)
-                ∙ ap (λ z. arc_label_of (T z)) (sym (at ∙ is))
+            ∙ ap (λ z. arc_label_of (Some (lesser_weight weight (S z)))) is ∙ ap arc_label_of (sym here)
+            ∙ ap (λ z. arc_label_of (T z)) (sym (at ∙ is))
         | inr ne ↦
             ap held_leg (sym m.2 ∙ lightened_other y weight m.0 ne) ∙ has.each m.0 m.1 ∙ ap arc_label_of (sym (other m.0.node ne))
-                ∙ ap (λ z. arc_label_of (T z)) (sym at)
+            ∙ ap (λ z. arc_label_of (T z)) (sym at)
       ];
   held = λ k d lt.
       let size = length-map legs (lightened y weight) in
       let below : k < length legs = omega arith in
       subst IsHeld (sym (get_or-map (lightened y weight) legs k d d below))
-          (lightened_held y weight (get_or legs k d) (has.held k d below));
+      (lightened_held y weight (get_or legs k d) (has.held k d below));
 }
 
 module _ (n : ℕ) (order : List ℕ) (rows : List (List ℕ)) (S T : ℕ → ℕ → Option ℕ) (metric : List (List Leg))
@@ -134,15 +134,15 @@ module _ (n : ℕ) (order : List ℕ) (rows : List (List ℕ)) (S T : ℕ → �
       | inl is ↦
           let now : row new (slice_index order i) ≡ map (lightened y weight) (row metric (slice_index order i)) =
           ap (λ z. row z (slice_index order i)) edited ∙ ap (λ z. row (set metric x (map (lightened y weight) (row metric x))) z) is
-              ∙ get_or-set_same metric x (map (lightened y weight) (row metric x)) [] below
-              ∙ ap (λ z. map (lightened y weight) (row metric z)) (sym is) in
+          ∙ get_or-set_same metric x (map (lightened y weight) (row metric x)) [] below
+          ∙ ap (λ z. map (lightened y weight) (row metric z)) (sym is) in
           subst (HasLegs (λ w. arc_label_of (T (slice_index order i) w)) (slice_index_or rows (slice_index order i) [])) (sym now)
           (lightened_row (S (slice_index order i)) (T (slice_index order i)) _ _ y weight has light
-              (subst (λ z. T z y ≡ Some (lesser_weight weight (S z y))) (sym is) here)
-              (λ w ne. other (slice_index order i) w (λ a b. ne b)))
+          (subst (λ z. T z y ≡ Some (lesser_weight weight (S z y))) (sym is) here)
+          (λ w ne. other (slice_index order i) w (λ a b. ne b)))
       | inr ne ↦
           let now : row new (slice_index order i) ≡ row metric (slice_index order i) = ap (λ z. row z (slice_index order i)) edited
-              ∙ get_or-set_other metric x (slice_index order i) (map (lightened y weight) (row metric x)) [] ne in
+          ∙ get_or-set_other metric x (slice_index order i) (map (lightened y weight) (row metric x)) [] ne in
           subst (HasLegs (λ w. arc_label_of (T (slice_index order i) w)) (slice_index_or rows (slice_index order i) [])) (sym now) (record {
             ends = has.ends;
             each = λ l c. has.each l c ∙ ap arc_label_of (sym (other (slice_index order i) l.node (λ a b. ne a)));
@@ -190,18 +190,18 @@ module _ (g : Network) (order levels : List ℕ) (rows : List (List ℕ)) (limit
           omega arith) light up.1 (push_here arcs a) (λ u w ne. push_other u w arcs a ne),
       subst (IsMetric g.nodes order rows (λ i. turned_legs (legs_of (arcs ++ a ∷ [])))) (sym up.2)
           (same_metric g.nodes order rows (λ u w. least_weight w u arcs) (λ u w. least_weight w u (arcs ++ a ∷ [])) downs are.1
-              (λ i w lt c. push_other w (slice_index order i) arcs a (λ x y.
+          (λ i w lt c. push_other w (slice_index order i) arcs a (λ x y.
           let less = rising i w lt c in let p : slice_index levels w ≡ slice_index levels a.from = ap (slice_index levels) x in
-              let q : slice_index levels (slice_index order i) ≡ slice_index levels a.to = ap (slice_index levels) y in
-              omega (arith, up.0)))),
+          let q : slice_index levels (slice_index order i) ≡ slice_index levels a.to = ap (slice_index levels) y in
+          omega (arith, up.0)))),
     )
     | inr down ↦ (
       subst (IsMetric g.nodes order rows (λ i. legs_of (arcs ++ a ∷ []))) (sym down.1)
           (same_metric g.nodes order rows (λ u w. least_weight u w arcs) (λ u w. least_weight u w (arcs ++ a ∷ [])) ups are.0
-              (λ i w lt c. push_other (slice_index order i) w arcs a (λ x y.
+          (λ i w lt c. push_other (slice_index order i) w arcs a (λ x y.
           let less = rising i w lt c in let p : slice_index levels w ≡ slice_index levels a.to = ap (slice_index levels) y in
-              let q : slice_index levels (slice_index order i) ≡ slice_index levels a.from = ap (slice_index levels) x in
-              omega (arith, down.0)))),
+          let q : slice_index levels (slice_index order i) ≡ slice_index levels a.from = ap (slice_index levels) x in
+          omega (arith, down.0)))),
       lightened_metric g.nodes order rows (λ u w. least_weight w u arcs)
           (λ u w. least_weight w u (arcs ++ a ∷ [])) downs are.1 a.to a.from a.weight new_downs (let size = are.1.size in
           omega arith) light down.2 (push_here arcs a) (λ u w ne. push_other w u arcs a (λ x y. ne y x)),
@@ -235,20 +235,27 @@ module _ (g : Network) (order levels : List ℕ) (rows : List (List ℕ)) (limit
   -- before the first arc
   pub put_none : AreOfArcs g.nodes order rows [] (map (λ r. map no_leg r) rows) (map (λ r. map no_leg r) rows)
   put_none = (
-    record { size = length-map rows (λ r. map no_leg r) ∙ ready.size; each =
-        λ i lt. subst (HasLegs (λ w. legs_of [] (slice_index order i) w) (slice_index_or rows (slice_index order i) []))
-        (sym (open_row i lt)) (empty_row _ _ (λ w. refl)) },
-    record { size = length-map rows (λ r. map no_leg r) ∙ ready.size; each =
-        λ i lt. subst (HasLegs (λ w. legs_of [] w (slice_index order i)) (slice_index_or rows (slice_index order i) []))
-        (sym (open_row i lt)) (empty_row _ _ (λ w. refl)) },
+    record {
+      size = length-map rows (λ r. map no_leg r) ∙ ready.size;
+      each =
+          λ i lt. subst (HasLegs (λ w. legs_of [] (slice_index order i) w) (slice_index_or rows (slice_index order i) []))
+          (sym (open_row i lt)) (empty_row _ _ (λ w. refl));
+    },
+    record {
+      size = length-map rows (λ r. map no_leg r) ∙ ready.size;
+      each =
+          λ i lt. subst (HasLegs (λ w. legs_of [] w (slice_index order i)) (slice_index_or rows (slice_index order i) []))
+          (sym (open_row i lt)) (empty_row _ _ (λ w. refl));
+    },
   )
 
   -- the same for the arrays before the first arc of a list
   pub put_start : (ups downs : List (List Leg)) → ups ≡ map (λ r. map no_leg r) rows → downs ≡ map (λ r. map no_leg r) rows →
       AreOfArcs g.nodes order rows [] ups downs
-  put_start ups downs eu ed =
-      (subst (IsMetric g.nodes order rows (λ i. legs_of [])) (sym eu) put_none.0,
-      subst (IsMetric g.nodes order rows (λ i. turned_legs (legs_of []))) (sym ed) put_none.1)
+  put_start ups downs eu ed = (
+    subst (IsMetric g.nodes order rows (λ i. legs_of [])) (sym eu) put_none.0,
+    subst (IsMetric g.nodes order rows (λ i. turned_legs (legs_of []))) (sym ed) put_none.1,
+  )
 
   -- the next arc of the graph is put in
   pub put_next : (arcs : List InArc) (k : ℕ) (d : InArc) (ups downs new_ups new_downs : List (List Leg)) → arcs ≡ g.arcs →
@@ -260,7 +267,7 @@ module _ (g : Network) (order levels : List ℕ) (rows : List (List ℕ)) (limit
       let put_it = subst (λ z. IsPut levels (get_or z k d) ups downs new_ups new_downs) same put in
       subst (λ z. AreOfArcs g.nodes order rows z new_ups new_downs) (sym (take_more g.arcs k d inside))
       (put_more (take k g.arcs) (get_or g.arcs k d) ups downs new_ups new_downs is.ends.0 is.ends.1
-          (light g.nodes (get_or g.arcs k d).weight (get_or g.arcs k d).from is.ends.0 is.weight) are put_it)
+      (light g.nodes (get_or g.arcs k d).weight (get_or g.arcs k d).from is.ends.0 is.weight) are put_it)
     where
       light : (n w u : ℕ) → u < n → n * w ≤ MOST_WEIGHT → w ≤ MOST_WEIGHT
       light n w u lt le = grind arith
@@ -285,7 +292,7 @@ module _ (g : Network) (order levels : List ℕ) (rows : List (List ℕ)) (limit
       size = are.0.size;
       each = λ i lt. let has = are.0.each i lt in let e : 0 ≡ min i 0 = omega arith in
           subst (λ z. HasLegs (legs_after g order z (slice_index order i)) (slice_index_or rows (slice_index order i) [])
-              (row ups (slice_index order i))) e (record {
+          (row ups (slice_index order i))) e (record {
             ends = has.ends;
             each = λ l c. has.each l c
                 ∙ opened (slice_index order i) l.node
@@ -298,7 +305,7 @@ module _ (g : Network) (order levels : List ℕ) (rows : List (List ℕ)) (limit
       size = are.1.size;
       each = λ i lt. let has = are.1.each i lt in let e : 0 ≡ min i 0 = omega arith in
           subst (λ z. HasLegs (λ w. legs_after g order z w (slice_index order i)) (slice_index_or rows (slice_index order i) [])
-              (row downs (slice_index order i))) e (record {
+          (row downs (slice_index order i))) e (record {
             ends = has.ends;
             each = λ l c. has.each l c
                 ∙ opened l.node (slice_index order i)

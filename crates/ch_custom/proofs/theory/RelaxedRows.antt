@@ -44,21 +44,21 @@ module _ (n v : ℕ) (firsts seconds : List Leg) (place : ℕ) (old now : List (
     lowered = λ a e lt within. elim (cases_eq a place) [
       | inl same ↦
           let at : here ≡ (get_or seconds a e).node = ap node_of (get_or_default seconds place d e inside)
-              ∙ ap (λ z. (get_or seconds z e).node) (sym same) in
+          ∙ ap (λ z. (get_or seconds z e).node) (sym same) in
           let first : get_or firsts place f ≡ get_or firsts a e = get_or_default firsts place f e many
-              ∙ ap (λ z. get_or firsts z e) (sym same) in
+          ∙ ap (λ z. get_or firsts z e) (sym same) in
           subst (λ z. AreLoweredOver n v (get_or firsts a e) seconds (row old z) (row new z)) at
           (subst (λ z. AreLoweredOver n v z seconds (row old here) (row new here)) first
           (subst (λ z. AreLoweredOver n v (get_or firsts place f) seconds z (row new here)) still low))
       | inr ne ↦
           let first : a < place = omega arith in
           subst (AreLoweredOver n v (get_or firsts a e) seconds (row old (get_or seconds a e).node))
-              (sym (other (get_or seconds a e).node (earlier a e first))) (r.lowered a e first within)
+          (sym (other (get_or seconds a e).node (earlier a e first))) (r.lowered a e first within)
     ];
     held = λ a e lt within. elim (cases_eq a place) [
       | inl same ↦
           let at : here ≡ (get_or seconds a e).node = ap node_of (get_or_default seconds place d e inside)
-              ∙ ap (λ z. (get_or seconds z e).node) (sym same) in
+          ∙ ap (λ z. (get_or seconds z e).node) (sym same) in
           subst (λ z. All IsHeld (row new z)) at held
       | inr ne ↦
           let first : a < place = omega arith in

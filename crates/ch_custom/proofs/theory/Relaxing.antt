@@ -54,7 +54,7 @@ same_nodes xs ys size each = at xs ys size each
         let here : i < length xs = subst (λ z. i < z) (length-map xs node_of) lt in
         let there : i < length ys = omega arith in
         get_or-map node_of xs i (get_or xs i blank) 0 here ∙ each i (get_or xs i blank) there
-            ∙ sym (get_or-map node_of ys i (get_or xs i blank) 0 there))
+        ∙ sym (get_or-map node_of ys i (get_or xs i blank) 0 there))
       where
         blank : Leg
         blank = record { node = 0; cost = record { weight = 0; arcs = 0 }; middle = None }
@@ -72,11 +72,11 @@ over_no_first n v (Some a) p q e = absurd (none-some a (sym e))
 
 module _ (n : ℕ) (order : List ℕ) (rows : List (List ℕ)) (T : ℕ → Legs) (k : ℕ) (firsts seconds : List Leg) (old new : List (List Leg))
     (small : k < n) (single : (i j : ℕ) → i < n → j < n → slice_index order i ≡ slice_index order j → i ≡ j)
-        (higher : AreHigher n order rows)
+    (higher : AreHigher n order rows)
     (low : (x w : ℕ) → x ≢ slice_index order k → w ≢ slice_index order k → x ≢ w →
-        T (k + 1) x w ≡ leg_over_at n (slice_index order k) (T k) x w)
+    T (k + 1) x w ≡ leg_over_at n (slice_index order k) (T k) x w)
     (stays : (i : ℕ) → k < i → i < n → (Contains (slice_index_or rows (slice_index order k) []) (slice_index order i) → ⊥) →
-        HasNone (T k) (slice_index order k) (slice_index order i))
+    HasNone (T k) (slice_index order k) (slice_index order i))
     (one : HasLegs (λ x. T k x (slice_index order k)) (slice_index_or rows (slice_index order k) []) firsts)
     (two : HasLegs (T k (slice_index order k)) (slice_index_or rows (slice_index order k) []) seconds)
     (metric : IsMetric n order rows (λ i. T (min i k)) old) (relaxed : AreRelaxed n (slice_index order k) firsts seconds old new) where
@@ -149,11 +149,11 @@ module _ (n : ℕ) (order : List ℕ) (rows : List (List ℕ)) (T : ℕ → Legs
           let o = others b.node (within b cb) in
           let mine : held_leg (get_or firsts a d) ≡ T k (node i) v =
           let many : length firsts ≡ length seconds = sym (length-map firsts node_of) ∙ ap length (one.ends ∙ sym two.ends)
-              ∙ length-map seconds node_of in
+          ∙ length-map seconds node_of in
           one.each (get_or firsts a d) (Contains-get_or firsts a d (omega arith))
-              ∙ ap (λ z. T k z v) (same_node firsts seconds a d d (one.ends ∙ sym two.ends) inside ∙ is) in
+          ∙ ap (λ z. T k z v) (same_node firsts seconds a d d (one.ends ∙ sym two.ends) inside ∙ is) in
           let now : T (k + 1) (node i) b.node ≡ leg_over n v (T k (node i) v) (T k v b.node) (T k (node i) b.node) =
-              low (node i) b.node o.1 o.0 o.2 in
+          low (node i) b.node o.1 o.0 o.2 in
           elim (leg_at seconds b.node) [
             | inl m ↦
                 ap held_leg (sym c.2) ∙ rel.lowered q l m.0 there m.1 m.2
@@ -164,8 +164,8 @@ module _ (n : ℕ) (order : List ℕ) (rows : List (List ℕ)) (T : ℕ → Legs
             | inr none ↦
                 let j = o.3 in
                 let gone : T k v b.node ≡ None =
-                    subst (λ z. T k v z ≡ None) j.3
-                    (stays j.0 j.1 j.2 (λ in_it. let m = of_row (node j.0) in_it in none m.0 m.1 (m.2 ∙ j.3))).0 in
+                subst (λ z. T k v z ≡ None) j.3
+                (stays j.0 j.1 j.2 (λ in_it. let m = of_row (node j.0) in_it in none m.0 m.1 (m.2 ∙ j.3))).0 in
                 ap held_leg (sym c.2 ∙ rel.kept q l there none) ∙ before.each b cb
                 ∙ sym (over_none n v (T k (node i) v) (T k v b.node) (T k (node i) b.node) gone)
                 ∙ sym now ∙ ap (T (k + 1) (node i)) (sym at)
@@ -183,7 +183,7 @@ module _ (n : ℕ) (order : List ℕ) (rows : List (List ℕ)) (T : ℕ → Legs
       apart i h.0 (omega (arith, h.1)) h.2 (sym h.3))
       in
       subst (HasLegs (T (min i (k + 1)) (node i)) (row_of (node i))) (sym same)
-          (subst (λ z. HasLegs (T z (node i)) (row_of (node i)) (row old (node i))) e (metric.each i lt))
+      (subst (λ z. HasLegs (T z (node i)) (row_of (node i)) (row old (node i))) e (metric.each i lt))
 
   -- the row of a later place
   later : (i : ℕ) → k < i → i < n → HasLegs (T (k + 1) (node i)) (row_of (node i)) (row new (node i))

@@ -11,30 +11,18 @@ use Rattle.std.proofs.Math.Seq.{take-suc}
 use Rattle.ch_hierarchy.specs.declared.leg.Leg.{Leg}
 use Rattle.ch_custom.specs.Opening.{no_leg, is_live}
 
--- a leg
-abbrev blank : Leg
-blank = record { node = 0; cost = record { weight = 0; arcs = 0 }; middle = None }
-
 -- one more element of a prefix
 pub take_more : {X : Type 0} (xs : List X) (k : ℕ) (d : X) → k < length xs → take (k + 1) xs ≡ take k xs ++ get_or xs k d ∷ []
 take_more xs k d lt = let e : k + 1 ≡ suc k = omega arith in ap (λ z. take z xs) e ∙ take-suc xs k d lt
 
--- a row whose legs are all changed
-pub all_changed : (f : Leg → Leg) (xs ys : List Leg) → length ys ≡ length xs →
-    ((k : ℕ) (d : Leg) → k < length xs → get_or ys k d ≡ f (get_or xs k d)) → ys ≡ map f xs
-all_changed f xs ys size each = ext_get_or blank ys (map f xs) (size ∙ sym (length-map xs f)) (λ i lt.
-    let inside : i < length xs = omega arith in
-    each i blank inside ∙ sym (get_or-map f xs i blank blank inside))
-
--- one more row is opened
-pub opened_more : {V : Type 0} (items : V → List Leg) (rows new : List V) (topology : List (List ℕ)) (node : ℕ) (r : V) →
-    map items rows ≡ map (λ z. map no_leg z) (take node topology) → node < length topology →
-    items r ≡ map no_leg (get_or topology node []) → new ≡ rows ++ r ∷ [] →
-    map items new ≡ map (λ z. map no_leg z) (take (node + 1) topology)
-opened_more items rows new topology node r all lt is edited =
-    ap (map items) edited ∙ map-append items rows (r ∷ []) ∙ (λ i. all i ++ is i ∷ [])
-        ∙ sym (map-append (λ z. map no_leg z) (take node topology) (get_or topology node [] ∷ []))
-        ∙ ap (map (λ z. map no_leg z)) (sym (take_more topology node [] lt))
+-- a row that is all changed
+pub all_changed : {X : Type 0} (f : X → X) (xs ys : List X) → length ys ≡ length xs →
+    ((k : ℕ) (d : X) → k < length xs → get_or ys k d ≡ f (get_or xs k d)) → ys ≡ map f xs
+all_changed f [] [] size each = refl
+all_changed f [] (y ∷ ys) size each = absurd (omega arith)
+all_changed f (x ∷ xs) ys size each = ext_get_or x ys (map f (x ∷ xs)) (size ∙ sym (length-map (x ∷ xs) f)) (λ i lt.
+    let inside : i < length (x ∷ xs) = omega arith in
+    each i x inside ∙ sym (get_or-map f (x ∷ xs) i x x inside))
 
 module _ (old now new : List (List Leg)) (node place : ℕ) (row : List Leg) (d : Leg)
     (is : now ≡ set old node (filter is_live (take place row))) (below : node < length old) (lt : place < length row) where
@@ -58,8 +46,8 @@ module _ (old now new : List (List Leg)) (node place : ℕ) (row : List Leg) (d 
       new ≡ set old node (filter is_live (take (place + 1) row))
   pushed_live at whole e edited =
       edited ∙ ap (λ z. set now node (insert (get_or now node []) (length z) (get_or row place d))) whole
-          ∙ ap (set now node) (insert_end (get_or now node []) (get_or row place d) ∙ ap (λ z. z ++ get_or row place d ∷ []) has
-          ∙ sym (next true e))
+      ∙ ap (set now node) (insert_end (get_or now node []) (get_or row place d) ∙ ap (λ z. z ++ get_or row place d ∷ []) has
+      ∙ sym (next true e))
       ∙ ap (λ z. set z node (filter is_live (take (place + 1) row))) is ∙ set-set old node _ _
 
   -- a place without a leg is passed over
@@ -97,7 +85,7 @@ made_more rows node lists new a lt edited = record {
     | inl same ↦
         let size = a.size in
         ap (λ z. get_or new z []) same ∙ ap (λ z. get_or z node []) edited ∙ get_or-set_same lists node _ [] (omega arith)
-            ∙ ap (λ z. filter is_live (get_or rows z [])) (sym same)
+        ∙ ap (λ z. filter is_live (get_or rows z [])) (sym same)
     | inr ne ↦ ap (λ z. get_or z k []) edited ∙ get_or-set_other lists node k _ [] ne ∙ a.made k (omega arith) inside
   ];
   empty = λ k past. ap (λ z. get_or z k []) edited ∙ get_or-set_other lists node k _ [] (λ e. omega arith) ∙ a.empty k (omega arith);

@@ -25,7 +25,7 @@ pub ordered_row : (legs : List Leg) (nodes : List ℕ) → map (λ l. l.node) le
 ordered_row legs nodes same less i j d lt inside =
     let size : length legs ≡ length nodes = sym (length-map legs node_of) ∙ ap length same in
     let at : (k : ℕ) → k < length legs → get_or nodes k 0 ≡ (get_or legs k d).node =
-        λ k below. ap (λ (z : List ℕ). get_or z k 0) (sym same) ∙ get_or-map node_of legs k d 0 below in
+    λ k below. ap (λ (z : List ℕ). get_or z k 0) (sym same) ∙ get_or-map node_of legs k d 0 below in
     let one = at i (omega arith) in
     let two = at j inside in
     let first : get_or nodes i 0 < get_or nodes j 0 = less i j 0 lt (omega arith) in
@@ -81,9 +81,11 @@ module _ (g : Network) (order : List ℕ) (rows : List (List ℕ)) (limits : IsW
   -- the nodes are taken in this order
   pub taken : AreTaken (Lowers g.nodes) g order (legs_after g order)
   taken = record {
-    nodes = let size = nodes.count in
-        (size, (λ i d lt. subst (λ z. z < g.nodes) (sym (at i d lt)) (nodes.within i lt)),
-        λ i j d lt below e. nodes.distinct i j lt below (sym (at i d (omega arith)) ∙ e ∙ at j d below));
+    nodes = let size = nodes.count in (
+      size,
+      (λ i d lt. subst (λ z. z < g.nodes) (sym (at i d lt)) (nodes.within i lt)),
+      λ i j d lt below e. nodes.distinct i j lt below (sym (at i d (omega arith)) ∙ e ∙ at j d below),
+    );
     start = λ u w. refl;
     step = λ k lt. step k;
   }
@@ -114,7 +116,7 @@ module _ (g : Network) (order : List ℕ) (rows : List (List ℕ)) (limits : IsW
       let within = nodes.within h.0 (omega (arith, h.2)) in
       let has = are.each h.0 h.2 in
       subst (λ z. (z < length metric) × IsRow (row metric z) × All IsHeld (row metric z)) h.3
-          (omega arith, ordered_row _ _ has.ends (ready.sound.ordered (slice_index order h.0)), has.held)
+      (omega arith, ordered_row _ _ has.ends (ready.sound.ordered (slice_index order h.0)), has.held)
 
   module _ (k : ℕ) (lt : k < g.nodes) (ups downs : List (List Leg)) (are : AreMetricsAt g order rows k ups downs) where
     -- the legs of the node that is taken
@@ -153,8 +155,8 @@ module _ (g : Network) (order : List ℕ) (rows : List (List ℕ)) (limits : IsW
     keeps_downs new relaxed =
         relaxing_keeps_metrics g.nodes order rows (λ i. turned_legs (legs_after g order i)) k _ _ downs new lt single higher
         (λ x w nx nw ne. step k w x ∙ lowered_at g.nodes (legs_after g order k) (slice_index order k) w x nw nx (λ e. ne (sym e))
-            ∙ over_turned g.nodes (slice_index order k) (legs_after g order k w (slice_index order k))
-            (legs_after g order k (slice_index order k) x) (legs_after g order k w x))
+        ∙ over_turned g.nodes (slice_index order k) (legs_after g order k w (slice_index order k))
+        (legs_after g order k (slice_index order k) x) (legs_after g order k w x))
         (λ i past below not. let none = none_out k lt i past below not in (none.1, none.0)) ups_now downs_now are.1 relaxed
 
   module _ (k : ℕ) (below : k < length order) (ups downs : List (List Leg)) (are : AreMetricsAt g order rows k ups downs)

@@ -142,7 +142,7 @@ module _ (xs : List ℕ) (i x : ℕ) (le : i ≤ length xs) (ordered : AllPairs 
 module _ (old others : List ℕ) (without place next : ℕ) (now : List ℕ) (u : IsUnionTo old others without place next now)
     (inside : place < length others) (up : AllPairs ◌<◌ others) (step : ℕ)
     (within : step ≤ length now) (before : (k : ℕ) → k < step → slice_index now k < slice_index others place) (after : step < length now →
-        slice_index others place ≤ slice_index now step) where
+    slice_index others place ≤ slice_index now step) where
   -- one that is there already, or is left out
   pub union_skip : (slice_index others place ≢ without → Contains now (slice_index others place)) →
       IsUnionTo old others without (place + 1) step now
@@ -163,7 +163,7 @@ module _ (old others : List ℕ) (without place next : ℕ) (now : List ℕ) (u 
       IsUnionTo old others without (place + 1) step (insert now step (slice_index others place))
   union_put ne fresh =
       let more : step < length now → slice_index others place < slice_index now step = λ lt. let a = after lt in let b = fresh lt in
-          omega arith in
+      omega arith in
       let size = length-insert now step (slice_index others place) within in
       record {
         within = omega arith;
@@ -187,9 +187,9 @@ module _ (old others : List ℕ) (without place next : ℕ) (now : List ℕ) (u 
 pub union_step : (old others : List ℕ) (without place next : ℕ) (now : List ℕ) → IsUnionTo old others without place next now →
     place < length others → AllPairs ◌<◌ others → (step : ℕ) (s : List ℕ) → s ≡ now → step ≤ length s →
     ((k : ℕ) → k < step → slice_index s k < slice_index others place) →
-        (step < length s → slice_index others place ≤ slice_index s step) → (new : List ℕ) →
-        IsPutAt now step (slice_index others place) new ⊎ ((slice_index others place ≡ without) × (new ≡ now)) →
-        (slice_index others place ≢ without) ⊎ (new ≡ now) → IsUnionTo old others without (place + 1) step new
+    (step < length s → slice_index others place ≤ slice_index s step) → (new : List ℕ) →
+    IsPutAt now step (slice_index others place) new ⊎ ((slice_index others place ≡ without) × (new ≡ now)) →
+    (slice_index others place ≢ without) ⊎ (new ≡ now) → IsUnionTo old others without (place + 1) step new
 union_step old others without place next now u inside up step s same within before after new how other =
     at same within before after how other
   where

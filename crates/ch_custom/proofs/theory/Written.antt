@@ -1,29 +1,7 @@
--- A row of many that is written.
-use Rattle.std.proofs.Common.{◌≡◌, ℕ, ◌<◌, List, [], ◌++◌, length, get_or, set, take, sym, ◌∙◌, ap, arith, get_or-set_same}
+-- A list of many that is written.
+use Rattle.std.proofs.Common.{◌≡◌, ℕ, ◌<◌, List, [], length, get_or, set, sym, ◌∙◌, ap, arith, get_or-set_same}
 use Rattle.std.specs.Prelude.{map}
 use Rattle.std.proofs.lemmas.List.{map-set, get_or-map, length-map}
-use Rattle.std.proofs.Math.Seq.{take-append_seam}
-use Rattle.ch_hierarchy.specs.declared.leg.Leg.{Leg}
-use Rattle.ch_hierarchy.specs.Rows.{row}
-
--- the rows after one of them is written, and that row
-pub written : {V : Type 0} (items : V → List Leg) (rows : List V) (now : List (List Leg)) (i : ℕ) (r : V) (legs : List Leg) →
-    map items rows ≡ now → i < length now → items r ≡ legs →
-    (map items (set rows i r) ≡ set now i legs) × (row (map items (set rows i r)) i ≡ legs)
-written items rows now i r legs view lt is =
-    let all : map items (set rows i r) ≡ set now i legs = map-set items rows i r ∙ ap (λ z. set z i (items r)) view ∙ ap (set now i) is in
-    (all, ap (λ z. row z i) all ∙ get_or-set_same now i legs [] lt)
-
--- what is written over as many legs
-pub refilled : (n : ℕ) (legs rest : List Leg) → length legs ≡ n → take n (legs ++ rest) ≡ legs
-refilled n legs rest e = ap (λ z. take z (legs ++ rest)) (sym e) ∙ take-append_seam legs rest
-
--- the row of a place
-pub read_row : {V : Type 0} (items : V → List Leg) (rows : List V) (now : List (List Leg)) (i : ℕ) (d : V) (legs : List Leg) →
-    map items rows ≡ now → i < length now → items (get_or rows i d) ≡ legs → row now i ≡ legs
-read_row items rows now i d legs view lt is =
-    let size : length rows ≡ length now = sym (length-map rows items) ∙ ap length view in
-    ap (λ z. row z i) (sym view) ∙ get_or-map items rows i d [] (omega arith) ∙ is
 
 -- the lists after one of them is written, and that list
 pub written_list : {V X : Type 0} (items : V → List X) (rows : List V) (now : List (List X)) (i : ℕ) (r : V) (list : List X) →

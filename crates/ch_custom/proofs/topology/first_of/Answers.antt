@@ -16,4 +16,4 @@ returns-clause-least c y has =
     let past = c.loop-place-test.false in
     let lt = p.1 in
     subst (λ z. slice_index c.args.levels.now c.loop-place.first ≤ slice_index c.args.levels.now z) p.2
-        (c.loop-place.invariant.1 p.0 (omega arith) p.1)
+    (c.loop-place.invariant.1 p.0 (omega arith) p.1)

@@ -26,6 +26,6 @@ returns c =
     let has = subst (λ z. Contains z c.first_of-parent.result) r f.within in
     let lt = (row_within _ _ _ _ _ c.requires.handed.rows_for c.args.place _ c.requires.place has).2 in
     IfOk-weaker c.merge.result _ _
-        (λ _ m. handed_more c.args._graph.now c.args.order.now c.args.levels.now c.args.place c.args.pairs.now c.merge.new.self
-        c.first_of-parent.result c.requires.handed lt has (λ y c0. f.least y (subst (λ z. Contains z y) (sym r) c0))
-        (subst (λ z. IsMerged c.first_of-parent.result z c.first_of-parent.result c.args.pairs.now c.merge.new.self) r m)) c.merge.ensures
+    (λ _ m. handed_more c.args._graph.now c.args.order.now c.args.levels.now c.args.place c.args.pairs.now c.merge.new.self
+    c.first_of-parent.result c.requires.handed lt has (λ y c0. f.least y (subst (λ z. Contains z y) (sym r) c0))
+    (subst (λ z. IsMerged c.first_of-parent.result z c.first_of-parent.result c.args.pairs.now c.merge.new.self) r m)) c.merge.ensures

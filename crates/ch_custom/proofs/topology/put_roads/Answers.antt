@@ -9,9 +9,9 @@ pub loop-place-preserved : goal.loop-place-preserved
 loop-place-preserved c = elim c.if-levels-arc.branch [
   | then-levels-arc+in_ok-merge w ↦ subst (AreRowsFor c.args.graph.now c.args._order.now c.args.levels.now _) (sym w.pairs-is)
       (arc_next _ _ _ c.arcs-arcs.result.now c.loop-place.place _ _ w.merge.new.self _ _ c.arcs-arcs.ensures.limits
-          c.arcs-arcs.ensures.arcs c.loop-place-test.true c.loop-place.invariant (inr w.if-levels-arc.true)
-          (inl (refl, refl)) w.in_ok-merge.ensures)
+      c.arcs-arcs.ensures.arcs c.loop-place-test.true c.loop-place.invariant (inr w.if-levels-arc.true)
+      (inl (refl, refl)) w.in_ok-merge.ensures)
   | else-levels-arc+in_ok-merge-2 w ↦ subst (AreRowsFor c.args.graph.now c.args._order.now c.args.levels.now _) (sym w.pairs-is)
       (arc_next_down _ _ _ c.arcs-arcs.result.now c.loop-place.place _ _ w.merge-else-levels-arc.new.self c.arcs-arcs.ensures.limits
-          c.arcs-arcs.ensures.arcs c.loop-place-test.true c.loop-place.invariant w.if-levels-arc.false w.in_ok-merge-2.ensures)
+      c.arcs-arcs.ensures.arcs c.loop-place-test.true c.loop-place.invariant w.if-levels-arc.false w.in_ok-merge-2.ensures)
 ]

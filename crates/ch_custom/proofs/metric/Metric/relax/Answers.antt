@@ -1,30 +1,44 @@
 -- The row of one more node is lowered.
-use Rattle.std.proofs.Common.{◌≡◌, length, All, sym, ◌∙◌, ap, subst, arith}
-use Rattle.std.proofs.lemmas.List.{length-map}
+use Rattle.ch_custom.specs.declared.leg_pair.LegPair.{LegPair}
+use Rattle.std.proofs.Common.{◌≡◌, ◌<◌, ◌≤◌, length, get_or, All, sym, ◌∙◌, ap, subst, arith}
 use Rattle.std.proofs.lemmas.List.Elements.{Contains-get_or}
+use Rattle.ch_hierarchy.specs.declared.side.Side.TheVariants.{Up}
 use Rattle.ch_hierarchy.specs.Rows.{IsRow}
 use Rattle.ch_custom.specs.Metric.{IsHeld}
-use Rattle.ch_custom.proofs.theory.Relaxing.{node_of}
-use Rattle.ch_custom.proofs.theory.RelaxedRows.{relaxed_more, still, there}
+use Rattle.ch_custom.proofs.theory.LegPairs.{row_size}
+use Rattle.ch_custom.proofs.theory.LoweredPairs.{held_here, many_rows, still_pairs, more_pairs}
+use Rattle.ch_custom.proofs.theory.RelaxedRows.{relaxed_none}
 use Rattle.ch_custom.proofs.metric.Metric.relax.Goals as goal
 
+-- the default of an index
+abbrev blank : LegPair
+blank = record { node = 0; up = record { weight = 0; arcs = 0; middle = 0 }; down = record { weight = 0; arcs = 0; middle = 0 } }
+
+pub loop-place-init : goal.loop-place-init
+loop-place-init c side = relaxed_none _ _ _ _ _
+
 pub lower-requires-clause-node : goal.lower-requires-clause-node
-lower-requires-clause-node c = there _ _ _ _ _ _ _ c.loop-place.invariant c.requires.seconds.0 c.loop-place-test.true _
-    (c.requires.inside _ (Contains-get_or c.args.seconds.now c.loop-place.place _ c.loop-place-test.true))
+lower-requires-clause-node c =
+    let many = many_rows Up c.args.nodes c.args.middle c.args.taken.now c.loop-place.place c.args.self.now c.loop-place.self
+    (c.loop-place.invariant Up) (c.requires.taken Up).0 c.loop-place-test.true blank in
+    let low = c.requires.inside (get_or c.args.taken.now c.loop-place.place blank)
+    (Contains-get_or c.args.taken.now c.loop-place.place blank c.loop-place-test.true) in
+    omega arith
+
+pub lower-requires-clause-one : goal.lower-requires-clause-one
+lower-requires-clause-one c = held_here c.args.taken.now c.loop-place.place blank (λ side. (c.requires.taken side).1) c.loop-place-test.true
 
 pub lower-requires-clause-row : goal.lower-requires-clause-row
-lower-requires-clause-row c =
-    let r = c.loop-place.invariant in
-    subst (λ z. IsRow z × All IsHeld z) (sym (still _ _ _ _ _ _ _ r c.requires.seconds.0 c.loop-place-test.true _))
-    (c.requires.rows _ (Contains-get_or c.args.seconds.now c.loop-place.place _ c.loop-place-test.true))
+lower-requires-clause-row c side =
+    let inside = Contains-get_or c.args.taken.now c.loop-place.place blank c.loop-place-test.true in
+    subst (λ z. IsRow z × All IsHeld z)
+    (sym (still_pairs side c.args.nodes c.args.middle c.args.taken.now c.loop-place.place c.args.self.now c.loop-place.self
+    (c.loop-place.invariant side) (c.requires.taken side).0 c.loop-place-test.true blank (c.requires.inside _ inside)))
+    (c.requires.rows _ inside side)
 
 pub loop-place-preserved : goal.loop-place-preserved
-loop-place-preserved c =
-    let r = c.loop-place.invariant in
-    let inside = c.loop-place-test.true in
-    let many : length c.args.firsts.now ≡ length c.args.seconds.now = sym (length-map c.args.firsts.now node_of)
-        ∙ ap length c.requires.same ∙ length-map c.args.seconds.now node_of in
-    relaxed_more _ _ _ _ _ _ _ r c.requires.seconds.0 inside _ c.lower.new.self _ (omega (arith, many, inside))
-    (there _ _ _ _ _ _ _ r c.requires.seconds.0 inside _
-        (c.requires.inside _ (Contains-get_or c.args.seconds.now c.loop-place.place _ inside)))
-    c.lower.ensures.edited c.lower.ensures.lowered c.lower.ensures.held
+loop-place-preserved c side =
+    let inside = Contains-get_or c.args.taken.now c.loop-place.place blank c.loop-place-test.true in
+    more_pairs side c.args.nodes c.args.middle c.args.taken.now c.loop-place.place c.args.self.now c.loop-place.self
+    (c.loop-place.invariant side) (c.requires.taken side).0 c.loop-place-test.true blank c.lower.new.self (c.requires.inside _ inside)
+    c.lower.ensures.edited (c.lower.ensures.lowered side) (c.lower.ensures.held side)

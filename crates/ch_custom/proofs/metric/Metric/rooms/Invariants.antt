@@ -2,5 +2,5 @@
 use Rattle.std.proofs.Common.{◌≡◌, length}
 use Rattle.ch_custom.proofs.metric.Metric.rooms.Given as goal
 
-abbrev pub invariant-loop-row : goal.invariant-loop-row
-invariant-loop-row l = length l.rooms.items ≡ l.row-index
+abbrev pub invariant-loop-node : goal.invariant-loop-node
+invariant-loop-node l = length l.rooms.items ≡ l.node

@@ -19,9 +19,9 @@ merge_into-requires-clause-row c =
 pub returns : goal.returns
 returns c = IfOk-weaker c.merge_into.result _ _ (λ _ u.
     let w = written_list items_of c.self.inside.rows.items c.args.self.now c.args.node c.merge_into.new.row c.merge_into.new.row.items
-        c.self.view_is c.requires.node refl in
+    c.self.view_is c.requires.node refl in
     let lent = read_list items_of c.self.inside.rows.items c.args.self.now c.args.node c.index_mut.result.now c.index_mut.result.now.items
-        c.self.view_is c.requires.node (ap items_of (sym c.index_mut.ensures.value)) in
+    c.self.view_is c.requires.node (ap items_of (sym c.index_mut.ensures.value)) in
     record {
       edited = w.0 ∙ ap (set c.args.self.now c.args.node) (sym w.1);
       union = subst (IsUnion (nodes_row c.args.self.now c.args.node) c.args.others.now c.args.without) (sym w.1)
