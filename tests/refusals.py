@@ -151,9 +151,6 @@ RUNS = {
 # The errors of the system, as <errno.h> of Linux has them.
 INTERRUPTED, DEVICE_FAILED, DEVICE_FULL, READER_GONE = 4, 5, 28, 32
 
-# The status of a run whose reader went away: the one that a shell shows for a program that the system ended for it.
-STATUS_OF_READER_GONE = 141
-
 # The most requests for memory that a run of these kinds could need.
 MOST_REQUESTS = 20_000
 
@@ -207,10 +204,9 @@ def fail_help(refusing, tally):
         for at in range(1, counts.writes + 1):
             taken = 100 * (at - 1)
             told = f"chtab: cannot write after {taken} bytes\n".encode()
-            gone = Answer(STATUS_OF_READER_GONE, ample.out[:taken], b"")
-            for error, wanted in (DEVICE_FULL, Answer(3, ample.out[:taken], told)), (READER_GONE, gone):
+            for error in DEVICE_FULL, READER_GONE:
                 answer, _ = refusing.run(words, MOST_BYTES=100, REFUSE_WRITE=at, REFUSE_WITH=error)
-                tally.expect(answer == wanted, f"{words}, write {at} fails with {error}: {answer}")
+                tally.expect(answer == Answer(3, ample.out[:taken], told), f"{words}, write {at} fails with {error}: {answer}")
 
 
 def has_tests_in_turn(crate):
@@ -274,8 +270,7 @@ def fail_devices(refusing, tally, name, words, files, text):
             taken = len(answer.out)
             told = Answer(3, text[:taken], f"chtab: cannot write after {taken} bytes\n".encode())
             tally.expect(answer == told, f"{what}, write {at} fails: {answer}")
-            for error, wanted in ((0, told), (DEVICE_FULL, told), (READER_GONE, Answer(STATUS_OF_READER_GONE, text[:taken], b"")),
-                                  (INTERRUPTED, done)):
+            for error, wanted in (0, told), (DEVICE_FULL, told), (READER_GONE, told), (INTERRUPTED, done):
                 answer, _ = refusing.run(words, requests=stream, MOST_BYTES=most, REFUSE_WRITE=at, REFUSE_WITH=error)
                 tally.expect(answer == wanted, f"{what}, write {at} fails with {error}: {answer}")
             return taken
@@ -299,7 +294,7 @@ def asked_in(files):
 
 
 def close_pipe(tally, folder):
-    """Closes a pipe once it is full, while the program writes a text that is longer: it ends silently."""
+    """Closes a pipe once it is full, while the program writes a text that is longer: its write fails."""
     (folder / "one.gr").write_text("p sp 1 0\n")
     (folder / "ones.ss").write_text("p aux sp ss 400\n" + "s 1\n" * 400)
     read_end, write_end = os.pipe()
@@ -312,8 +307,8 @@ def close_pipe(tally, folder):
     os.close(read_end)
     os.close(write_end)
     err = process.communicate(timeout=SECONDS)[1]
-    is_silent = (process.returncode, err) == (STATUS_OF_READER_GONE, b"")
-    tally.expect(is_silent, f"a full pipe is closed: {process.returncode}, {err}")
+    is_told = process.returncode == 3 and re.fullmatch(rb"chtab: cannot write after \d+ bytes\n", err)
+    tally.expect(is_told, f"a full pipe is closed: {process.returncode}, {err}")
 
 
 def main():

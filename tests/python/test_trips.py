@@ -69,6 +69,10 @@ def test_places_on_one_road_and_past_it():
         starts, ends = (spots[list(part)] for part in zip(*pairs))
         assert network.trips(starts, ends).reshape(5, 5).tolist() == table
         assert [trip.line is None for trip in network.trip_routes(starts, ends)] == [weight < 0 for row in table for weight in row]
+        # From the third and the fifth spot, each node is reached sooner by another end of the road.
+        owed = [[-1, 800, 1800], [-1, 400, 1400], [-1, 1500, 500], [0, 1000, 2000], [-1, 2250, 250]]
+        reached = [network.reach(spots[place:place + 1]).tolist() for place in range(5)]
+        assert all(abs(a - b) <= 1 for row, wanted in zip(reached, owed) for a, b in zip(row, wanted)), reached
         raises(chtab.TooFar, network.snap, [0.0], [0.02], told="0.020000 is 2.2 km from the nearest road, more than 1 km; longitude comes first")
         assert network.snap([0.0], [0.02], 3_000).metres.round().tolist() == [2224]
 

@@ -1,16 +1,17 @@
 -- The words of the command line, and the line that they give.
-use Rattle.std.specs.Prelude.{◌≡◌, ◌≢◌, ◌⊎◌, ℕ, pos, [], ◌∷◌, ◌++◌, Bool, List, Option, Some, None, true, false, codes}
-use Rattle.std.specs.Prelude.{String, fold, if◌then◌else◌, is_some, length, option_map, unwrap_or, ⊤}
+use Rattle.std.specs.Prelude.{◌≡◌, ◌≢◌, ◌<◌, ◌≤◌, ◌⊎◌, ℕ, pos, [], ◌∷◌, ◌++◌, Bool, List, Option, Some, None, true, false, codes}
+use Rattle.std.specs.Prelude.{String, fold, if◌then◌else◌, is_some, length, option_and_then, option_map, slice_get, unwrap_or, ⊤}
 use Rattle.std.specs.Str.Parse.{digits_value, without_leading_plus}
 use Rattle.std.specs.String.{string_bytes}
-use Rattle.clap.specs.Words.{App, IsAmong, Kinds, Row, Rule, Text, all_of, app_of, fault_of, first_of, new_app, new_rule, one_of}
-use Rattle.clap.specs.Words.{subcommand_of, with_rule, with_subcommand}
+use Rattle.clap.specs.Words.{App, IsAmong, Kinds, Row, Rule, Text, all_of, app_of, fault_of, first_of, matched_of, new_app, new_rule}
+use Rattle.clap.specs.Words.{one_of, subcommand_of, with_rule, with_subcommand}
 use Rattle.clap.specs.Simple.{on_top}
 use Rattle.clap.specs.declared.builder.ArgAction.TheVariants.{Append, Set, SetTrue}
 use Rattle.clap.specs.declared.builder.command.Command.{Command}
 use Rattle.clap.specs.declared.builder.command.Command.TheViews.{out-Command}
 use Rattle.clap.specs.declared.builder.value_parser.ValueParser.TheVariants as parser
 use Rattle.clap.specs.declared.error.kind.ErrorKind.{ErrorKind}
+use Rattle.clap.specs.declared.parser.matches.Found.{Found}
 use Rattle.clap.specs.declared.error.kind.ErrorKind.TheVariants.{DisplayHelp, DisplayVersion, OutOfMemory}
 use Rattle.ch_graph.specs.declared.limits.TheConstants.{MOST_HOPS, MOST_LISTED, MOST_WEIGHT}
 use Rattle.ch_work.specs.declared.limits.TheConstants.{MOST_WORKERS, MOST_PIECE}
@@ -353,6 +354,29 @@ IsMixed given =
     ((is_given given (codes "like") ≡ true) × ((is_given given (codes "saved") ≡ true) ⊎ IsFlagIn given (codes "deep") true
     ⊎ IsFlagIn given (codes "rounds") true))
     ⊎ ((is_given given (codes "fresh") ≡ true) × (is_given given (codes "like") ≡ false))
+
+-- why options don't go together: the first of these reasons that is true
+abbrev pub IsMixMessage : List Row → Text → Type 0
+IsMixMessage given message =
+    ((is_given given (codes "like") ≡ false) × (is_given given (codes "fresh") ≡ true)
+    × (message ≡ codes "the argument '--fresh' cannot be used without '--like'"))
+    ⊎ ((is_given given (codes "like") ≡ true) × (is_given given (codes "saved") ≡ true)
+    × (message ≡ codes "the argument '--like' cannot be used with '--saved'"))
+    ⊎ ((is_given given (codes "like") ≡ true) × (is_given given (codes "saved") ≡ false) × IsFlagIn given (codes "deep") true
+    × (message ≡ codes "the argument '--like' cannot be used with '--deep'"))
+    ⊎ ((is_given given (codes "like") ≡ true) × (is_given given (codes "saved") ≡ false) × IsFlagIn given (codes "deep") false
+    × IsFlagIn given (codes "rounds") true × (message ≡ codes "the argument '--like' cannot be used with '--rounds'"))
+
+-- the place among the words of the first value of an argument, if it has one
+abbrev pub place_of : Found → Text → Option ℕ
+place_of found name = option_and_then (λ a. slice_get a.indices.items 0) (matched_of found name)
+
+-- why both orders are refused, by their places among the words: the message names first the one that is given first
+abbrev pub IsOrdersMessage : (deep rounds : Option ℕ) → Text → Type 0
+IsOrdersMessage (Some deep) (Some rounds) message =
+    ((rounds < deep) × (message ≡ codes "the argument '--rounds' cannot be used with '--deep'"))
+    ⊎ ((deep ≤ rounds) × (message ≡ codes "the argument '--deep' cannot be used with '--rounds'"))
+IsOrdersMessage _ _ message = message ≡ codes "the argument '--deep' cannot be used with '--rounds'"
 
 -- the words name a tool, with options that don't go together
 abbrev pub NamesMixed : Option (Text × List Row) → Type 0

@@ -7,7 +7,7 @@ ghost use Rattle.clap.specs.declared.error.kind.ErrorKind.TheVariants.{ArgumentC
 ghost use Rattle.ch_graph.specs.declared.limits.TheConstants.{MOST_WEIGHT};
 ghost use Rattle.ch_work.specs.Plan.{IsWithinLimits};
 ghost use Rattle.ch_job.specs.Job.{AreAllowed, IsCount};
-ghost use Rattle.ch_words.specs.Line.{AreFilesIn, AreFlagsIn, AreRefusedLists, AreRefusedOrders, IsAllowed, IsDirectionIn, IsFlagIn, IsGivenBy, IsMixed, IsOrderIn, IsPlanIn, IsRefusedMix, IsSourceIn, IsToldOf, IsUnmixed, fresh_in, is_given, name_of, number_in};
+ghost use Rattle.ch_words.specs.Line.{AreFilesIn, AreFlagsIn, AreRefusedLists, AreRefusedOrders, IsAllowed, IsDirectionIn, IsFlagIn, IsGivenBy, IsMixMessage, IsMixed, IsOrderIn, IsOrdersMessage, IsPlanIn, IsRefusedMix, IsSourceIn, IsToldOf, IsUnmixed, fresh_in, is_given, name_of, number_in, place_of};
 
 use crate::fault::{LineFault, fault_of};
 use crate::form::{near_command, tool_command};
@@ -201,17 +201,23 @@ fn order_of(
     }
 }
 
-/// Returns the fault for both orders. Like clap, it names first the one that is given first.
+/// Returns the fault for both orders.
 fn two_orders(alloc: Global, question: &Question<String>, matches: &ArgMatches<'_>) -> LineFault
     ensures { IsToldOf ArgumentConflict result }
 {
-    let message = match (matches.index_of("deep"), matches.index_of("rounds")) {
+    conflict(alloc, question, orders_message(matches))
+}
+
+/// Returns why both orders are refused. Like clap, the message names first the one that is given first.
+fn orders_message(matches: &ArgMatches<'_>) -> &'static str
+    ensures { IsOrdersMessage (place_of (found_of matches.now) (codes "deep")) (place_of (found_of matches.now) (codes "rounds")) result.now }
+{
+    match (matches.index_of("deep"), matches.index_of("rounds")) {
         (Some(deep), Some(rounds)) if rounds < deep => {
             "the argument '--rounds' cannot be used with '--deep'"
         }
         _ => "the argument '--deep' cannot be used with '--rounds'",
-    };
-    conflict(alloc, question, message)
+    }
 }
 
 /// Returns the fault for arguments that don't go together, as this message says.
@@ -247,6 +253,7 @@ fn has_value(matches: &ArgMatches<'_>, name: &str) -> bool
 fn mix_of(matches: &ArgMatches<'_>) -> Option<&'static str>
     ensures none { IsNone result → IsUnmixed (rows_of (found_of matches.now)) }
     ensures some { IfSome result (λ _. IsMixed (rows_of (found_of matches.now))) }
+    ensures message { IfSome result (λ message. IsMixMessage (rows_of (found_of matches.now)) message.now) }
 {
     if !has_value(matches, "like") {
         if has_value(matches, "fresh") {
