@@ -11,10 +11,10 @@ import sys
 import urllib.parse
 
 from helpers import running
-from helpers.asking_osrm import MILLIONTH, TENTH, THREE, VADUZ, answer, distances, get, on_sphere, some_nodes, text_of
+from helpers.asking_osrm import MILLIONTH, TENTH, answer, distances, get, on_sphere, some_nodes, text_of, three
 from helpers.packages import run_checks
 from helpers.running import PROGRAM, ROOT
-from helpers.serving import COUNTRY, SERVICE, by_both, service
+from helpers.serving import SERVICE, here, on_both_maps, service
 
 sys.path.insert(0, str(ROOT / "python"))
 
@@ -47,7 +47,7 @@ def routes_have_lines():
     from shapely.geometry import LineString, Point
 
     with service() as (_, address):
-        found = {form: answer(address, "route", THREE, overview="full", geometries=form) for form in ("polyline", "polyline6", "geojson")}
+        found = {form: answer(address, "route", three(), overview="full", geometries=form) for form in ("polyline", "polyline6", "geojson")}
         full = found["geojson"]["routes"][0]["geometry"]
         assert full["type"] == "LineString"
         full = list(map(tuple, full["coordinates"]))
@@ -57,15 +57,15 @@ def routes_have_lines():
         value, route = found["geojson"], found["geojson"]["routes"][0]
         assert [full[0], full[-1]] == [tuple(value["waypoints"][place]["location"]) for place in (0, -1)]
         assert abs(sum(itertools.starmap(on_sphere, zip(full, full[1:]))) - route["distance"]) < 1 + len(full) * 0.02
-        for place, waypoint in zip(THREE, value["waypoints"]):
+        for place, waypoint in zip(three(), value["waypoints"]):
             assert abs(on_sphere(place, waypoint["location"]) - waypoint["distance"]) < 0.2 and (waypoint["name"], waypoint["hint"]) == ("", "")
-        [simple] = answer(address, "route", THREE, geometries="geojson")["routes"]
+        [simple] = answer(address, "route", three(), geometries="geojson")["routes"]
         fewer = list(map(tuple, simple["geometry"]["coordinates"]))
         assert len(fewer) < len(full) and set(fewer) <= set(full) and simple["duration"] == route["duration"]
         assert tuple(value["waypoints"][1]["location"]) in fewer and (fewer[0], fewer[-1]) == (full[0], full[-1])
         line = LineString(fewer)
         assert max(line.distance(Point(place)) for place in full) < 0.001
-        [none] = answer(address, "route", [VADUZ, VADUZ], overview="full", geometries="geojson")["routes"]
+        [none] = answer(address, "route", [three()[0]] * 2, overview="full", geometries="geojson")["routes"]
         assert none["distance"] == none["duration"] == 0 and len(none["geometry"]["coordinates"]) == 2, none
 
 
@@ -77,7 +77,7 @@ def steps_and_annotations():
     import polyline
 
     with service() as (_, address):
-        value = answer(address, "route", THREE, steps="true", annotations="true", overview="full", geometries="polyline6")
+        value = answer(address, "route", three(), steps="true", annotations="true", overview="full", geometries="polyline6")
         [route] = value["routes"]
         lines = []
         for leg in route["legs"]:
@@ -99,11 +99,11 @@ def steps_and_annotations():
         for leg in route["legs"]:
             nodes = leg["annotation"]["nodes"]
             assert len(nodes) > 10 and all(pair in pairs for pair in zip(nodes, nodes[1:])), nodes
-        [route] = answer(address, "route", THREE, annotations="nodes,duration", overview="false")["routes"]
+        [route] = answer(address, "route", three(), annotations="nodes,duration", overview="false")["routes"]
         assert [set(leg["annotation"]) for leg in route["legs"]] == [{"nodes", "duration"}] * 2 and route["legs"][0]["steps"] == []
-        value = answer(address, "route", THREE, skip_waypoints="true", continue_straight="true", alternatives="false")
+        value = answer(address, "route", three(), skip_waypoints="true", continue_straight="true", alternatives="false")
         assert "waypoints" not in value
-        value = answer(address, "route", THREE, generate_hints="false", radiuses="100;;unlimited", hints=";;", approaches="unrestricted;;")
+        value = answer(address, "route", three(), generate_hints="false", radiuses="100;;unlimited", hints=";;", approaches="unrestricted;;")
         assert all(set(waypoint) == {"location", "name", "distance"} for waypoint in value["waypoints"])
 
 
@@ -122,7 +122,7 @@ def arcs():
     """The tails and heads of the country's arcs."""
     import numpy
 
-    graph = files.read_graph(f"{COUNTRY}.gr")
+    graph = files.read_graph(f"{here()}.gr")
     return numpy.array(graph.tails), numpy.array(graph.heads)
 
 
@@ -134,7 +134,7 @@ def bearing_is_right(line, told):
 
 def tables_have_rows_of_sources():
     """Rows are those of `sources` and cells those of `destinations`, in their order; each is the duration and the metres of that route."""
-    places = some_nodes(5, "tables")[1] + [VADUZ]
+    places = some_nodes(5, "tables")[1] + [three()[0]]
     with service() as (_, address):
         whole = answer(address, "table", places, annotations="duration,distance")
         assert "fallback_speed_cells" not in whole and len(whole["sources"]) == len(whole["destinations"]) == 6
@@ -155,7 +155,7 @@ def tables_have_rows_of_sources():
 
 def nearest_roads():
     """The nearest points of as many roads as are asked for, the nearest first, compared with all roads."""
-    with service() as (_, address), chtab.Network.open(f"{COUNTRY}.gr", program=PROGRAM, load=False) as network:
+    with service() as (_, address), chtab.Network.open(f"{here()}.gr", program=PROGRAM, load=False) as network:
         draw, roads = random.Random("nearest"), network.roads
         for _ in range(12):
             x, y = draw.uniform(9.48, 9.62), draw.uniform(47.05, 47.26)
@@ -168,7 +168,7 @@ def nearest_roads():
                 assert abs(on_sphere((x, y), waypoint["location"]) - waypoint["distance"]) < 0.2
             told = [waypoint["distance"] for waypoint in found]
             assert told == sorted(told) and all(len(waypoint["nodes"]) == 2 for waypoint in found)
-        assert "waypoints" not in answer(address, "nearest", [VADUZ], skip_waypoints="true")
+        assert "waypoints" not in answer(address, "nearest", three()[:1], skip_waypoints="true")
 
 
 def distance_to(x, y, line):
@@ -187,10 +187,10 @@ def addresses_are_read():
     """Coordinates as polylines, escapes, `.json`, and all of 500 coordinates, in their order."""
     import polyline
 
-    swapped = [place[::-1] for place in THREE]
+    swapped = [place[::-1] for place in three()]
     with service() as (_, address):
-        wanted = answer(address, "route", THREE, overview="full")
-        plain = text_of(THREE)
+        wanted = answer(address, "route", three(), overview="full")
+        plain = text_of(three())
         encoded = [
             plain + ".json", plain.replace(";", "%3B").replace(",", "%2c"), plain.replace("9", "%39") + "%2ejson", plain.replace(";", ";+"),
             f"polyline({urllib.parse.quote(polyline.encode(swapped, 5))})", f"polyline6({urllib.parse.quote(polyline.encode(swapped, 6))}).json",

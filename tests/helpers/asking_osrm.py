@@ -4,15 +4,20 @@ import json
 import math
 import random
 
-from helpers.maps import COUNTRY
+from helpers import serving
 from helpers.running import run
-from helpers.serving import send
+from helpers.serving import here, send
 from chtab import files
 
 VADUZ, ESCHEN, MALBUN = (9.5209, 47.1410), (9.5450, 47.2200), (9.6079, 47.1020)
-THREE = VADUZ, ESCHEN, MALBUN
+THREE, OF_TOWN = (VADUZ, ESCHEN, MALBUN), ((13.2632, 53.5511), (13.2795, 53.5623), (13.2850, 53.5525))
 # An answer rounds metres to tenths, and a place to millionths of a degree, which is 0.11 m.
 TENTH, MILLIONTH = 0.051, 0.000_000_6
+
+
+def three():
+    """Three places of the network that checks ask."""
+    return OF_TOWN if serving.IS_IN_TOWN else THREE
 
 
 def text_of(places):
@@ -34,8 +39,8 @@ def answer(address, name, places, profile="car", **options):
 
 
 def some_nodes(count, seed):
-    """Nodes of the country with their places, at which no other node lies."""
-    coordinates = files.read_coordinates(f"{COUNTRY}.co")
+    """Nodes of the network that checks ask with their places, at which no other node lies."""
+    coordinates = files.read_coordinates(f"{here()}.co")
     crowds = collections.Counter(map(coordinates.of, coordinates.known()))
     nodes = random.Random(seed).sample([node for node in coordinates.known() if crowds[coordinates.of(node)] == 1], count)
     return nodes, [coordinates.of(node) for node in nodes]
@@ -44,7 +49,7 @@ def some_nodes(count, seed):
 def distances(pairs):
     """What `chtab dist` says of pairs of nodes, in seconds."""
     files.write_queries("pairs.p2p", pairs)
-    done = run(["dist", f"{COUNTRY}.gr", "pairs.p2p"], ".")
+    done = run(["dist", f"{here()}.gr", "pairs.p2p"], ".")
     words = [line.split()[-1] for line in done.out.decode().splitlines()]
     assert done.status == 0 and len(words) == len(pairs)
     return [None if word == "-" else int(word) / 1000 for word in words]

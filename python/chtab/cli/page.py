@@ -35,6 +35,8 @@ if TYPE_CHECKING:
 TURN = 0.0005
 # The most of a size that may be asked for.
 MOST = 100_000
+# The forms of lines of the log.
+LOG_FORMS = "plain", "combined", "json"
 # What the sizes of requests bound that have osrm-routed's names, as the arguments have them.
 SIZES = {"max_viaroute_size": "route", "max_table_size": "table", "max_trip_size": "trip", "max_matching_size": "match", "max_nearest_size": "nearest"}
 
@@ -98,6 +100,10 @@ def add_listening(parser: argparse.ArgumentParser) -> None:
         help="how many processes answer, 1 to 64 (1); each holds the network in memory",
     )
     parser.add_argument("--log", metavar="FILE", help="write a line for each request to the end of FILE; '-' is standard output")
+    parser.add_argument(
+        "--log-form", choices=LOG_FORMS, default="plain",
+        help="the lines of the log: plain, with the reason of each refusal; combined, as Apache and nginx write them; or json, an object a line (plain)",
+    )
     parser.add_argument(
         "--proxy", metavar="ADDRESS", help="the address of your proxy, such as 127.0.0.1; its header X-Forwarded-For names the client that asks"
     )
@@ -186,6 +192,7 @@ def choices_of(words: argparse.Namespace) -> Choices:
         title=words.title or "", places=tuple(files.read_places(words.places)) if words.places else (), tiles=words.tiles,
         limits=Limits(waiting=words.waiting, sending=words.sending, idle=words.idle, ending=words.ending, grace=words.grace), osrm=sizes_of(words),
         caps=caps_of(words.max_connections, words.max_connections_of_address), allowed=tuple(words.cors), profiles=tuple(words.profile), proxy=words.proxy,
+        log_form=words.log_form,
     )
 
 

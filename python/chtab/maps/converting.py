@@ -12,7 +12,7 @@ from typing import TYPE_CHECKING, NamedTuple
 from chtab import files
 from chtab.engine.progress import Progress
 from chtab.errors import FileFault
-from chtab.maps import arcs, parts, profiles, reading, restrictions, turns
+from chtab.maps import arcs, parts, profiles, reading, restrictions, turning_back, turns
 from chtab.maps.report import Report
 from chtab.maps.ways import Survey
 
@@ -83,7 +83,7 @@ def convert(path: str, choices: Choices, is_told: bool = False, is_logged: bool 
         raise FileFault(f"{name_of(path)}: the map has no road for {profile.people}")
     forbidden = restrictions.forbidden_turns(restricting, made, nodes, report)
     if forbidden:
-        made = turns.split(made, forbidden)
+        made = turns.split(made, turning_back.without_turning_back(made, forbidden))
     return numbered(made, kept_of(made, choices.part, report), survey.streets, choices.driving_side), report
 
 

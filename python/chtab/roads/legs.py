@@ -180,12 +180,18 @@ def sums_before(column: Any, firsts: Integers) -> Any:
     return sums - numpy.repeat(sums[firsts[:-1]], numpy.diff(firsts))
 
 
-def best_ways(trips: Trips, starts: Spots, ends: Spots) -> tuple[Integers, Integers]:
-    """The least weights of the ways from spot k to spot k, `FAR` where there is none, and which way has it."""
+def weights_of_ways(trips: Trips, starts: Spots, ends: Spots) -> Integers:
+    """The weights of all ways from spot k to spot k (n, m + 1), `FAR` where there is none. Those by nodes are in the order of the nodes out of the
+    first spot's road, and for each of these in that of the nodes into the last one's; the last is along a single road."""
     pairs, added = ways_between(starts, ends)
     is_there = (pairs > 0).all(axis=2)
     between = trips.queries.small_tables(starts.out_nodes, ends.in_nodes, pairs[is_there])
-    weights = totals(added, is_there, between, trips.roads.along(starts, ends))
+    return totals(added, is_there, between, trips.roads.along(starts, ends))
+
+
+def best_ways(trips: Trips, starts: Spots, ends: Spots) -> tuple[Integers, Integers]:
+    """The least weights of the ways from spot k to spot k, `FAR` where there is none, and which way has it."""
+    weights = weights_of_ways(trips, starts, ends)
     return weights.min(axis=1, initial=FAR), weights.argmin(axis=1)
 
 

@@ -98,11 +98,11 @@ class Spots:
 
 def one_sided(spots: Spots, sides: Integers) -> Spots:
     """The same spots, which trips leave and reach only in some directions of their roads."""
-    half = spots.out_nodes.shape[1] // 2
     # Who drives forward comes from `first` and goes to `last`.
     backward, forward = ((sides & side == 0)[:, None] for side in (BACKWARD, FORWARD))
-    closed = numpy.repeat(numpy.hstack([backward, forward]), half, axis=1)
-    shut = numpy.repeat(numpy.hstack([forward, backward]), half, axis=1)
+    # A road may have more nodes into it than out of it.
+    closed = numpy.repeat(numpy.hstack([backward, forward]), spots.out_nodes.shape[1] // 2, axis=1)
+    shut = numpy.repeat(numpy.hstack([forward, backward]), spots.in_nodes.shape[1] // 2, axis=1)
     out_nodes, out_weights = (numpy.where(closed, NONE, column) for column in (spots.out_nodes, spots.out_weights))
     in_nodes, in_weights = (numpy.where(shut, NONE, column) for column in (spots.in_nodes, spots.in_weights))
     return replace(spots, out_nodes=out_nodes, out_weights=out_weights, in_nodes=in_nodes, in_weights=in_weights, sides=sides)

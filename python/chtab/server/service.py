@@ -60,7 +60,7 @@ PROBE = numpy.array([[1, 1]])
 class Choices:
     """The operator's choices: the title of the page, places with names, the address of a layer of map tiles or None, the limits of requests in JSON
     and of OSRM's interface, how many connections are allowed, the origins whose pages may ask too, the names that clients of OSRM's interface may
-    give the network, empty for any name, and the address of the proxy or None."""
+    give the network, empty for any name, the address of the proxy or None, and the form of the lines of the log."""
 
     title: str = ""
     places: tuple[Place, ...] = ()
@@ -71,6 +71,7 @@ class Choices:
     allowed: tuple[str, ...] = ()
     profiles: tuple[str, ...] = ()
     proxy: str | None = None
+    log_form: str = "plain"
 
 
 class Service:

@@ -8,13 +8,14 @@ from typing import TYPE_CHECKING, Any, NamedTuple
 import numpy
 
 from chtab.maps import profiles
-from chtab.roads.legs import FAR, legs_between, metres_by, table_ways
+from chtab.roads.legs import FAR, legs_between, legs_by, metres_by, table_ways
 from chtab.roads.snapping import length_text
 from chtab.server.osrm import cells, matching, options, telling, tours, url
 from chtab.server.osrm.crossings import Crossings
 from chtab.server.osrm.drawing import Drawing
 from chtab.server.osrm.options import Refusal
 from chtab.server.osrm.steps import Steps
+from chtab.server.osrm.stops import straight_ways
 
 if TYPE_CHECKING:
     from chtab import files
@@ -82,6 +83,7 @@ class Answers:
         coordinates = network.coordinates
         self.network, self.limits, self.profiles = network, limits, profiles
         mode = MODES.get(profile_of(coordinates.comments), "driving")
+        self.is_straight_by_default = mode == MODES["car"]
         steps = Steps(Crossings(network.roads, coordinates.copies(), streets), mode)
         drawings = {form: Drawing(network.roads.lines, network.nodes, form) for form in options.FORMS}
         self.voice = telling.Voice(steps, numbers, drawings)
@@ -152,8 +154,10 @@ class Answers:
         cuts = numpy.cumsum([0, *(len(question.coordinates) for question in questions)]).tolist()
         # A leg leads from each spot to the next one, but from the last of a question.
         firsts = numpy.delete(numpy.arange(len(spots)), numpy.array(cuts[1:]) - 1)
-        legs = legs_between(self.network._trips, spots[firsts], spots[firsts + 1])
         which = [list(range(first - place, last - place - 1)) for place, (first, last) in enumerate(zip(cuts, cuts[1:]))]
+        straight = [part for part, question in zip(which, questions) if self.is_straight(question.own)]
+        starts, ends = spots[firsts], spots[firsts + 1]
+        legs = legs_by(self.network._trips, starts, ends, *straight_ways(self.network._trips, starts, ends, straight))
         if legs.weights.min(initial=0) < 0:
             for place, some in enumerate(which):
                 if place not in faults and (legs.weights[some] < 0).any():
@@ -164,6 +168,10 @@ class Answers:
             faults.get(place) or answer_of("routes", texts[place], "waypoints", objects(waypoints[cuts[place]:cuts[place + 1]], question.general))
             for place, question in enumerate(questions)
         ]
+
+    def is_straight(self, own: options.Route) -> bool:
+        """Whether a route goes straight on at its stops: by default those of cars do, as OSRM has it."""
+        return self.is_straight_by_default if own.is_straight is None else own.is_straight
 
     def route_texts(self, legs: Legs, parts: Sequence[list[int]], own: Sequence[options.Route]) -> list[str]:
         """The texts of routes, each over a part of the legs and with its own options."""

@@ -81,12 +81,13 @@ class General(NamedTuple):
 
 
 class Route(NamedTuple):
-    """The options of a route."""
+    """The options of a route: its lines, whether it has steps, its annotations, and whether it goes straight on at its stops, None for the default."""
 
     geometries: str
     overview: str
     has_steps: bool
     annotations: tuple[str, ...]
+    is_straight: bool | None = None
 
     @property
     def work(self) -> float:
@@ -233,9 +234,8 @@ def route(reader: Reader) -> Route:
     if not ALTERNATIVES.fullmatch(reader.take("alternatives", "false")):
         raise Refusal("InvalidQuery", "alternatives: true, false or a number")
     reader.refuse("waypoints")
-    # All routes go on as they come: taken, and without effect.
-    reader.choice("continue_straight", "default", "true", "false")
-    return told_route(reader)
+    straight = reader.choice("continue_straight", "default", "true", "false")
+    return told_route(reader)._replace(is_straight={"true": True, "false": False}.get(straight))
 
 
 def told_route(reader: Reader) -> Route:
