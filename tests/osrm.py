@@ -239,6 +239,69 @@ def bearings_choose_the_way():
         assert table["durations"][0][1] == east["duration"] and table["durations"][1][0] > 0
 
 
+def bearings_hold_where_turns_are_forbidden():
+    """Each answer to a place with a bearing: a route leaves it and comes to it about so, and is as long as the table says, also between roads with
+    several nodes at an end."""
+    draw = random.Random("bearings")
+    with service() as (_, address):
+        for _ in range(60):
+            places = [tuple(part + draw.gauss(0, 0.0003) for part in place) for place in some_nodes(60, "bearings")[1][:2]]
+            bearings = [draw.randrange(360) for _ in places]
+            words = ";".join(f"{bearing},60" for bearing in bearings)
+            status, value = get(address, f"/route/v1/car/{text_of(places)}?bearings={words}&steps=true&overview=full&geometries=geojson")
+            assert status == 200 or value["code"] in ("NoRoute", "NoSegment"), value
+            for place, bearing in zip(places, bearings):
+                assert get(address, f"/nearest/v1/car/{text_of([place])}?bearings={bearing},60")[0] == 200
+            if status == 200:
+                [leg] = value["routes"][0]["legs"]
+                told = leg["steps"][0]["maneuver"]["bearing_after"], leg["steps"][-1]["maneuver"]["bearing_before"]
+                assert leg["distance"] < 0.5 or all(abs((one - other + 180) % 360 - 180) <= 62 for one, other in zip(told, bearings)), (told, bearings)
+                assert answer(address, "table", places, bearings=words)["durations"][0][1] == value["routes"][0]["duration"]
+
+
+def routes_go_straight_on_at_stops():
+    """At a stop in the middle of a road a route goes on as it came, by default too; it may turn round there where it is allowed to, or has to. The
+    duration is the least of those by which the stop is come to and left in one direction, which tables with bearings have."""
+    comments = "c Roads for cars, by hand.\nc Weights are milliseconds.\n"
+    # A road from west to east, and one way round the block from its east end back to its west end.
+    nodes, arcs_there = [(9.5, 47.1), (9.51, 47.1), (9.52, 47.1)], [(1, 2, 10_000), (2, 1, 10_000), (2, 3, 10_000), (3, 2, 10_000), (3, 1, 90_000)]
+    write_network("straight", nodes, arcs_there, comments)
+    places = [(9.501, 47.1), (9.505, 47.1), (9.501, 47.1)]
+    with service("straight") as (_, address):
+        for word, seconds in ("true", 18), ("default", 18), ("false", 8):
+            [route] = answer(address, "route", places, continue_straight=word)["routes"]
+            assert route["duration"] == seconds, (word, route["duration"])
+    write_network("closed", nodes[:2], [(1, 2, 10_000), (2, 1, 10_000)], comments.replace("cars", "bicycles"))
+    with service("closed") as (_, address):
+        for word, seconds in ("true", 18), ("default", 8), ("false", 8):
+            assert answer(address, "route", places, continue_straight=word)["routes"][0]["duration"] == seconds, word
+    draw, seen = random.Random("straight on"), 0
+    with service() as (_, address), chtab.Network.open(f"{here()}.gr", program=PROGRAM, load=False) as network:
+        for _ in range(120):
+            stops = [tuple(part + draw.gauss(0, 0.0004) for part in place) for place in draw.sample(some_nodes(60, "stops")[1], 3)]
+            seen += is_least_of_directions(address, network, stops)
+    assert seen > 60, seen
+
+
+def is_least_of_directions(address, network, stops):
+    """Compares a route over a stop with the ways to it and from it in each direction; whether both directions are known."""
+    status, value = get(address, f"/route/v1/car/{text_of(stops)}")
+    spot = network.roads.find_any([round(stops[1][0], 6)], [round(stops[1][1], 6)])
+    if status != 200 or spot.parts[0] in (0, 1):
+        return False
+    [along] = answer(address, "route", stops[1:], steps="true")["routes"]
+    ahead, wanted = along["legs"][0]["steps"][0]["maneuver"]["bearing_after"], []
+    for bearing in ahead, (ahead + 180) % 360:
+        status, near = get(address, f"/nearest/v1/car/{text_of(stops[1:2])}?bearings={bearing},12")
+        if status == 200 and near["waypoints"][0]["location"] != value["waypoints"][1]["location"]:
+            return False
+        if status == 200:
+            cells = answer(address, "table", stops, bearings=f";{bearing},12;")["durations"]
+            wanted += [cells[0][1] + cells[1][2]] if None not in (cells[0][1], cells[1][2]) else []
+    assert not wanted or abs(min(wanted) - value["routes"][0]["duration"]) < 0.0025, (stops, wanted, value["routes"][0]["duration"])
+    return bool(wanted)
+
+
 def write_network(out, places, arcs_there, comments):
     """A graph of nodes at some places, in degrees."""
     open(f"{out}.gr", "w").write(comments + f"p sp {len(places)} {len(arcs_there)}\n" + "".join(f"a {u} {v} {w}\n" for u, v, w in arcs_there))
@@ -340,9 +403,9 @@ def tracks_that_part():
 
 
 GROUPS = (
-    ((*SERVICE, "python3-polyline"), by_both(
+    ((*SERVICE, "python3-polyline"), on_both_maps(
         durations_are_those_of_the_program, routes_have_lines, steps_and_annotations, tables_have_rows_of_sources, nearest_roads, addresses_are_read,
-        bearings_choose_the_way, trips_visit_each_place_once, tracks_are_matched, tracks_that_part,
+        bearings_choose_the_way, bearings_hold_where_turns_are_forbidden, routes_go_straight_on_at_stops, trips_visit_each_place_once, tracks_are_matched, tracks_that_part,
     )),
 )
 

@@ -16,7 +16,6 @@ from __future__ import annotations
 
 import argparse
 import logging
-import math
 import os
 import sys
 from collections.abc import Callable, Sequence
@@ -227,17 +226,18 @@ def main(words: Sequence[str]) -> None:
 def serve_all(words: argparse.Namespace, networks: Networks, choices: Choices, port: Port) -> int:
     """Serves networks by one process or several, until a signal ends it; the status of the process."""
     import asyncio
+    import gc
 
     from chtab.server.metrics import Metrics
     from chtab.server.ports import notify
-    from chtab.server.service import Service
+    from chtab.server.service import Material, Service
     from chtab.server.serving import Family, serve
 
-    metrics = Metrics(words.processes)
+    metrics, material = Metrics(words.processes), Material(networks, choices)
 
     def service(row: int) -> Service:
         networks.load()
-        return Service(networks, choices, metrics, row)
+        return Service(networks, choices, metrics, row, material)
 
     def tell() -> None:
         print(port.address, flush=True)
@@ -245,9 +245,10 @@ def serve_all(words: argparse.Namespace, networks: Networks, choices: Choices, p
 
     if words.processes == 1:
         return asyncio.run(serve(service(0), port, tell))
-    # What is read before processes are forked is in memory once.
-    for each in networks:
-        each.network.snap(0, 0, math.inf)
+    # What is made before processes are forked is in memory once, as long as nobody writes there: not even the collector of garbage, on what stays.
+    networks.open_once()
+    gc.collect()
+    gc.freeze()
     return Family(words.processes, service, metrics, port, networks.told).run(tell)
 
 

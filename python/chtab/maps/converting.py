@@ -88,14 +88,14 @@ def convert(path: str, choices: Choices, is_told: bool = False, is_logged: bool 
 
 
 def kept_of(made: arcs.Network, wanted: str | int, report: Report) -> bytearray:
-    """Whether each node is kept, by the wanted component: `all`, `largest` or a rank, from 1 on. The others are noted."""
+    """Whether each node is kept, by the wanted component: `all`, `large`, `largest` or a rank, from 1 on. The others are noted."""
     if wanted == "all":
         return bytearray([True]) * len(made.names)
     part, ranked = parts.ranked(made)
-    rank = 1 if wanted == "largest" else int(wanted)
-    if rank > len(ranked):
-        raise FileFault(f"there is no part {rank}: the roads have {len(ranked)}")
-    others, kept = ranked[:rank - 1] + ranked[rank:], parts.kept_nodes(made, part, ranked[rank - 1][0])
+    first, last = (0, parts.large(ranked)) if wanted == "large" else (0, 1) if wanted == "largest" else (int(wanted) - 1, int(wanted))
+    if last > len(ranked):
+        raise FileFault(f"there is no part {last}: the roads have {len(ranked)}")
+    others, kept = ranked[:first] + ranked[last:], parts.kept_nodes(made, part, {component for component, _ in ranked[first:last]})
     if others:
         words = f"of {len(made.names) - len(made.ends):,}, in {len(others):,} parts of {others[0][1]:,} nodes and fewer"
         report.note("parts", words, count=sum(size for _, size in others))

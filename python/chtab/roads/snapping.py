@@ -268,8 +268,10 @@ class Roads:
         """The spots of places at these parts of roads."""
         metres = metres_between(longitudes, latitudes, xs, ys)
         lengths = self.lines.metres[roads]
-        parts = numpy.where(parts * lengths < AT_END, 0.0, parts)
-        return self.spots(xs, ys, metres, roads, numpy.where((1 - parts) * lengths < AT_END, 1.0, parts))
+        # On a road of less than two metres the nearer end counts.
+        before, behind = parts * lengths, (1 - parts) * lengths
+        parts = numpy.where((before < AT_END) & (before <= behind), 0.0, numpy.where((behind < AT_END) & (behind < before), 1.0, parts))
+        return self.spots(xs, ys, metres, roads, parts)
 
     def spots(self, longitudes: Floats, latitudes: Floats, metres: Floats, roads: Integers, parts: Floats) -> Spots:
         """Makes spots, with the ways out of them and into them, and rounds the weights of these."""
@@ -295,10 +297,14 @@ class Roads:
             column = first + numpy.where(is_first, 0, width // 2)
             nodes[at_node, column], weights[at_node, column] = there, 0
 
-    def find_facing(self, longitude: float, latitude: float, bearing: float, within: float) -> Spots:
+    def find_facing(self, longitude: float, latitude: float, bearing: float, within: float, but: Sequence[int] = ()) -> Spots:
         """Takes one place to the nearest point at which a road leads in a direction, in degrees clockwise from north, or at most `within` degrees off
-        it. Trips leave the spot and arrive at it in that direction alone. If no road leads that way, there are no spots."""
-        steps, share, at = self.lines.nearest_facing(longitude, latitude, lambda steps: self.facing(steps, bearing, within) > 0)
+        it, on any road but some. Trips leave the spot and arrive at it in that direction alone. If no road leads that way, there are no spots."""
+        def fits(steps: Integers) -> Marks:
+            is_other = ~numpy.isin(numpy.searchsorted(self.lines.firsts, steps, "right") - 1, but) if but else True
+            return (self.facing(steps, bearing, within) > 0) & is_other
+
+        steps, share, at = self.lines.nearest_facing(longitude, latitude, fits)
         roads = numpy.searchsorted(self.lines.firsts, steps, "right") - 1
         before, after = self.lines.parts[steps], self.lines.parts[steps + 1]
         # A spot at an end of its road would be left by any other road.

@@ -101,14 +101,14 @@ def leg_text(voice: Voice, legs: Legs, leg: int, options: Route, told: OfLegs) -
 
 
 def annotation(legs: Legs, leg: int, trace: Trace | None, wanted: Sequence[str], numbers: Integers | None) -> dict[str, Any]:
-    """What lies between each two places of the full line, and the nodes that the leg passes. What lies between sums up to the whole leg."""
+    """What lies between each two places of the full line, and the nodes there: one more than lie between, with 0 for bends. What lies between sums up
+    to the whole leg."""
     found: dict[str, Any] = {}
-    if "nodes" in wanted:
-        nodes = legs.nodes(leg)
-        called = nodes if numbers is None else numbers[numpy.array(nodes, int) - 1].tolist()
-        found["nodes"] = [number for place, number in enumerate(called) if not place or number != called[place - 1]]
     if trace is None:
         return found
+    if "nodes" in wanted:
+        nodes = trace.nodes if len(trace.nodes) > 1 else numpy.repeat(trace.nodes, 2)
+        found["nodes"] = (nodes if numbers is None else numpy.where(nodes > 0, numbers[nodes - 1], 0)).tolist()
     weights, metres = numpy.array(between(trace.weights)), numpy.array(between(trace.metres))
     durations = (weights / MILLISECONDS).tolist()
     speeds = numpy.where(weights > 0, metres / numpy.where(weights > 0, weights / MILLISECONDS, 1), 0)
