@@ -22,6 +22,7 @@ import urllib.parse
 from helpers import running
 from helpers.any_options import drawn_request
 from helpers.asking_osrm import ESCHEN, PLAIN, TENTH, VADUZ, answer, get, on_sphere, some_nodes, text_of, three
+from helpers.maps import tool
 from helpers.packages import PYTHON, run_checks
 from helpers.running import PROGRAM, ROOT
 from helpers.serving import BROWSER, COUNTRY, SERVICE, by_both, on_both_maps, send, service, shown_page
@@ -58,7 +59,7 @@ REFUSED = (
         ("alternatives=some", "InvalidQuery", "alternatives"), ("alternatives=-1", "InvalidQuery", "alternatives"), ("alternatives=", "InvalidQuery", "alternatives"),
         *((f"bearings={text}", "InvalidQuery", "bearings") for text in ("361,20;", "0,181;", "0;", "x,20;", ",20;", "0,;", "-1,20;", "0,20,5;", "0.5,20;")),
         ("bearings=0,20", "InvalidOptions", "1 elements for 2"), ("bearings=0,20;;", "InvalidOptions", "3 elements for 2"),
-        ("approaches=opposite;curb", "InvalidQuery", "approaches: one of"), ("approaches=curb", "InvalidOptions", "1 elements"), ("exclude=motorway", "InvalidOptions", "exclude: not supported"),
+        ("approaches=opposite;curb", "InvalidQuery", "approaches: one of"), ("approaches=curb", "InvalidOptions", "1 elements"), ("exclude=motorway", "InvalidValue", "no network without motorway"), ("exclude=x", "InvalidValue", "some of toll"),
         ("snapping=some", "InvalidQuery", "snapping"), ("waypoints=0;1", "InvalidOptions", "waypoints: not supported"),
         ("annotations=all", "InvalidQuery", "annotations"), ("annotations=", "InvalidQuery", "annotations"), ("steps=1", "InvalidQuery", "steps"),
         ("steps=", "InvalidQuery", "steps"), ("overview=none", "InvalidQuery", "overview"), ("geometries=wkt", "InvalidQuery", "geometries"),
@@ -91,7 +92,7 @@ REFUSED = (
     *((f"/trip/v1/car/{PLAIN}?{query}", code, told) for query, code, told in (
         ("roundtrip=yes", "InvalidQuery", "roundtrip"), ("source=last", "InvalidQuery", "source"), ("destination=first", "InvalidQuery", "destination"),
         ("alternatives=true", "InvalidQuery", "alternatives: not an option of trip"), ("continue_straight=true", "InvalidQuery", "not an option"),
-        ("exclude=toll", "InvalidOptions", "exclude: not"), ("approaches=kerb;", "InvalidQuery", "approaches"),
+        ("exclude=toll,ferry", "InvalidValue", "without toll and ferry"), ("approaches=kerb;", "InvalidQuery", "approaches"),
     )),
     ("/trip/v1/car/9.5,47.1", "InvalidOptions", "two coordinates"), (f"/trip/v1/car/{';'.join(['9.5,47.1'] * 101)}", "TooBig", "at most 100"),
     ("/trip/v1/car/9.5209,47.1410;9.5,46.0?radiuses=;1000", "NoSegment", "coordinate 1 is"),
@@ -316,6 +317,31 @@ def names_of_profiles():
         assert done.returncode == 2 and "Traceback" not in done.stderr, (more, done)
 
 
+def classes_are_excluded():
+    """Requests that exclude classes of ways are answered by the network without them, in whatever order they name them; others by the whole one."""
+    subprocess.run([ROOT / "examples" / "town.py"], check=True)
+    for name, words in ("whole", ()), ("no_toll", ("--exclude", "toll")), ("neither", ("--exclude", "ferry,toll")):
+        tool("osm_to_gr", "--quiet", "--part", "large", *words, "town.osm", name)
+    east, west = (13.293, 53.569), (13.262, 53.569)
+    ashore, across = (13.2882, 53.5540), (13.3068, 53.5540)
+    networks = "car=whole", "car/toll=no_toll", "car/toll,ferry=neither", "foot=whole"
+    with service(None, *(word for each in networks for word in ("--network", each))) as (_, address):
+        found = {}
+        for query in "", "exclude=", "exclude=toll", "exclude=%74oll", "exclude=toll,ferry", "exclude=ferry,toll":
+            status, value = get(address, f"/table/v1/car/{text_of([west, east, ashore, across])}?{query}")
+            assert status == 200, value
+            found[query] = value["durations"][1][0], value["durations"][2][3]
+        assert found[""] == found["exclude="] and found["exclude=toll"] == found["exclude=%74oll"] and found["exclude=toll,ferry"] == found["exclude=ferry,toll"]
+        assert found[""][0] < found["exclude=toll"][0] == found["exclude=toll,ferry"][0] and found[""][1] == found["exclude=toll"][1] > 600, found
+        assert found["exclude=toll,ferry"][1] is None
+        for path in f"/route/v1/car/{PLAIN}?exclude=ferry", f"/route/v1/foot/{PLAIN}?exclude=toll", f"/nearest/v1/car/{A}?exclude=motorway":
+            assert get(address, path)[1]["code"] == "InvalidValue", path
+        assert get(address, f"/route/v1/bus/{PLAIN}")[1]["message"] == "the profiles are car, foot"
+    for word in "car/=whole", "car/x=whole", "car/toll,=whole":
+        done = subprocess.run([PYTHON, ROOT / "tools" / "page.py", "--network", word], capture_output=True, text=True)
+        assert done.returncode == 2 and "Traceback" not in done.stderr, done
+
+
 def limits_are_options():
     """The sizes of requests by osrm-routed's names. A larger table is answered, with distances too."""
     many = some_nodes(130, "limits")[1]
@@ -366,7 +392,7 @@ def another_site():
 
 GROUPS = (
     ((*SERVICE, "python3-polyline"), [
-        *by_both(what_is_refused, places_without_a_way, clients_get_what_they_ask_for), names_of_profiles, limits_are_options,
+        *by_both(what_is_refused, places_without_a_way, clients_get_what_they_ask_for), names_of_profiles, classes_are_excluded, limits_are_options,
         *on_both_maps(requests_are_posted, any_options_get_an_answer),
     ]),
     (BROWSER, [other_sites_and_the_page]),

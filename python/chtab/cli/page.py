@@ -34,6 +34,8 @@ if TYPE_CHECKING:
 TURN = 0.0005
 # The most of a size that may be asked for.
 MOST = 100_000
+# The classes of ways that clients may exclude.
+CLASSES = "toll", "motorway", "ferry"
 # The forms of lines of the log.
 LOG_FORMS = "plain", "combined", "json"
 # What the sizes of requests bound that have osrm-routed's names, as the arguments have them.
@@ -51,11 +53,16 @@ def number_of(low: int, high: int, what: str) -> Callable[[str], int]:
 
 
 def network_in(word: str) -> tuple[str, str]:
-    """A network and what clients call it: (name, the start of the names of its files)."""
+    """A network and what clients call it: (name, the start of the names of its files). Behind a slash the name has the classes of ways that the network
+    is without, in one order."""
     name, mark, out = word.partition("=")
-    if not (mark and out and name.isascii() and name.replace("-", "").replace("_", "").isalnum()):
+    profile, slash, excluded = name.partition("/")
+    if not (mark and out and profile.isascii() and profile.replace("-", "").replace("_", "").isalnum()):
         raise argparse.ArgumentTypeError(f"{word!r} is no NAME=OUT, as car=roads")
-    return name, out
+    classes = excluded.split(",") if slash else []
+    if not set(classes) <= set(CLASSES):
+        raise argparse.ArgumentTypeError(f"{word!r} is no NAME/CLASSES=OUT, as car/toll=roads-without-toll; the classes are {', '.join(CLASSES)}")
+    return "/".join([profile, *([",".join(known for known in CLASSES if known in classes)] if classes else [])]), out
 
 
 def parser_of() -> cli.Parser:
@@ -77,7 +84,7 @@ def parser_of() -> cli.Parser:
     parser.add_argument(
         "--network", action="append", default=[], type=network_in, metavar="NAME=OUT",
         help="serve the network OUT to clients of OSRM's interface that ask for the profile NAME; it may be given several times. OUT.ch is its saved "
-             "hierarchy, if it exists. The first one is that of the page",
+             "hierarchy, if it exists. The first one is that of the page. NAME/CLASSES, as car/toll, is the network for those that exclude these classes",
     )
     add_listening(parser)
     add_engines(parser)

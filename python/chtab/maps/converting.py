@@ -38,6 +38,7 @@ class Choices(NamedTuple):
     bends: bool = False
     names: bool = False
     driving_side: str = "right"
+    exclude: tuple[str, ...] = ()
 
 
 class Numbered(NamedTuple):
@@ -71,7 +72,7 @@ def convert(path: str, choices: Choices, is_told: bool = False, is_logged: bool 
     """Converts a map (`-` is standard input). Returns the network, and the report of what was left out, with its objects if `is_logged`. An empty map
     is a fault. `is_told` reports progress on standard error."""
     profile, report = profiles.profile(choices.profile), Report(is_logged)
-    survey = Survey(profile, report, choices.ferries, choices.names)
+    survey = Survey(profile, report, choices.ferries, choices.names, choices.exclude)
     reading.read_map(path, survey, is_told)
     survey.note_ways_that_come_twice()
     restricting = restrictions.read_all(survey.relations, profile, report) if choices.turns else []
@@ -128,6 +129,7 @@ def name_of(path: str) -> str:
 def comments_of(path: str, choices: Choices) -> list[str]:
     """The comments of a graph's files: the map, and the choices."""
     more = ", turns as the map restricts them" * choices.turns + ", no ferries" * (not choices.ferries)
+    more += "".join(f", without {name}" for name in choices.exclude)
     people = profiles.profile(choices.profile).people
     return [f"Roads for {people}, from {name_of(path)}: nodes {choices.nodes}, part {choices.part}{more}.", *SOURCE]
 

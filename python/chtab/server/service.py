@@ -26,7 +26,7 @@ from chtab.server import web_policy
 from chtab.server.connections import Caps, client_of, is_gone
 from chtab.server.faults import fault_of
 from chtab.server.metrics import Metrics
-from chtab.server.osrm import answering, url
+from chtab.server.osrm import answering, options, url
 from chtab.server.osrm.options import Refusal
 from chtab.server.queue import Asked, Turns
 from chtab.server.requests import Limits, Refused, bytes_in, fields_of, number_in, place_in, places_in
@@ -81,7 +81,7 @@ class Material:
         first = networks.first.network
         self.tiles = Tiles(first.roads, first.unit == "milliseconds")
         self.osrm = [
-            answering.Answers(each.network, (each.name,) if each.name else choices.profiles, choices.osrm, each.streets, each.numbers) for each in networks
+            answering.Answers(each.network, (each.name.partition("/")[0],) if each.name else choices.profiles, choices.osrm, each.streets, each.numbers) for each in networks
         ]
         self.by_name = {each.name: answers for each, answers in zip(networks, self.osrm) if each.name}
         # The index of roads is made now, and what simplifies lines is loaded, and not while the first client waits.
@@ -226,7 +226,7 @@ class Service:
         """What a request of OSRM's interface asks. Routes, and the nearest roads, are answered together with those that wait beside them. What the
         library in this process answers may be answered in the loop."""
         words = url.words_of(target, longest)
-        answers = self.answers_for(words.profile)
+        answers = self.answers_for(words.profile, options.excluded_in(words.query) if "exclu" in words.query or "%" in words.query else ())
         question = answers.question(words)
         is_quick = answers.network.answers_by == "library"
         if question.service == "route":
@@ -238,12 +238,18 @@ class Service:
             return Asked(answers.tables, question, False, 1, is_quick, question.own.size)
         return alone(getattr(answers, question.service), question)
 
-    def answers_for(self, profile: str) -> Answers:
-        """The answers of the network that a profile names. If there is only one network, its answers check the name."""
+    def answers_for(self, profile: str, excluded: tuple[str, ...]) -> Answers:
+        """The answers of the network that a profile names, without the ways of the classes that are excluded. If there is only one network, its answers
+        check the name."""
+        if excluded:
+            name = f"{profile}/{','.join(excluded)}"
+            if name not in self.by_name:
+                raise Refusal("InvalidValue", f"exclude: there is no network without {' and '.join(excluded)}")
+            return self.by_name[name]
         if len(self.osrm) == 1:
             return self.osrm[0]
         if profile not in self.by_name:
-            raise Refusal("InvalidValue", f"the profiles are {', '.join(self.by_name)}")
+            raise Refusal("InvalidValue", f"the profiles are {', '.join(name for name in self.by_name if '/' not in name)}")
         return self.by_name[profile]
 
     async def page(self, request: web.Request) -> web.FileResponse:

@@ -8,6 +8,8 @@ import urllib.parse
 from collections.abc import Callable, Mapping
 from typing import Any, NamedTuple
 
+# The classes of ways that may be excluded.
+CLASSES = "toll", "motorway", "ferry"
 # A percent sign that begins no escape.
 BROKEN = re.compile("%(?![0-9A-Fa-f]{2})")
 NUMBER = re.compile(r"\d+(?:\.\d*)?|\.\d+", re.ASCII)
@@ -214,10 +216,19 @@ def general(reader: Reader) -> General:
     curbs = tuple(is_at_curb(text) for text in reader.elements("approaches"))
     # Trips may start on each road of a graph, so that both are the same.
     reader.choice("snapping", "default", "any")
-    if reader.take("exclude", ""):
-        raise unsupported("exclude")
+    # Another network answers, which the service has chosen.
+    reader.take("exclude", "")
     hints, waypoints = reader.boolean("generate_hints", True), not reader.boolean("skip_waypoints", False)
     return General(radiuses, bearings, curbs, hints, waypoints, any(map(math.isfinite, radiuses)), any(bearings), any(curbs))
+
+
+def excluded_in(query: str) -> tuple[str, ...]:
+    """The classes of ways that a query excludes, in order and each once."""
+    word = values_in(query).get("exclude", "")
+    names = word.split(",") if word else []
+    if not set(names) <= set(CLASSES):
+        raise Refusal("InvalidValue", f"exclude: some of {', '.join(CLASSES)}, with commas between them")
+    return tuple(name for name in CLASSES if name in names)
 
 
 def is_at_curb(text: str) -> bool:
