@@ -6,11 +6,12 @@ A check that needs a missing package is named and left out. The last line is 'N 
 """
 import itertools
 import math
+import pathlib
 import random
 import sys
 import urllib.parse
 
-from helpers import running
+from helpers import running, serving
 from helpers.asking_osrm import MILLIONTH, TENTH, answer, distances, get, on_sphere, some_nodes, text_of, three
 from helpers.packages import run_checks
 from helpers.running import PROGRAM, ROOT
@@ -58,7 +59,7 @@ def routes_have_lines():
         assert [full[0], full[-1]] == [tuple(value["waypoints"][place]["location"]) for place in (0, -1)]
         assert abs(sum(itertools.starmap(on_sphere, zip(full, full[1:]))) - route["distance"]) < 1 + len(full) * 0.02
         for place, waypoint in zip(three(), value["waypoints"]):
-            assert abs(on_sphere(place, waypoint["location"]) - waypoint["distance"]) < 0.2 and (waypoint["name"], waypoint["hint"]) == ("", "")
+            assert abs(on_sphere(place, waypoint["location"]) - waypoint["distance"]) < 0.2 and (waypoint["name"] == "") != serving.IS_IN_TOWN and waypoint["hint"] == ""
         [simple] = answer(address, "route", three(), geometries="geojson")["routes"]
         fewer = list(map(tuple, simple["geometry"]["coordinates"]))
         assert len(fewer) < len(full) and set(fewer) <= set(full) and simple["duration"] == route["duration"]
@@ -83,7 +84,7 @@ def steps_and_annotations():
         for leg in route["legs"]:
             steps = leg["steps"]
             assert steps[0]["maneuver"]["type"] == "depart" and steps[-1]["maneuver"]["type"] == "arrive" and len(steps) > 4
-            assert {step["mode"] for step in steps} == {"driving"} and {step["name"] for step in steps} == {""}
+            assert {step["mode"] for step in steps} == {"driving"} and ({step["name"] for step in steps} == {""}) != serving.IS_IN_TOWN
             parts = [polyline.decode(step["geometry"], 6) for step in steps]
             assert parts[-1] == [parts[-2][-1]] * 2 and all(one[-1] == other[0] for one, other in zip(parts, parts[1:]))
             line = [parts[0][0], *(place for part in parts[:-1] for place in part[1:])]
@@ -95,10 +96,11 @@ def steps_and_annotations():
         whole = polyline.decode(route["geometry"], 6)
         assert whole == lines[0] + lines[1][1:] and lines[0][-1] == lines[1][0]
         assert bearing_is_right(whole, route["legs"][0]["steps"][0]["maneuver"]["bearing_after"])
-        pairs = set(zip(*(column.tolist() for column in arcs())))
+        pairs = arcs()
         for leg in route["legs"]:
             nodes = leg["annotation"]["nodes"]
-            assert len(nodes) > 10 and all(pair in pairs for pair in zip(nodes, nodes[1:])), nodes
+            assert len(nodes) > 10 and all(pair in pairs or 0 in pair for pair in zip(nodes, nodes[1:])), nodes
+            assert nodes[0] != nodes[1] and nodes[-1] != nodes[-2] and (0 in nodes) == serving.IS_IN_TOWN, "bends have no numbers"
         [route] = answer(address, "route", three(), annotations="nodes,duration", overview="false")["routes"]
         assert [set(leg["annotation"]) for leg in route["legs"]] == [{"nodes", "duration"}] * 2 and route["legs"][0]["steps"] == []
         value = answer(address, "route", three(), skip_waypoints="true", continue_straight="true", alternatives="false")
@@ -109,7 +111,7 @@ def steps_and_annotations():
 
 def check_annotation(leg, line):
     parts = leg["annotation"]
-    assert set(parts) == PARTS | {"nodes", "metadata"} and {len(parts[name]) for name in PARTS} == {len(line) - 1}
+    assert set(parts) == PARTS | {"nodes", "metadata"} and {len(parts[name]) for name in PARTS} == {len(line) - 1} and len(parts["nodes"]) == len(line)
     assert abs(sum(parts["distance"]) - leg["distance"]) < 0.5 and abs(sum(parts["duration"]) - leg["duration"]) < 1e-6
     assert parts["weight"] == parts["duration"] and set(parts["datasources"]) == {0} and len(parts["metadata"]["datasource_names"]) == 1
     for metres, seconds, speed in zip(parts["distance"], parts["duration"], parts["speed"]):
@@ -119,11 +121,10 @@ def check_annotation(leg, line):
 
 
 def arcs():
-    """The tails and heads of the country's arcs."""
-    import numpy
-
-    graph = files.read_graph(f"{here()}.gr")
-    return numpy.array(graph.tails), numpy.array(graph.heads)
+    """The pairs of nodes that arcs lead between, by the map's numbers where there are some."""
+    graph, numbers = files.read_graph(f"{here()}.gr"), pathlib.Path(f"{here()}.nodes")
+    called = [0, *map(int, numbers.read_text().split())] if numbers.exists() else range(graph.nodes + 1)
+    return {(called[tail], called[head]) for tail, head in zip(graph.tails, graph.heads)}
 
 
 def bearing_is_right(line, told):
@@ -242,10 +243,10 @@ def bearings_choose_the_way():
 def bearings_hold_where_turns_are_forbidden():
     """Each answer to a place with a bearing: a route leaves it and comes to it about so, and is as long as the table says, also between roads with
     several nodes at an end."""
-    draw = random.Random("bearings")
+    draw, known = random.Random("bearings"), some_nodes(60, "bearings")[1]
     with service() as (_, address):
         for _ in range(60):
-            places = [tuple(part + draw.gauss(0, 0.0003) for part in place) for place in some_nodes(60, "bearings")[1][:2]]
+            places = [tuple(part + draw.gauss(0, 0.0003) for part in place) for place in draw.sample(known, 2)]
             bearings = [draw.randrange(360) for _ in places]
             words = ";".join(f"{bearing},60" for bearing in bearings)
             status, value = get(address, f"/route/v1/car/{text_of(places)}?bearings={words}&steps=true&overview=full&geometries=geojson")
@@ -275,10 +276,10 @@ def routes_go_straight_on_at_stops():
     with service("closed") as (_, address):
         for word, seconds in ("true", 18), ("default", 8), ("false", 8):
             assert answer(address, "route", places, continue_straight=word)["routes"][0]["duration"] == seconds, word
-    draw, seen = random.Random("straight on"), 0
+    draw, seen, known = random.Random("straight on"), 0, some_nodes(60, "stops")[1]
     with service() as (_, address), chtab.Network.open(f"{here()}.gr", program=PROGRAM, load=False) as network:
         for _ in range(120):
-            stops = [tuple(part + draw.gauss(0, 0.0004) for part in place) for place in draw.sample(some_nodes(60, "stops")[1], 3)]
+            stops = [tuple(part + draw.gauss(0, 0.0004) for part in place) for place in draw.sample(known, 3)]
             seen += is_least_of_directions(address, network, stops)
     assert seen > 60, seen
 
