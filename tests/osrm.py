@@ -12,10 +12,10 @@ import sys
 import urllib.parse
 
 from helpers import running, serving
-from helpers.asking_osrm import MILLIONTH, TENTH, answer, distances, get, on_sphere, some_nodes, text_of, three
+from helpers.asking_osrm import MILLIONTH, TENTH, answer, distance_to, distances, get, on_sphere, some_nodes, text_of, three, write_network
 from helpers.packages import run_checks
 from helpers.running import PROGRAM, ROOT
-from helpers.serving import SERVICE, here, on_both_maps, service
+from helpers.serving import SERVICE, by_both, here, on_both_maps, service
 
 sys.path.insert(0, str(ROOT / "python"))
 
@@ -159,7 +159,7 @@ def nearest_roads():
     with service() as (_, address), chtab.Network.open(f"{here()}.gr", program=PROGRAM, load=False) as network:
         draw, roads = random.Random("nearest"), network.roads
         for _ in range(12):
-            x, y = draw.uniform(9.48, 9.62), draw.uniform(47.05, 47.26)
+            x, y = (draw.uniform(min(column) - 0.01, max(column) + 0.01) for column in zip(*three()))
             number = draw.choice((1, 2, 7, 100))
             found = answer(address, "nearest", [(x, y)], number=number)["waypoints"]
             wanted = sorted((distance_to(x, y, roads.lines.of(road).tolist()), road) for road in range(len(roads)))[:number]
@@ -170,18 +170,6 @@ def nearest_roads():
             told = [waypoint["distance"] for waypoint in found]
             assert told == sorted(told) and all(len(waypoint["nodes"]) == 2 for waypoint in found)
         assert "waypoints" not in answer(address, "nearest", three()[:1], skip_waypoints="true")
-
-
-def distance_to(x, y, line):
-    """The metres from a place to a line, on a plane that touches the earth there."""
-    wide = 111_195.08 * math.cos(math.radians(y))
-    flat = [((u - x) * wide, (v - y) * 111_195.08) for u, v in line]
-    best = math.inf
-    for (a, b), (c, d) in zip(flat, flat[1:]):
-        square = (c - a) ** 2 + (d - b) ** 2
-        part = min(1, max(0, -(a * (c - a) + b * (d - b)) / square)) if square else 0
-        best = min(best, math.hypot(a + part * (c - a), b + part * (d - b)))
-    return best
 
 
 def addresses_are_read():
@@ -211,103 +199,6 @@ def addresses_are_read():
         assert [leg["duration"] for leg in route["routes"][0]["legs"]] == distances(list(zip(nodes, nodes[1:])))
         status, value = get(address, f"/table/v1/car/{text_of(many)}?sources=0;499&destinations=all")
         assert status == 200 and (len(value["durations"]), len(value["durations"][1])) == (2, 500)
-
-
-def bearings_choose_the_way():
-    """A place is left and come to in the direction that is asked for; a nearer road that leads elsewhere is passed over."""
-    comments = "c Roads for cars, by hand.\nc Weights are milliseconds.\n"
-    # A road from west to east, one to the north at its middle, and one way round the block from its east end back to its west end.
-    nodes = [(9.5, 47.1), (9.505, 47.1), (9.51, 47.1), (9.505, 47.11)]
-    both = [(1, 2, 10_000), (2, 1, 10_000), (2, 3, 10_000), (3, 2, 10_000), (2, 4, 20_000), (4, 2, 20_000)]
-    write_network("bearings", nodes, [*both, (3, 1, 30_000)], comments)
-    with service("bearings") as (_, address):
-        start, goal = (9.5025, 47.1), (9.5005, 47.1)
-        plain, east, west = (
-            answer(address, "route", [start, goal], **({"bearings": f"{bearing},30;"} if bearing else {}), overview="full", geometries="geojson")["routes"][0]
-            for bearing in ("", "90", "270")
-        )
-        assert plain["duration"] == west["duration"] == 4 and east["duration"] == 14, (plain["duration"], west["duration"], east["duration"])
-        assert east["geometry"]["coordinates"][1][0] > 9.5025 > west["geometry"]["coordinates"][1][0]
-        into = answer(address, "route", [start, goal], bearings=";90,30")["routes"][0]
-        assert into["duration"] == 6, "the goal is come to from the west"
-        near = (9.5049, 47.1003)
-        for bearing, place in ("90,20", (9.5049, 47.1)), ("0,20", (9.505, 47.1003)), ("180,20", (9.505, 47.1003)), ("0,180", (9.505, 47.1003)):
-            [waypoint] = answer(address, "nearest", [near], bearings=bearing)["waypoints"]
-            assert on_sphere(waypoint["location"], place) < 1, (bearing, waypoint)
-        assert get(address, "/nearest/v1/car/9.5049,47.1003?bearings=45,5")[1]["code"] == "NoSegment"
-        assert get(address, "/nearest/v1/car/9.5049,47.1003?bearings=90,20&radiuses=5")[1]["code"] == "NoSegment"
-        table = answer(address, "table", [start, goal], bearings="90,30;")
-        assert table["durations"][0][1] == east["duration"] and table["durations"][1][0] > 0
-
-
-def bearings_hold_where_turns_are_forbidden():
-    """Each answer to a place with a bearing: a route leaves it and comes to it about so, and is as long as the table says, also between roads with
-    several nodes at an end."""
-    draw, known = random.Random("bearings"), some_nodes(60, "bearings")[1]
-    with service() as (_, address):
-        for _ in range(60):
-            places = [tuple(part + draw.gauss(0, 0.0003) for part in place) for place in draw.sample(known, 2)]
-            bearings = [draw.randrange(360) for _ in places]
-            words = ";".join(f"{bearing},60" for bearing in bearings)
-            status, value = get(address, f"/route/v1/car/{text_of(places)}?bearings={words}&steps=true&overview=full&geometries=geojson")
-            assert status == 200 or value["code"] in ("NoRoute", "NoSegment"), value
-            for place, bearing in zip(places, bearings):
-                assert get(address, f"/nearest/v1/car/{text_of([place])}?bearings={bearing},60")[0] == 200
-            if status == 200:
-                [leg] = value["routes"][0]["legs"]
-                told = leg["steps"][0]["maneuver"]["bearing_after"], leg["steps"][-1]["maneuver"]["bearing_before"]
-                assert leg["distance"] < 0.5 or all(abs((one - other + 180) % 360 - 180) <= 62 for one, other in zip(told, bearings)), (told, bearings)
-                assert answer(address, "table", places, bearings=words)["durations"][0][1] == value["routes"][0]["duration"]
-
-
-def routes_go_straight_on_at_stops():
-    """At a stop in the middle of a road a route goes on as it came, by default too; it may turn round there where it is allowed to, or has to. The
-    duration is the least of those by which the stop is come to and left in one direction, which tables with bearings have."""
-    comments = "c Roads for cars, by hand.\nc Weights are milliseconds.\n"
-    # A road from west to east, and one way round the block from its east end back to its west end.
-    nodes, arcs_there = [(9.5, 47.1), (9.51, 47.1), (9.52, 47.1)], [(1, 2, 10_000), (2, 1, 10_000), (2, 3, 10_000), (3, 2, 10_000), (3, 1, 90_000)]
-    write_network("straight", nodes, arcs_there, comments)
-    places = [(9.501, 47.1), (9.505, 47.1), (9.501, 47.1)]
-    with service("straight") as (_, address):
-        for word, seconds in ("true", 18), ("default", 18), ("false", 8):
-            [route] = answer(address, "route", places, continue_straight=word)["routes"]
-            assert route["duration"] == seconds, (word, route["duration"])
-    write_network("closed", nodes[:2], [(1, 2, 10_000), (2, 1, 10_000)], comments.replace("cars", "bicycles"))
-    with service("closed") as (_, address):
-        for word, seconds in ("true", 18), ("default", 8), ("false", 8):
-            assert answer(address, "route", places, continue_straight=word)["routes"][0]["duration"] == seconds, word
-    draw, seen, known = random.Random("straight on"), 0, some_nodes(60, "stops")[1]
-    with service() as (_, address), chtab.Network.open(f"{here()}.gr", program=PROGRAM, load=False) as network:
-        for _ in range(120):
-            stops = [tuple(part + draw.gauss(0, 0.0004) for part in place) for place in draw.sample(known, 3)]
-            seen += is_least_of_directions(address, network, stops)
-    assert seen > 60, seen
-
-
-def is_least_of_directions(address, network, stops):
-    """Compares a route over a stop with the ways to it and from it in each direction; whether both directions are known."""
-    status, value = get(address, f"/route/v1/car/{text_of(stops)}")
-    spot = network.roads.find_any([round(stops[1][0], 6)], [round(stops[1][1], 6)])
-    if status != 200 or spot.parts[0] in (0, 1):
-        return False
-    [along] = answer(address, "route", stops[1:], steps="true")["routes"]
-    ahead, wanted = along["legs"][0]["steps"][0]["maneuver"]["bearing_after"], []
-    for bearing in ahead, (ahead + 180) % 360:
-        status, near = get(address, f"/nearest/v1/car/{text_of(stops[1:2])}?bearings={bearing},12")
-        if status == 200 and near["waypoints"][0]["location"] != value["waypoints"][1]["location"]:
-            return False
-        if status == 200:
-            cells = answer(address, "table", stops, bearings=f";{bearing},12;")["durations"]
-            wanted += [cells[0][1] + cells[1][2]] if None not in (cells[0][1], cells[1][2]) else []
-    assert not wanted or abs(min(wanted) - value["routes"][0]["duration"]) < 0.0025, (stops, wanted, value["routes"][0]["duration"])
-    return bool(wanted)
-
-
-def write_network(out, places, arcs_there, comments):
-    """A graph of nodes at some places, in degrees."""
-    open(f"{out}.gr", "w").write(comments + f"p sp {len(places)} {len(arcs_there)}\n" + "".join(f"a {u} {v} {w}\n" for u, v, w in arcs_there))
-    lines = "".join(f"v {node} {round(x * 1e6)} {round(y * 1e6)}\n" for node, (x, y) in enumerate(places, 1))
-    open(f"{out}.co", "w").write(comments + f"p aux sp co {len(places)}\n{lines}")
 
 
 def trips_visit_each_place_once():
@@ -404,10 +295,13 @@ def tracks_that_part():
 
 
 GROUPS = (
-    ((*SERVICE, "python3-polyline"), on_both_maps(
-        durations_are_those_of_the_program, routes_have_lines, steps_and_annotations, tables_have_rows_of_sources, nearest_roads, addresses_are_read,
-        bearings_choose_the_way, bearings_hold_where_turns_are_forbidden, routes_go_straight_on_at_stops, trips_visit_each_place_once, tracks_are_matched, tracks_that_part,
-    )),
+    ((*SERVICE, "python3-polyline"), [
+        *on_both_maps(
+            durations_are_those_of_the_program, routes_have_lines, steps_and_annotations, tables_have_rows_of_sources, nearest_roads,
+            trips_visit_each_place_once, tracks_are_matched,
+        ),
+        *by_both(addresses_are_read, tracks_that_part),
+    ]),
 )
 
 if __name__ == "__main__":

@@ -63,3 +63,22 @@ def on_sphere(start, end):
 
 
 PLAIN = "9.5209,47.1410;9.5450,47.2200"
+
+
+def write_network(out, places, arcs_there, comments):
+    """A graph of nodes at some places, in degrees."""
+    open(f"{out}.gr", "w").write(comments + f"p sp {len(places)} {len(arcs_there)}\n" + "".join(f"a {u} {v} {w}\n" for u, v, w in arcs_there))
+    lines = "".join(f"v {node} {round(x * 1e6)} {round(y * 1e6)}\n" for node, (x, y) in enumerate(places, 1))
+    open(f"{out}.co", "w").write(comments + f"p aux sp co {len(places)}\n{lines}")
+
+
+def distance_to(x, y, line):
+    """The metres from a place to a line, on a plane that touches the earth there."""
+    wide = 111_195.08 * math.cos(math.radians(y))
+    flat = [((u - x) * wide, (v - y) * 111_195.08) for u, v in line]
+    best = math.inf
+    for (a, b), (c, d) in zip(flat, flat[1:]):
+        square = (c - a) ** 2 + (d - b) ** 2
+        part = min(1, max(0, -(a * (c - a) + b * (d - b)) / square)) if square else 0
+        best = min(best, math.hypot(a + part * (c - a), b + part * (d - b)))
+    return best

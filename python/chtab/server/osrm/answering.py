@@ -179,7 +179,7 @@ class Answers:
         told = [place for place in range(len(questions)) if place not in faults]
         texts = dict(zip(told, self.route_texts(legs, [which[place] for place in told], [questions[place].own for place in told])))
         return [
-            faults.get(place) or answer_of("routes", texts[place], "waypoints", objects(waypoints[cuts[place]:cuts[place + 1]], question.general))
+            faults.get(place) or answer_of("routes", texts[place], "waypoints", objects(chosen(waypoints, cuts[place], question), question.general))
             for place, question in enumerate(questions)
         ]
 
@@ -311,6 +311,12 @@ class Answers:
 def answer_of(name: str, texts: str, more: str, listed: str | None) -> str:
     """The text of an answer: the objects of its main list, and another list, None where it has none."""
     return f'{{"code": "Ok", "{name}": [{texts}]{"" if listed is None else f", {chr(34)}{more}{chr(34)}: {listed}"}}}'
+
+
+def chosen(waypoints: Sequence[str], first: int, question: Question) -> Sequence[str]:
+    """The waypoints of a question for a route, whose coordinates begin at `first`."""
+    own = waypoints[first:first + len(question.coordinates)]
+    return own if question.own.waypoints is None else [own[place] for place in question.own.waypoints]
 
 
 def objects(insides: Sequence[str | None], general: options.General) -> str | None:

@@ -87,13 +87,15 @@ class General(NamedTuple):
 
 
 class Route(NamedTuple):
-    """The options of a route: its lines, whether it has steps, its annotations, and whether it goes straight on at its stops, None for the default."""
+    """The options of a route: its lines, whether it has steps, its annotations, whether it goes straight on at its stops, None for the default, and the
+    coordinates between which it has legs, None for all."""
 
     geometries: str
     overview: str
     has_steps: bool
     annotations: tuple[str, ...]
     is_straight: bool | None = None
+    waypoints: tuple[int, ...] | None = None
 
     @property
     def work(self) -> float:
@@ -254,9 +256,21 @@ def route(reader: Reader) -> Route:
     # One route is a correct answer even if alternatives are asked for, because OSRM doesn't promise any.
     if not ALTERNATIVES.fullmatch(reader.take("alternatives", "false")):
         raise Refusal("InvalidQuery", "alternatives: true, false or a number")
-    reader.refuse("waypoints")
     straight = reader.choice("continue_straight", "default", "true", "false")
-    return told_route(reader)._replace(is_straight={"true": True, "false": False}.get(straight))
+    found = told_route(reader)._replace(is_straight={"true": True, "false": False}.get(straight), waypoints=waypoints(reader))
+    if found.waypoints is not None and found.has_steps:
+        raise Refusal("InvalidOptions", "waypoints: not supported with steps")
+    return found
+
+
+def waypoints(reader: Reader) -> tuple[int, ...] | None:
+    """The indices of the coordinates that are waypoints, in order, the first and the last coordinate among them; None if all are."""
+    if "waypoints" not in reader.given:
+        return None
+    found = tuple(sorted({*reader.indices("waypoints")}))
+    if found[:1] != (0,) or found[-1] != reader.count - 1:
+        raise Refusal("InvalidValue", "waypoints: the first and the last coordinate are waypoints")
+    return found
 
 
 def told_route(reader: Reader) -> Route:
