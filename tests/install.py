@@ -159,8 +159,10 @@ def check_installed(tally, prefix, folder):
         tally.expect((status, err) == (0, "") and "usage:" in out.lower(), f"{name} --help: {status} {err}")
         check_page(tally, prefix, name, {f"\\fB{option}\\fR" for option in options_of([name], folder, path)} | {".SH SYNOPSIS"})
         tally.expect(out.startswith(f"Usage: {name} "), f"{name} is told by another name: {out[:60]}")
-    unit = prefix / "share" / "doc" / "chtab" / "chtab-page.service"
-    tally.expect(f"\nExecStart={prefix}/bin/chtab-page " in unit.read_text(), "the unit for systemd names another command than the installed one")
+    for name in "chtab-page.service", "chtab-page@.service":
+        unit = prefix / "share" / "doc" / "chtab" / name
+        tally.expect(f"\nExecStart={prefix}/bin/chtab-page " in unit.read_text(), f"{name} for systemd names another command than the installed one")
+    tally.expect((prefix / "share" / "doc" / "chtab" / "nginx.conf").is_file(), "the site for nginx is not installed")
     check_page(tally, prefix, "chtab", tools | {"--help", "--version"})
     check_found(tally, prefix, folder)
 
@@ -293,7 +295,7 @@ def check_in_root(tally, root, package):
             status, out, err = root.run([name, "--help"], user)
             named = set(re.findall(r"/usr/share/doc/\S+\.md", out))
             tally.expect((status, err) == (0, "") and named <= set(listed), f"{name} --help of {user}: {status} {err} {named}")
-    for path in "share/bash-completion/completions/chtab", "share/doc/chtab/copyright", "share/doc/chtab/chtab-page.service", "lib/python3/dist-packages/chtab/py.typed", *OF_LIBRARY:
+    for path in "share/bash-completion/completions/chtab", "share/doc/chtab/copyright", "share/doc/chtab/chtab-page.service", "share/doc/chtab/chtab-page@.service", "share/doc/chtab/nginx.conf", "lib/python3/dist-packages/chtab/py.typed", *OF_LIBRARY:
         tally.expect(f"/usr/{path}" in listed, f"the package has no /usr/{path}")
     text = f"import chtab; n = chtab.Network.open('{first[0]}'); print(n.distances([(1, 3)])[0], chtab.__file__)"
     found = root.run(["/usr/bin/python3", "-c", text], "nobody")

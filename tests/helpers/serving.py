@@ -3,14 +3,17 @@ import contextlib
 import functools
 import http.client
 import json
+import os
 import pathlib
 import re
+import resource
 import signal
+import socket
 import subprocess
 import urllib.parse
 
 from helpers.in_process import make
-from helpers.maps import COUNTRY
+from helpers.maps import COUNTRY, town
 from helpers.moods import STANDIN, mood
 from helpers.packages import PYTHON
 from helpers.running import PROGRAM, ROOT
@@ -29,8 +32,13 @@ class Keys:
     ARROW_LEFT, ARROW_UP, ARROW_RIGHT, ARROW_DOWN = "\ue012", "\ue013", "\ue014", "\ue015"
 
 
-# Whether services with the built program answer by the library for C.
-IS_BY_LIBRARY = False
+# Whether services with the built program answer by the library for C, and whether they are those of the town.
+IS_BY_LIBRARY = IS_IN_TOWN = False
+
+
+def here():
+    """The start of the names of the files of the network that checks ask: those of the country, or of the town."""
+    return town() if IS_IN_TOWN else COUNTRY
 
 
 def words_of_library(out, program):
@@ -39,27 +47,36 @@ def words_of_library(out, program):
     return [] if saved is None else ["--library", make(), "--saved", saved]
 
 
+def made_with(check, ending, **moods):
+    """A check with these values of `IS_BY_LIBRARY` and `IS_IN_TOWN`."""
+    @functools.wraps(check)
+    def by():
+        before = {name: globals()[name] for name in moods}
+        globals().update(moods)
+        try:
+            check()
+        finally:
+            globals().update(before)
+
+    by.__name__ = f"{check.__name__}_{ending}"
+    return by
+
+
 def by_both(*checks):
     """These checks with services that ask a run of the program, and with services that ask the library for C."""
-    def other(check):
-        @functools.wraps(check)
-        def by():
-            global IS_BY_LIBRARY
-            IS_BY_LIBRARY = True
-            try:
-                check()
-            finally:
-                IS_BY_LIBRARY = False
+    return [*checks, *(made_with(check, "by_the_library", IS_BY_LIBRARY=True) for check in checks)]
 
-        by.__name__ = f"{check.__name__}_by_the_library"
-        return by
 
-    return [*checks, *map(other, checks)]
+def on_both_maps(*checks):
+    """The same, and with services of the town that ask the library."""
+    return [*by_both(*checks), *(made_with(check, "in_town", IS_BY_LIBRARY=True, IS_IN_TOWN=True) for check in checks)]
 
 
 @contextlib.contextmanager
-def service(out=COUNTRY, *words, program=PROGRAM):
-    """A service of a network, None where the words name networks, on a free port: its process, host and port. It ends well."""
+def service(out="", *words, program=PROGRAM):
+    """A service of a network, by default of the one that checks ask, None where the words name networks, on a free port: its process, host and
+    port. It ends well."""
+    out = here() if out == "" else out
     named = [] if out is None else [*words_of_library(out, program), out]
     command = [PYTHON, ROOT / "tools" / "page.py", "--port", 0, "--program", program, *words, *named]
     child = subprocess.Popen(list(map(str, command)), stdout=subprocess.PIPE, stderr=open("told", "w"), text=True)
@@ -78,6 +95,42 @@ def faulty_service(words, *more):
     """The same over the stand-in in a mood. It leaves no run behind."""
     with mood(words), service(COUNTRY, *more, program=STANDIN) as found:
         yield found
+
+
+@contextlib.contextmanager
+def running_service(*words, out=COUNTRY, program=PROGRAM, limit=None, told="told", port=0, environment=None):
+    """A service: its process and its address. Who asks for it ends it, or it is ended."""
+    command = [PYTHON, ROOT / "tools" / "page.py", "--port", port, "--program", program, *words_of_library(out, program), *words, out]
+
+    def lower():
+        if limit:
+            resource.setrlimit(resource.RLIMIT_NOFILE, limit)
+
+    child = subprocess.Popen(
+        list(map(str, command)), stdout=subprocess.PIPE, stderr=open(told, "w"), text=True, preexec_fn=lower, env=environment and os.environ | environment
+    )
+    try:
+        yield child, urllib.parse.urlsplit(child.stdout.readline().strip())
+    finally:
+        if child.poll() is None:
+            child.terminate()
+            child.wait(PATIENCE)
+        child.stdout.close()
+
+
+def told():
+    return open("told").read()
+
+
+def raw(address, text):
+    """What the service sends back for these bytes, until it closes the connection."""
+    with socket.create_connection((address.hostname, address.port), timeout=PATIENCE) as client:
+        client.sendall(text if isinstance(text, bytes) else text.encode("latin-1"))
+        found = b""
+        with contextlib.suppress(ConnectionError):
+            while part := client.recv(1 << 16):
+                found += part
+    return found
 
 
 def send(address, path, body=None, method=None):

@@ -4,6 +4,7 @@ Distances are compared in Mercator's projection. It keeps angles, so that the ne
 """
 from __future__ import annotations
 
+import math
 from collections.abc import Callable, Sequence
 from typing import TYPE_CHECKING, Any, NamedTuple
 
@@ -58,6 +59,15 @@ def tidied(lines: Sequence[Floats]) -> list[tuple[list[Point], float]]:
     rounded = list(zip(*places.round(6).T.tolist()))
     cuts = numpy.searchsorted(owner, numpy.arange(len(lines) + 1)).tolist()
     return [(rounded[start:end], each) for start, end, each in zip(cuts, cuts[1:], metres)]
+
+
+class OnLine(NamedTuple):
+    """A point of a line: the line, the part of it where the point is, from 0 to 1, and its longitude and latitude."""
+
+    line: int
+    part: float
+    longitude: float
+    latitude: float
 
 
 class Stretches(NamedTuple):
@@ -153,6 +163,21 @@ class Lines:
         lines = numpy.searchsorted(self.firsts, steps, "right") - 1
         return lines, self.parts[steps] + shares * (self.parts[steps + 1] - self.parts[steps]), *degrees(*at.T)
 
+    def nearest_few(self, longitudes: Floats, latitudes: Floats) -> list[OnLine] | None:
+        """The same for a few places, one by one, without arrays of a few items; None where it takes more to be sure."""
+        if self.pieces is None:
+            self.pieces = Pieces(self)
+        found = self.pieces.nearest_few(mercator(longitudes, latitudes))
+        if found is None:
+            return None
+        steps = [step for step, _, _ in found]
+        lines = numpy.searchsorted(self.firsts, steps, "right").tolist()
+        before, after = self.parts.take(steps).tolist(), self.parts.take([step + 1 for step in steps]).tolist()
+        return [
+            OnLine(line - 1, low + share * (high - low), math.degrees(x), math.degrees(math.atan(math.sinh(y))))
+            for line, low, high, (_, share, (x, y)) in zip(lines, before, after, found)
+        ]
+
     def nearest_some(self, longitude: float, latitude: float, most: int) -> tuple[Integers, Floats, Floats, Floats]:
         """The nearest points of the nearest lines to one place, at most `most` of them, the nearest first."""
         if self.pieces is None:
@@ -186,6 +211,16 @@ class Lines:
             self.pieces = Pieces(self)
         rows = self.pieces.rows.take(steps, axis=0)
         return numpy.degrees(numpy.arctan2(rows[:, 2], rows[:, 3])) % 360
+
+
+def foot(x: float, y: float, step: int, row: Sequence[float]) -> tuple[float, int, float, tuple[float, float]]:
+    """The nearest point of a step, by its row, to a point of the plane: the square of the distance, the step, how far along it the point is, from 0 to 1,
+    and the point."""
+    a, b, east, north, square = row
+    u, v = x - a, y - b
+    share = min(max((east * u + north * v) / square, 0.0), 1.0)
+    u, v = u - east * share, v - north * share
+    return u * u + v * v, step, share, (a + east * share, b + north * share)
 
 
 class Pieces:
@@ -225,6 +260,19 @@ class Pieces:
             steps[left], shares[left], unsure = self.nearest_among(places[left], count)
             left = left[unsure]
         return steps, shares, self.at(steps, shares)
+
+    def nearest_few(self, places: Floats) -> list[tuple[int, float, tuple[float, float]]] | None:
+        """The same for a few points, as (step, position, point); None where a step is nearest that is not among the pieces whose middles are."""
+        count, found = min(NEIGHBOURS, len(self.steps)), []
+        distances, near = (column.reshape(len(places), count) for column in self.tree.query(places, count))
+        among = self.steps.take(near)
+        farthest = distances[:, -1].tolist()
+        for (x, y), steps, rows, most in zip(places.tolist(), among.tolist(), self.rows.take(among, axis=0).tolist(), farthest):
+            apart, step, share, point = min(foot(x, y, *each) for each in zip(steps, rows))
+            if count < len(self.steps) and math.sqrt(apart) * (1 + 1e-9) + self.reach + 1e-12 >= most:
+                return None
+            found.append((step, share, point))
+        return found
 
     def nearest_among(self, places: Floats, count: int) -> tuple[Integers, Floats, Integers]:
         """The nearest steps to places among the so many pieces whose middles are nearest, how far along they are nearest, and the numbers of places

@@ -15,11 +15,13 @@ import numpy
 
 from chtab.engine.walks import ranges
 from chtab.errors import ChtabError, TooFar
+from chtab.roads import sphere
 from chtab.roads.lines import Lines, metres_between
 
 if TYPE_CHECKING:
     from numpy.typing import NDArray
     from chtab import files
+    from chtab.roads.lines import OnLine
     from chtab.typing import Column, Floats, Integers, Marks, Point
 
 # No arc leads along a road in this direction, or no trip leaves or arrives by this end.
@@ -30,6 +32,8 @@ FORWARD, BACKWARD = 1, 2
 AT_END = 1.0
 # The least part of a road between its end and a spot that is not at the end.
 INSIDE = 1e-9
+# Up to so many places are taken to roads one by one: to call numpy takes longer.
+FEW = 4
 # Metres in a nanometre.
 NANOMETRE = 1e-9
 
@@ -98,11 +102,11 @@ class Spots:
 
 def one_sided(spots: Spots, sides: Integers) -> Spots:
     """The same spots, which trips leave and reach only in some directions of their roads."""
-    half = spots.out_nodes.shape[1] // 2
     # Who drives forward comes from `first` and goes to `last`.
     backward, forward = ((sides & side == 0)[:, None] for side in (BACKWARD, FORWARD))
-    closed = numpy.repeat(numpy.hstack([backward, forward]), half, axis=1)
-    shut = numpy.repeat(numpy.hstack([forward, backward]), half, axis=1)
+    # A road may have more nodes into it than out of it.
+    closed = numpy.repeat(numpy.hstack([backward, forward]), spots.out_nodes.shape[1] // 2, axis=1)
+    shut = numpy.repeat(numpy.hstack([forward, backward]), spots.in_nodes.shape[1] // 2, axis=1)
     out_nodes, out_weights = (numpy.where(closed, NONE, column) for column in (spots.out_nodes, spots.out_weights))
     in_nodes, in_weights = (numpy.where(shut, NONE, column) for column in (spots.in_nodes, spots.in_weights))
     return replace(spots, out_nodes=out_nodes, out_weights=out_weights, in_nodes=in_nodes, in_weights=in_weights, sides=sides)
@@ -222,6 +226,7 @@ class Roads:
         roads, is_back, weights = self.road_of[kept], self.is_back[kept], self.weights[kept]
         out = ways_of(roads, (~is_back).astype(int), self.heads[kept], weights, len(self))
         self.ways = both_ways(out, ways_of(roads, is_back.astype(int), self.tails[kept], weights, len(self)))
+        self.is_last = self.ways.is_last.tolist()
         least = numpy.full((2, len(self)), numpy.iinfo(numpy.int64).max)
         numpy.minimum.at(least, (is_back.astype(int), roads), weights)
         least[least == numpy.iinfo(numpy.int64).max] = NONE
@@ -255,7 +260,38 @@ class Roads:
         if not len(self):
             raise ChtabError("the graph has no road between two places")
         x, y = numpy.asarray(longitudes, float), numpy.asarray(latitudes, float)
-        return self.spots_at(x, y, *self.lines.nearest(x, y))
+        few = self.lines.nearest_few(x, y) if 0 < len(x) <= FEW else None
+        return self.spots_at(x, y, *self.lines.nearest(x, y)) if few is None else self.few_spots(x.tolist(), y.tolist(), few)
+
+    def few_spots(self, longitudes: Sequence[float], latitudes: Sequence[float], found: Sequence[OnLine]) -> Spots:
+        """The spots of a few places at these points of roads, as `spots_at` makes them of many."""
+        roads = [each.line for each in found]
+        lengths, ways, outs = self.lines.metres.take(roads).tolist(), self.ways, self.ways.outs
+        all_nodes, all_weights = ways.nodes.take(roads, axis=0).tolist(), ways.weights.take(roads, axis=0).tolist()
+        parts, metres = [], []
+        for place, (nodes, weights) in enumerate(zip(all_nodes, all_weights)):
+            _, part, x, y = found[place]
+            metres.append(sphere.metres_from(longitudes[place], latitudes[place], x, y))
+            before, behind = part * lengths[place], (1 - part) * lengths[place]
+            part = 0.0 if before < AT_END and before <= behind else 1.0 if behind < AT_END and behind < before else part
+            parts.append(part)
+            if part in (0.0, 1.0):
+                self.stay_at_node(nodes, weights, roads[place], part == 0)
+            else:
+                shares = (1 - part if is_last else part for is_last in self.is_last)
+                weights[:] = [NONE if node == NONE else round(share * weight) for node, weight, share in zip(nodes, weights, shares)]
+        nodes, weights = numpy.array(all_nodes), numpy.array(all_weights)
+        return Spots(
+            numpy.array([each.longitude for each in found]), numpy.array([each.latitude for each in found]), numpy.array(metres), numpy.array(roads),
+            numpy.array(parts), nodes[:, :outs], weights[:, :outs], nodes[:, outs:], weights[:, outs:], numpy.full(len(roads), FORWARD | BACKWARD),
+        )
+
+    def stay_at_node(self, nodes: list[int], weights: list[int], road: int, is_first: bool) -> None:
+        """Gives a spot at an end of its road this node alone, at the weight 0."""
+        begin, outs, width = int((self.firsts if is_first else self.lasts)[road]), self.ways.outs, len(nodes)
+        nodes[:] = weights[:] = [NONE] * width
+        for column, node in (0 if is_first else outs // 2, begin), (outs + (0 if is_first else (width - outs) // 2), self.ends.get(begin, begin)):
+            nodes[column], weights[column] = node, 0
 
     def find_some(self, longitude: float, latitude: float, most: int) -> Spots:
         """Takes one place to each of its nearest roads, at most `most` of them, the nearest first."""
@@ -268,8 +304,10 @@ class Roads:
         """The spots of places at these parts of roads."""
         metres = metres_between(longitudes, latitudes, xs, ys)
         lengths = self.lines.metres[roads]
-        parts = numpy.where(parts * lengths < AT_END, 0.0, parts)
-        return self.spots(xs, ys, metres, roads, numpy.where((1 - parts) * lengths < AT_END, 1.0, parts))
+        # On a road of less than two metres the nearer end counts.
+        before, behind = parts * lengths, (1 - parts) * lengths
+        parts = numpy.where((before < AT_END) & (before <= behind), 0.0, numpy.where((behind < AT_END) & (behind < before), 1.0, parts))
+        return self.spots(xs, ys, metres, roads, parts)
 
     def spots(self, longitudes: Floats, latitudes: Floats, metres: Floats, roads: Integers, parts: Floats) -> Spots:
         """Makes spots, with the ways out of them and into them, and rounds the weights of these."""
@@ -295,10 +333,14 @@ class Roads:
             column = first + numpy.where(is_first, 0, width // 2)
             nodes[at_node, column], weights[at_node, column] = there, 0
 
-    def find_facing(self, longitude: float, latitude: float, bearing: float, within: float) -> Spots:
+    def find_facing(self, longitude: float, latitude: float, bearing: float, within: float, but: Sequence[int] = ()) -> Spots:
         """Takes one place to the nearest point at which a road leads in a direction, in degrees clockwise from north, or at most `within` degrees off
-        it. Trips leave the spot and arrive at it in that direction alone. If no road leads that way, there are no spots."""
-        steps, share, at = self.lines.nearest_facing(longitude, latitude, lambda steps: self.facing(steps, bearing, within) > 0)
+        it, on any road but some. Trips leave the spot and arrive at it in that direction alone. If no road leads that way, there are no spots."""
+        def fits(steps: Integers) -> Marks:
+            is_other = ~numpy.isin(numpy.searchsorted(self.lines.firsts, steps, "right") - 1, but) if but else True
+            return (self.facing(steps, bearing, within) > 0) & is_other
+
+        steps, share, at = self.lines.nearest_facing(longitude, latitude, fits)
         roads = numpy.searchsorted(self.lines.firsts, steps, "right") - 1
         before, after = self.lines.parts[steps], self.lines.parts[steps + 1]
         # A spot at an end of its road would be left by any other road.
