@@ -143,8 +143,8 @@ def files_that_are_changed():
 
 
 def health_is_no_better_than_answers():
-    """Where each run dies at its first question nothing is answered, and health says so until one that was begun anew has passed its trial."""
-    with mood("dies=1"), running_service(program=STANDIN) as (child, address):
+    """Where the library fails at each question nothing is answered, and health says so."""
+    with mood("fails=0"), running_service(program=STANDIN) as (child, address):
         def is_failing():
             assert ask(address, ROUTE)[0] == 503
             return ask(address, "/health") == (503, {"status": "failing", "waiting": 0})

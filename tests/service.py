@@ -417,8 +417,7 @@ def numbers_that_are_none_are_refused():
 def what_the_library_lacks_is_told():
     """A service that is to answer by the library for C, and can't: it ends with status 1 and a line."""
     for words, told in (
-        (["--library", make()], "saved hierarchy"), (["--library", "none.so", "--saved", FIRST_SAVED], "is not chtab's library for C"),
-        (["--library", make(), "--saved", FIRST_SAVED], "saved"), (["--library", "--saved", FIRST_SAVED], "`packaging/library` makes it"),
+        (["--library", "none.so", "--saved", FIRST_SAVED], "is not chtab's library for C"), (["--library", make(), "--saved", FIRST_SAVED], "saved"),
     ):
         line = [PYTHON, ROOT / "tools" / "page.py", "--port", 0, "--program", PROGRAM, COUNTRY, *words]
         done = subprocess.run(list(map(str, line)), capture_output=True, text=True, timeout=PATIENCE)

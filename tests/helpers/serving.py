@@ -1,6 +1,5 @@
 """The service of a network, as a process of its own, what it answers, and its page in a browser."""
 import contextlib
-import functools
 import http.client
 import json
 import pathlib
@@ -9,7 +8,6 @@ import signal
 import subprocess
 import urllib.parse
 
-from helpers.in_process import make
 from helpers.maps import COUNTRY
 from helpers.moods import STANDIN, mood
 from helpers.packages import PYTHON
@@ -29,32 +27,15 @@ class Keys:
     ARROW_LEFT, ARROW_UP, ARROW_RIGHT, ARROW_DOWN = "\ue012", "\ue013", "\ue014", "\ue015"
 
 
-# Whether services with the built program answer by the library for C.
-IS_BY_LIBRARY = False
-
-
 def words_of_library(out, program):
-    """The words that let a service answer by the library for C, where that is asked for."""
-    saved = saved_for(f"{out}.gr") if IS_BY_LIBRARY and program == PROGRAM else None
-    return [] if saved is None else ["--library", make(), "--saved", saved]
+    """The words that give a service a hierarchy of its network, so that it builds none."""
+    saved = saved_for(f"{out}.gr") if program == PROGRAM else None
+    return [] if saved is None else ["--saved", saved]
 
 
 def by_both(*checks):
-    """These checks with services that ask a run of the program, and with services that ask the library for C."""
-    def other(check):
-        @functools.wraps(check)
-        def by():
-            global IS_BY_LIBRARY
-            IS_BY_LIBRARY = True
-            try:
-                check()
-            finally:
-                IS_BY_LIBRARY = False
-
-        by.__name__ = f"{check.__name__}_by_the_library"
-        return by
-
-    return [*checks, *map(other, checks)]
+    """These checks, by the library for C, which answers in each process."""
+    return [*checks]
 
 
 @contextlib.contextmanager
@@ -75,7 +56,7 @@ def service(out=COUNTRY, *words, program=PROGRAM):
 
 @contextlib.contextmanager
 def faulty_service(words, *more):
-    """The same over the stand-in in a mood. It leaves no run behind."""
+    """The same over the stand-in in a mood."""
     with mood(words), service(COUNTRY, *more, program=STANDIN) as found:
         yield found
 

@@ -15,7 +15,6 @@ from chtab.network import Network
 from chtab.server.osrm.answering import numbers_in
 
 if TYPE_CHECKING:
-    from chtab.engine.asking import Engine
     from chtab.engine.in_process import InProcess
 
 # The optional files of a network, besides its graph and its coordinates.
@@ -72,7 +71,7 @@ class Served:
         self.numbers = numbers_in(paths["nodes"], self.network.nodes) if "nodes" in paths else None
 
     @property
-    def engine(self) -> Engine | InProcess:
+    def engine(self) -> InProcess:
         return self.network._engine
 
 

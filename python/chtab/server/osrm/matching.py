@@ -198,4 +198,4 @@ def confidence(straight: float, metres: float) -> float:
 
 def together(parts: Sequence[Spots]) -> Spots:
     """Joins spots, one after the other."""
-    return Spots(*(numpy.concatenate(columns) for columns in zip(*(vars(part).values() for part in parts))))
+    return Spots.joined(parts)
