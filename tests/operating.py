@@ -25,7 +25,7 @@ from helpers import running
 from helpers.moods import STANDIN, holding, mood
 from helpers.packages import PYTHON, run_checks
 from helpers.running import PROGRAM, ROOT
-from helpers.serving import COUNTRY, SERVICE, ask, by_both, raw, running_service, send, told
+from helpers.serving import COUNTRY, SERVICE, ask, raw, running_service, send, told
 from helpers.waiting import PATIENCE, until
 
 ROUTE = "/route/v1/car/9.5209,47.1410;9.5450,47.2200?overview=false"
@@ -117,8 +117,8 @@ def files_that_are_changed():
 
 
 def health_is_no_better_than_answers():
-    """Where each run dies at its first question nothing is answered, and health says so until one that was begun anew has passed its trial."""
-    with mood("dies=1"), running_service(program=STANDIN) as (child, address):
+    """Where the library fails at each question nothing is answered, and health says so."""
+    with mood("fails=0"), running_service(program=STANDIN) as (child, address):
         def is_failing():
             assert ask(address, ROUTE)[0] == 503
             return ask(address, "/health") == (503, {"status": "failing", "waiting": 0})
@@ -325,7 +325,7 @@ GROUPS = (
     (SERVICE, [
         files_that_are_changed, health_is_no_better_than_answers, addresses_that_proxies_name,
         requests_that_once_failed, a_second_service_on_the_port, it_says_that_connections_close, systemd_is_notified, the_log_says_why,
-        *by_both(files_that_are_replaced, a_new_network_without_a_lost_request),
+        files_that_are_replaced, a_new_network_without_a_lost_request,
     ]),
 )
 

@@ -15,7 +15,7 @@ from helpers import running, serving
 from helpers.asking_osrm import MILLIONTH, TENTH, answer, distance_to, distances, get, on_sphere, some_nodes, text_of, three, write_network
 from helpers.packages import run_checks
 from helpers.running import PROGRAM, ROOT
-from helpers.serving import SERVICE, by_both, here, on_both_maps, service
+from helpers.serving import SERVICE, here, on_both_maps, service
 
 sys.path.insert(0, str(ROOT / "python"))
 
@@ -300,7 +300,7 @@ GROUPS = (
             durations_are_those_of_the_program, routes_have_lines, steps_and_annotations, tables_have_rows_of_sources, nearest_roads,
             trips_visit_each_place_once, tracks_are_matched,
         ),
-        *by_both(addresses_are_read, tracks_that_part),
+        addresses_are_read, tracks_that_part,
     ]),
 )
 

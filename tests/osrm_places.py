@@ -12,7 +12,7 @@ from helpers import running
 from helpers.asking_osrm import answer, distance_to, get, on_sphere, some_nodes, text_of, write_network
 from helpers.packages import run_checks
 from helpers.running import PROGRAM, ROOT
-from helpers.serving import SERVICE, by_both, here, on_both_maps, service
+from helpers.serving import SERVICE, here, on_both_maps, service
 
 sys.path.insert(0, str(ROOT / "python"))
 
@@ -220,7 +220,7 @@ def short_roads_have_two_ends():
 
 GROUPS = (
     (SERVICE, [
-        *by_both(bearings_choose_the_way, places_at_the_curb, cells_without_a_way_are_filled, short_roads_have_two_ends),
+        bearings_choose_the_way, places_at_the_curb, cells_without_a_way_are_filled, short_roads_have_two_ends,
         *on_both_maps(
             bearings_hold_where_turns_are_forbidden, routes_go_straight_on_at_stops, legs_lead_between_waypoints, nearest_roads_that_lead_in_a_direction,
         ),

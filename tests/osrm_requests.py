@@ -25,7 +25,7 @@ from helpers.asking_osrm import ESCHEN, PLAIN, TENTH, VADUZ, answer, get, on_sph
 from helpers.maps import tool
 from helpers.packages import PYTHON, run_checks
 from helpers.running import PROGRAM, ROOT
-from helpers.serving import BROWSER, COUNTRY, SERVICE, by_both, on_both_maps, send, service, shown_page
+from helpers.serving import BROWSER, COUNTRY, SERVICE, on_both_maps, send, service, shown_page
 from helpers.waiting import PATIENCE
 
 # How many requests with drawn options are asked.
@@ -393,7 +393,7 @@ def another_site():
 
 GROUPS = (
     ((*SERVICE, "python3-polyline"), [
-        *by_both(what_is_refused, places_without_a_way, clients_get_what_they_ask_for), names_of_profiles, classes_are_excluded, limits_are_options,
+        what_is_refused, places_without_a_way, clients_get_what_they_ask_for, names_of_profiles, classes_are_excluded, limits_are_options,
         *on_both_maps(requests_are_posted, any_options_get_an_answer),
     ]),
     (BROWSER, [other_sites_and_the_page]),

@@ -18,7 +18,7 @@ from chtab import _moved
 from chtab.errors import ChtabError, DataFault, FileFault, ProgramFault, TimedOut, TooFar
 
 if typing.TYPE_CHECKING:
-    from chtab.near.accessibility import Near
+    from chtab.near.found import Near
     from chtab.network import Network
     from chtab.roads.routes import Routes
     from chtab.roads.snapping import Spots
@@ -27,7 +27,7 @@ __version__ = "1.1"
 __all__ = ["ChtabError", "DataFault", "FileFault", "Near", "Network", "ProgramFault", "Routes", "Spots", "TimedOut", "TooFar", "__version__"]
 
 # Imported when they are first used, because code that only reads files doesn't need numpy.
-LATER = {"Near": "chtab.near.accessibility", "Network": "chtab.network", "Routes": "chtab.roads.routes", "Spots": "chtab.roads.snapping"}
+LATER = {"Near": "chtab.near.found", "Network": "chtab.network", "Routes": "chtab.roads.routes", "Spots": "chtab.roads.snapping"}
 
 
 # Hidden from type checkers, so that they find misspelt names.

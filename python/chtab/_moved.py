@@ -11,7 +11,7 @@ from types import ModuleType
 from typing import Any
 
 MODULES = {
-    "chtab.accessibility": "chtab.near.accessibility", "chtab.labels": "chtab.files.node_labels", "chtab.program": "chtab.engine.program",
+    "chtab.accessibility": "chtab.near.found", "chtab.labels": "chtab.files.node_labels", "chtab.program": "chtab.engine.program",
     "chtab.routes": "chtab.roads.routes", "chtab.walks": "chtab.engine.walks",
 }
 # Classes of a module that is a package now.

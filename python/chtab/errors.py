@@ -42,13 +42,13 @@ class TooFar(ChtabError, ValueError):
 
 
 class ProgramFault(ChtabError, RuntimeError):
-    """The program ended before it had answered, or its output is no answer. The message is the program's own line, if it wrote one.
+    """The program or the library refuses a file, has no memory, or failed. The message is the program's own line, if it wrote one.
 
     Attributes
     ----------
     status : int
-        The exit status of the program; below 0, the signal that ended it; 0 if its output is no answer. If the library for C answers, it is the
-        status that the program would have.
+        The exit status of the program; below 0, the signal that ended it; 0 if an answer doesn't fit its question. For the library it is the status
+        that the program would have.
     line, place : int
         The line of the file, from 1 on, and the edge, arc or node of the hierarchy, from 0 on, that the library refuses; 0 if there is none.
     kind : str
@@ -62,9 +62,9 @@ class ProgramFault(ChtabError, RuntimeError):
 
 
 class TimedOut(ChtabError, TimeoutError):
-    """The program took longer than allowed, and was ended."""
+    """A call took longer than `timeout` allows."""
 
 
-def unasked() -> ProgramFault:
-    """The fault of a run whose output doesn't answer its question."""
-    return ProgramFault("chtab wrote what it was not asked for", 0)
+def mismatch() -> ProgramFault:
+    """The fault of an answer that doesn't fit its question."""
+    return ProgramFault("chtab's library answered what it was not asked for", 0)

@@ -1,6 +1,5 @@
 """The service of a network, as a process of its own, what it answers, and its page in a browser."""
 import contextlib
-import functools
 import http.client
 import json
 import os
@@ -12,7 +11,6 @@ import socket
 import subprocess
 import urllib.parse
 
-from helpers.in_process import make
 from helpers.maps import COUNTRY, town
 from helpers.moods import STANDIN, mood
 from helpers.packages import PYTHON
@@ -32,8 +30,8 @@ class Keys:
     ARROW_LEFT, ARROW_UP, ARROW_RIGHT, ARROW_DOWN = "\ue012", "\ue013", "\ue014", "\ue015"
 
 
-# Whether services with the built program answer by the library for C, and whether they are those of the town.
-IS_BY_LIBRARY = IS_IN_TOWN = False
+# Whether services are those of the town.
+IS_IN_TOWN = False
 
 
 def here():
@@ -42,34 +40,29 @@ def here():
 
 
 def words_of_library(out, program):
-    """The words that let a service answer by the library for C, where that is asked for."""
-    saved = saved_for(f"{out}.gr") if IS_BY_LIBRARY and program == PROGRAM else None
-    return [] if saved is None else ["--library", make(), "--saved", saved]
+    """The words that give a service a hierarchy of its network, so that it builds none."""
+    saved = saved_for(f"{out}.gr") if program == PROGRAM else None
+    return [] if saved is None else ["--saved", saved]
 
 
-def made_with(check, ending, **moods):
-    """A check with these values of `IS_BY_LIBRARY` and `IS_IN_TOWN`."""
-    @functools.wraps(check)
-    def by():
-        before = {name: globals()[name] for name in moods}
-        globals().update(moods)
+def in_town(check):
+    """A check with services of the town."""
+    def there():
+        global IS_IN_TOWN
+        IS_IN_TOWN = True
         try:
             check()
         finally:
-            globals().update(before)
+            IS_IN_TOWN = False
 
-    by.__name__ = f"{check.__name__}_{ending}"
-    return by
-
-
-def by_both(*checks):
-    """These checks with services that ask a run of the program, and with services that ask the library for C."""
-    return [*checks, *(made_with(check, "by_the_library", IS_BY_LIBRARY=True) for check in checks)]
+    there.__name__ = f"{check.__name__}_in_town"
+    there.__doc__ = check.__doc__
+    return there
 
 
 def on_both_maps(*checks):
-    """The same, and with services of the town that ask the library."""
-    return [*by_both(*checks), *(made_with(check, "in_town", IS_BY_LIBRARY=True, IS_IN_TOWN=True) for check in checks)]
+    """These checks with services of the country, and with services of the town."""
+    return [*checks, *(in_town(check) for check in checks)]
 
 
 @contextlib.contextmanager
@@ -92,7 +85,7 @@ def service(out="", *words, program=PROGRAM):
 
 @contextlib.contextmanager
 def faulty_service(words, *more):
-    """The same over the stand-in in a mood. It leaves no run behind."""
+    """The same over the stand-in in a mood."""
     with mood(words), service(COUNTRY, *more, program=STANDIN) as found:
         yield found
 

@@ -117,13 +117,12 @@ def add_listening(parser: argparse.ArgumentParser) -> None:
 
 def add_engines(parser: argparse.ArgumentParser) -> None:
     """The options of what answers."""
-    engines = parser.add_mutually_exclusive_group()
-    engines.add_argument(
+    parser.add_argument(
         "--library", nargs="?", const="", metavar="FILE",
-        help="answer by the library for C in each process (FILE, or libchtab.so.1 beside the program), or end with the reason why it can't; "
-             "without this and --pipe it is taken if it is there, each network has a saved hierarchy (--saved, or OUT.ch of --network) and W is 1",
+        help="the library for C that answers in each process (libchtab.so.1 beside the program)",
     )
-    engines.add_argument("--pipe", action="store_true", help="answer by a run of the program beside each process, which can be ended at any time")
+    # Runs of the program answered in version 1.1, if this was given.
+    parser.add_argument("--pipe", action="store_true", help=argparse.SUPPRESS)
 
 
 def add_limits(parser: argparse.ArgumentParser) -> None:
@@ -162,20 +161,6 @@ def named(words: argparse.Namespace) -> list[Named]:
     if words.out:
         return [Named("", words.out, words.saved)]
     return [Named(name, out, f"{out}.ch" if os.path.exists(f"{out}.ch") else None) for name, out in words.network]
-
-
-def chosen(words: argparse.Namespace, networks: Sequence[Named]) -> bool | str:
-    """Whether the library answers, or its file; without words about it, whether it fits."""
-    from chtab.engine import choosing
-
-    if words.library is not None:
-        # The library would build one, but no time limit ends that.
-        for each in networks:
-            if each.saved is None:
-                lacks = f"{each.out}.ch" if each.name else "--saved"
-                raise ChtabError(f"--library needs a saved hierarchy, the file of `chtab save`: {lacks} is missing")
-        return words.library or True
-    return not words.pipe and all(choosing.fits(words.program, each.saved, words.workers) for each in networks)
 
 
 def sizes_of(words: argparse.Namespace) -> answering.Limits:
@@ -224,7 +209,7 @@ def main(words: Sequence[str]) -> None:
     more = {"program": found.program, "workers": found.workers, "timeout": found.timeout, "load": found.processes == 1}
     # A port that is taken is reported before the time that reading takes.
     port = port_at(found.host, found.port, found.takeover)
-    with Networks(networks, library=chosen(found, networks), **more) as served:
+    with Networks(networks, library=found.library or None, **more) as served:
         status = serve_all(found, served, choices, port)
     if status:
         sys.exit(status)

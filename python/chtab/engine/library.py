@@ -98,9 +98,12 @@ def beside(program: str) -> str | None:
     """
     folder = os.path.dirname(os.path.realpath(program))
     places = [folder] if os.path.basename(folder) != "chtab" else [folder, os.path.dirname(folder)]
-    made = os.path.join(folder, "out", "library", "lib", NAME)
     found = [path for path in (os.path.join(place, NAME) for place in places) if os.path.isfile(path)]
-    return (found + [made] * is_up_to_date(made, folder) + [None])[0]
+    # The program is that of a checkout itself, or what it builds.
+    own = os.path.join("crates", "chtab", "out")
+    checkout = folder.removesuffix(os.sep + own) if folder.endswith(own) else folder
+    made = os.path.join(checkout, "out", "library", "lib", NAME)
+    return (found + [made] * is_up_to_date(made, checkout) + [None])[0]
 
 
 def is_up_to_date(made: str, checkout: str) -> bool:

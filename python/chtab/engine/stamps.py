@@ -23,10 +23,12 @@ class Stamps:
     def __init__(self, *paths: str | None) -> None:
         self.by_path = {path: stamp_of(path) for path in paths if path is not None}
 
-    def see_that_same(self) -> None:
-        """Raises a `ProgramFault` if one of the files was written anew."""
+    def see_that_same(self, is_elsewhere: bool = False) -> None:
+        """Raises a `ProgramFault` if one of the files was written anew. On another machine a file may have other numbers, but not another size or
+        time."""
         for path, stamp in self.by_path.items():
-            if stamp_of(path) != stamp:
+            now = stamp_of(path)
+            if now[2:] != stamp[2:] or now != stamp and not is_elsewhere:
                 raise ProgramFault(f"{path} has changed since it was opened", 1)
 
 

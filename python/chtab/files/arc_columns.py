@@ -35,7 +35,7 @@ class Columns:
     y: Column | None = None
     scale: float | None = None
     unit: str | None = None
-    both_ways: bool = False
+    both_ways: bool | Column = False
     geometry: object = None
     names: tuple[str, ...] = NAMES
     keys: list[Any] | None = None
@@ -82,20 +82,39 @@ def arcs_of(given: Columns) -> Arcs:
     columns.see_that_long(given.names, [sources, targets, weights])
     labels, (tails, heads) = nodes_of(given, sources, targets)
     rows = len(sources)
-    see_that_in_limits(len(labels.values), rows * (2 if given.both_ways else 1))
+    back = rows_back(given.both_ways, rows)
+    see_that_in_limits(len(labels.values), rows + len(back))
     weights, rounding = whole_weights(given.names[2], weights, factor, MOST_WEIGHT // len(labels.values))
     lines = edge_lines.lines_in("geometry", given.geometry, rows)
     places = places_in(given, len(labels.values))
     if places is None and lines is not None:
         places = edge_lines.ends_of(lines, tails, heads, labels)
     bends = {} if lines is None else edge_lines.bends_of(lines, tails, heads, places)
-    if given.both_ways:
-        bends |= {arc + rows: points[::-1] for arc, points in bends.items()}
-        tails, heads, weights = numpy.concatenate([tails, heads]), numpy.concatenate([heads, tails]), numpy.tile(weights, 2)
+    if len(back):
+        bends |= {rows + place: bends[row][::-1] for place, row in enumerate(back.tolist()) if row in bends}
+        tails, heads = numpy.concatenate([tails, heads[back]]), numpy.concatenate([heads, tails[back]])
+        weights = numpy.concatenate([weights, weights[back]])
+    of_arcs = None if len(back) in (0, rows) else numpy.append(numpy.arange(rows), back)
     return Arcs(
-        labels, tails, heads, weights, scale, rounding, unit, places, bends, rows, None, given.keys, given.ways, measures.base_of(unit, scale),
+        labels, tails, heads, weights, scale, rounding, unit, places, bends, rows, of_arcs, given.keys, given.ways, measures.base_of(unit, scale),
         index=row_index.kept(given.index, rows),
     )
+
+
+def rows_back(both_ways: Any, rows: int) -> Integers:
+    """The rows that lead back too: all or none by a truth value, or some of them by a column of these."""
+    if isinstance(both_ways, bool | numpy.bool_):
+        return numpy.arange(rows if both_ways else 0)
+    if isinstance(both_ways, str):
+        raise DataFault(f"both_ways is True, False, or a column of these, not {told(both_ways)}", "both_ways")
+    marks = columns.array_of("both_ways", both_ways)
+    place = columns.first_of([not isinstance(value, bool | numpy.bool_) for value in marks.reshape(-1).tolist()])
+    if place is not None or marks.ndim != 1:
+        what = told(both_ways) if place is None else told(marks.reshape(-1)[place])
+        raise DataFault(f"both_ways is True, False, or a column of these, not {what}", "both_ways", place)
+    if len(marks) != rows:
+        raise DataFault(f"both_ways has {len(marks):,} rows, and there are {rows:,} rows of arcs", "both_ways")
+    return numpy.flatnonzero(marks.astype(bool))
 
 
 def weights_in(given: Columns) -> tuple[NDArray[Any], float | None, float | None, str | None]:
@@ -107,6 +126,8 @@ def weights_in(given: Columns) -> tuple[NDArray[Any], float | None, float | None
     durations = columns.durations_in(given.names[2], given.weights)
     if durations is None:
         scale = measures.scale_of(unit, scale)
+        if scale is None and unit is not None:
+            raise measures.unknown(unit)
         return columns.numbers_in(given.names[2], given.weights), scale, scale, unit
     unit = measures.TIME if unit is None else unit
     if scale is not None or unit not in measures.TIMES:

@@ -22,8 +22,8 @@ if TYPE_CHECKING:
 # The whole numbers of 64 bits, and the most bits of a label, because Python itself does not write integers of many thousand digits.
 LEAST, GREATEST = -(2**63), 2**63 - 1
 MOST_BITS = 4_096
-# Up to this number each whole number is a float of its own.
-EXACT = 2**53
+# Up to this number each whole number is a float that is no other one's: 2^53 + 1 becomes 2^53.
+EXACT = 2**53 - 1
 INTEGERS, STRINGS, TUPLES = "integers", "strings", "tuples"
 
 
@@ -282,8 +282,9 @@ def is_number(kind: type) -> bool:
 
 
 def degrees_in(name: str, column: Column, most: int) -> Floats:
-    """The degrees of a column, from -`most` to `most`, float64."""
-    degrees = numbers_in(name, column).astype(float)
+    """The degrees of a column, or of a single number, from -`most` to `most`, float64."""
+    values: Any = [column] if numpy.ndim(column) == 0 else column
+    degrees = numbers_in(name, values).astype(float)
     place = first_of(~(abs(degrees) <= most))
     if place is not None:
         raise refused(name, place, f"{degrees[place]:.12g} is not from -{most} to {most} degrees")

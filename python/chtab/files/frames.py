@@ -3,17 +3,13 @@ called."""
 from __future__ import annotations
 
 from collections.abc import Iterable, Mapping, Sequence
-from dataclasses import fields
 from typing import Any
 
 import numpy
 
 from chtab.errors import DataFault
-from chtab.files import arc_columns, columns, measures
+from chtab.files import arc_columns, columns, row_index
 from chtab.files.columns import told
-
-# The arguments of `from_arrays` that `from_frame` takes too.
-FURTHER = {field.name for field in fields(arc_columns.Columns)} & {"nodes", "x", "y", "scale", "unit", "both_ways"}
 
 # The attribute in which osmnx has the ways of an edge: one number, or a list of them.
 WAYS = "osmid"
@@ -37,18 +33,30 @@ def column_of(frame: Any, name: str) -> Any:
     raise DataFault(f"the frame has no column {name!r}; it has {known}; reset_index() makes columns of an index without a name", str(name))
 
 
-def columns_of_frame(frame: Any, names: Sequence[str], geometry: str | None, more: Mapping[str, Any]) -> tuple[arc_columns.Columns, dict[str, Any]]:
-    """The columns with these names, together with the items of `more` about arcs; and the other items of `more`."""
-    of_arcs = {name: value for name, value in more.items() if name in FURTHER}
+def columns_of_frame(
+    frame: Any, names: Sequence[str], geometry: str | None, both_ways: Any, more: Mapping[str, Any],
+) -> arc_columns.Columns:
+    """The columns with these names, and further ones of `arc_columns.Columns`."""
+    if not hasattr(frame, "columns"):
+        raise TypeError(f"the frame is a DataFrame, as pandas.read_csv reads one, not {told(frame)}")
     lines = None if geometry is None else column_of(frame, geometry)
     sources, targets, weights = (column_of(frame, name) for name in names)
     index = getattr(frame, "index", None)
-    given = arc_columns.Columns(sources, targets, weights, geometry=lines, names=tuple(map(str, names)), index=index, **of_arcs)
-    return given, {name: value for name, value in more.items() if name not in FURTHER}
+    return arc_columns.Columns(
+        sources, targets, weights, both_ways=marks_of(frame, both_ways), geometry=lines,
+        names=tuple(map(str, names)), index=index, **more)
+
+
+def marks_of(frame: Any, both_ways: Any) -> Any:
+    """The marks of rows that lead both ways, for a truth value or a column of a frame, or the name of this column."""
+    column = column_of(frame, both_ways) if isinstance(both_ways, str) else both_ways
+    if row_index.index_of(column) is not None:
+        _, column = row_index.matched(("the frame", "both_ways"), (frame, column))
+    return column
 
 
 def arcs_of_networkx(
-    graph: Any, weight: str, scale: float | None, unit: str | None, places: tuple[str | None, str | None], geometry: str | None,
+    graph: Any, weight: str, scale: float | str | None, unit: str | None, places: tuple[str | None, str | None], geometry: str | None,
 ) -> arc_columns.Arcs:
     """The arcs of a graph, with the weights of an attribute of its edges, and with places and lines if its nodes and edges have them."""
     nodes, edges = list(graph.nodes), list(graph.edges(data=weight))
@@ -56,12 +64,13 @@ def arcs_of_networkx(
     sources, targets, weights = (list(column) for column in zip(*edges)) if edges else ([], [], [])
     x, y = places_of(graph, nodes, places)
     lines = None if geometry is None or x is None else [line for _, _, line in graph.edges(data=geometry)]
-    scale = measures.scale_of(unit, None) or scale
+    # Without a unit these are the seconds and metres of osmnx, in thousandths.
+    own = (1000 if unit is None else None) if scale == "auto" else arc_columns.scale_in(scale)  # type: ignore[arg-type]
     names = "from", "to", str(weight)
     known = [key for *_, key in graph.edges(keys=True)] if graph.is_multigraph() else []
     keys = known if known and all(type(key) in (int, str) for key in known) else None
     ways = ways_in(way for _, _, way in graph.edges(data=WAYS))
-    given = arc_columns.Columns(sources, targets, weights, nodes, x, y, scale, unit, not graph.is_directed(), lines, names, keys, ways)
+    given = arc_columns.Columns(sources, targets, weights, nodes, x, y, own, unit, not graph.is_directed(), lines, names, keys, ways)
     try:
         return arc_columns.arcs_of(given)
     except DataFault as fault:

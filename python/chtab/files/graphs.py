@@ -31,6 +31,9 @@ class Graph(NamedTuple):
     # `milliseconds` or `metres` if a comment says `Weights are ..`, and otherwise empty.
     unit: str
 
+    def __eq__(self, other: object) -> bool:
+        return isinstance(other, Graph) and are_equal(self, other)
+
 
 class Coordinates(NamedTuple):
     """The places of nodes: node k is at `longitudes[k - 1]`, `latitudes[k - 1]`, in degrees; NaN if the file has no line for it."""
@@ -39,10 +42,13 @@ class Coordinates(NamedTuple):
     latitudes: array.array[float]
     comments: list[str]
 
+    def __eq__(self, other: object) -> bool:
+        return isinstance(other, Coordinates) and are_equal(self, other)
+
     def of(self, node: int) -> Point:
         """Longitude and latitude of a node."""
         if 1 <= node <= len(self.longitudes) and not math.isnan(self.longitudes[node - 1]):
-            return self.longitudes[node - 1], self.latitudes[node - 1]
+            return float(self.longitudes[node - 1]), float(self.latitudes[node - 1])
         raise FileFault(f"the coordinate file has no node {node}")
 
     def ends(self) -> dict[int, int]:
@@ -61,6 +67,11 @@ class Coordinates(NamedTuple):
     def known(self) -> list[int]:
         """The nodes that have a place, in order."""
         return [node for node, x in enumerate(self.longitudes, 1) if not math.isnan(x)]
+
+
+def are_equal(one: tuple[Any, ...], other: tuple[Any, ...]) -> bool:
+    """Whether the parts of two tuples are equal, among which there may be arrays of any kind."""
+    return all(list(part) == list(its) if hasattr(part, "tolist") else part == its for part, its in zip(one, other))
 
 
 def read_graph(source: Source) -> Graph:
@@ -275,6 +286,28 @@ def read_coordinates(source: Source) -> Coordinates:
     for node, x, y in zip(nodes, xs, ys):
         longitudes[node - 1], latitudes[node - 1] = x / 1e6, y / 1e6
     return Coordinates(longitudes, latitudes, comments_of(lines))
+
+
+def read_turns(path: Path) -> Coordinates:
+    """Reads what a file of places (`.co`) says about nodes where turns are restricted, without its places.
+
+    Parameters
+    ----------
+    path : str or path
+        The file (`.co`).
+
+    Returns
+    -------
+    Coordinates
+        No places, and the comments before the first of them, with `ends` and `copies`.
+
+    Raises
+    ------
+    OSError
+        The file can't be read.
+    """
+    with open(path, "rb") as file:
+        return Coordinates(array.array("d"), array.array("d"), comments_of(itertools.takewhile(lambda line: line[:1] != b"v", file)))
 
 
 def scaled(place: int, weight: float, scale: float) -> int:

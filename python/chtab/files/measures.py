@@ -43,6 +43,10 @@ class Asked:
     scale: float | None = None
     raw: bool = False
 
+    def __post_init__(self) -> None:
+        if not isinstance(self.raw, bool | numpy.bool_):
+            raise TypeError(f"raw is True or False, not {self.raw!r}")
+
 
 @dataclass(frozen=True)
 class Measure:
@@ -67,8 +71,8 @@ class Measure:
     # Limits.
 
     def limit(self, name: str, given: Limit) -> int | None:
-        """The largest weight of the graph whose answer is at most a limit; None for no limit."""
-        if given is None:
+        """The largest weight of the graph whose answer is at most a limit; None for no limit, which infinity is too."""
+        if given is None or isinstance(given, float | numpy.floating) and given == numpy.inf:
             return None
         if self.is_whole:
             return whole_limit(name, self.number(name, given))
@@ -183,4 +187,12 @@ def asked_for(unit: str | None, scale: float | None, base: str, own_unit: str | 
     for units in BASES.values():
         if own_scale is not None and own_unit is not None and {unit, own_unit} <= set(units):
             return Measure(unit, own_scale * units[unit] / units[own_unit])
-    raise DataFault(f"nothing tells how many of the graph's weights make one of {unit!r}: give `scale`, or a graph with `c Weights are {TIME}.`", "unit")
+    if base:
+        raise DataFault(f"the graph's weights are {base}, so that a unit is one of {', '.join(BASES[base])}; {unit!r} needs `scale`", "unit")
+    text = f"nothing says how many of the graph's weights make one of {unit!r}: give `scale`, or a graph with `c Weights are {TIME}.` or `c Weights are {LENGTH}.`"
+    raise DataFault(text, "unit")
+
+
+def unknown(unit: str) -> DataFault:
+    """The fault of a unit that is not known and has no scale."""
+    return DataFault(f"{unit!r} is not one of {', '.join([*TIMES, *LENGTHS])}: any other unit needs `scale`, such as scale=1 for whole weights", "unit")

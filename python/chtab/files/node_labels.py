@@ -20,10 +20,11 @@ if TYPE_CHECKING:
 Label: TypeAlias = int | str
 
 
-def fixed(values: LabelArray) -> LabelArray:
-    """An array that can't be written to."""
-    values.flags.writeable = False
-    return values
+def fixed(column: Any) -> Any:
+    """The values of a column in an array that can't be written to."""
+    found = numpy.asarray(column)
+    found.flags.writeable = False
+    return found
 
 
 class Numbers:
@@ -46,10 +47,11 @@ class Numbers:
             given = columns.array_of(name, given)
         column = numpy.asarray(given)
         if column.size and not (column.dtype.kind in "iu" or column.dtype.kind == "f" and is_whole(column)):
-            raise ValueError("a node is a whole number")
-        outside = column[(column < 1) | (column > self.count)]
-        if outside.size:
-            raise ValueError(f"node {outside.flat[0]:.17g} is not from 1 to {self.count:,}")
+            raise no_number(name, column, given)
+        outside = columns.first_of((column < 1) | (column > self.count))
+        if outside is not None:
+            row = row_of(column, outside)
+            raise columns.refused(name, row, f"node {column.flat[outside]:.17g} is not from 1 to {self.count:,}")
         return column.astype(numpy.int64)
 
     def few(self, labels: Iterable[Any]) -> list[int] | None:
@@ -75,6 +77,18 @@ class Numbers:
 def is_whole(column: NDArray[Any]) -> bool:
     """Whether all numbers of a column of decimal numbers are whole."""
     return bool(numpy.isfinite(column).all() and (column == numpy.floor(column)).all())
+
+
+def no_number(name: str, column: NDArray[Any], given: Any) -> DataFault:
+    """The fault of the first value that is no number of a node."""
+    values = column if column.dtype != object and not isinstance(given, list | tuple) else numpy.array(given, object)
+    place = columns.first_of([not is_node(value) for value in values.reshape(-1).tolist()]) or 0
+    return columns.refused(name, row_of(values, place), f"{told(values.reshape(-1).tolist()[place])} is no node: a node is a whole number")
+
+
+def is_node(value: object) -> bool:
+    """Whether a value is a whole number."""
+    return columns.is_integer(type(value)) or isinstance(value, float | numpy.floating) and float(value).is_integer()
 
 
 class Labels:

@@ -4,8 +4,6 @@ from __future__ import annotations
 import array
 import csv
 import itertools
-import struct
-import sys
 from collections.abc import Iterable, Iterator
 from typing import TYPE_CHECKING, Any, NamedTuple
 
@@ -190,83 +188,3 @@ def write_csv(target: Target, targets: Iterable[object], rows: Iterable[tuple[ob
         lines = csv.writer(file, lineterminator="\n")
         lines.writerow(["source", *targets])
         lines.writerows([source, *("" if cell is None else cell for cell in cells)] for source, cells in rows)
-
-
-def read_row_texts(source: Source, width: int) -> Iterator[tuple[bytes, bytes]]:
-    """Reads the rows of a text of `chtab table` as texts, which is much faster than reading their numbers.
-
-    Parameters
-    ----------
-    source : path, open file or lines
-        The file to read.
-    width : int
-        The number of targets.
-
-    Yields
-    ------
-    (bytes, bytes)
-        The next source and its cells, separated by blanks.
-
-    Raises
-    ------
-    FileFault
-        A line is no row with this many targets.
-    """
-    with reading(source, "rb") as file:
-        for line in file:
-            words = line.rstrip(b"\n").split(b" ", 2)
-            if words[0] != b"t" or line.count(b" ") != 1 + width:
-                raise FileFault(f"not a row of `chtab table` with {width} targets: {line[:60]}")
-            yield words[1], words[2]
-
-
-def write_csv_of_texts(target: Target, targets: Iterable[int], rows: Iterable[bytes]) -> None:
-    """Writes what `write_csv` writes, from rows of text.
-
-    Parameters
-    ----------
-    target : path or open file
-        The file to write.
-    targets : list of int
-        The targets.
-    rows : list of bytes
-        The source and the cells, separated by blanks, and `-` for none.
-
-    Raises
-    ------
-    OSError
-        The file can't be written.
-    """
-    with writing(target, "wb") as file:
-        file.write(",".join(["source", *map(str, targets)]).encode() + b"\n")
-        file.writelines(row.replace(b" ", b",").replace(b"-", b"") + b"\n" for row in rows)
-
-
-def write_npy_of_texts(target: Target, height: int, width: int, rows: Iterable[bytes]) -> None:
-    """Writes a matrix of 64-bit numbers as numpy reads it, with -1 for no distance, from such rows of text.
-
-    The form is numpy's version 1.0, whose header is padded with blanks to a multiple of 64 bytes.
-
-    Parameters
-    ----------
-    target : path or open file
-        The file to write.
-    height, width : int
-        How many rows and columns there are.
-    rows : list of bytes
-        As `write_csv_of_texts` takes them.
-
-    Raises
-    ------
-    OSError
-        The file can't be written.
-    """
-    head = f"{{'descr': '<i8', 'fortran_order': False, 'shape': ({height}, {width}), }}"
-    head += " " * (-(len(head) + 11) % 64) + "\n"
-    with writing(target, "wb") as file:
-        file.write(b"\x93NUMPY\x01\x00" + struct.pack("<H", len(head)) + head.encode())
-        for row in rows:
-            numbers = array.array("q", map(int, row.replace(b"-", b"-1").split()[1:]))
-            if sys.byteorder == "big":
-                numbers.byteswap()
-            file.write(numbers.tobytes())

@@ -7,7 +7,7 @@ from typing import TYPE_CHECKING, Any, NamedTuple
 import numpy
 from numpy.typing import NDArray
 
-from chtab.engine.answers import NO_WALK
+from chtab.engine.walks import NO_WALK
 from chtab.files import geojson
 from chtab.files.showing import OnMap, table_text
 
@@ -137,12 +137,16 @@ class Nearest(OnMap, Columns):
     sources: NDArray
     targets: NDArray
     layers: Layers
+    # The places of sources in degrees (n, 2), if these are spots, and else None.
+    at: NDArray | None
 
     @classmethod
-    def of(cls, places: NDArray[numpy.int64], weights: NDArray, sources: NDArray, targets: NDArray, layers: Layers) -> Nearest:
+    def of(
+        cls, places: NDArray[numpy.int64], weights: NDArray, sources: NDArray, targets: NDArray, layers: Layers, at: NDArray | None = None,
+    ) -> Nearest:
         """The columns, with the labels of the question."""
         found = cls(places, weights, places == NO_WALK)
-        found.sources, found.targets, found.layers = sources, targets, layers
+        found.sources, found.targets, found.layers, found.at = sources, targets, layers, at
         return found
 
     def __repr__(self) -> str:
@@ -208,11 +212,14 @@ class Nearest(OnMap, Columns):
 
     def _shown(self, count: int) -> list:
         sources = self.sources[:count].tolist()
-        nodes = self.layers.labels.nodes_of("sources", sources).tolist()
-        values = zip(sources, nodes, self.labels(0), self.weights[:, 0].tolist(), self.mask[:, 0].tolist())
+        if self.at is not None:
+            at = [(x, y) for x, y in self.at[:count].tolist()]
+        else:
+            at = [self.layers.coordinates.of(node) for node in self.layers.labels.nodes_of("sources", sources).tolist()]
+        values = zip(sources, at, self.labels(0), self.weights[:, 0].tolist(), self.mask[:, 0].tolist())
         return [
-            geojson.feature(self.layers.coordinates.of(node), {"source": source, "target": target, "weight": None if is_masked else weight}, "Point")
-            for source, node, target, weight, is_masked in values
+            geojson.feature(place, {"source": source, "target": target, "weight": None if is_masked else weight}, "Point")
+            for source, place, target, weight, is_masked in values
         ]
 
     def _repr_html_(self) -> str:

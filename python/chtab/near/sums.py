@@ -7,16 +7,18 @@ from typing import TYPE_CHECKING, Any, NamedTuple, TypeAlias
 import numpy
 
 from chtab.errors import DataFault
-from chtab.files import columns
+from chtab.files import columns, row_index
 from chtab.files.measures import EXACT
-from chtab.near import row_blocks
+from chtab.near import blocks
 from chtab.near import rows as near_rows
+from chtab.near.question import NearQuestion
 
 if TYPE_CHECKING:
     from numpy.typing import NDArray
 
     from chtab.files.measures import Measure
-    from chtab.near.runs import NearQuestion
+    from chtab.engine.in_process import InProcess
+    from chtab.near.blocks import Question
     from chtab.typing import Floats, Integers, Weights
 
 LINEAR, EXPONENTIAL = "linear", "exponential"
@@ -88,6 +90,10 @@ def shares_of(decay: Callable[[Any], Any], weights: Weights) -> Floats:
     shares = numpy.asarray(decay(weights), float)
     if shares.shape not in ((), weights.shape):
         raise ValueError(f"decay gave the shape {shares.shape} for weights of the shape {weights.shape}")
+    place = columns.first_of(~((shares >= 0) & (shares < numpy.inf)))
+    if place is not None:
+        weight = numpy.broadcast_to(weights, shares.shape or weights.shape).flat[place]
+        raise ValueError(f"decay gave {shares.flat[place]} for the weight {weight}: a share is a number from 0 on")
     return numpy.broadcast_to(shares, weights.shape)
 
 
@@ -95,16 +101,18 @@ def shares_of(decay: Callable[[Any], Any], weights: Weights) -> Floats:
 
 
 def values_in(
-    values: Any, targets: Any, nodes_of: Callable[[str, Any], Integers], count: int, with_zeros: bool = False,
+    values: Any, targets: Any, nodes_of: Callable[[str, Any], Integers], all_nodes: Integers, with_zeros: bool = False,
 ) -> tuple[Integers, Floats, list[Any] | None]:
     """The targets and their values: nodes (l,) and float64 (l, c), with the names of the columns, or None if they have no names.
 
-    `nodes_of` gives the nodes of labels, and `count` is the number of nodes. Without targets, the index of a Series, frame or dict has the labels,
-    and an array has a value for each node.
+    `nodes_of` gives the nodes of labels. Without targets, the index of a Series, frame or dict has the labels, and an array has a value for each of
+    all nodes.
     """
+    if targets is not None:
+        values, targets = row_index.matched(("values", "targets"), (values, targets))
     if targets is None and hasattr(values, "keys"):
         targets, values = (values.index, values) if hasattr(values, "index") else ([*values.keys()], [*values.values()])
-    nodes = numpy.arange(1, count + 1) if targets is None else nodes_of("targets", targets)
+    nodes = all_nodes if targets is None else nodes_of("targets", targets)
     if numpy.ndim(values) == 0:
         one = values[()] if isinstance(values, numpy.ndarray) else values
         values = numpy.repeat(columns.numbers_in("values", [one], True), len(nodes))
@@ -120,8 +128,9 @@ def columns_of(values: Any, names: list[Any] | None) -> list[tuple[str, Any]]:
     """The columns of values, each with its name for errors."""
     if names is not None:
         return [(f"values[{name!r}]", values.iloc[:, place]) for place, name in enumerate(names)]
-    if isinstance(values, numpy.ndarray) and values.ndim == 2:
-        return [(f"values[:, {place}]", values[:, place]) for place in range(values.shape[1])]
+    if numpy.ndim(values) == 2:
+        rows = numpy.array(values, object) if isinstance(values, list | tuple) else numpy.asarray(values)
+        return [(f"values[:, {place}]", rows[:, place]) for place in range(rows.shape[1])]
     return [("values", values)]
 
 
@@ -139,17 +148,17 @@ def column_in(name: str, column: Any, nodes: Integers, are_all: bool) -> Floats:
 # Aggregates of rows.
 
 
-def aggregates(runs: Any, question: NearQuestion, asked: Asked, workers: Any = 1, progress: Any = None) -> Floats:
+def aggregates(engine: InProcess, question: Question, asked: Asked, workers: Any = 1, progress: Any = None) -> Floats:
     """The aggregates of the values of targets for each source, column and limit, float64 (n, c, m). The limit of the question itself is the largest
     of these. Where no target is near, a sum and a count are 0, and the others NaN."""
-    height = question.height(runs.nodes)
+    height = question.height(engine.nodes)
     if asked.kind == "median":
-        return medians(runs, question, asked, workers, progress)
-    if hasattr(runs, "sums") and workers == 1 and progress is None and are_counted(question, asked):
-        return runs.sums(question, asked.values.astype(numpy.uint64), asked.limits)
+        return medians(engine, question, asked, workers, progress)
+    if isinstance(question, NearQuestion) and workers == 1 and progress is None and are_counted(question, asked):
+        return blocks.sums(engine, question, asked.values.astype(numpy.uint64), asked.limits)
 
-    def make(block: row_blocks.Block, portions: Portions) -> State:
-        own, of_block = asked.of(slice(block.column, block.column + len(block.question.targets))), block.question.height(runs.nodes)
+    def make(block: blocks.Block, portions: Portions) -> State:
+        own, of_block = asked.of(slice(block.column, block.column + len(block.question.targets))), block.question.height(engine.nodes)
         state = begun(asked.kind, asked.shape(of_block))
         for start, rows in portions:
             for place, part in enumerate(state_of(rows, own)):
@@ -157,17 +166,17 @@ def aggregates(runs: Any, question: NearQuestion, asked: Asked, workers: Any = 1
         return state
 
     whole = begun(asked.kind, asked.shape(height))
-    for block, state in row_blocks.values(runs, question, make, workers, progress):
+    for block, state in blocks.values(engine, question, make, workers, progress):
         some = slice(block.row, block.row + len(state[0]))
         for part, joined in zip(whole, JOINED[asked.kind]([part[some] for part in whole], state)):
             part[some] = joined
     return ENDED[asked.kind](*whole)
 
 
-def are_counted(question: NearQuestion, asked: Asked) -> bool:
+def are_counted(question: Question, asked: Asked) -> bool:
     """Whether values are summed as whole numbers: none is below 0, and the sum of all is small enough to be exact as a float."""
     values = asked.values
-    is_plain = asked.kind == "sum" and asked.share is None and 0 < len(question.targets) <= row_blocks.LENGTH
+    is_plain = asked.kind == "sum" and asked.share is None and 0 < len(question.targets) <= blocks.LENGTH
     return is_plain and bool((values >= 0).all() and (values == numpy.floor(values)).all() and values.sum() <= EXACT)
 
 
@@ -245,20 +254,20 @@ ENDED: dict[str, Callable[..., Any]] = {
 }
 
 
-def medians(runs: Any, question: NearQuestion, asked: Asked, workers: Any, progress: Any) -> Floats:
+def medians(engine: InProcess, question: Question, asked: Asked, workers: Any, progress: Any) -> Floats:
     """The medians, which need all targets of a source at once."""
-    found = numpy.full(asked.shape(question.height(runs.nodes)), numpy.nan)
-    if len(question.targets) > row_blocks.LENGTH:
-        medians_of(found, row_blocks.rows(runs, question, workers, progress), asked)
+    found = numpy.full(asked.shape(question.height(engine.nodes)), numpy.nan)
+    if len(question.targets) > blocks.LENGTH:
+        medians_of(found, blocks.rows(engine, question, workers, progress), asked)
         return found
 
-    def make(block: row_blocks.Block, portions: Portions) -> Floats:
-        own = numpy.full(asked.shape(block.question.height(runs.nodes)), numpy.nan)
+    def make(block: blocks.Block, portions: Portions) -> Floats:
+        own = numpy.full(asked.shape(block.question.height(engine.nodes)), numpy.nan)
         for start, rows in portions:
             medians_of(own[start:start + len(rows)], rows, asked)
         return own
 
-    for block, own in row_blocks.values(runs, question, make, workers, progress):
+    for block, own in blocks.values(engine, question, make, workers, progress):
         found[block.row:block.row + len(own)] = own
     return found
 

@@ -220,12 +220,14 @@ class ArcNames:
 
     def of_spots(self, name: str, places: Integers, given: Sequence[Spots]) -> Found:
         """The arcs along the roads of spots, in the directions in which trips may leave these; for a spot at a crossing, all arcs of the crossing."""
-        roads = self.layers.roads
+        roads, own = self.layers.roads, []
         for place, spots in zip(places.tolist(), given):
-            for index in numpy.flatnonzero(~roads.are_here(spots))[:1]:
+            found, are_here = roads.same_points(spots)
+            for index in numpy.flatnonzero(~are_here)[:1]:
                 raise refused(name, place, f"spot {index} lies on no road of this network: `snap` of this one gives its own")
-        owners = numpy.repeat(places, [len(spots) for spots in given])
-        numbers, parts, sides = (numpy.concatenate([getattr(spots, part) for spots in given]) for part in ("roads", "parts", "sides"))
+            own.append(found)
+        owners = numpy.repeat(places, [len(spots) for spots in own])
+        numbers, parts, sides = (numpy.concatenate([getattr(spots, part) for spots in own]) for part in ("roads", "parts", "sides"))
         is_at_end = (parts == 0) | (parts == 1)
         along = Groups.of(roads.road_of[roads.road_of != NONE], numpy.flatnonzero(roads.road_of != NONE)).of_each(numbers[~is_at_end])
         is_open = roads.sides_of(along.items) & sides[~is_at_end][along.places] > 0

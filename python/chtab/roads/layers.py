@@ -1,10 +1,12 @@
 """The files of a network, each read when it is first needed and then kept: the arcs, the places and labels of nodes, the roads."""
 from __future__ import annotations
 
+import array
 import functools
+import itertools
 import os
 import threading
-from collections.abc import Callable, Mapping, Sequence
+from collections.abc import Callable, Mapping
 from typing import TYPE_CHECKING, Any
 
 import numpy
@@ -12,9 +14,9 @@ import numpy
 from chtab import files
 from chtab.engine import forks
 from chtab.engine.stamps import Stamps
-from chtab.engine.walks import ArcIndex
 from chtab.errors import ChtabError
 from chtab.files import measures
+from chtab.files.node_labels import fixed
 from chtab.roads import nearest
 
 if TYPE_CHECKING:
@@ -23,6 +25,10 @@ if TYPE_CHECKING:
     from chtab.roads.row_labels import RowLabels
     from chtab.roads.snapping import Roads
     from chtab.typing import Integers, Marks, Point
+
+
+# What is said of turns where there is no file of places.
+NO_TURNS = files.Coordinates(array.array("d"), array.array("d"), [])
 
 
 class Layers:
@@ -77,13 +83,12 @@ class Layers:
 
     @property
     def graph(self) -> files.Graph:
-        """The arcs, as `files.read_graph` gives them."""
-        return self.read_file("graph", lambda: files.read_graph(self.path))
+        """The arcs, as `files.read_graph` gives them, in arrays that can't be written to."""
+        def make() -> files.Graph:
+            found = files.read_graph(self.path)
+            return found._replace(**{name: fixed(getattr(found, name)) for name in ("tails", "heads", "weights")})
 
-    @property
-    def arcs(self) -> ArcIndex:
-        """The arcs by their ends, as `walks.ArcIndex` finds them."""
-        return self.read("arcs", lambda: ArcIndex(self.graph))
+        return self.read_file("graph", make)
 
     @property
     def streets(self) -> files.Streets | None:
@@ -118,23 +123,53 @@ class Layers:
     def crossings(self) -> Integers:
         """The crossing of each node, by the number of its first node, from place 1 on. A crossing has several nodes if turns are restricted there."""
         def make() -> Integers:
-            found = numpy.arange(self.graph.nodes + 1)
-            for copy, node in ({} if self.paths["coordinates"] is None else self.coordinates.copies()).items():
+            found = numpy.arange(files.count_nodes(self.path) + 1)
+            for copy, node in self.turns.copies().items():
+                self.see_that_node(copy, node)
                 found[copy] = node
             return found
 
         return self.read("crossings", make)
 
     @property
+    def all_nodes(self) -> Integers:
+        """The nodes that are no copies of others: a node for each crossing."""
+        return self.read("all nodes", lambda: numpy.flatnonzero(self.crossings == numpy.arange(len(self.crossings)))[1:])
+
+    @property
     def ends(self) -> Integers:
         """The node where trips to each node end, from place 1 on, as `files.Coordinates.ends` gives it; 0 if they end at the node itself."""
         def make() -> Integers:
-            found = numpy.zeros(self.graph.nodes + 1, numpy.int64)
-            for node, end in ({} if self.paths["coordinates"] is None else self.coordinates.ends()).items():
+            found = numpy.zeros(files.count_nodes(self.path) + 1, numpy.int64)
+            for node, end in self.turns.ends().items():
+                self.see_that_node(node, end)
                 found[node] = end
             return found
 
         return self.read("ends", make)
+
+    @property
+    def turns(self) -> files.Coordinates:
+        """What the file of places says about nodes where turns are restricted."""
+        def make() -> files.Coordinates:
+            path = self.paths["coordinates"]
+            return NO_TURNS if path is None else self.kept.get("coordinates") or files.read_turns(path)
+
+        return self.read_file("turns", make)
+
+    def see_that_node(self, *nodes: int) -> None:
+        """Refuses the places of another graph, which name nodes that are not there."""
+        if max(nodes) > files.count_nodes(self.path):
+            raise files.FileFault(f"{self.paths['coordinates']}: node {max(nodes):,} is not in {self.path}: these are the places of another graph")
+
+    def ends_of(self, nodes: Integers) -> Integers:
+        """The nodes where trips to some nodes end, in their shape."""
+        return numpy.where(self.ends[nodes] > 0, self.ends[nodes], nodes) if self.has_turns else nodes
+
+    @property
+    def has_turns(self) -> bool:
+        """Whether turns are restricted at some nodes, so that trips to them end at others."""
+        return self.read("has turns", lambda: bool(self.turns.turns()))
 
     @property
     def are_inner(self) -> Marks:
@@ -180,10 +215,16 @@ class Layers:
     @property
     def coordinates(self) -> files.Coordinates:
         """The nodes' places, as `files.read_coordinates` gives them."""
-        path = self.paths["coordinates"]
-        if path is None:
+        path = self.paths["coordinates"] or ""
+        if not path:
             raise ChtabError(f"{self.path} has no file of coordinates beside it; name one by `coordinates`")
-        return self.read_file("coordinates", functools.partial(files.read_coordinates, path))
+
+        def make() -> files.Coordinates:
+            found = files.read_coordinates(path)
+            self.see_that_node(len(found.longitudes))
+            return found._replace(longitudes=fixed(found.longitudes), latitudes=fixed(found.latitudes))
+
+        return self.read_file("coordinates", make)
 
     @property
     def labelling(self) -> files.Labelling | None:
@@ -229,18 +270,34 @@ class Layers:
         def make() -> Roads:
             from chtab.roads.snapping import Roads
 
-            path = self.paths["bends"]
-            return Roads(self.graph, self.coordinates, files.read_bends(path) if path else None)
+            return Roads(self.graph, self.coordinates, self.bends if self.paths["bends"] else None)
 
         return self.read_file("roads", make)
 
-    def lines_of(self, routes: Sequence[files.Answer]) -> list[list[Point]]:
-        """For each route of `files.Answer` the places along it, in degrees, with the bends of its roads if they are known."""
+    @property
+    def bends(self) -> dict[int, list[Point]]:
+        """The points of arcs between their ends, as `files.read_bends` gives them; none without a file of these."""
+        def make() -> dict[int, list[Point]]:
+            path = self.paths["bends"]
+            found = {} if path is None else files.read_bends(path)
+            arcs = files.count_arcs(self.path)
+            if max(found, default=0) >= arcs or min(found, default=0) < 0:
+                raise files.FileFault(f"{path}: an arc is not from 1 to {arcs:,}: these are the points of another graph")
+            return found
+
+        return self.read_file("bends", make)
+
+    def lines_of(self, starts: Integers, counts: Integers, arcs: Integers) -> list[list[Point]]:
+        """For each route the places along it, in degrees, with the bends of its roads if they are known. Route k begins at the node `starts[k]` and has
+        `counts[k]` of the arcs."""
         if self.paths["bends"] is None:
-            return [[self.coordinates.of(node) for node in each.nodes or ()] for each in routes]
+            heads = iter(numpy.asarray(self.graph.heads)[arcs].tolist())
+            return [
+                [self.coordinates.of(node) for node in (start, *itertools.islice(heads, count))] for start, count in zip(starts.tolist(), counts.tolist())
+            ]
         from chtab.roads.lines import tidied
 
-        return [line for line, _ in tidied(self.roads.lines_of(routes))]
+        return [line for line, _ in tidied(self.roads.lines_of(starts, counts, arcs))]
 
 
 def layers_of(opened: Opening, known: Mapping[str, Any] | None = None) -> Layers:

@@ -11,9 +11,8 @@ from typing import TYPE_CHECKING, Any, NamedTuple
 
 import numpy
 
-from chtab.engine.answers import NO_WALK
-from chtab.engine.walks import Walks, ranges
-from chtab.errors import unasked
+from chtab.engine.walks import NO_WALK, Walks, ranges
+from chtab.errors import mismatch
 from chtab.roads.snapping import NANOMETRE, NONE, Roads, Spots
 
 if TYPE_CHECKING:
@@ -211,7 +210,7 @@ def weights_of_ways(trips: Trips, starts: Spots, ends: Spots) -> Integers:
     first spot's road, and for each of these in that of the nodes into the last one's; the last is along a single road."""
     pairs, added = ways_between(starts, ends)
     is_there = (pairs > 0).all(axis=2)
-    between = trips.queries.small_tables(starts.out_nodes, ends.in_nodes, pairs[is_there])
+    between = trips.engine.distances(pairs[is_there])
     return totals(added, is_there, between, trips.roads.along(starts, ends))
 
 
@@ -254,10 +253,10 @@ def node_weights(trips: Trips, outs: Integers, ins: Integers, within: int | None
     """The weights from each node of one column to each of another, `NOWHERE` if there is no way, or if one of them is missing."""
     is_out, is_in = outs > 0, ins > 0
     if is_out.all() and is_in.all():
-        found = trips.queries.table(outs, ins, within)
+        found = trips.engine.table(outs, ins, within)
     else:
         found = numpy.full((len(outs), len(ins)), -1)
-        found[numpy.ix_(is_out, is_in)] = trips.queries.table(outs[is_out], ins[is_in], within)
+        found[numpy.ix_(is_out, is_in)] = trips.engine.table(outs[is_out], ins[is_in], within)
     found[found < 0] = NOWHERE
     return found
 
@@ -320,7 +319,7 @@ class Between(NamedTuple):
     def see_that_right(self, between: Integers, best: Integers) -> None:
         """Raises a `ProgramFault` if a walk of this weight does not make its way as heavy as it is."""
         if (between + self.out_weights + self.in_weights != best)[self.is_walk].any():
-            raise unasked()
+            raise mismatch()
 
 
 def between_nodes(starts: Spots, rows: Integers, ends: Spots, columns: Integers, best: Integers, ways: Integers) -> Between:
@@ -340,11 +339,11 @@ def walked(trips: Trips, starts: Spots, ends: Spots, best: Integers, ways: Integ
     counts, arcs = numpy.zeros(len(best), numpy.int64), numpy.zeros(0, numpy.int64)
     between = numpy.zeros(len(best), numpy.int64)
     if over.is_walk.any():
-        between[over.is_walk], counts[over.is_walk], arcs = trips.queries.lines(over.pairs[over.is_walk], trips.roads.arcs_of)
+        between[over.is_walk], counts[over.is_walk], arcs = trips.engine.paths(over.pairs[over.is_walk])
     over.see_that_right(between, best)
     found = Walked(over.is_walk, over.leaves, over.arrives, over.pairs[:, 0], over.out_weights, over.in_weights, counts, arcs)
     if (found.sums(trips.roads.weights[arcs]) != between)[over.is_walk].any():
-        raise unasked()
+        raise mismatch()
     return found
 
 
@@ -363,11 +362,11 @@ def metres_by(trips: Trips, starts: Spots, rows: Integers, ends: Spots, columns:
     """How long these ways from some of the spots `starts` to as many of `ends` are."""
     over = between_nodes(starts, rows, ends, columns, best, ways)
     if over.is_walk.all():
-        between, lengths = trips.queries.sums(over.pairs, trips.roads.nanometres, trips.roads.arcs_of)
+        between, lengths = trips.engine.sums(over.pairs, trips.roads.nanometres)
     else:
         between, lengths = numpy.zeros(len(best), numpy.int64), numpy.zeros(len(best), numpy.uint64)
         if over.is_walk.any():
-            between[over.is_walk], lengths[over.is_walk] = trips.queries.sums(over.pairs[over.is_walk], trips.roads.nanometres, trips.roads.arcs_of)
+            between[over.is_walk], lengths[over.is_walk] = trips.engine.sums(over.pairs[over.is_walk], trips.roads.nanometres)
     over.see_that_right(between, best)
     return metres_of(trips.roads, starts, rows, ends, columns, over, lengths * NANOMETRE)
 

@@ -2,18 +2,22 @@
 from __future__ import annotations
 
 import collections.abc
+import functools
 from typing import TYPE_CHECKING, Any, NamedTuple
 
-from chtab.files import Answer, geojson
-from chtab.files import showing
+import numpy
+
+from chtab.errors import ProgramFault
+from chtab.files import Answer, geojson, showing
 
 if TYPE_CHECKING:
     import geopandas
-    import numpy
     import pandas
     from numpy.typing import NDArray
 
+    from chtab.engine.walks import Paths
     from chtab.roads.layers import Layers
+    from chtab.typing import Integers
 
 
 class Routes(showing.OnMap, collections.abc.Sequence):
@@ -32,23 +36,36 @@ class Routes(showing.OnMap, collections.abc.Sequence):
     # What colours a map.
     shown_by = "weight"
 
-    def __init__(self, answers: list[Answer], layers: Layers) -> None:
-        # The answers with the numbers of nodes and the weights of the graph, and the files of the network.
-        self.numbered, self.layers = answers, layers
+    def __init__(self, pairs: Integers, paths: Paths, layers: Layers) -> None:
+        # The pairs of nodes by their numbers, their paths, and the files of the network.
+        self.pairs, self.paths, self.layers = pairs, paths, layers
+        self.heads, self.arc_weights = (
+            numpy.asarray(column)[paths.arcs] for column in (layers.graph.heads, layers.graph.weights)
+        )
+        self.firsts = numpy.append(0, numpy.cumsum(paths.counts))
+        sums = numpy.diff(numpy.append(0, numpy.cumsum(self.arc_weights))[self.firsts])
+        if (sums != paths.weights)[paths.weights >= 0].any():
+            raise ProgramFault(f"{layers.path} has changed since it was opened", 1)
 
     def __getitem__(self, place: Any) -> Any:
-        some = self.numbered[place]
-        return [self.labelled(each) for each in some] if isinstance(place, slice) else self.labelled(some)
+        return self.answers[place]
 
-    def labelled(self, answer: Answer) -> Answer:
-        """The answer with the labels of its nodes and with weights in the network's unit."""
-        listed, measure = self.layers.labels.listed, self.layers.measure
-        source, target = listed([answer.source, answer.target])
-        nodes = answer.nodes and listed(answer.nodes)
-        return Answer(source, target, measure.one(answer.weight), nodes, measure.listed(answer.weights))
+    @functools.cached_property
+    def answers(self) -> list[Answer]:
+        """The routes with the labels of their nodes and with weights in the network's unit."""
+        labels, measure = self.layers.labels, self.layers.measure
+        sources, targets = (labels.of(column).tolist() for column in self.pairs.T)
+        heads = labels.of(self.heads).tolist()
+        weights = measure.told(self.arc_weights).tolist()
+        found = zip(sources, targets, self.paths.weights.tolist(), self.firsts.tolist(), self.firsts[1:].tolist())
+        return [
+            Answer(source, target, None, None, None) if weight < 0
+            else Answer(source, target, measure.one(weight), [source, *heads[first:last]], weights[first:last])
+            for source, target, weight, first, last in found
+        ]
 
     def __len__(self) -> int:
-        return len(self.numbered)
+        return len(self.pairs)
 
     def __repr__(self) -> str:
         return f"<{len(self):,} routes on {self.layers.path}>"
@@ -62,14 +79,8 @@ class Routes(showing.OnMap, collections.abc.Sequence):
             For each pair the rows of the arcs in the order of its route, from 0 on, as `frame.iloc` counts them and `graph.edges` of networkx has
             them; of files the lines of the graph. None where no path leads.
         """
-        import numpy
-
-        answers = [each for each in self.numbered if each.nodes]
-        tails, heads = ([node for each in answers for node in (each.nodes or [])[part]] for part in (slice(-1), slice(1, None)))
-        lines = self.layers.arcs.of(numpy.array(tails, numpy.int64), numpy.array(heads, numpy.int64))
-        cuts = numpy.cumsum([len(each.weights or ()) for each in answers])[:-1]
-        found = iter(numpy.split(self.layers.rows[lines], cuts) if answers else [])
-        return [next(found) if each.nodes else None for each in self.numbered]
+        found = numpy.split(self.layers.rows_of(self.paths.arcs), self.firsts[1:-1])
+        return [rows if weight >= 0 else None for rows, weight in zip(found, self.paths.weights.tolist())]
 
     def edges(self) -> list[list[tuple] | None]:
         """Returns the arcs of the routes by their nodes, as networkx and osmnx name edges.
@@ -105,15 +116,13 @@ class Routes(showing.OnMap, collections.abc.Sequence):
         ImportError
             pandas is not installed.
         """
-        import numpy
         import pandas
 
         rows = [(each.source, each.target, each.nodes or []) for each in self]
-        weights = numpy.array([-1 if each.weight is None else each.weight for each in self.numbered], numpy.int64)
-        arcs = numpy.array([-1 if each.weights is None else len(each.weights) for each in self.numbered], numpy.int64)
+        is_missing = self.paths.weights < 0
         frame = pandas.DataFrame(rows, columns=["source", "target", "nodes"])
-        frame.insert(2, "weight", self.layers.measure.series(weights))
-        frame.insert(3, "arcs", pandas.Series(pandas.arrays.IntegerArray(arcs, arcs < 0)))
+        frame.insert(2, "weight", self.layers.measure.series(self.paths.weights))
+        frame.insert(3, "arcs", pandas.Series(pandas.arrays.IntegerArray(self.paths.counts.copy(), is_missing)))
         return frame.rename_axis("query")
 
     def to_geojson(self, names: dict | None = None) -> dict:
@@ -135,10 +144,11 @@ class Routes(showing.OnMap, collections.abc.Sequence):
         ChtabError
             The network has no places of nodes.
         """
-        lines = iter(self.layers.lines_of([each for each in self.numbered if each.nodes]))
+        is_there = self.paths.weights >= 0
+        lines = iter(self.layers.lines_of(self.pairs[is_there, 0], self.paths.counts[is_there], self.paths.arcs))
         return geojson.collection(
-            geojson.query_feature(place, self.labelled(each), next(lines) if each.nodes else None, names or {})
-            for place, each in enumerate(self.numbered)
+            geojson.query_feature(place, each, next(lines) if each.nodes else None, names or {})
+            for place, each in enumerate(self)
         )
 
     def to_geodataframe(self) -> geopandas.GeoDataFrame:
@@ -196,6 +206,9 @@ class TripRoutes(showing.OnMap, list):
     """Trips in the order of their spots: a list of `Trip`, which makes frames, GeoJSON and pictures."""
 
     shown_by = "weight"
+
+    def __repr__(self) -> str:
+        return f"<{len(self):,} trips>"
 
     def to_geojson(self) -> dict:
         """Returns the trips as lines on a map.

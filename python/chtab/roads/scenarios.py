@@ -1,28 +1,23 @@
-"""The same network under other conditions: other weights, closed roads, new ones."""
+"""The arcs of a network under other conditions: other weights, closed roads, new ones."""
 from __future__ import annotations
 
-import functools
 import itertools
-import os
-from collections.abc import Iterable, Mapping
-from typing import TYPE_CHECKING, Any, NamedTuple, Self
+from collections.abc import Mapping
+from typing import TYPE_CHECKING, Any, NamedTuple
 
 import numpy
-from numpy.typing import ArrayLike
 
 from chtab import files
-from chtab.engine import making, opening
+from chtab.engine import making
 from chtab.errors import DataFault
 from chtab.files import arc_columns, columns, edge_lines, measures
 from chtab.files.columns import told
 from chtab.files.frames import column_of
 from chtab.roads.arc_names import ArcNames
-from chtab.roads.from_arcs import FromArcs, known_to_be_closed, see_that_network
 from chtab.roads.snapping import Spots
 
 if TYPE_CHECKING:
     from numpy.typing import NDArray
-    import pandas
     from chtab.roads.layers import Layers
     from chtab.typing import Integers, Marks, Point
 
@@ -30,97 +25,26 @@ if TYPE_CHECKING:
 NO_FRACTION = ", as the weights of this network are"
 
 
-class Scenarios(FromArcs):
-    """The call of a `Network` that makes another network from it. It uses `_layers`, its files, `_measure`, its unit, and `_opened`, its opening."""
+def arcs_of(layers: Layers, measure: measures.Measure, weights: Any, closed: Any, added: Any) -> arc_columns.Arcs:
+    """The arcs of a network with other weights, and without closed or with added arcs; `Network.changed` explains each."""
+    weighing = weighing_of(layers, measure, weights is not None or added is not None)
+    given = Given.of(layers)
+    changed, rounding = given.reweighted(weights, weighing)
+    kept = ~given.marked(closed)
+    return changed.arcs(kept, given.added(added, weighing), rounding)
 
-    if TYPE_CHECKING:
-        nodes: int
-        _layers: Layers
-        _measure: measures.Measure
-        _opened: opening.Opening
 
-    def changed(
-        self, weights: ArrayLike | Mapping | pandas.Series | None = None, closed: Iterable | ArrayLike | None = None,
-        added: Iterable | pandas.DataFrame | None = None, *, folder: str | os.PathLike | None = None, fresh: int = 5,
-    ) -> Self:
-        """Makes a network with the same nodes, labels, places and bends, and other arcs. This one goes on answering as it did.
-
-        Names of arcs are:
-
-        - a row of the columns or of the frame that the network was made of, from 0 on, or of files the arc's place in the graph;
-        - `(source, target)`, all arcs from one node to another; `(source, target, key)`, the edge of a graph of networkx or osmnx with this key;
-          `(node,)`, all arcs to and from a node;
-        - spots of `snap`: at each place the road, in both directions, or the crossing if it is less than a metre away;
-        - `"way/23456"`, a way of OpenStreetMap, or the name or the number of a street of a map that was imported with `--names`.
-
-        A row that leads both ways is both arcs, also by the key of its edge. Where turns are restricted, a node is all nodes of its crossing. A
-        Series, or an Index as `closed`, goes by its labels in any order: those of the frame's index, or else names. In a list, an array or a dict a
-        number is a row, and is refused if the frame calls another row so: `frame.index[[7]]` is row 7.
-
-        Parameters
-        ----------
-        weights : array, Series or dict, optional
-            New weights in the network's `unit`, or with `raw=True` those of the graph: one for each row, or of some arcs by their names, of which
-            the last one of an arc counts. A row whose arcs are closed stays closed, and as a name in a dict it is refused.
-        closed : list of arcs, spots, Index, or array or Series of bool, optional
-            The arcs that are no longer there, or for each row whether it is closed. Nodes stay.
-        added : list of (source, target, weight) or pandas.DataFrame, optional
-            Further arcs between nodes of the network, with the columns source, target and weight, and optionally geometry. Each leads one way, from
-            all roads that lead to its source. Their rows follow those of the network, and edges have the keys of networkx.
-        folder : str or path, optional
-            As `Network.from_arrays` takes it.
-        fresh : int
-            How many per cent of the nodes are ordered afresh, from 0 to 100. More of them make building slower, and answers faster if the weights
-            differ much. The answers themselves are the same.
-
-        Returns
-        -------
-        Network
-            The changed network. It is built in the order of this one, in three fifths of the time of a new network. Only if the program answers, and
-            this network was opened without a saved hierarchy, it is built anew.
-
-        Raises
-        ------
-        DataFault
-            A name stands for nothing, a node has no such label, or a weight is refused: the text names it, and nothing was written. Or the network
-            was made with `scale`, and neither with a unit nor with `raw=True`, so that new weights may be either.
-        FileExistsError, ProgramFault, ChtabError, OSError
-            As `Network.from_arrays` raises them, or the network is closed.
-
-        Examples
-        --------
-        >>> without_bridge = network.changed(closed=[("inn", "mill"), ("mill", "inn")])      # doctest: +SKIP
-        >>> without_road = network.changed(closed=network.snap(9.52, 47.14))                 # doctest: +SKIP
-        >>> at_eight = network.changed(weights=frame["minutes at 8:00"])                     # doctest: +SKIP
-        >>> with_tunnel = network.changed(added=[("farm", "school", 2.5)])                   # doctest: +SKIP
-        """
-        see_that_network(self)
-        with known_to_be_closed(self):
-            arcs = self._arcs_of(weights, closed, added)
-        setting, opened = self._opened.setting, self._opened
-        running = opening.Running(
-            setting.program, setting.workers, setting.timeout, True, False, setting.runs, opened.library, opened.asked, like=self, fresh=fresh,
-        )
-        return self._made(arcs, folder, running)
-
-    def _arcs_of(self, weights: Any, closed: Any, added: Any) -> arc_columns.Arcs:
-        """The arcs of the changed network."""
-        weighing = self._weighing(weights is not None or added is not None)
-        given = Given.of(self._layers)
-        changed, rounding = given.reweighted(weights, weighing)
-        kept = ~given.marked(closed)
-        return changed.arcs(kept, given.added(added, weighing), rounding)
-
-    def _weighing(self, has_weights: bool) -> Weighing:
-        """How new weights become those of the graph."""
-        made, measure = self._layers.labelling, self._measure
-        own = None if made is None else made.scale
-        if has_weights and made is not None and made.unit is None and own not in (None, 1) and self._layers.asked == measures.Asked():
-            text = f"the network was made with scale={own:g} and without a unit, so that new weights may be yours, or the graph's whole numbers"
-            raise DataFault(f"{text}: make it with unit='seconds' or another unit, or with raw=True for whole numbers", "weights")
-        is_rounded = own == 1 or made is not None and made.unit is not None
-        whole = 1 if is_rounded and not self._layers.asked.raw else None
-        return Weighing(measure, whole if measure.is_whole else measure.factor, arc_columns.MOST_WEIGHT // self.nodes)
+def weighing_of(layers: Layers, measure: measures.Measure, has_weights: bool) -> Weighing:
+    """How new weights become those of the graph."""
+    made = layers.labelling
+    own = None if made is None else made.scale
+    if has_weights and made is not None and made.unit is None and own not in (None, 1) and layers.asked == measures.Asked():
+        text = f"the network was made with scale={own:g} and without a unit, so that new weights may be yours, or the graph's whole numbers"
+        raise DataFault(f"{text}: make it with unit='seconds' or another unit, or with raw=True for whole numbers", "weights")
+    is_rounded = own == 1 or made is not None and made.unit is not None
+    whole = 1 if is_rounded and not layers.asked.raw else None
+    most = arc_columns.MOST_WEIGHT // files.count_nodes(layers.path)
+    return Weighing(measure, whole if measure.is_whole else measure.factor, most)
 
 
 class Weighing(NamedTuple):
@@ -191,8 +115,9 @@ class Given(NamedTuple):
         is_closed = numpy.zeros(len(self.rows), bool)
         if closed is None:
             return is_closed
-        if isinstance(closed, str):
-            raise DataFault(f"closed is a list: [{closed!r}] is one way or street", "closed")
+        if isinstance(closed, str) or not hasattr(closed, "__iter__"):
+            what = "one way or street" if isinstance(closed, str) else "one row"
+            raise DataFault(f"closed is a list: [{closed!r}] is {what}", "closed")
         if isinstance(closed, tuple) and len(closed) in (1, 2, 3) and not any(isinstance(part, tuple | list | Spots) for part in closed):
             raise DataFault(f"closed is a list: [{closed!r}] is one arc, and {[*closed]!r} are rows", "closed")
         column = mask_in(closed)
@@ -314,9 +239,8 @@ class Given(NamedTuple):
 
     def bends(self, kept: Marks, new: New) -> dict[int, list[Point]]:
         """The bends of the kept arcs, by their new numbers, and those of the new arcs."""
-        path, numbers = self.layers.paths["bends"], numpy.cumsum(kept) - 1
-        found = {} if path is None else self.layers.read_file("bends", functools.partial(files.read_bends, path))
-        bends = {int(numbers[arc]): points for arc, points in found.items() if arc < len(kept) and kept[arc]}
+        numbers = numpy.cumsum(kept) - 1
+        bends = {int(numbers[arc]): points for arc, points in self.layers.bends.items() if kept[arc]}
         if new.lines is None:
             return bends
         coordinates = self.layers.coordinates

@@ -16,7 +16,7 @@ from chtab.network import Network
 from chtab.server.osrm.answering import numbers_in
 
 if TYPE_CHECKING:
-    from chtab.engine.asking import Engine
+    from chtab.engine.in_process import InProcess
     from chtab.engine.library import Handle
 
 # The files that each network has, and what they are for.
@@ -81,20 +81,17 @@ class Served:
         self.opened: Handle | None = None
 
     @property
-    def engine(self) -> Engine | InProcess:
+    def engine(self) -> InProcess:
         return self.network._engine
 
     def open_once(self) -> None:
-        """Opens the network by the library, if that answers, before processes are forked: they then have it in memory together."""
-        engine = self.engine
-        if isinstance(engine, InProcess):
-            engine.load()
-            self.opened = engine.first
+        """Opens the network before processes are forked: they then have it in memory together."""
+        self.opened = self.engine.first_handle()
 
     def load(self) -> None:
         """Starts the engine if it is not there. A forked process takes what the first one has opened."""
         engine = self.engine
-        if isinstance(engine, InProcess) and self.opened is not None and not engine.living():
+        if self.opened is not None and not engine.living():
             engine.begin_with(self.opened)
         else:
             engine.load()

@@ -343,7 +343,7 @@ class Service:
         near = numpy.array([place not in far for place in range(len(owners))])
         rows, columns = numpy.split(near, [len(sources)])
         weights = numpy.full((len(sources), len(targets)), -1)
-        weights[numpy.ix_(rows, columns)] = self.network.trip_table(spots[:len(sources)][rows], spots[len(sources):][columns], within)
+        weights[numpy.ix_(rows, columns)] = self.network.trip_table(spots[:len(sources)][rows], spots[len(sources):][columns], within=within)
         cells = [[None if weight < 0 else weight for weight in row] if is_near else None for row, is_near in zip(weights.tolist(), rows)]
         faults = [
             {"list": owners[place][0], "index": owners[place][1], "metres": round(float(spots.metres[place]), 1), "error": text}

@@ -212,4 +212,4 @@ def facing(roads: Roads, longitude: float, latitude: float, most: int, bearing: 
 
 def together(parts: Sequence[Spots]) -> Spots:
     """Joins spots, one after the other."""
-    return Spots(*(numpy.concatenate(columns) for columns in zip(*(vars(part).values() for part in parts))))
+    return Spots.joined(parts)
