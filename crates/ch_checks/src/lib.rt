@@ -34,3 +34,5 @@ mod reading;
 mod table;
 #[cfg(test)]
 mod work;
+#[cfg(test)]
+mod worked;

@@ -1,8 +1,8 @@
 //! Engines: a network that is asked in the caller's own process. An engine is used by one thread at a time.
 //!
-//! It stands on ch_contract, ch_graph, ch_hierarchy, ch_near, ch_order, ch_query, ch_read, ch_table and ch_text. It
-//! starts no thread. An [`Engine`] has a hierarchy, room for its own searches, and the places of its near rows. Other
-//! engines may share the hierarchy. These statements are proved:
+//! It stands on ch_contract, ch_graph, ch_hierarchy, ch_near, ch_order, ch_query, ch_read, ch_table, ch_text
+//! and thiserror. It starts no thread. An [`Engine`] has a hierarchy, room for its own searches, and the places of its
+//! near rows. Other engines may share the hierarchy. These statements are proved:
 //!
 //! - [`Engine::open`] gives a hierarchy that is right for the graph that the bytes name, or an error that is true of
 //!   the bytes.
