@@ -18,7 +18,7 @@ def at_curb(roads: Roads, spots: Spots, places: Floats, is_left: bool) -> Spots:
     """The same spots, left and reached in the direction in which a place (n, 2) lies on the side of the road that is driven on. A place on the line of
     its road lies on both sides, and a road that is open in one direction alone has no other side to come from."""
     inside = spots.parts.clip(INSIDE, 1 - INSIDE)
-    made = roads.spots(spots.longitudes, spots.latitudes, spots.metres, spots.roads, inside)
+    made = roads.spots(spots.places, spots.longitudes, spots.latitudes, spots.roads, inside)
     is_one_way = (roads.forward[spots.roads] == NONE) | (roads.backward[spots.roads] == NONE)
     side = sides_of(roads, replace(made, parts=inside), places) * (-1 if is_left else 1)
     wanted = numpy.where(is_one_way | (side == 0), FORWARD | BACKWARD, numpy.where(side > 0, FORWARD, BACKWARD))
