@@ -1,6 +1,6 @@
 #!/usr/bin/python3
 """Tests the connections of the service: requests that are sent ahead of their answers, more connections than there may be, whose requests are answered
-all the same, and what an answer says of the service.
+all the same, what an answer says of the service, and what its processes hold in memory.
 
 A check that needs a missing package is named and left out. The last line is 'N passed, N failed'.
 """
@@ -9,16 +9,22 @@ import concurrent.futures
 import contextlib
 import http.client
 import json
+import os
 import pathlib
 import re
+import signal
 import socket
+import subprocess
 import threading
 import time
 
 from helpers import running
+from helpers.in_process import make
+from helpers.maps import tool
 from helpers.moods import STANDIN, holding, mood
 from helpers.packages import run_checks
-from helpers.serving import SERVICE, ask, raw, running_service, send, told
+from helpers.running import PROGRAM, ROOT
+from helpers.serving import SERVICE, ask, children_of, raw, running_service, send, service, told
 from helpers.waiting import PATIENCE, until
 
 ROUTE = "/route/v1/car/9.5209,47.1410;9.5450,47.2200?overview=false"
@@ -26,6 +32,8 @@ ROUTE = "/route/v1/car/9.5209,47.1410;9.5450,47.2200?overview=false"
 GREEDY, SECONDS, GROWTH = 20, 8.0, 40e6
 # The seconds in which many clients ask, and after which an idle connection may make way for one of the same address.
 ASKING, REST = 5.0, 0.6
+# The most bytes that a process of the service holds by itself, without those of a network.
+PYTHON_ALONE = 14e6
 
 
 def resident(number):
@@ -217,6 +225,34 @@ def answers_tell_no_versions():
             assert re.findall(rb"(?i)^server: (.*?)\r?$", head, re.MULTILINE) == [b"chtab"], head
 
 
+def processes_share_their_memory():
+    """What is made of a network is in memory once: a process by itself holds little more than Python, and one that is begun anew answers at once."""
+    subprocess.run([ROOT / "bench" / "osm.py", "60000", "streets.osm"], check=True, stdout=subprocess.DEVNULL)
+    tool("osm_to_gr", "--quiet", "--turns", "--bends", "--names", "streets.osm", "streets")
+    with open("streets.ch", "wb") as saved:
+        subprocess.run([PROGRAM, "save", "--deep", "streets.gr"], check=True, stdout=saved)
+    path = "/route/v1/car/0.01,0.01;0.05,0.06?overview=false"
+    with service("streets", "--processes", 2, "--library", make(), "--saved", "streets.ch") as (child, address):
+        first = children_of(child.pid)
+        held = [private(number) for number in first]
+        assert len(held) == 2 and max(held) < PYTHON_ALONE + 60 * nodes_of("streets.gr"), held
+        wanted = ask(address, path)
+        os.kill(first[0], signal.SIGKILL)
+        until(lambda: len(children_of(child.pid)) == 2 and first[0] not in children_of(child.pid))
+        assert wanted[0] == 200 and all(ask(address, path) == wanted for _ in range(20))
+        assert max(map(private, children_of(child.pid))) < 2 * PYTHON_ALONE + 60 * nodes_of("streets.gr")
+
+
+def private(number):
+    """The bytes that a process has written, and shares with none."""
+    text = pathlib.Path(f"/proc/{number}/smaps_rollup").read_text()
+    return 1024 * int(re.search(r"^Private_Dirty:\s+(\d+) kB$", text, re.MULTILINE)[1])
+
+
+def nodes_of(graph):
+    return int(re.search(r"^p sp (\d+)", pathlib.Path(graph).read_text(), re.MULTILINE)[1])
+
+
 LINES = {
     "plain": r'\d{4}-\d\d-\d\dT[\d:]{8}Z 127\.0\.0\.1 "GET /route/v1/car/x" 400 \d+ \d+\.\d "InvalidQuery: coordinate 0 [^"]+"',
     "combined": r'127\.0\.0\.1 - - \[\d\d/[A-Z][a-z]{2}/\d{4}:[\d:]{8} \+0000\] "GET /route/v1/car/x HTTP/1\.1" 400 \d+ "http://site\.example/" "a \\x22b\\x22"',
@@ -244,7 +280,7 @@ def logs_have_forms():
 GROUPS = (
     (SERVICE, [
         requests_ahead_take_no_memory, requests_ahead_are_answered, too_many_connections, the_longest_idle_makes_way, a_busy_connection_is_kept,
-        no_request_of_a_crowd_is_cut, answers_tell_no_versions, logs_have_forms,
+        no_request_of_a_crowd_is_cut, answers_tell_no_versions, logs_have_forms, processes_share_their_memory,
     ]),
 )
 

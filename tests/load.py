@@ -132,7 +132,7 @@ def one_question(client, country, draw):
         found, due = status == 200 and len(value["waypoints"]), 2
     else:
         query = "overview=false" if kind == 3 else "overview=full&geometries=geojson&steps=true&annotations=true"
-        status, value = client.ask(f"/route/v1/car/{country.text(k, l, m)}?{query}")
+        status, value = client.ask(f"/route/v1/car/{country.text(k, l, m)}?{query}&continue_straight=false")
         found = status == 200 and [leg["duration"] for leg in value["routes"][0]["legs"]]
         due = [wanted[k][l] / 1000, wanted[l][m] / 1000]
     return None if found == due else (kind, k, l, m, status, found or value, due)

@@ -115,6 +115,14 @@ def told():
     return open("told").read()
 
 
+def children_of(number):
+    """The numbers of the processes that a process has begun."""
+    try:
+        return [int(child) for child in pathlib.Path(f"/proc/{number}/task/{number}/children").read_text().split()]
+    except FileNotFoundError:
+        return []
+
+
 def raw(address, text):
     """What the service sends back for these bytes, until it closes the connection."""
     with socket.create_connection((address.hostname, address.port), timeout=PATIENCE) as client:
