@@ -33,9 +33,11 @@ LATER = {"Near": "chtab.near.found", "Network": "chtab.network", "Routes": "chta
 # Hidden from type checkers, so that they find misspelt names.
 if not typing.TYPE_CHECKING:
     def __getattr__(name):
-        """A class of `LATER`, or a module by the name that it had in version 1.1."""
+        """A class of `LATER`, one of the public modules, or a module by the name that it had in version 1.1."""
         if name in LATER:
             return getattr(importlib.import_module(LATER[name]), name)
+        if name in ("files", "typing"):
+            return importlib.import_module(f"chtab.{name}")
         return _moved.attribute(__name__, name)
 
 

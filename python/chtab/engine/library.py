@@ -239,16 +239,16 @@ class Handle:
             see_that_done(self.calls.chtab_nodes(self.at, ctypes.byref(count)))
         return count.value
 
-    def save(self) -> bytes:
-        """The hierarchy, the bytes that `chtab save` writes for it."""
-        size, text = ctypes.c_uint64(), numpy.empty(0, numpy.uint8)
+    def save(self, room: int = 0) -> bytes:
+        """The hierarchy, the bytes that `chtab save` writes for it. They are made once if they fit into a room of so many bytes, and otherwise twice."""
+        size, text = ctypes.c_uint64(), numpy.empty(room, numpy.uint8)
         with self.lock:
             status = self.write_text(size, text)
             if status == TOO_SHORT:
                 text = numpy.empty(size.value, numpy.uint8)
                 status = self.write_text(size, text)
         see_that_done(status)
-        return text.tobytes()
+        return text[:size.value].tobytes()
 
     def write_text(self, size: ctypes.c_uint64, text: NDArray[numpy.uint8]) -> int:
         return self.calls.chtab_save(self.at, ctypes.byref(size), address(text, numpy.uint8, True), len(text))

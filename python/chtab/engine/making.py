@@ -140,8 +140,11 @@ def save_like(giver: InProcess, graph: str, saved: str, fresh: int) -> Handle:
     """Builds the hierarchy of a graph in the order of another network, and saves it. Returns a handle of its network."""
     with open(graph, "rb") as file:
         handle = giver.opened_like(file.read(), fresh)
+    # Networks of the same nodes have texts of about one length.
+    known = giver.setting.saved
+    room = os.path.getsize(known) * 9 // 8 if known is not None and os.path.exists(known) else 0
     with told_of(saved), open(saved, "wb") as out:
-        out.write(handle.save())
+        out.write(handle.save(room))
     return handle
 
 
