@@ -25,11 +25,7 @@ from helpers import running
 from helpers.moods import STANDIN, holding, mood
 from helpers.packages import PYTHON, run_checks
 from helpers.running import PROGRAM, ROOT
-<<<<<<< HEAD
-from helpers.serving import COUNTRY, SERVICE, ask, raw, running_service, send, told
-=======
-from helpers.serving import COUNTRY, SERVICE, ask, by_both, children_of, raw, running_service, send, told
->>>>>>> d957de1eb607c97b330fefe2dadc0beea74a66d1
+from helpers.serving import COUNTRY, SERVICE, ask, children_of, raw, running_service, send, told
 from helpers.waiting import PATIENCE, until
 
 ROUTE = "/route/v1/car/9.5209,47.1410;9.5450,47.2200?overview=false"
