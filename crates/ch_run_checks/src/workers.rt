@@ -22,7 +22,7 @@ fn crew<'a, R, G>(rt: &'a R, alloc: Global, gate: &'a G) -> Crew<'a, R, G> {
 }
 
 /// The check of the saved hierarchy passes the gate too, with a piece for each node. So the two pieces that
-/// meet may be pieces of the check. A test of `ch_checks` has the same of the answers alone.
+/// meet may be pieces of the check.
 #[test]
 fn two_queries_are_answered_at_once(rt: HostRuntime) -> Result<(), Fail> {
     let gate = MeetingGate::new();
