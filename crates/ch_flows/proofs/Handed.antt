@@ -1,5 +1,6 @@
 -- A leg hands its flow to its halves: nothing is lost, and what is too much for a half is too much for its arcs.
-use Rattle.std.proofs.Common.{◌≡◌, ◌≢◌, ℕ, ◌+◌, ◌*◌, ◌<◌, ◌≤◌, List, length, get_or, set, take, Option, Some, None, refl, sym, ◌∙◌, ap, arith}
+use Rattle.std.proofs.Common.{◌≡◌, ◌≢◌, ℕ, ◌+◌, ◌*◌, ◌<◌, ◌≤◌, List, length, get_or, set, take, Option, Some, None, refl, sym, ◌∙◌, ap}
+use Rattle.std.proofs.Common.{arith}
 use Rattle.std.proofs.Math.Nat.{mul-add, mul-le-mul_left}
 use Rattle.std.proofs.lemmas.List.{get_or-set_other, get_or-set_same}
 use Rattle.std.proofs.Math.ListN.{length-set}
@@ -10,7 +11,8 @@ use Rattle.ch_flows.specs.Handing.{AreParts, AreShares, IsCount, IsExcess, IsExc
 use Rattle.ch_flows.proofs.Weighed.{none_left, none_right, weighed-handed, weighed-more, weighed-only, weighed-part}
 
 -- a flow is handed to two legs
-pub handed : (parts : List (Option Halves)) → AreParts parts → (flows : List ℕ) → length flows ≡ length parts → (place : ℕ) → place < length parts →
+pub handed : (parts : List (Option Halves)) → AreParts parts → (flows : List ℕ) → length flows ≡ length parts → (place : ℕ) →
+    place < length parts →
     (halves : Halves) → part_at parts place ≡ Some halves → (cleared once twice : List ℕ) → cleared ≡ set flows place 0 →
     once ≡ set cleared halves.first (get_or cleared halves.first 0 + get_or flows place 0) →
     twice ≡ set once halves.second (get_or once halves.second 0 + get_or flows place 0) →
@@ -48,7 +50,8 @@ handed parts are flows long place low halves is cleared once twice ec eo et =
     }
 
 -- the first half would get too much
-pub excess_first : (parts : List (Option Halves)) → AreParts parts → (flows : List ℕ) → length flows ≡ length parts → (place : ℕ) → place < length parts →
+pub excess_first : (parts : List (Option Halves)) → AreParts parts → (flows : List ℕ) → length flows ≡ length parts → (place : ℕ) →
+    place < length parts →
     (halves : Halves) → part_at parts place ≡ Some halves → IsPassed (set flows place 0) halves.first (get_or flows place 0) →
     IsExcess parts flows
 excess_first parts are flows long place low halves is passed =
@@ -70,7 +73,8 @@ excess_first parts are flows long place low halves is passed =
     )
 
 -- the second half would get too much
-pub excess_second : (parts : List (Option Halves)) → AreParts parts → (flows : List ℕ) → length flows ≡ length parts → (place : ℕ) → place < length parts →
+pub excess_second : (parts : List (Option Halves)) → AreParts parts → (flows : List ℕ) → length flows ≡ length parts → (place : ℕ) →
+    place < length parts →
     (halves : Halves) → part_at parts place ≡ Some halves → (once : List ℕ) →
     once ≡ set (set flows place 0) halves.first (get_or (set flows place 0) halves.first 0 + get_or flows place 0) →
     IsPassed once halves.second (get_or flows place 0) → IsExcess parts flows
@@ -96,7 +100,8 @@ excess_second parts are flows long place low halves is once eo passed =
     )
 
 -- flows that count as much are too large together
-pub excess_kept : (parts : List (Option Halves)) (flows old : List ℕ) → ((share : ℕ → ℕ) → AreShares parts share → weighed share flows ≡ weighed share old) →
+pub excess_kept : (parts : List (Option Halves)) (flows old : List ℕ) → ((share : ℕ → ℕ) → AreShares parts share →
+    weighed share flows ≡ weighed share old) →
     IsExcess parts flows → IsExcess parts old
 excess_kept parts flows old kept e = (e.0, e.1, e.2, e.3, λ share shares. omega (arith, e.4 share shares, kept share shares))
 
@@ -114,7 +119,8 @@ handed_down parts flows old long kept none j count is =
     here i low other (Some halves) e = none_left (get_or flows i 0) (count i) (none i halves low e)
 
 -- the demand of a way reached one more leg
-pub added_more : (share : ℕ → ℕ) (way flows now new : List ℕ) (demand i place : ℕ) → i < length way → place ≡ get_or way i 0 → place < length now →
+pub added_more : (share : ℕ → ℕ) (way flows now new : List ℕ) (demand i place : ℕ) → i < length way → place ≡ get_or way i 0 →
+    place < length now →
     new ≡ set now place (get_or now place 0 + demand) → weighed share now ≡ weighed share flows + demand * shares_of share (take i way) →
     weighed share new ≡ weighed share flows + demand * shares_of share (take (i + 1) way)
 added_more share way flows now new demand i place low at less is before =

@@ -1,5 +1,6 @@
 -- One more row of legs.
-use Rattle.std.proofs.Common.{◌≡◌, ℕ, ◌+◌, ◌-◌, ◌<◌, List, [], ◌∷◌, ◌++◌, length, map, get_or, refl, sym, ◌∙◌, ap, arith, inl, inr, length-append}
+use Rattle.std.proofs.Common.{◌≡◌, ℕ, ◌+◌, ◌-◌, ◌<◌, List, [], ◌∷◌, ◌++◌, length, map, get_or, refl, sym, ◌∙◌, ap, arith, inl, inr}
+use Rattle.std.proofs.Common.{length-append}
 use Rattle.std.specs.Prelude.{◌⊎◌}
 use Rattle.std.proofs.lemmas.Bool.{cases_lt}
 use Rattle.std.proofs.lemmas.List.{get_or-append-add, get_or_append_left, get_or-map, get_or_push, length-map}
@@ -23,7 +24,8 @@ state_split Down Down a b e = (refl, omega (arith, e))
 state_split Up Down a b e = absurd (omega (arith, e))
 state_split Down Up a b e = absurd (omega (arith, e))
 
-module _ (H : LevelsAndLegs) (levelled : IsLevelled H) (starts new_starts : List ℕ) (links new_links : List Link) (n : ℕ) (side : Side) (v : ℕ)
+module _ (H : LevelsAndLegs) (levelled : IsLevelled H) (starts new_starts : List ℕ) (links new_links : List Link) (n : ℕ) (side : Side)
+    (v : ℕ)
     (low : v < nodes_of H) (here : n ≡ state_at H side v) (es : new_starts ≡ starts ++ length links ∷ [])
     (el : new_links ≡ links ++ map (link_of side v) (row (rows_of H side) v)) (laid : IsLaid H starts links n) where
   abbrev legs : List Leg
@@ -40,13 +42,15 @@ module _ (H : LevelsAndLegs) (levelled : IsLevelled H) (starts new_starts : List
   ]
 
   start_old : (r : ℕ) → r < n → get_or new_starts r 0 ≡ get_or starts r 0
-  start_old r less = ap (λ (l : List ℕ). get_or l r 0) es ∙ get_or_append_left starts (length links ∷ []) 0 r (omega (arith, less, laid.count))
+  start_old r less = ap (λ (l : List ℕ). get_or l r 0) es
+      ∙ get_or_append_left starts (length links ∷ []) 0 r (omega (arith, less, laid.count))
 
   start_new : (r : ℕ) → r ≡ n → get_or new_starts r 0 ≡ length links
   start_new r is = ap (λ (l : List ℕ). get_or l r 0) es ∙ get_or_push starts (length links) 0 r (omega (arith, is, laid.count))
 
   more : length new_links ≡ length links + length legs
-  more = ap length el ∙ length-append links (map (link_of side v) legs) ∙ ap (λ (k : ℕ). length links + k) (length-map legs (link_of side v))
+  more = ap length el ∙ length-append links (map (link_of side v) legs)
+      ∙ ap (λ (k : ℕ). length links + k) (length-map legs (link_of side v))
 
   link_old : (i : ℕ) → i < length links → link_at new_links i ≡ link_at links i
   link_old i less = ap (λ (l : List Link). link_at l i) el ∙ get_or_append_left links (map (link_of side v) legs) _ i less
@@ -71,7 +75,8 @@ module _ (H : LevelsAndLegs) (levelled : IsLevelled H) (starts new_starts : List
   each_new : (s : Side) (u k : ℕ) → IsSpot H (n + 1) s u k →
       link_at new_links (place_of H new_starts s u k) ≡ link_of s u (leg_on (row (rows_of H s) u) k)
   each_new s u k spot = elim (spot_cases s u k spot) [
-    | inl old ↦ ap (link_at new_links) (place_old s u k old) ∙ link_old (place_of H starts s u k) (laid.within s u k old) ∙ laid.each s u k old
+    | inl old ↦ ap (link_at new_links) (place_old s u k old) ∙ link_old (place_of H starts s u k) (laid.within s u k old)
+        ∙ laid.each s u k old
     | inr new ↦ (
         let size : length (row (rows_of H s) u) ≡ length legs =
         ap (λ (t : Side). length (row (rows_of H t) u)) new.0 ∙ ap (λ (m : ℕ). length (row (rows_of H side) m)) new.1 in

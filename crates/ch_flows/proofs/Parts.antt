@@ -1,5 +1,6 @@
 -- The two legs that a leg stands for come after it, and the legs and these places are a plan.
-use Rattle.std.proofs.Common.{◌≡◌, ℕ, ◌*◌, ◌<◌, List, length, get_or, Contains, Option, Some, None, refl, sym, ◌∙◌, ap, subst, arith, inl, inr}
+use Rattle.std.proofs.Common.{◌≡◌, ℕ, ◌*◌, ◌<◌, List, length, get_or, Contains, Option, Some, None, refl, sym, ◌∙◌, ap, subst, arith}
+use Rattle.std.proofs.Common.{inl, inr}
 use Rattle.std.specs.Prelude.{slice_index}
 use Rattle.std.proofs.lemmas.Bool.{cases_lt}
 use Rattle.std.proofs.lemmas.List.{get_or_default}
@@ -28,7 +29,8 @@ leg_in legs k low = (k, low, get_or_default legs k (get_or legs k no_leg) no_leg
 
 module _ (H : LevelsAndLegs) (levelled : IsLevelled H) where
   -- a leg leads to or from a higher node
-  pub rises : (side : Side) (v : ℕ) (leg : Leg) → Contains (row (rows_of H side) v) leg → slice_index H.level v < slice_index H.level leg.node
+  pub rises : (side : Side) (v : ℕ) (leg : Leg) → Contains (row (rows_of H side) v) leg →
+      slice_index H.level v < slice_index H.level leg.node
   rises Up v leg has = (All-contains (IsLegUp H v) (row H.up v) leg (levelled.up.1 v).1 has).higher
   rises Down v leg has = (All-contains (IsLegUp H v) (row H.down v) leg (levelled.down.1 v).1 has).higher
 
@@ -73,7 +75,8 @@ splits H kept link is v middle =
           (below_low H levelled link.side link.low link.leg.node (slice_index H.level v) p q);
     }
 
-module _ (H : LevelsAndLegs) (levelled : IsLevelled H) (starts : List ℕ) (links : List Link) (laid : IsLaid H starts links (2 * nodes_of H)) where
+module _ (H : LevelsAndLegs) (levelled : IsLevelled H) (starts : List ℕ) (links : List Link) (laid : IsLaid H starts links
+    (2 * nodes_of H)) where
   -- the leg at a place
   link_is : (i : ℕ) (low : i < length links) → let f = laid.found i low in
       link_at links i ≡ link_of f.side f.node (leg_on (row (rows_of H f.side) f.node) f.place)
@@ -94,7 +97,8 @@ module _ (H : LevelsAndLegs) (levelled : IsLevelled H) (starts : List ℕ) (link
   -- the leg at the place of one that was looked for
   pub placed_between : (side : Side) (v x p : ℕ) → IsPlaceOf H starts side v x p → IsBetween side v x (link_at links p)
   placed_between side v x p is =
-      let e : link_at links p ≡ link_of side v (leg_on (row (rows_of H side) v) is.place) = ap (link_at links) is.is ∙ laid.each side v is.place is.spot in
+      let e : link_at links p ≡ link_of side v (leg_on (row (rows_of H side) v) is.place) =
+          ap (link_at links) is.is ∙ laid.each side v is.place is.spot in
       record {
         side_is = ap (λ (l : Link). l.side) e;
         low_is = ap (λ (l : Link). l.low) e;
@@ -116,7 +120,8 @@ module _ (H : LevelsAndLegs) (levelled : IsLevelled H) (starts : List ℕ) (link
       omega (arith, f.is, before, is.is)
 
   -- both places that were found
-  pub halves_after : (i v a b : ℕ) (two : Halves) → i < length links → (link_at links i).leg.middle ≡ Some v → Splits H (link_at links i) v →
+  pub halves_after : (i v a b : ℕ) (two : Halves) → i < length links → (link_at links i).leg.middle ≡ Some v →
+      Splits H (link_at links i) v →
       IsPlaceOf H starts Down v (from_of (link_at links i)) a → IsPlaceOf H starts Up v (to_of (link_at links i)) b →
       two ≡ record { first = a; second = b } → AreHalvesAfter links i two
   halves_after i v a b two low middle split p q e =
@@ -133,7 +138,8 @@ module _ (H : LevelsAndLegs) (levelled : IsLevelled H) (starts : List ℕ) (link
       })
 
   -- one row has one place for a node
-  place_one : (legs : List Leg) → IsRow legs → (k m : ℕ) → k < length legs → m < length legs → (leg_on legs k).node ≡ (leg_on legs m).node → k ≡ m
+  place_one : (legs : List Leg) → IsRow legs → (k m : ℕ) → k < length legs → m < length legs →
+      (leg_on legs k).node ≡ (leg_on legs m).node → k ≡ m
   place_one legs order k m lk lm e = elim (cases_lt k m) [
     | inl less ↦ absurd (omega (arith, order k m no_leg less lm, e))
     | inr ge ↦ elim (cases_lt m k) [
@@ -153,7 +159,8 @@ module _ (H : LevelsAndLegs) (levelled : IsLevelled H) (starts : List ℕ) (link
       let one = place_one (row H.up v) (rows_ordered H levelled Up v) k m p.leg (omega (arith, q.leg, size)) there in
       ap (λ (n : ℕ). place_of H starts Up n k) e ∙ ap (place_of H starts Up u) one
   same_spot Down Down v u k m p q e f =
-      let there : (leg_on (row H.down v) k).node ≡ (leg_on (row H.down v) m).node = e ∙ ap (λ (n : ℕ). (leg_on (row H.down n) m).node) (sym f) in
+      let there : (leg_on (row H.down v) k).node ≡ (leg_on (row H.down v) m).node =
+          e ∙ ap (λ (n : ℕ). (leg_on (row H.down n) m).node) (sym f) in
       let size : length (row H.down u) ≡ length (row H.down v) = ap (λ (n : ℕ). length (row H.down n)) (sym f) in
       let one = place_one (row H.down v) (rows_ordered H levelled Down v) k m p.leg (omega (arith, q.leg, size)) there in
       ap (λ (n : ℕ). place_of H starts Down n k) f ∙ ap (place_of H starts Down u) one

@@ -1,5 +1,6 @@
 -- Each arc of a route has a leg without a middle, and the places of these legs are a way.
-use Rattle.std.proofs.Common.{◌≡◌, ℕ, suc, ◌+◌, ◌*◌, ◌<◌, ◌≤◌, List, [], ◌∷◌, ◌++◌, length, get_or, take, Contains, Option, None, refl, sym, ◌∙◌, ap, subst, arith, inl, inr, append_assoc, append-nil}
+use Rattle.std.proofs.Common.{◌≡◌, ℕ, suc, ◌+◌, ◌*◌, ◌<◌, ◌≤◌, List, [], ◌∷◌, ◌++◌, length, get_or, take, Contains, Option, None, refl}
+use Rattle.std.proofs.Common.{sym, ◌∙◌, ap, subst, arith, inl, inr, append_assoc, append-nil}
 use Rattle.std.specs.Prelude.{slice_index}
 use Rattle.std.proofs.lemmas.List.Elements.{All-contains}
 use Rattle.std.proofs.Math.Seq.{take-suc}
@@ -42,7 +43,8 @@ module _ (H : LevelsAndLegs) where
       weight ≡ c.weight → HaveLegs xs
   unpacked_legs (arc {u = u} {w = w} {weight = weight}) c l e = ((c, l, sym e), tt)
   unpacked_legs (shortcut {u = u} {w = w} {v = v} {a = a} {b = b} {xs = xs} {ys = ys} ha na hb nb p q) c l e =
-      have_both xs ys (unpacked_legs p a.cost (a, refl, refl, inr (ha, na)) refl) (unpacked_legs q b.cost (b, refl, refl, inl (hb, nb)) refl)
+      have_both xs ys (unpacked_legs p a.cost (a, refl, refl, inr (ha, na)) refl)
+          (unpacked_legs q b.cost (b, refl, refl, inl (hb, nb)) refl)
 
   up_legs : (s x : ℕ) (steps : List DescentStep) (arcs : List InArc) → IsDescent H.up s x steps → AreUpArcs H steps arcs → HaveLegs arcs
   up_legs s x [] arcs d is = subst HaveLegs (sym is) tt
@@ -51,7 +53,8 @@ module _ (H : LevelsAndLegs) where
       subst HaveLegs (sym is.4) (have_both is.0 is.1 (up_legs s step.low steps is.0 d.2 is.2)
       (unpacked_legs is.3 leg.cost (leg, refl, refl, inl (d.1.last.0, refl)) refl))
 
-  down_legs : (t x : ℕ) (steps : List DescentStep) (arcs : List InArc) → IsDescent H.down t x steps → AreDownArcs H steps arcs → HaveLegs arcs
+  down_legs : (t x : ℕ) (steps : List DescentStep) (arcs : List InArc) → IsDescent H.down t x steps → AreDownArcs H steps arcs →
+      HaveLegs arcs
   down_legs t x [] arcs d is = subst HaveLegs (sym is) tt
   down_legs t x (step ∷ steps) arcs d is =
       let leg = step.leg in
@@ -145,11 +148,13 @@ module _ (H : LevelsAndLegs) where
     pub from_node : leg.from < nodes_of H
     from_node = elim has.3 [
       | inl up ↦ has_row H levelled Up leg.from has.0 up.0
-      | inr down ↦ subst (λ (n : ℕ). n < nodes_of H) down.1 (All-contains (IsLegUp H leg.to) (row H.down leg.to) has.0 (levelled.down.1 leg.to).1 down.0).node
+      | inr down ↦ subst (λ (n : ℕ). n < nodes_of H) down.1 (All-contains (IsLegUp H leg.to) (row H.down leg.to) has.0
+          (levelled.down.1 leg.to).1 down.0).node
     ]
 
     pub to_node : leg.to < nodes_of H
     to_node = elim has.3 [
-      | inl up ↦ subst (λ (n : ℕ). n < nodes_of H) up.1 (All-contains (IsLegUp H leg.from) (row H.up leg.from) has.0 (levelled.up.1 leg.from).1 up.0).node
+      | inl up ↦ subst (λ (n : ℕ). n < nodes_of H) up.1 (All-contains (IsLegUp H leg.from) (row H.up leg.from) has.0
+          (levelled.up.1 leg.from).1 up.0).node
       | inr down ↦ has_row H levelled Down leg.to has.0 down.0
     ]

@@ -1,5 +1,6 @@
 -- One more pair is served.
-use Rattle.std.proofs.Common.{◌≡◌, ℕ, zero, suc, ◌+◌, ◌<◌, List, [], ◌∷◌, ◌++◌, length, get_or, Option, Some, None, true, false, true≢false, refl, sym, ◌∙◌, ap, subst, arith, inl, inr, length-append}
+use Rattle.std.proofs.Common.{◌≡◌, ℕ, zero, suc, ◌+◌, ◌<◌, List, [], ◌∷◌, ◌++◌, length, get_or, Option, Some, None, true, false}
+use Rattle.std.proofs.Common.{true≢false, refl, sym, ◌∙◌, ap, subst, arith, inl, inr, length-append}
 use Rattle.std.specs.Prelude.{is_some}
 use Rattle.std.proofs.lemmas.Bool.{cases_lt}
 use Rattle.std.proofs.lemmas.List.Sums.{sum_by_push}
@@ -18,15 +19,18 @@ served_none H sources targets demands = record {
   route = λ i low. absurd (omega (arith, low));
 }
 
-pub served_more : (H : LevelsAndLegs) (sources targets demands : List ℕ) (n : ℕ) (served : List (ℕ × Option Route)) (demand : ℕ) (answer : Option Route) →
-    AreServed H sources targets demands n served → demand ≡ get_or demands n 0 → IsAnswer H (get_or sources n 0) (get_or targets n 0) answer →
+pub served_more : (H : LevelsAndLegs) (sources targets demands : List ℕ) (n : ℕ) (served : List (ℕ × Option Route)) (demand : ℕ)
+    (answer : Option Route) →
+    AreServed H sources targets demands n served → demand ≡ get_or demands n 0 →
+    IsAnswer H (get_or sources n 0) (get_or targets n 0) answer →
     AreServed H sources targets demands (n + 1) (served ++ (demand, answer) ∷ [])
 served_more H sources targets demands n served demand answer are e is =
     let one : List (ℕ × Option Route) = (demand, answer) ∷ [] in
     let none : ℕ × Option Route = (0, None) in record {
       long = omega (arith, length-append served one, are.long);
       demand = λ i low. elim (cases_lt i n) [
-        | inl less ↦ ap (λ (p : ℕ × Option Route). p.0) (get_or_append_left served one none i (omega (arith, less, are.long))) ∙ are.demand i less
+        | inl less ↦ ap (λ (p : ℕ × Option Route). p.0) (get_or_append_left served one none i (omega (arith, less, are.long)))
+            ∙ are.demand i less
         | inr last ↦ (
             let at : i ≡ n = omega (arith, last, low) in
             ap (λ (p : ℕ × Option Route). p.0) (get_or_push served (demand, answer) none i (omega (arith, at, are.long))) ∙ e
@@ -44,7 +48,8 @@ served_more H sources targets demands n served demand answer are e is =
     }
 
 -- the legs of a way are within the list
-pub way_within : (H : LevelsAndLegs) (links : List Link) (way : List ℕ) (arcs : List InArc) → IsWay H links way arcs → (k d : ℕ) → k < length way →
+pub way_within : (H : LevelsAndLegs) (links : List Link) (way : List ℕ) (arcs : List InArc) → IsWay H links way arcs → (k d : ℕ) →
+    k < length way →
     get_or way k d < length links
 way_within H links [] arcs is k d low = absurd (omega (arith, low))
 way_within H links (p ∷ way) arcs is zero d low = is.2

@@ -1,5 +1,6 @@
 -- An arc that has no place in the plan has no flow.
-use Rattle.std.proofs.Common.{◌≡◌, ℕ, zero, suc, ◌*◌, ◌<◌, List, [], ◌∷◌, length, get_or, Contains, Option, Some, None, refl, sym, ◌∙◌, ap, subst, arith, inl, inr}
+use Rattle.std.proofs.Common.{◌≡◌, ℕ, zero, suc, ◌*◌, ◌<◌, List, [], ◌∷◌, length, get_or, Contains, Option, Some, None, refl, sym, ◌∙◌}
+use Rattle.std.proofs.Common.{ap, subst, arith, inl, inr}
 use Rattle.std.proofs.lemmas.List.{get_or_default}
 use Rattle.std.proofs.lemmas.List.Sums.{sum_by-cons}
 use Rattle.std.proofs.lemmas.Option.{none-some}
@@ -93,7 +94,9 @@ module _ (H : LevelsAndLegs) (plan : Plan) (is : IsPlanOf H plan) where
         omega (arith, one, here, sum_none served (λ i low. all (suc i) (omega (arith, low))))
 
     -- so it has no flow
-    pub no_flow : (sources targets demands : List ℕ) (n : ℕ) (served : List (ℕ × Option Route)) → AreServed H sources targets demands n served →
+    pub no_flow : (sources targets demands : List ℕ) (n : ℕ) (served : List (ℕ × Option Route)) →
+        AreServed H sources targets demands n served →
         flow u w served ≡ 0
     no_flow sources targets demands n served are = sum_none served
-        (λ i low. answer_times (get_or sources i 0) (get_or targets i 0) (get_or served i (0, None)).1 (are.route i (omega (arith, low, are.long))))
+        (λ i low. answer_times (get_or sources i 0) (get_or targets i 0) (get_or served i (0, None)).1
+        (are.route i (omega (arith, low, are.long))))

@@ -27,7 +27,8 @@ to_of link = head_of link.side link.low link.leg.node
 
 -- the leg at a place
 abbrev pub link_at : List Link → ℕ → Link
-link_at links i = slice_index_or links i (record { side = Up; low = 0; leg = record { node = 0; cost = record { weight = 0; arcs = 0 }; middle = None } })
+link_at links i = slice_index_or links i
+    (record { side = Up; low = 0; leg = record { node = 0; cost = record { weight = 0; arcs = 0 }; middle = None } })
 
 -- it is a leg of the hierarchy
 abbrev pub IsLink : LevelsAndLegs → Link → Type 0

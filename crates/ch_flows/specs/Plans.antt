@@ -52,7 +52,8 @@ IsTooMuch links parts served = (j : ℕ) × (j < length parts) × (part_at parts
 -- the place of a leg of the hierarchy
 pub record IsLegPlace (H : LevelsAndLegs) (links : List Link) (leg : PendingLeg) (p : ℕ) : Type 0 where
   pub within : p < length links
-  pub unpacked : (arcs : List InArc) → IsUnpacked H leg.from leg.to leg.cost.weight leg.middle arcs → IsLinkUnpacked H (link_at links p) arcs
+  pub unpacked : (arcs : List InArc) → IsUnpacked H leg.from leg.to leg.cost.weight leg.middle arcs →
+      IsLinkUnpacked H (link_at links p) arcs
 
 -- the places of the legs of a pair's way, if there is one
 abbrev pub IsWayFound : LevelsAndLegs → List Link → ℕ → ℕ → List ℕ → Bool → Type 0

@@ -6,4 +6,5 @@ use Rattle.ch_flows.specs.Plans.{IsWay}
 use Rattle.ch_flows.proofs.pairs.push_places.Given as goal
 
 abbrev pub invariant-loop-j : goal.invariant-loop-j
-invariant-loop-j l = (arcs : List AnyArc) → ArePendingArcs l.hierarchy (take l.j l.legs) arcs → IsWay l.hierarchy l.layout.links.items l.places.items arcs
+invariant-loop-j l = (arcs : List AnyArc) → ArePendingArcs l.hierarchy (take l.j l.legs) arcs →
+    IsWay l.hierarchy l.layout.links.items l.places.items arcs
