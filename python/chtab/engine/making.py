@@ -157,8 +157,8 @@ def digest_of(path: str) -> str:
 
 
 def save(program: str, graph: str, saved: str, running: Running) -> None:
-    """Builds the hierarchy of a graph by a run, and saves it: in the order of another network while its saved hierarchy is there, and otherwise by
-    depth. Raises a `ProgramFault` if the program fails."""
+    """Builds the hierarchy of a graph by a run, and saves it: in the order of another network while its saved hierarchy is there, and otherwise in
+    the order that takes the least time to find. Raises a `ProgramFault` if the program fails."""
     if running.order is not None and os.path.exists(running.order):
         try:
             return save_by(["--like", running.order, "--fresh", str(running.fresh)], program, graph, saved, running)
@@ -166,7 +166,7 @@ def save(program: str, graph: str, saved: str, running: Running) -> None:
             # The other network may have been closed before the program opened the file.
             if os.path.exists(running.order):
                 raise
-    save_by(["--deep"], program, graph, saved, running)
+    save_by(["--quick"], program, graph, saved, running)
 
 
 def save_by(order: Sequence[str], program: str, graph: str, saved: str, running: Running) -> None:
