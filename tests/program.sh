@@ -7,7 +7,7 @@ set -u
 # expect_routes NAME COUNT GRAPH QUERIES: in each order the routes are walks of the graph, as many as this, each of the distance's weight.
 expect_routes() {
   local order
-  for order in --deep --rounds ""; do
+  for order in --deep ""; do
     "$root/chtab" dist --routes $order "$3" "$4" >routes.txt 2>err.txt
     compare "$1 $order, status" 0 "$?"
     compare "$1 $order, routes" "$2 routes" "$(python3 -m oracles.routes "$3" routes.txt 2>&1)"
@@ -39,7 +39,10 @@ expect_bytes() {
 # expect_same_saved NAME GRAPH QUERIES SOURCES TARGETS: a graph that is saved, in each order, gives the same routes and the same table.
 expect_same_saved() {
   local order
-  for order in --deep --rounds ""; do
+  "$root/chtab" save --quick "$2" >quick.ch
+  expect "$1, distances by the hierarchy saved --quick" 0 "$("$root/chtab" dist "$2" "$3")" "" dist --saved quick.ch "$2" "$3"
+  expect "$1, table by the hierarchy saved --quick" 0 "$("$root/chtab" table "$2" "$4" "$5")" "" table --saved quick.ch "$2" "$4" "$5"
+  for order in --deep ""; do
     "$root/chtab" save $order "$2" >same.ch
     compare "$1, saved $order, status" 0 "$?"
     expect "$1, routes by the hierarchy saved $order" 0 "$("$root/chtab" dist --routes $order "$2" "$3")" "" \
@@ -128,7 +131,7 @@ for most in 0 60000 300000 1152921504606846976; do
 done
 expect_same_saved "Liechtenstein" "$lg" fifty.p2p from.ss to.ss
 compare "Liechtenstein, saved by two workers" "$(cksum <same.ch)" "$("$root/chtab" save --workers 2 --piece 7 "$lg" | cksum)"
-for order in --deep --rounds; do
+for order in --deep --quick; do
   compare "Liechtenstein, saved $order by two workers" "$("$root/chtab" save $order "$lg" | cksum)" \
     "$("$root/chtab" save $order --workers 2 --piece 7 "$lg" | cksum)"
 done

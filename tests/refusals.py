@@ -29,8 +29,9 @@ from itertools import count, pairwise
 
 from helpers.asking import answers_after, answers_of, requests_of
 from helpers.refusing import Refusing
-from helpers.running import PROGRAM, ROOT, SECONDS, Answer, Count, agrees, build, side_by_side, with_files
-from oracles.rules import hierarchy_text, text_like
+from helpers.running import PROGRAM, ROOT, SECONDS, Answer, Count, agrees, build, run, side_by_side, with_files
+from oracles.reading import read
+from oracles.rules import text_like, text_quick
 
 # Requests on a line and on a star, each with its answer.
 LINE_ASKED = [(b"q 1 3\n", b"d 1 3 9\n"), (b"q 3 1\n", b"d 3 1 -\n"), (b"c\nt 2 2\ns 1\ns 3\n\ns 3\ns 2\n", b"t 1 9 4\nt 3 0 -\n"),
@@ -117,11 +118,8 @@ ASKS = {
     "requests for routes by a saved hierarchy": (["ask", "--routes", "--saved", "star.ch", "star.gr"], STAR_ASKED),
 }
 
-# The runs that build by rounds, with enough nodes for several workers.
-BY_ROUNDS = {
-    "a hierarchy by rounds": (["save", "--rounds", "rings.gr"], Answer(0, hierarchy_text(198, RINGS, 5, "rounds").encode(), b"")),
-    "routes by rounds": (["dist", "--rounds", "--routes", "rings.gr", "rings.p2p"], Answer(0, b"d 1 3 2\nr 2\na 1 2 1\na 2 3 1\nd 3 4 -\n", b"")),
-}
+# The words that save a hierarchy that is built quickly, with enough nodes for several workers.
+QUICKLY = ["save", "--quick", "rings.gr"]
 
 OUT_OF_MEMORY = Answer(3, b"", b"chtab: out of memory\n")
 
@@ -311,6 +309,12 @@ def close_pipe(tally, folder):
     tally.expect(is_told, f"a full pipe is closed: {process.returncode}, {err}")
 
 
+def quick_answer(folder):
+    """What `save --quick` owes for the rings, in the order that it finds."""
+    _, (order, _) = read("saved", run(QUICKLY, folder).out, 198)
+    return Answer(0, text_quick(198, RINGS, 5, [node for node, in order]).encode(), b"")
+
+
 def main():
     build()
     tally = Count()
@@ -320,10 +324,10 @@ def main():
             (refusing.folder / name).write_text(text)
         for name, (words, wanted) in KINDS.items():
             refuse_memory(refusing, tally, name, words, wanted)
-        for name, (words, wanted) in BY_ROUNDS.items():
-            refuse_memory(refusing, tally, name, words, wanted)
-            refuse_memory(refusing, tally, f"{name} by two workers", [*words, *TWO_WORKERS], wanted)
-            refuse_threads(refusing, tally, name, words, wanted, ())
+        wanted = quick_answer(refusing.folder)
+        refuse_memory(refusing, tally, "a quick hierarchy", QUICKLY, wanted)
+        refuse_memory(refusing, tally, "a quick hierarchy by two workers", [*QUICKLY, *TWO_WORKERS], wanted)
+        refuse_threads(refusing, tally, "a quick hierarchy", QUICKLY, wanted, ())
         for name, (words, asked) in ASKS.items():
             for most in 16, 65_536:
                 done = Answer(0, answers_of(asked), b"")

@@ -127,7 +127,7 @@ class InProcess:
         if setting.workers == 1:
             return None
         with tempfile.TemporaryDirectory(prefix="chtab-") as folder:
-            path, words = os.path.join(folder, "built.ch"), ["--deep", "--workers", str(setting.workers)]
+            path, words = os.path.join(folder, "built.ch"), ["--quick", "--workers", str(setting.workers)]
             running.save(setting.program, setting.graph, path, words, None)
             return contents_of(path)
 

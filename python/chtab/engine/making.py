@@ -121,12 +121,12 @@ def digest_of(path: str) -> str:
 def build(program: str, graph: str, saved: str, running: Running) -> Handle | None:
     """Builds the hierarchy of a graph, and saves it.
 
-    The program does so, in the order of another network if its saved hierarchy is there, and otherwise by depth. The order of a network also comes from
+    The program does so, in the order of another network if its saved hierarchy is there, and otherwise in the order that takes the least time to find. The order of a network also comes from
     the network itself, in this process, whose handle is returned.
     """
     like, workers = running.like, ["--workers", str(running.workers)]
     if like is None:
-        running_of.save(program, graph, saved, ["--deep", *workers], running.progress)
+        running_of.save(program, graph, saved, ["--quick", *workers], running.progress)
         return None
     order = like._opened.setting.saved
     if order is not None and os.path.exists(order) and (running.progress or running.workers > 1):
