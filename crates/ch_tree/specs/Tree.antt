@@ -70,9 +70,10 @@ pub record AreOffered (weight : ℕ) (legs : List RankedLeg) (old new : List ℕ
       ⊎ ((l : RankedLeg) × Contains legs l × (l.rank ≡ x) × (weight_at new x ≡ weight + l.weight) × (weight + l.weight ≤ MOST_WEIGHT))
   pub taken : (l : RankedLeg) → Contains legs l → weight + l.weight ≤ MOST_WEIGHT → weight_at new l.rank ≤ weight + l.weight
 
--- the pass from s has taken the legs of all known nodes that are below this place, and goes on here: each known weight is
--- that of a path up from s, and each that is not below this place is of an ancestor of it
-pub record IsSwept (H : LevelsAndLegs) (side : Side) (parents : List ℕ) (s place : ℕ) (costs : List ℕ) : Type 0 where
+-- the pass from s has taken the legs of all nodes that are below this place and known to weigh less than the bound, and goes
+-- on here: each known weight is that of a path up from s, and each that is not below this place is of an ancestor of it
+pub record IsSweptTo (H : LevelsAndLegs) (side : Side) (parents : List ℕ) (s bound place : ℕ) (costs : List ℕ) : Type 0 where
+  pub most : bound ≤ NEVER
   pub size : length costs ≡ nodes_of H
   pub within : place ≤ nodes_of H
   pub small : AreSmall costs
@@ -82,10 +83,18 @@ pub record IsSwept (H : LevelsAndLegs) (side : Side) (parents : List ℕ) (s pla
   pub sound : (v : ℕ) → v < nodes_of H → weight_at costs (rank_of H v) < NEVER →
       IsUpwardCost (rows_of (weighed H) side) s v (weight_cost (weight_at costs (rank_of H v)))
   pub ahead : (x : ℕ) → weight_at costs x < NEVER → x + 1 ≤ place → IsAbove parents place (x + 1)
-  pub taken : (v : ℕ) (l : Leg) → v < nodes_of H → place < place_of H v → weight_at costs (rank_of H v) < NEVER →
+  pub taken : (v : ℕ) (l : Leg) → v < nodes_of H → place < place_of H v → weight_at costs (rank_of H v) < bound →
       Contains (row (rows_of (weighed H) side) v) l →
       weight_at costs (rank_of H v) + l.cost.weight ≤ MOST_WEIGHT →
-          weight_at costs (rank_of H l.node) ≤ weight_at costs (rank_of H v) + l.cost.weight
+      weight_at costs (rank_of H l.node) ≤ weight_at costs (rank_of H v) + l.cost.weight
+
+-- the same without a bound
+abbrev pub IsSwept : LevelsAndLegs → Side → List ℕ → ℕ → ℕ → List ℕ → Type 0
+IsSwept H side parents s place costs = IsSweptTo H side parents s NEVER place costs
+
+-- the weights of the places that are not from this one up stay
+abbrev pub StaysBelow : ℕ → List ℕ → List ℕ → Type 0
+StaysBelow place old new = (x : ℕ) → place < x + 1 → weight_at new x ≡ weight_at old x
 
 -- the least sum of the two weights of a place from this one up, or NEVER
 pub record IsLeastSum (parents : List ℕ) (first : ℕ) (ups downs : List ℕ) (least : ℕ) : Type 0 where
@@ -95,10 +104,14 @@ pub record IsLeastSum (parents : List ℕ) (first : ℕ) (ups downs : List ℕ) 
 
 -- the least sum of the places from `first` up that are not from `place` up
 pub record IsSumSoFar (parents : List ℕ) (first place : ℕ) (ups downs : List ℕ) (least : ℕ) : Type 0 where
-  pub within : place ≤ length ups
+  pub here : IsAbove parents first place
   pub small : least ≤ NEVER
-  pub seen : (x : ℕ) → IsAbove parents first (x + 1) → (least ≤ weight_at ups x + weight_at downs x) ⊎ IsAbove parents place (x + 1)
-  pub found : least < NEVER → (x : ℕ) × (x < length ups) × (weight_at ups x + weight_at downs x ≡ least)
+  pub seen : (x : ℕ) → IsAbove parents first (x + 1) → place < x + 1 → least ≤ weight_at ups x + weight_at downs x
+  pub found : least < NEVER → (x : ℕ) × (place < x + 1) × (x < length ups) × (weight_at ups x + weight_at downs x ≡ least)
+
+-- each place that is above both is above this one
+abbrev pub AreCommonAbove : List ℕ → ℕ → ℕ → ℕ → Type 0
+AreCommonAbove parents one two place = (x : ℕ) → IsAbove parents one x → IsAbove parents two x → IsAbove parents place x
 
 -- the costs of the places that are not from this one up are removed
 pub record IsCleared (parents : List ℕ) (place : ℕ) (old costs : List ℕ) : Type 0 where

@@ -1,5 +1,9 @@
 -- Two passes to the root are two searches that have settled all that they know.
-use Rattle.std.proofs.Common.{◌≡◌, ℕ, ◌+◌, ◌<◌, ◌≤◌, ◌⊎◌, List, [], map, Option, Some, None, sym, ◌∙◌, ap, subst, arith, inl, inr}
+use Rattle.std.proofs.Common.{◌≡◌, ℕ, ◌+◌, ◌<◌, ◌≤◌, ◌⊎◌, Bool, true, false, cond, List, map, Option, Some, None, refl, sym, ◌∙◌, ap}
+use Rattle.std.proofs.Common.{subst, arith, inl, inr}
+use Rattle.std.specs.Prelude.{nat_lt, if◌then◌else◌}
+use Rattle.std.proofs.lemmas.Bool.Decides.{nat_tests}
+use Rattle.std.proofs.lemmas.List.{get_or-map}
 use Rattle.std.proofs.lemmas.Bool.{cases_eq}
 use Rattle.std.proofs.lemmas.Option.{same_Some, none-some}
 use Rattle.ch_graph.specs.declared.cost.Cost.{Cost}
@@ -21,25 +25,43 @@ use Rattle.ch_query.proofs.one_side.WeighedPaths.{weighed_levelled}
 use Rattle.ch_query.proofs.by_weight.Known.{reached_cost, known_whole, known_at}
 use Rattle.ch_query.proofs.two_sides.WeighedSearches.{weighed_least}
 use Rattle.ch_tree.specs.declared.sweep.TheConstants.{NEVER}
-use Rattle.ch_tree.specs.Tree.{place_of, weight_at, IsSwept, IsLeastSum}
+use Rattle.ch_tree.specs.Tree.{place_of, IsAbove, AreCommonAbove, weight_at, IsSweptTo, IsLeastSum}
 
 -- the weights by rank as costs by node
 abbrev costs_by_node : LevelsAndLegs → List ℕ → List (Option Cost)
 costs_by_node H costs = by_node H (map known_cost costs) None
 
--- no keys
-abbrev no_keys : LevelsAndLegs → List (Option Cost)
-no_keys H = by_node H [] None
+-- the key of a weight that is not less than the bound
+abbrev late_cost : ℕ → ℕ → Option Cost
+late_cost bound w = if nat_lt w bound then None else known_cost w
 
--- no node has a key
-key_none : (H : LevelsAndLegs) (v : ℕ) (c : Cost) → cost_at (no_keys H) v ≡ Some c → ⊥
-key_none H v c e = none-some c ((by_node-some H [] v c e).1)
+-- the nodes whose legs may be left out, with their keys
+abbrev late_keys : LevelsAndLegs → ℕ → List ℕ → List (Option Cost)
+late_keys H bound costs = by_node H (map (late_cost bound) costs) None
 
-no_key : (H : LevelsAndLegs) (v : ℕ) → v < nodes_of H → cost_at (no_keys H) v ≡ None
-no_key H v lt = by_node-at H [] None None v lt
+-- a weight less than the bound has no key
+late_none : (bound w : ℕ) → w < bound → late_cost bound w ≡ None
+late_none bound w lt = let e : nat_lt w bound ≡ true = grind (arith, nat_tests) in rw e refl
 
-module _ (H : LevelsAndLegs) (k : IsLevelled H) (side : Side) (parents : List ℕ) (s : ℕ) (s_low : s < nodes_of H) (costs : List ℕ)
-    (sw : IsSwept H side parents s 0 costs) where
+-- a key is a known weight that is not less than the bound
+late_some : (bound w : ℕ) (c : Cost) → late_cost bound w ≡ Some c → (bound ≤ w) × (known_cost w ≡ Some c)
+late_some bound w c e = at (nat_lt w bound) refl e
+  where
+    at : (b : Bool) → nat_lt w bound ≡ b → cond b None (known_cost w) ≡ Some c → (bound ≤ w) × (known_cost w ≡ Some c)
+    at true f g = absurd (none-some c g)
+    at false f g = (grind (arith, nat_tests), g)
+
+-- a known weight without a key is less than the bound
+late_early : (bound w : ℕ) (c : Cost) → known_cost w ≡ Some c → late_cost bound w ≡ None → w < bound
+late_early bound w c known e = at (nat_lt w bound) refl e
+  where
+    at : (b : Bool) → nat_lt w bound ≡ b → cond b None (known_cost w) ≡ None → w < bound
+    at true f g = grind (arith, nat_tests)
+    at false f g = absurd (none-some c (sym g ∙ known))
+
+module _ (H : LevelsAndLegs) (k : IsLevelled H) (side : Side) (parents : List ℕ) (s : ℕ) (s_low : s < nodes_of H) (bound : ℕ)
+    (costs : List ℕ)
+    (sw : IsSweptTo H side parents s bound 0 costs) where
   -- the cost of a node is that of its weight
   cost_is : (v : ℕ) → v < nodes_of H → cost_at (costs_by_node H costs) v ≡ known_cost (weight_at costs (rank_of H v))
   cost_is v lt =
@@ -66,26 +88,57 @@ module _ (H : LevelsAndLegs) (k : IsLevelled H) (side : Side) (parents : List �
         known_whole (weight_at costs (rank_of H v)) c at,
       )
 
+  -- a key is a weight that is not less than the bound
+  pub of_key : (v : ℕ) (c : Cost) → cost_at (late_keys H bound costs) v ≡ Some c → (cost_at (costs_by_node H costs) v ≡ Some c)
+      × (bound ≤ c.weight) × (c.weight < NEVER)
+  of_key v c e =
+      let b = by_node-some H (map (late_cost bound) costs) v c e in
+      let low = rank_below H k v b.0 in
+      let size = sw.size in
+      let is : cost_at (late_keys H bound costs) v ≡ late_cost bound (weight_at costs (rank_of H v)) =
+      by_node-at H (map (late_cost bound) costs) None None v b.0
+      ∙ get_or-map (late_cost bound) costs (rank_of H v) NEVER None (omega arith) in
+      let late = late_some bound (weight_at costs (rank_of H v)) c (sym is ∙ e) in
+      let known = cost_is v b.0 ∙ late.1 in
+      let at = of_cost v c known in
+      let same = ap (λ (q : Cost). q.weight) at.2 in
+      (known, omega (arith, late.0), omega (arith, at.1))
+
+  -- a weight without a key is less than the bound
+  pub of_settled : (v : ℕ) (c : Cost) → IsSettled (costs_by_node H costs) (late_keys H bound costs) v c → c.weight < bound
+  of_settled v c settled =
+      let b = of_cost v c settled.0 in
+      let low = rank_below H k v b.0 in
+      let size = sw.size in
+      let is : cost_at (late_keys H bound costs) v ≡ late_cost bound (weight_at costs (rank_of H v)) =
+      by_node-at H (map (late_cost bound) costs) None None v b.0
+      ∙ get_or-map (late_cost bound) costs (rank_of H v) NEVER None (omega arith) in
+      let early = late_early bound (weight_at costs (rank_of H v)) c (sym (cost_is v b.0) ∙ settled.0) (sym is ∙ settled.1) in
+      let same = ap (λ (q : Cost). q.weight) b.2 in
+      omega arith
+
   -- the pass is a search
-  pub pass_search : IsWeightSearch H side s (costs_by_node H costs) (no_keys H)
+  pub pass_search : IsWeightSearch H side s (costs_by_node H costs) (late_keys H bound costs)
   pass_search = record {
     limits = omega arith;
     sizes = (
       by_node-size H (map known_cost costs) None ∙ sym (rows_size (weighed H) (weighed_levelled H k) side),
-      by_node-size H [] None ∙ sym (rows_size (weighed H) (weighed_levelled H k) side),
+      by_node-size H (map (late_cost bound) costs) None ∙ sym (rows_size (weighed H) (weighed_levelled H k) side),
     );
     start = let zero = sw.start in cost_there s s_low (omega arith) ∙ ap (λ q. Some (weight_cost q)) zero;
     sound = λ v c e. let b = of_cost v c e in subst (λ q. IsUpwardCost (rows_of (weighed H) side) s v q) b.2 (sw.sound v b.0 b.1);
     light = λ v c e. let b = of_cost v c e in
         let r = sw.sound v b.0 b.1 in let light = r.weight in let is = ap (λ (q : Cost). q.weight) b.2 in omega arith;
-    queued = λ v c e. absurd (key_none H v c e);
-    order = λ v w c d settled e. absurd (key_none H w d e);
+    queued = λ v c e. (of_key v c e).0;
+    order = λ v w c d settled e. (let early = of_settled v c settled in let late = of_key w d e in
+        (omega (arith, late.1), λ ge. absurd (omega (arith, late.1))));
     frontier = λ v c settled. inr (λ l has light.
         let b = of_cost v c settled.0 in
         let is = ap (λ (q : Cost). q.weight) b.2 in
         let arcs = ap (λ (q : Cost). q.arcs) b.2 in
+        let early = of_settled v c settled in
         let up = leg_up (weighed H) (weighed_levelled H k) side v l has in
-        let low = sw.taken v l b.0 (omega arith) b.1 has (omega arith) in (
+        let low = sw.taken v l b.0 (omega arith) (omega arith) has (omega arith) in (
           weight_cost (weight_at costs (rank_of H l.node)),
           cost_there l.node up.node (omega arith),
           (omega arith, λ ge. omega arith),
@@ -93,35 +146,46 @@ module _ (H : LevelsAndLegs) (k : IsLevelled H) (side : Side) (parents : List �
   }
 
 module _ (H : LevelsAndLegs) (k : IsLevelled H) (kept : IsKeptForSome H) (parents : List ℕ) (s t : ℕ) (s_low : s < nodes_of H)
-    (t_low : t < nodes_of H) (ups downs : List ℕ)
-    (up : IsSwept H Up parents s 0 ups) (down : IsSwept H Down parents t 0 downs) (least : ℕ)
-        (sum : IsLeastSum parents (place_of H s) ups downs least) where
+    (t_low : t < nodes_of H) (ups downs : List ℕ) (least : ℕ)
+    (up : IsSweptTo H Up parents s least 0 ups) (down : IsSweptTo H Down parents t least 0 downs) (meeting : ℕ)
+    (common : AreCommonAbove parents (place_of H s) (place_of H t) meeting) (sum : IsLeastSum parents meeting ups downs least) where
   -- the least sum is at most each sum
-  sum_seen : (v : ℕ) (a b : Cost) → IsSettled (costs_by_node H ups) (no_keys H) v a → IsSettled (costs_by_node H downs) (no_keys H) v b →
+  sum_seen : (v : ℕ) (a b : Cost) → cost_at (costs_by_node H ups) v ≡ Some a → cost_at (costs_by_node H downs) v ≡ Some b →
       least ≤ a.weight + b.weight
   sum_seen v a b here there =
-      let p = of_cost H k Up parents s s_low ups up v a here.0 in
-      let q = of_cost H k Down parents t t_low downs down v b there.0 in
+      let p = of_cost H k Up parents s s_low least ups up v a here in
+      let q = of_cost H k Down parents t t_low least downs down v b there in
       let first = ap (λ (c : Cost). c.weight) p.2 in
       let second = ap (λ (c : Cost). c.weight) q.2 in
       elim (up.known (rank_of H v)) [
         | inl none ↦ (let some = p.1 in absurd (omega arith))
-        | inr above ↦ (let low = sum.seen (rank_of H v) above in omega arith)
+        | inr above ↦ elim (down.known (rank_of H v)) [
+          | inl none ↦ (let some = q.1 in absurd (omega arith))
+          | inr above_too ↦ (let low = sum.seen (rank_of H v) (common (place_of H v) above above_too) in omega arith)
+        ]
       ]
 
   -- a sum that is known is that of two paths
   pub least_of_passes : (o : Option ℕ) → ((o ≡ Some least) × (least < NEVER)) ⊎ ((o ≡ None) × (least ≡ NEVER)) → IsLeastWeight H s t o
-  least_of_passes o is = weighed_least H kept s t o (costs_by_node H ups) (no_keys H) (costs_by_node H downs) (no_keys H)
-      (pass_search H k Up parents s s_low ups up) (pass_search H k Down parents t t_low downs down)
-      (seen is) (found is) (λ v d e. absurd (key_none H v d e)) (λ v d e. absurd (key_none H v d e))
+  least_of_passes o is =
+      weighed_least H kept s t o (costs_by_node H ups) (late_keys H least ups) (costs_by_node H downs) (late_keys H least downs)
+      (pass_search H k Up parents s s_low least ups up) (pass_search H k Down parents t t_low least downs down)
+      (seen is) (found is)
+      (λ v d e. let key = of_key H k Up parents s s_low least ups up v d e in past is d (key.1, key.2))
+      (λ v d e. let key = of_key H k Down parents t t_low least downs down v d e in past is d (key.1, key.2))
     where
+      past : ((o ≡ Some least) × (least < NEVER)) ⊎ ((o ≡ None) × (least ≡ NEVER)) → (d : Cost) → (least ≤ d.weight)
+          × (d.weight < NEVER) → (e : ℕ) × (o ≡ Some e) × (e ≤ d.weight)
+      past (inl some) d key = (least, some.0, key.0)
+      past (inr none) d key = absurd (omega (arith, none.1, key.0, key.1))
+
       seen : ((o ≡ Some least) × (least < NEVER)) ⊎ ((o ≡ None) × (least ≡ NEVER)) →
-          IsWeightSeen (costs_by_node H ups) (no_keys H) (costs_by_node H downs) (no_keys H) o
-      seen (inl some) v a b here there = (least, some.0, sum_seen v a b here there)
+          IsWeightSeen (costs_by_node H ups) (late_keys H least ups) (costs_by_node H downs) (late_keys H least downs) o
+      seen (inl some) v a b here there = (least, some.0, sum_seen v a b here.0 there.0)
       seen (inr none) v a b here there =
-          let low = sum_seen v a b here there in
-          let p = (pass_search H k Up parents s s_low ups up).light v a here.0 in
-          let q = (pass_search H k Down parents t t_low downs down).light v b there.0 in
+          let low = sum_seen v a b here.0 there.0 in
+          let p = (pass_search H k Up parents s s_low least ups up).light v a here.0 in
+          let q = (pass_search H k Down parents t t_low least downs down).light v b there.0 in
           let at = none.1 in
           absurd (omega arith)
 
@@ -134,7 +198,7 @@ module _ (H : LevelsAndLegs) (k : IsLevelled H) (kept : IsKeptForSome H) (parent
           let n = node_of_rank H k f.0 (omega arith) in
           let is : least ≡ e = same_Some _ _ (sym some.0 ∙ same) in
           let at : weight_at ups (rank_of H n.0) + weight_at downs (rank_of H n.0) ≡ least =
-              ap (λ r. weight_at ups r + weight_at downs r) n.2 ∙ f.2 in
+          ap (λ r. weight_at ups r + weight_at downs r) n.2 ∙ f.2 in
           let less = some.1 in (
             n.0,
             weight_cost (weight_at ups (rank_of H n.0)),
@@ -143,13 +207,3 @@ module _ (H : LevelsAndLegs) (k : IsLevelled H) (kept : IsKeptForSome H) (parent
             down.sound n.0 n.1 (omega arith),
             at ∙ is,
           )
-
--- the same for a place that is read from the rank of the start
-pub least_between : (H : LevelsAndLegs) → IsLevelled H → IsKeptForSome H → (parents : List ℕ) (s t : ℕ) → s < nodes_of H →
-    t < nodes_of H → (ups downs : List ℕ) →
-    IsSwept H Up parents s 0 ups → IsSwept H Down parents t 0 downs → (rank : ℕ) → rank ≡ rank_of H s → (least : ℕ) →
-        IsLeastSum parents (rank + 1) ups downs least →
-    (o : Option ℕ) → ((o ≡ Some least) × (least < NEVER)) ⊎ ((o ≡ None) × (least ≡ NEVER)) → IsLeastWeight H s t o
-least_between H k kept parents s t s_low t_low ups downs up down rank is least sum o one =
-    least_of_passes H k kept parents s t s_low t_low ups downs up down least
-        (subst (λ q. IsLeastSum parents (q + 1) ups downs least) is sum) o one

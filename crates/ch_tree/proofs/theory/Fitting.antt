@@ -63,7 +63,7 @@ some_is o l e = rw e refl
 module _ (g : Network) (H : LevelsAndLegs) (order : List ℕ) (L : ℕ → Legs) (rows : List (List ℕ)) (parents : List ℕ)
     (limits : IsWithinLimits g) (k : IsLevelled H)
     (is : IsHierarchyIn (Lowers g.nodes) g H order L) (topology : IsTopology g order rows)
-        (are : AreParentsOf g.nodes order rows parents) where
+    (are : AreParentsOf g.nodes order rows parents) where
   -- the ends of a leg are a pair
   leg_pair : (side : Side) (i j : ℕ) (l : Leg) → i < j → j < g.nodes → slice_index order j ≡ l.node →
       Contains (row (rows_of H side) (slice_index order i)) l → IsPair order rows i j
@@ -71,12 +71,12 @@ module _ (g : Network) (H : LevelsAndLegs) (order : List ℕ) (L : ℕ → Legs)
       let from = is.up i (omega arith) in
       let e = sym (from.1 l.node) ∙ row_has _ l from.0 has in
       (legs_stay_in_topologies g order L rows limits is.contracted topology i (omega arith) i j less below).0
-          (some_is _ _ (ap (L i (slice_index order i)) at ∙ e))
+      (some_is _ _ (ap (L i (slice_index order i)) at ∙ e))
   leg_pair Down i j l less below at has =
       let to = is.down i (omega arith) in
       let e = sym (to.1 l.node) ∙ row_has _ l to.0 has in
       (legs_stay_in_topologies g order L rows limits is.contracted topology i (omega arith) i j less below).1
-          (some_is _ _ (ap (λ z. L i z (slice_index order i)) at ∙ e))
+      (some_is _ _ (ap (λ z. L i z (slice_index order i)) at ∙ e))
 
   -- each leg leads to an ancestor
   leg_above : (side : Side) (v : ℕ) (l : Leg) → v < nodes_of H → Contains (row (rows_of H side) v) l →
@@ -112,8 +112,8 @@ pub tree_fits : (f : OrderAndPairs) (order : List ℕ) (rows : List (List ℕ)) 
 tree_fits f order rows parents eo er are g H L limits k is topology size =
     trees_fit g H f.order L f.pairs parents limits k is topology
     (subst (λ n. AreParentsOf n f.order f.pairs parents) size
-        (subst (λ (z : List (List ℕ)). AreParentsOf (length z) f.order z parents) er
-        (subst (λ (z : List ℕ). AreParentsOf (length rows) z rows parents) eo are)))
+    (subst (λ (z : List (List ℕ)). AreParentsOf (length z) f.order z parents) er
+    (subst (λ (z : List ℕ). AreParentsOf (length rows) z rows parents) eo are)))
 
 pub parents_of : (f : OrderAndPairs) (order : List ℕ) (rows : List (List ℕ)) (parents : List ℕ) → order ≡ f.order → rows ≡ f.pairs →
     AreParentsOf (length rows) order rows parents → AreParentsOf (length f.pairs) f.order f.pairs parents

@@ -42,7 +42,7 @@ module _ (weight : ℕ) (legs : List RankedLeg) (old mid : List ℕ) (are : AreO
       AreOffered weight (legs ++ l ∷ []) old (set mid l.rank (weight + l.weight))
   lowered light less =
       let here : weight_at (set mid l.rank (weight + l.weight)) l.rank ≡ weight + l.weight =
-          get_or-set_same mid l.rank (weight + l.weight) NEVER low in
+      get_or-set_same mid l.rank (weight + l.weight) NEVER low in
       let fall : (x : ℕ) → weight_at (set mid l.rank (weight + l.weight)) x ≤ weight_at mid x = λ x. elim (cases_eq x l.rank) [
         | inl is ↦ subst (λ q. weight_at (set mid l.rank (weight + l.weight)) q ≤ weight_at mid q) (sym is) (omega arith)
         | inr away ↦ let e = get_or-set_other mid l.rank x (weight + l.weight) NEVER away in omega arith
@@ -74,7 +74,7 @@ module _ (weight : ℕ) (legs : List RankedLeg) (old mid : List ℕ) (are : AreO
 pub offered_step : (weight : ℕ) (legs : List RankedLeg) (i : ℕ) (d : RankedLeg) (old mid new : List ℕ) →
     AreOffered weight (take i legs) old mid → i < length legs →
     (get_or legs i d).rank < length mid → IsOffered (get_or legs i d).rank (weight + (get_or legs i d).weight) mid new →
-        AreOffered weight (take (i + 1) legs) old new
+    AreOffered weight (take (i + 1) legs) old new
 offered_step weight legs i d old mid new are lt low offer =
     subst (λ q. AreOffered weight q old new) (sym (take_more legs i d lt))
-        (offered_more weight (take i legs) old mid are (get_or legs i d) low new offer)
+    (offered_more weight (take i legs) old mid are (get_or legs i d) low new offer)

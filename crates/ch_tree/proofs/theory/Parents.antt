@@ -88,7 +88,7 @@ module _ (order levels : List ℕ) (rows : List (List ℕ)) (sound : IsSound (re
   -- one more place
   pub parents_more : (count : ℕ) (parents : List ℕ) (q : ℕ) → count < length order → AreParentsTo n order rows count parents →
       IsHighest levels (slice_index_or rows (slice_index order (length order - 1 - count)) [])
-          (length (slice_index_or rows (slice_index order (length order - 1 - count)) [])) q →
+      (length (slice_index_or rows (slice_index order (length order - 1 - count)) [])) q →
       AreParentsTo n order rows (count + 1) (parents ++ q ∷ [])
   parents_more count parents q small are is =
       let long = sound.nodes.count in
@@ -102,10 +102,10 @@ module _ (order levels : List ℕ) (rows : List (List ℕ)) (sound : IsSound (re
               let here : j ≡ i = omega arith in
               let value : slice_index (parents ++ q ∷ []) (n - j) ≡ q = get_or_push parents q 0 (n - j) (omega arith) in
               subst (IsParentPlace n order rows j) (sym value)
-                  (subst (λ z. IsParentPlace n order rows z q) (sym here) (parent_place i q (omega arith) is))
+              (subst (λ z. IsParentPlace n order rows z q) (sym here) (parent_place i q (omega arith) is))
           | inr before ↦
               let value : slice_index (parents ++ q ∷ []) (n - j) ≡ slice_index parents (n - j) =
-                  get_or_append_left parents (q ∷ []) 0 (n - j) (omega arith) in
+              get_or_append_left parents (q ∷ []) 0 (n - j) (omega arith) in
               subst (IsParentPlace n order rows j) (sym value) (are.each j lt before)
         ];
       }

@@ -22,7 +22,7 @@ use Rattle.ch_query.proofs.one_side.Expanding.{leg_up, level_small}
 use Rattle.ch_query.proofs.one_side.PathLaws.{path_push, cost_push}
 use Rattle.ch_query.proofs.one_side.WeighedPaths.{weighed_row}
 use Rattle.ch_tree.specs.declared.sweep.TheConstants.{NEVER}
-use Rattle.ch_tree.specs.Tree.{IsAbove, place_of, IsTree, weight_at, IsClean, AreOffered, IsSwept}
+use Rattle.ch_tree.specs.Tree.{IsAbove, place_of, IsTree, weight_at, IsClean, AreOffered, IsSweptTo, StaysBelow}
 use Rattle.ch_tree.proofs.theory.Climbs.{above_then, above_next, above_one, above_itself, above_low}
 
 -- a leg leads to a node of lesser rank
@@ -48,17 +48,19 @@ reached_more H side s v w k has r light = record {
   weight = light;
 }
 
-module _ (H : LevelsAndLegs) (k : IsLevelled H) (side : Side) (parents : List ℕ) (t : IsTree H parents) (s : ℕ)
-    (s_low : s < nodes_of H) where
+module _ (H : LevelsAndLegs) (k : IsLevelled H) (side : Side) (parents : List ℕ) (t : IsTree H parents) (s : ℕ) (s_low : s < nodes_of H)
+    (bound : ℕ) where
   -- the pass begins at s
-  pub swept_begins : (costs : List ℕ) → IsClean (nodes_of H) costs → IsSwept H side parents s (place_of H s) (set costs (rank_of H s) 0)
-  swept_begins costs clean =
+  pub swept_begins : bound ≤ NEVER → (costs : List ℕ) → IsClean (nodes_of H) costs →
+      IsSweptTo H side parents s bound (place_of H s) (set costs (rank_of H s) 0)
+  swept_begins most costs clean =
       let low = rank_below H k s s_low in
       let size = clean.size in
       let here : weight_at (set costs (rank_of H s) 0) (rank_of H s) ≡ 0 = get_or-set_same costs (rank_of H s) 0 NEVER (omega arith) in
       let other : (x : ℕ) → (x ≡ rank_of H s → ⊥) → weight_at (set costs (rank_of H s) 0) x ≡ NEVER =
       λ x away. get_or-set_other costs (rank_of H s) x 0 NEVER away ∙ clean.none x in
       record {
+        most = most;
         size = length-set costs (rank_of H s) 0 ∙ clean.size;
         within = omega arith;
         small = λ x. elim (cases_eq x (rank_of H s)) [
@@ -75,7 +77,7 @@ module _ (H : LevelsAndLegs) (k : IsLevelled H) (side : Side) (parents : List �
           | inl is ↦
               let same = rank_one H k v s lt s_low is in
               let zero_cost : weight_at (set costs (rank_of H s) 0) (rank_of H v) ≡ 0 = ap (weight_at (set costs (rank_of H s) 0)) is
-                  ∙ here in
+              ∙ here in
               record { path = ([], sym same, ap weight_cost (sym zero_cost)); weight = omega arith }
           | inr away ↦ (let e = other (rank_of H v) away in absurd (omega arith))
         ];
@@ -86,7 +88,7 @@ module _ (H : LevelsAndLegs) (k : IsLevelled H) (side : Side) (parents : List �
         taken = λ v l lt past known has light. (let e = other (rank_of H v) (λ is. omega arith) in absurd (omega arith));
       }
 
-  module _ (r : ℕ) (r_low : r < nodes_of H) (old : List ℕ) (sw : IsSwept H side parents s (r + 1) old) where
+  module _ (r : ℕ) (r_low : r < nodes_of H) (old : List ℕ) (sw : IsSweptTo H side parents s bound (r + 1) old) where
     abbrev next : ℕ
     next = slice_index parents (r + 1)
 
@@ -133,9 +135,10 @@ module _ (H : LevelsAndLegs) (k : IsLevelled H) (side : Side) (parents : List �
         let weight : m.0.cost.weight ≡ l.weight = ap (λ (q : RankedLeg). q.weight) m.2 in
         (omega arith, omega arith)
 
-    -- the node is not reached
-    pub swept_skips : (weight_at old r < NEVER → ⊥) → IsSwept H side parents s next old
+    -- the node is not known to weigh less than the bound
+    pub swept_skips : (weight_at old r < bound → ⊥) → IsSweptTo H side parents s bound next old
     swept_skips not = record {
+      most = sw.most;
       size = sw.size;
       within = let low = next_low in omega arith;
       small = sw.small;
@@ -147,8 +150,8 @@ module _ (H : LevelsAndLegs) (k : IsLevelled H) (side : Side) (parents : List �
         | inl is ↦ (let low = next_low in absurd (omega arith))
         | inr up ↦ up
       ];
-      taken = λ v l lt past known has light. elim (old_below (rank_of H v) known past) [
-        | inl is ↦ absurd (not (subst (λ q. weight_at old q < NEVER) is known))
+      taken = λ v l lt past known has light. elim (old_below (rank_of H v) (let most = sw.most in omega arith) past) [
+        | inl is ↦ absurd (not (subst (λ q. weight_at old q < bound) is known))
         | inr more ↦ sw.taken v l lt (omega arith) known has light
       ];
     }
@@ -185,7 +188,7 @@ module _ (H : LevelsAndLegs) (k : IsLevelled H) (side : Side) (parents : List �
           elim (above_next parents (r + 1) (x + 1) up) [ inl is ↦ absurd (omega (arith, u_is)) | inr more ↦ more ]
 
       -- a weight below the parent stays
-      stays : (x : ℕ) → next < x + 1 → weight_at new x ≡ weight_at old x
+      pub stays : StaysBelow next old new
       stays x past = elim (changes x) [
         | inl same ↦ same
         | inr b ↦ (let low = above_low parents t.falls next (x + 1) (lowered_above x b) in absurd (omega arith))
@@ -199,13 +202,14 @@ module _ (H : LevelsAndLegs) (k : IsLevelled H) (side : Side) (parents : List �
           let weight : m.0.cost.weight ≡ l.cost.weight = ap (λ (q : Leg). q.cost.weight) m.2 in
           let node : m.0.node ≡ l.node = ap (λ (q : Leg). q.node) m.2 in
           let low = are.taken (ranked_leg H m.0)
-              (subst (λ q. Contains q (ranked_leg H m.0)) (sym read) (contains_map (ranked_leg H) (row (rows_of H side) u) m.0 m.1))
-              (omega arith) in
+          (subst (λ q. Contains q (ranked_leg H m.0)) (sym read) (contains_map (ranked_leg H) (row (rows_of H side) u) m.0 m.1))
+          (omega arith) in
           subst (λ q. weight_at new (rank_of H q) ≤ weight_at old r + l.cost.weight) node (omega arith)
 
       -- the legs of the node are taken, and the pass goes on at the parent
-      pub swept_step : IsSwept H side parents s next new
+      pub swept_step : IsSweptTo H side parents s bound next new
       swept_step = record {
+        most = sw.most;
         size = are.size ∙ sw.size;
         within = let low = next_low in omega arith;
         small = λ x. let a = are.less x in let b = sw.small x in omega arith;
@@ -235,7 +239,7 @@ module _ (H : LevelsAndLegs) (k : IsLevelled H) (side : Side) (parents : List �
         ];
         taken = λ v l lt past known has light.
             let same = stays (rank_of H v) past in
-            elim (old_below (rank_of H v) (omega arith) past) [
+            elim (old_below (rank_of H v) (let most = sw.most in omega arith) past) [
               | inl is ↦
                   let one = rank_one H k v u lt u_low (is ∙ sym u_is) in
                   let e : weight_at old (rank_of H v) ≡ weight_at old r = ap (weight_at old) is in
@@ -247,3 +251,19 @@ module _ (H : LevelsAndLegs) (k : IsLevelled H) (side : Side) (parents : List �
                   omega arith
             ];
       }
+
+-- a lesser bound
+pub swept_less : (H : LevelsAndLegs) (side : Side) (parents : List ℕ) (s bound less place : ℕ) (costs : List ℕ) → less ≤ bound →
+    IsSweptTo H side parents s bound place costs → IsSweptTo H side parents s less place costs
+swept_less H side parents s bound less place costs le sw = record {
+  most = let most = sw.most in omega arith;
+  size = sw.size;
+  within = sw.within;
+  small = sw.small;
+  start = sw.start;
+  here = sw.here;
+  known = sw.known;
+  sound = sw.sound;
+  ahead = sw.ahead;
+  taken = λ v l lt past known has light. sw.taken v l lt past (omega arith) has light;
+}

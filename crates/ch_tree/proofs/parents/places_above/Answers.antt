@@ -12,7 +12,7 @@ highest-requires-clause-levels c y has =
     let count = r.sound.nodes.count in
     let lt = c.loop-place-test.true in
     within c.args.order.now c.args.levels.now c.args.rows.now r.sound r.levels r.closed (slice_index c.args.order.now i)
-        (r.sound.nodes.within i (omega arith)) y
+    (r.sound.nodes.within i (omega arith)) y
     (subst (λ z. Contains z y) c.row.ensures has) i (omega arith) refl
 
 pub loop-place-preserved : goal.loop-place-preserved
@@ -20,6 +20,6 @@ loop-place-preserved c =
     let r = c.requires in
     subst (AreParentsTo (length c.args.rows.now) c.args.order.now c.args.rows.now (c.loop-place.place + 1)) (sym c.in_ok-push.ensures.items)
     (parents_more c.args.order.now c.args.levels.now c.args.rows.now r.sound r.levels r.closed c.loop-place.place
-        c.loop-place.parents.items c.highest.result c.loop-place-test.true
+    c.loop-place.parents.items c.highest.result c.loop-place-test.true
     c.loop-place.invariant
-        (subst (λ (z : List ℕ). IsHighest c.args.levels.now z (length z) c.highest.result) c.row.ensures c.highest.ensures))
+    (subst (λ (z : List ℕ). IsHighest c.args.levels.now z (length z) c.highest.result) c.row.ensures c.highest.ensures))
