@@ -98,7 +98,7 @@ module _ (H : LevelsAndLegs) (levelled : IsLevelled H) (starts : List ℕ) (link
   pub placed_between : (side : Side) (v x p : ℕ) → IsPlaceOf H starts side v x p → IsBetween side v x (link_at links p)
   placed_between side v x p is =
       let e : link_at links p ≡ link_of side v (leg_on (row (rows_of H side) v) is.place) =
-          ap (link_at links) is.is ∙ laid.each side v is.place is.spot in
+      ap (link_at links) is.is ∙ laid.each side v is.place is.spot in
       record {
         side_is = ap (λ (l : Link). l.side) e;
         low_is = ap (λ (l : Link). l.low) e;
@@ -160,7 +160,7 @@ module _ (H : LevelsAndLegs) (levelled : IsLevelled H) (starts : List ℕ) (link
       ap (λ (n : ℕ). place_of H starts Up n k) e ∙ ap (place_of H starts Up u) one
   same_spot Down Down v u k m p q e f =
       let there : (leg_on (row H.down v) k).node ≡ (leg_on (row H.down v) m).node =
-          e ∙ ap (λ (n : ℕ). (leg_on (row H.down n) m).node) (sym f) in
+      e ∙ ap (λ (n : ℕ). (leg_on (row H.down n) m).node) (sym f) in
       let size : length (row H.down u) ≡ length (row H.down v) = ap (λ (n : ℕ). length (row H.down n)) (sym f) in
       let one = place_one (row H.down v) (rows_ordered H levelled Down v) k m p.leg (omega (arith, q.leg, size)) there in
       ap (λ (n : ℕ). place_of H starts Down n k) f ∙ ap (place_of H starts Down u) one

@@ -64,9 +64,9 @@ module _ (H : LevelsAndLegs) where
       IsUnpacked H (tail_of side v x) (head_of side v x) link.leg.cost.weight link.leg.middle arcs
   half_unpacked side v x link arcs b is =
       let P : Side → ℕ → ℕ → Type 0 = λ s low node. IsUnpacked H (tail_of s low node)
-          (head_of s low node) link.leg.cost.weight link.leg.middle arcs in
+      (head_of s low node) link.leg.cost.weight link.leg.middle arcs in
       subst (P side v) b.node_is (subst (λ (n : ℕ). P side n link.leg.node) b.low_is
-          (subst (λ (s : Side). P s link.low link.leg.node) b.side_is is))
+      (subst (λ (s : Side). P s link.low link.leg.node) b.side_is is))
 
   module _ (links : List Link) (parts : List (Option Halves)) (plan : IsPlan H links parts) where
     -- a leg stands for the arcs of its halves
@@ -146,7 +146,7 @@ module _ (H : LevelsAndLegs) where
           others = λ i less none other.
               are i (arc_of (link_at links i) ∷ []) (omega (arith, less, plan.long)) (link_arc (link_at links i) (plan.arcs i less none))
               ∙ no_time u w (arc_of (link_at links i)) (λ p q. other (plan.apart i j (omega (arith, less, plan.long))
-                  (omega (arith, low, plan.long)) p q));
+              (omega (arith, low, plan.long)) p q));
         }
 
     -- a way counts as often as its arcs lead from u to w
@@ -243,5 +243,5 @@ module _ (H : LevelsAndLegs) where
         let arcs = arcs_of answer in
         too_much (served ++ (demand, answer) ∷ []) e.0 e.1 (omega (arith, e.2, long)) e.3 (λ u w share are.
         let times_e : demand * shares_of share way ≡ demand * times u w arcs =
-            ap (λ (n : ℕ). demand * n) (way_times u w share are way arcs is) in
+        ap (λ (n : ℕ). demand * n) (way_times u w share are way arcs is) in
         omega (arith, e.4 share, tally u w share are, times_e, flow_more u w served demand answer))

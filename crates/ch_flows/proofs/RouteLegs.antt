@@ -44,7 +44,7 @@ module _ (H : LevelsAndLegs) where
   unpacked_legs (arc {u = u} {w = w} {weight = weight}) c l e = ((c, l, sym e), tt)
   unpacked_legs (shortcut {u = u} {w = w} {v = v} {a = a} {b = b} {xs = xs} {ys = ys} ha na hb nb p q) c l e =
       have_both xs ys (unpacked_legs p a.cost (a, refl, refl, inr (ha, na)) refl)
-          (unpacked_legs q b.cost (b, refl, refl, inl (hb, nb)) refl)
+      (unpacked_legs q b.cost (b, refl, refl, inl (hb, nb)) refl)
 
   up_legs : (s x : ℕ) (steps : List DescentStep) (arcs : List InArc) → IsDescent H.up s x steps → AreUpArcs H steps arcs → HaveLegs arcs
   up_legs s x [] arcs d is = subst HaveLegs (sym is) tt

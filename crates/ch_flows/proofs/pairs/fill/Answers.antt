@@ -27,7 +27,7 @@ returns-in_default-add_pair-clause-refused c =
     let i = c.loop-i.i in
     let demand = get_or c.args.demands.now i 0 in
     let is : IsWay H links c.deref.result.now (arcs_of w.0) =
-        subst (λ (l : List ℕ). IsWay H links l (arcs_of w.0)) (sym c.deref.ensures.value) w.3 in (
+    subst (λ (l : List ℕ). IsWay H links l (arcs_of w.0)) (sym c.deref.ensures.value) w.3 in (
       i + 1,
       inv.tally.0 ++ (demand, w.0) ∷ [],
       omega (arith, c.loop-i-test.true),
@@ -46,7 +46,7 @@ loop-i-preserved c =
     let demand = get_or c.args.demands.now i 0 in
     let h = c.in-Ok-add_pair.ensures {u = tt} in
     let is : IsWay H links c.deref.result.now (arcs_of w.0) =
-        subst (λ (l : List ℕ). IsWay H links l (arcs_of w.0)) (sym c.deref.ensures.value) w.3 in
+    subst (λ (l : List ℕ). IsWay H links l (arcs_of w.0)) (sym c.deref.ensures.value) w.3 in
     record {
       scratch = (c.in-Ok.ensures {u = tt}).scratch ∙ inv.scratch;
       long = h.long ∙ inv.long;
@@ -93,7 +93,7 @@ returns-clause-flows c =
     let new = c.take_down.new.flows in
     let plan : IsPlan H links c.deref-2.result.now = subst (IsPlan H links) (sym e) c.requires.plan.is in
     let flows : AreFlows links c.deref-2.result.now served new =
-        (c.in-Ok-take_down.ensures {u = tt}).flows H links served plan inv.tally.2 in
+    (c.in-Ok-take_down.ensures {u = tt}).flows H links served plan inv.tally.2 in
     let all : c.loop-i.i ≡ length c.args.sources.now = omega (arith, c.loop-i-test.false) in (
       served,
       subst (λ (n : ℕ). AreServed H c.args.sources.now c.args.targets.now c.args.demands.now n served) all inv.tally.1,

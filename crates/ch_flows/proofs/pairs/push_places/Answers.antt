@@ -18,6 +18,6 @@ loop-j-preserved c =
     let none : AnyLeg = record { from = 0; to = 0; cost = record { weight = 0; arcs = 0 }; middle = None } in
     let leg : AnyLeg = get_or legs c.loop-j.j none in
     way_next c.args.hierarchy.now c.args.layout.now.links.items c.loop-j.places.items c.push.new.self.items legs c.loop-j.j
-        c.leg_place.result
+    c.leg_place.result
     leg c.loop-j-test.true (get_or_default legs c.loop-j.j none leg c.loop-j-test.true) c.leg_place.ensures
     (c.in_ok-push.ensures {u = tt}).items c.loop-j.invariant

@@ -31,7 +31,7 @@ pub returns-then-level : goal.returns-then-level
 returns-then-level c =
     let l = c.args.self.now in
     leg_up c.args.hierarchy.now c.requires.kept.2.levelled c.args.leg c.requires.leg l.starts.items l.links.items c.requires.laid
-        c.place.result
+    c.place.result
     (omega (arith, c.level.ensures.level, c.level-2.ensures.level, c.if-level.true)) c.place.ensures
 
 pub returns-else-level : goal.returns-else-level
