@@ -24,6 +24,7 @@ from chtab.near.accessibility import Accessibility
 from chtab.near.by_library import near_of
 from chtab.roads.between_nodes import BetweenNodes
 from chtab.roads.between_places import BetweenPlaces
+from chtab.roads.equilibrium import Traffic
 from chtab.roads.from_arcs import warn_of_scale
 from chtab.roads.layers import layers_of
 from chtab.roads.scenarios import Scenarios
@@ -34,7 +35,7 @@ if TYPE_CHECKING:
     from chtab.typing import OfRuns
 
 
-class Network(Scenarios, BetweenNodes, BetweenPlaces, Accessibility):
+class Network(Traffic, Scenarios, BetweenNodes, BetweenPlaces, Accessibility):
     """A road network. `Network.open` opens files; `Network.from_arrays`, `from_frame`, `from_geodataframe`, `from_networkx` and `from_sparse` make a
     network of your own arcs.
 

@@ -75,9 +75,9 @@ def test_what_is_told_of_the_package():
 
     assert dir(chtab) == sorted(chtab.__all__) and all(hasattr(chtab, name) for name in chtab.__all__)
     assert {*chtab.__all__} == {"Network", "Routes", "Near", "Spots", "ChtabError", *ERRORS, "__version__"}
-    wanted = "accessibility along answers_by changed close coordinates distances frame from_arrays from_frame from_geodataframe from_networkx from_sparse graph "
-    wanted += "isochrones labels matrix near nearest nearest_nodes nearest_of nearest_targets open reach roads rounding routes scale snap sum_within table "
-    wanted += "trip_routes trip_table trips unit"
+    wanted = "accessibility along answers_by assign changed close coordinates distances flows frame from_arrays from_frame from_geodataframe "
+    wanted += "from_networkx from_sparse graph isochrones labels matrix near nearest nearest_nodes nearest_of nearest_targets open reach roads rounding routes scale snap "
+    wanted += "sum_within table trip_routes trip_table trips unit"
     assert [name for name in dir(chtab.Network) if not name.startswith("_")] == wanted.split()
     text = pydoc.render_doc(chtab.Network)
     assert "Parameters" in text and "Raises" in text and "leave_parent" not in text, text

@@ -29,6 +29,8 @@ if TYPE_CHECKING:
 TOGETHER, WIDTH = 1 << 13, 1 << 13
 # The most routes that one call gives, and how many nodes of routes have room at first.
 ROUTES, ROOM = 1 << 11, 1 << 16
+# The most pairs whose flows one call gives. Each call takes steps for all legs of the network, which that many pairs hide.
+FLOWS = 1 << 16
 # In a network of fewer nodes than this so many searches take as long as one in a large network.
 SMALL, SEARCHES = 1 << 16, 1 << 4
 # No places: keeping these frees the places that a handle has.
@@ -277,6 +279,19 @@ class InProcess:
             some = slice(start, start + ROUTES)
             weights[some], sums[some] = self.call(len(sources[some]), self.handle().route_sums, sources[some], targets[some], values)
         return weights, sums
+
+    @timed
+    def flows(self, pairs: Integers, demands: NDArray[numpy.uint64], lines: int) -> tuple[int, NDArray[numpy.uint64]]:
+        """How many pairs have no walk, and the sum of the demands of the pairs whose routes take it, for each of the `lines` of the graph. The sum of
+        all demands is at most 2^63."""
+        sources, targets = library.nodes_of(pairs, self.nodes).T.copy()
+        missed, flows = 0, numpy.zeros(lines, numpy.uint64)
+        for start in range(0, len(sources), FLOWS):
+            some = slice(start, start + FLOWS)
+            without, more = self.call(len(sources[some]), self.handle().flows, sources[some], targets[some], demands[some], lines)
+            missed += without
+            flows += more
+        return missed, flows
 
     def found(self, pairs: Integers, call: Callable[..., Any]) -> list[NDArray[Any]]:
         """Calls for the routes of pairs: returns their weights, how many nodes each route has, and columns with an item for each node."""

@@ -90,6 +90,18 @@ class NodeQueries:
         sums = numpy.append(numpy.uint64(0), numpy.cumsum(values[lines]))
         return weights, numpy.diff(sums[numpy.append(0, numpy.cumsum(counts))])
 
+    def flows(
+        self, pairs: Integers, demands: NDArray[numpy.uint64], count: int, arcs_of: Callable[[Integers, Integers, Integers], Integers],
+    ) -> tuple[int, NDArray[numpy.uint64]]:
+        """How many pairs have no walk, and for each of the `count` arcs of the graph the sum of the demands of the pairs whose routes take it. The sum
+        of all demands is at most 2^63. `arcs_of` is as `lines` takes it."""
+        if not isinstance(self.runs, asking.Engine):
+            return self.runs.flows(pairs, demands, count)
+        weights, counts, lines = self.lines(pairs, arcs_of)
+        flows = numpy.zeros(count, numpy.uint64)
+        numpy.add.at(flows, lines, numpy.repeat(demands, counts))
+        return int((weights < 0).sum()), flows
+
     def small_tables(self, outs: Integers, ins: Integers, pairs: Integers) -> Integers:
         """The cells of several small tables in one column, int64, -1 where there is no walk. Table k leads from the nodes of `outs[k]` to those of
         `ins[k]`, which are above 0, and `pairs` has their pairs, one table after the other."""
