@@ -241,6 +241,30 @@ def refuse_large_route_sums(tally, library):
     library.close(handle)
 
 
+def refuse_large_flows(tally, library):
+    """A flow of more than 2^63 refuses all flows, also after others were given, and 2^63 is given. Lengths come before nodes."""
+    status, handle, _ = library.open(LINE, OF_LINE)
+    half = 2**63
+    for demands, owed in (
+        ([half, 0, 5], (0, 1, [half, half])), ([half - 1, 1, 0], (0, 1, [half - 1, half])), ([half, 1, 0], (STATUS["SUM_TOO_LARGE"], 7, [7, 7])),
+        ([half - 1, 2, 0], (STATUS["SUM_TOO_LARGE"], 7, [7, 7])), ([2**64 - 1, 0, 0], (STATUS["SUM_TOO_LARGE"], 7, [7, 7])),
+        ([1, 2, 2**64 - 1], (0, 1, [1, 3])), ([0, 0, 0], (0, 1, [0, 0])),
+    ):
+        told = library.flows(handle, [0, 1, 2], [2, 2, 0], demands, 2)
+        tally.expect(told == owed, f"flows of {demands}: {told}, not {owed}")
+    told = library.flows(handle, [1] * 4, [2, 1, 2, 2], [half // 2, 2**64 - 1, half // 2 - 1, 2], 2)
+    tally.expect(told == (STATUS["SUM_TOO_LARGE"], 7, [7, 7]), f"a flow of several pairs that is too large: {told}")
+    for sources, targets, demands, room, name in (
+        ([9], [0, 0], [1], 2, "LENGTHS"), ([9], [0], [1, 1], 2, "LENGTHS"), ([9], [0], [], 2, "LENGTHS"), ([9], [0], [1], 1, "LENGTHS"),
+        ([9], [0], [1], 3, "LENGTHS"), ([3], [0], [1], 2, "NODE_RANGE"), ([0], [3], [1], 2, "NODE_RANGE"), ([0, 2**32 - 1], [1, 1], [1, 0], 2, "NODE_RANGE"),
+    ):
+        told = library.flows(handle, sources, targets, demands, room)
+        tally.expect(told == (STATUS[name], 7, [7] * room), f"flows {sources} {targets} {demands}: {told}")
+    tally.expect(library.flows(handle, [], [], [], 2) == (0, 0, [0, 0]), "flows of no pairs")
+    tally.expect(library.flows(Handle(), [0], [1], [1], 2) == (STATUS["CLOSED"], 7, [7, 7]), "flows by a closed handle")
+    library.close(handle)
+
+
 def refuse_likes(tally, library):
     """What is wrong is told in the order that the header says, and both handles stay."""
     status, handle, _ = library.open(LINE, OF_LINE)
@@ -281,6 +305,7 @@ def main():
     tell_faults(tally, library)
     refuse_large_sums(tally, library)
     refuse_large_route_sums(tally, library)
+    refuse_large_flows(tally, library)
     refuse_likes(tally, library)
     fuzzed = done(sys.executable, ROOT / "tests/library/fuzz.py", calls, 1)
     passed, failed = map(int, (re.search(r"(\d+) passed, (\d+) failed$", fuzzed.stdout.strip()) or re.match("(0) (1)", "0 1")).groups())

@@ -36,7 +36,8 @@ from chtab.files.measures import Asked, Limit
 from chtab.files.showing import table_text
 from chtab.near import blocks, questions
 from chtab.near.found import Near, Nearest
-from chtab.roads import exporting, from_arcs, geoframes, pairs as of_pairs, scenarios
+from chtab.roads import equilibrium as traffic, exporting, flows as of_flows, from_arcs, geoframes
+from chtab.roads import pairs as of_pairs, scenarios
 from chtab.roads.layers import layers_of
 from chtab.roads.routes import Routes, TripRoutes
 from chtab.roads.snapping import Roads, Spots, metres_in, places_in, see_that_near
@@ -866,6 +867,126 @@ class Network:
         of_rows = of_pairs.values_of_rows(self._layers, values)
         asked = of_pairs.pairs_in(self._layers, pairs, targets)
         return of_pairs.along(self._engine, self._layers, of_rows, asked)
+
+    # Flows.
+
+    @timed
+    def flows(
+        self, origins: Nodes, destinations: Nodes, demand: ArrayLike = 1, *,
+        scale: float | None = None, progress: Progress = None,
+    ) -> pandas.Series:
+        """Returns the flow on each road: the sum of the demands of the pairs whose routes take it.
+
+        The routes are those of `routes`. Of several arcs between two nodes, the first of those with
+        the least weight has the flow.
+
+        Parameters
+        ----------
+        origins, destinations : array of labels, shape (n,) each
+            The nodes of the pairs.
+        demand : array of int or float, shape (n,), or number
+            How much goes from each origin to its destination, at least 0; one number is for each
+            pair.
+        scale : float, optional
+            How many whole units make one of the demand: 1000 rounds demands to thousandths. Demands
+            with fractions need it. In these units a demand is at most 2^53, and all demands
+            together are below 2^63.
+        progress : bool or callable, optional
+            As `distances` takes it.
+
+        Returns
+        -------
+        pandas.Series
+            A flow for each row of the arcs that the network was made of, with the labels of the
+            frame; for each edge of a graph with keys that isn't closed, by (source, target, key);
+            or for each arc of a graph file. Flows are whole numbers, or floats if demands are
+            floats or have a scale. A pair without a route adds nothing, and
+            `attrs["pairs without a route"]` counts these pairs.
+
+        Raises
+        ------
+        DataFault
+            A demand is below 0, missing, no number or too large, or has a fraction, and there is no
+            scale.
+        ValueError, ProgramFault, TimedOut
+            There are more or fewer destinations or demands than origins; or as `distances` raises
+            them.
+
+        Examples
+        --------
+        >>> flows = network.flows(trips["from"], trips["to"], trips["persons"])  # doctest: +SKIP
+        """
+        pairs = of_pairs.pairs_in(self._layers, origins, destinations)
+        demands = of_flows.demands_of(demand, len(pairs), scale)
+        return of_flows.flows_of_rows(self._engine, self._layers, pairs, demands, progress)
+
+    @timed
+    def assign(
+        self, origins: Nodes, destinations: Nodes, demand: ArrayLike = 1,
+        capacity: ArrayLike | None = None, *, alpha: ArrayLike = 0.15, beta: ArrayLike = 4.0,
+        times: Callable[[NDArray[numpy.float64]], ArrayLike] | None = None,
+        tolls: ArrayLike | None = None, value_of_time: float | None = None,
+        method: str = traffic.BI_CONJUGATE, gap: float = 1e-4, steps: int = 100,
+        scale: float | None = None, progress: Progress = None,
+    ) -> traffic.Equilibrium:
+        """Returns flows at user equilibrium: no trip has a faster route while the others stay.
+
+        The time of a row with the flow v is its weight in the network, times
+        1 + alpha * (v / capacity) ** beta (BPR), or what `times` says. Each step makes a network
+        with these times, and takes all trips over its routes.
+
+        Parameters
+        ----------
+        origins, destinations, demand, scale
+            As `flows` takes them, for each pair.
+        capacity, alpha, beta : number or array of float, shape (m,)
+            For each row of the arcs, in the order of rows, or one number for all. Columns of pandas
+            go by their index, as in `changed`. A capacity is above 0, in the unit of the demand.
+        times : callable, optional
+            Takes the flows of all rows, an array of float64, and returns their times in the
+            network's unit: finite, at least 0, and no less with more flow on the row. Then
+            `capacity`, `alpha` and `beta` aren't used.
+        tolls : number or array of float, optional
+            What a row costs beside its time.
+        value_of_time : float, optional
+            How much of the tolls' unit one unit of time is worth. Routes have the least time plus
+            toll / value_of_time.
+        method : str
+            "msa", the method of successive averages; "frank-wolfe"; or "bi-conjugate", by
+            Mitradjieva and Lindberg (2013), which takes the fewest steps.
+        gap : float
+            The relative gap at which it ends.
+        steps : int
+            The most steps.
+        progress : bool or callable, optional
+            As `distances` takes it, for steps.
+
+        Returns
+        -------
+        Equilibrium
+            The flows, the times, and how near to an equilibrium they are.
+
+        Raises
+        ------
+        DataFault
+            A row leads both ways, a capacity or another number is refused, or `times` returns a
+            time that is none; and as `flows` and `changed` raise it.
+        ValueError, ProgramFault, TimedOut
+            As `flows` raises them.
+
+        Examples
+        --------
+        >>> found = network.assign(trips["from"], trips["to"], trips["cars"],
+        ...                        roads["capacity"])  # doctest: +SKIP
+        """
+        traffic.see_that_known(method, gap, steps)
+        rows = traffic.Rows(self._layers, self._measure)
+        fixed = rows.fixed(tolls, value_of_time)
+        curve = rows.bpr(capacity, alpha, beta) if times is None else rows.times(times)
+        pairs = of_pairs.pairs_in(self._layers, origins, destinations)
+        demands = of_flows.demands_of(demand, len(pairs), scale)
+        search = traffic.Search(method, curve, fixed, traffic.Trips(self, rows, pairs, demands))
+        return traffic.equilibrium_of(rows, search, gap, steps, progress)
 
     # Nearness.
 

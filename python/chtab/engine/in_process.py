@@ -28,6 +28,9 @@ if TYPE_CHECKING:
 PAIRS, ROUTES, SIDE, SHORT = 1 << 13, 1 << 11, 1 << 12, 1 << 10
 # How many cells of a table are worth a further thread, which searches from each target once more.
 WORTH = 1 << 20
+# The most pairs whose flows one call gives. Each call takes steps for all legs of the network, which
+# that many pairs hide.
+FLOWS = 1 << 16
 # How many nodes of routes have room at first.
 ROOM = 1 << 16
 # In a network of fewer nodes than this so many searches take as long as one in a large network.
@@ -334,6 +337,23 @@ class InProcess:
 
         self.in_parts(len(sources), ROUTES, ask, "routes", "pairs")
         return weights, sums
+
+    def flows(
+        self, pairs: Integers, demands: NDArray[numpy.uint64], lines: int, progress: Asked = None,
+    ) -> tuple[int, NDArray[numpy.uint64]]:
+        """How many pairs have no walk, and for each of the `lines` of the graph the sum of the demands of
+        the pairs whose routes take it. The sum of all demands is below 2^63."""
+        sources, targets = self.columns(pairs)
+        flows, missed, lock = numpy.zeros(lines, numpy.uint64), [0], threading.Lock()
+
+        def ask(handle: library.Handle, part: slice) -> None:
+            without, more = handle.flows(sources[part], targets[part], demands[part], lines)
+            with lock:
+                missed[0] += without
+                numpy.add(flows, more, out=flows)
+
+        self.in_parts(len(sources), FLOWS, ask, "flows", "pairs", progress)
+        return missed[0], flows
 
     def make_room(self) -> None:
         """Makes twice as much room for the nodes of routes."""

@@ -1,5 +1,6 @@
 -- The answers of the call for a route.
-use Rattle.std.proofs.Common.{◌≡◌, ℕ, ◌<◌, length, reverse, [], ◌≤◌, List, true, false, Option, Some, None, Result, refl, sym, ap, subst, arith}
+use Rattle.std.proofs.Common.{◌≡◌, ℕ, ◌<◌, length, reverse, [], ◌≤◌, List, true, false, Option, Some, None, Result, refl, sym, ap}
+use Rattle.std.proofs.Common.{subst, arith}
 use Rattle.std.specs.Prelude.{IfOk, MatchOption, ⊤, ◌+◌, Vec, vec_len, vec_capacity}
 use Rattle.std.specs.declared.alloc.Global.{Global}
 use Rattle.std.specs.declared.alloc.AllocError.{AllocError}

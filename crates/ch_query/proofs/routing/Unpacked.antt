@@ -1,5 +1,6 @@
 -- The arcs that a leg stands for are a walk of its cost, and are determined.
-use Rattle.std.proofs.Common.{◌≡◌, ℕ, zero, suc, ◌+◌, ◌<◌, ◌≤◌, List, [], ◌∷◌, ◌++◌, Contains, Option, Some, None, refl, sym, ◌∙◌, ap, subst, arith, inl, inr}
+use Rattle.std.proofs.Common.{◌≡◌, ℕ, zero, suc, ◌+◌, ◌<◌, ◌≤◌, List, [], ◌∷◌, ◌++◌, Contains, Option, Some, None, refl, sym, ◌∙◌, ap}
+use Rattle.std.proofs.Common.{subst, arith, inl, inr}
 use Rattle.std.specs.Prelude.{slice_index}
 use Rattle.ch_graph.specs.declared.arc.InArc.{InArc}
 use Rattle.ch_graph.specs.declared.cost.Cost.{Cost}
@@ -73,7 +74,8 @@ module _ (g : Network) (H : LevelsAndLegs) (kept : IsKept g H) where
       (xs.0 ++ ys.0, shortcut {weight = c.weight} f.2 f.3 f.4 f.5 xs.1 ys.1)
 
   -- a leg stands for some arcs
-  pub leg_unpacked : (u w : ℕ) (c : Cost) (middle : Option ℕ) → IsLeg H u w c middle → (arcs : List InArc) × IsUnpacked H u w c.weight middle arcs
+  pub leg_unpacked : (u w : ℕ) (c : Cost) (middle : Option ℕ) → IsLeg H u w c middle →
+      (arcs : List InArc) × IsUnpacked H u w c.weight middle arcs
   leg_unpacked u w c middle l = unpacked_within c.arcs u w c middle (omega arith) l
 
   -- the arcs of a leg are a walk of its cost

@@ -37,7 +37,8 @@ returns c =
     let turn = c.reverse.ensures in
     let rise = c.descend-2.ensures in
     record {
-      legs = legs_over_meet c.args.hierarchy.now q.kept c.args.up.now c.args.down.now c.args.node c.args.cost q.meeting q.past q.sides q.meet
+      legs = legs_over_meet c.args.hierarchy.now q.kept c.args.up.now c.args.down.now c.args.node c.args.cost q.meeting q.past q.sides
+          q.meet
           c.reserve.new.self none (omega (arith, size, ok)) (omega (arith, e))
           c.descend.new.pending c.reverse.new.self fall.traced fall.capacity turn.permutation turn.len turn.capacity
           c.descend-2.new.pending rise.traced rise.capacity turn.items;

@@ -25,5 +25,6 @@ returns-clause-legs c =
           (subst (λ (l : Vec AnyLeg Global). AreLegsFound H s t true l.items) (sym w.legs-is) here))
       | in-Some+in-Err w ↦ subst (λ r. IfOk r (λ found. AreLegsFound H s t found legs.items)) (sym w.found-is) tt
       | in-None w ↦ subst (λ r. IfOk r (λ found. AreLegsFound H s t found legs.items)) (sym w.found-is)
-          (legs_missing H s t legs.items (w.in-None.ensures {u = tt}).least (ap (λ (l : Vec AnyLeg Global). l.items) w.legs-is ∙ c.clear.ensures.items))
+          (legs_missing H s t legs.items (w.in-None.ensures {u =
+              tt}).least (ap (λ (l : Vec AnyLeg Global). l.items) w.legs-is ∙ c.clear.ensures.items))
     ]
