@@ -26,5 +26,5 @@ returns-clause-legs c =
       | in-Some+in-Err w ↦ subst (λ r. IfOk r (λ found. AreLegsFound H s t found legs.items)) (sym w.found-is) tt
       | in-None w ↦ subst (λ r. IfOk r (λ found. AreLegsFound H s t found legs.items)) (sym w.found-is)
           (legs_missing H s t legs.items (w.in-None.ensures {u =
-              tt}).least (ap (λ (l : Vec AnyLeg Global). l.items) w.legs-is ∙ c.clear.ensures.items))
+          tt}).least (ap (λ (l : Vec AnyLeg Global). l.items) w.legs-is ∙ c.clear.ensures.items))
     ]
