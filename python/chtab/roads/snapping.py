@@ -337,8 +337,8 @@ class Roads:
         """Takes one place to the nearest point at which a road leads in a direction, in degrees clockwise from north, or at most `within` degrees off
         it, on any road but some. Trips leave the spot and arrive at it in that direction alone. If no road leads that way, there are no spots."""
         def fits(steps: Integers) -> Marks:
-            is_other = ~numpy.isin(numpy.searchsorted(self.lines.firsts, steps, "right") - 1, but) if but else True
-            return (self.facing(steps, bearing, within) > 0) & is_other
+            found = self.facing(steps, bearing, within) > 0
+            return found & ~numpy.isin(numpy.searchsorted(self.lines.firsts, steps, "right") - 1, but) if but else found
 
         steps, share, at = self.lines.nearest_facing(longitude, latitude, fits)
         roads = numpy.searchsorted(self.lines.firsts, steps, "right") - 1
