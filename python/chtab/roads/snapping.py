@@ -33,7 +33,7 @@ AT_END = 1.0
 # The least part of a road between its end and a spot that is not at the end.
 INSIDE = 1e-9
 # Up to so many places are taken to roads one by one: to call numpy takes longer.
-FEW = 4
+FEW = 3
 # Metres in a nanometre.
 NANOMETRE = 1e-9
 
@@ -260,8 +260,9 @@ class Roads:
         if not len(self):
             raise ChtabError("the graph has no road between two places")
         x, y = numpy.asarray(longitudes, float), numpy.asarray(latitudes, float)
-        few = self.lines.nearest_few(x, y) if 0 < len(x) <= FEW else None
-        return self.spots_at(x, y, *self.lines.nearest(x, y)) if few is None else self.few_spots(x.tolist(), y.tolist(), few)
+        if 0 < len(x) <= FEW:
+            return self.few_spots(x.tolist(), y.tolist(), self.lines.nearest_few(x, y))
+        return self.spots_at(x, y, *self.lines.nearest(x, y))
 
     def few_spots(self, longitudes: Sequence[float], latitudes: Sequence[float], found: Sequence[OnLine]) -> Spots:
         """The spots of a few places at these points of roads, as `spots_at` makes them of many."""
