@@ -175,6 +175,16 @@ def ended_service(port, *options):
         raise AssertionError(f"a service with {options} goes on on port {port}") from None
 
 
+def files_that_are_missing():
+    """A network without its coordinates, or without its graph, is refused by a sentence."""
+    copied("net")
+    for suffix, what in ("co", "coordinates of the graph's nodes"), ("gr", "graph"):
+        os.remove(f"net.{suffix}")
+        done = subprocess.run([PYTHON, ROOT / "tools" / "page.py", "--program", PROGRAM, "--port", "0", "net"], capture_output=True, text=True)
+        assert done.returncode == 1 and done.stderr.startswith(f"chtab-page: net.{suffix} is missing: a service needs the {what}"), done
+        assert done.stderr.count("\n") == 1 and not done.stdout, done
+
+
 def a_second_service_on_the_port():
     """A second service doesn't share the port of one that runs, whatever its processes, unless it takes the port over; nor does it take what is no
     service of this kind."""
@@ -317,7 +327,8 @@ def the_log_says_why():
 GROUPS = (
     (SERVICE, [
         files_that_are_changed, health_is_no_better_than_answers, addresses_that_proxies_name,
-        requests_that_once_failed, a_second_service_on_the_port, it_says_that_connections_close, systemd_is_notified, the_log_says_why,
+        requests_that_once_failed, files_that_are_missing, a_second_service_on_the_port, it_says_that_connections_close,
+        systemd_is_notified, the_log_says_why,
         files_that_are_replaced, a_new_network_without_a_lost_request,
     ]),
 )

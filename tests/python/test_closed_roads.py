@@ -148,8 +148,8 @@ def test_ways_of_maps_are_closed():
             ):
                 with network.changed(closed=closed) as other:
                     assert other.table(every, every).tolist() == without(is_closed), (pair, closed)
-        with network.changed({"way/1": 7}, ["way/2"], [(1, node[16], 3)], folder="own") as other, other.changed(closed=["way/3"]) as again:
-            arcs = [(*arc[:2], 7 if set(ends(arc)) == {1, 2} else arc[2]) for arc in arcs] + [(1, node[16], 3)]
+        with network.changed({"way/1": 7}, ["way/2"], [(node[13], node[16], 3)], folder="own") as other, other.changed(closed=["way/3"]) as again:
+            arcs = [(*arc[:2], 7 if set(ends(arc)) == {1, 2} else arc[2]) for arc in arcs] + [(node[13], node[16], 3)]
             assert other.table(every, every).tolist() == without(lambda *ends: set(ends) == {2, 3})
             assert again.table(every, every).tolist() == without(lambda *ends: set(ends) in ({2, 3}, {3, 4}))
             raises(chtab.DataFault, again.changed, None, ["way/2"], told="closed[0]: no arc is a part of way 2 of OpenStreetMap")

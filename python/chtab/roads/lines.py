@@ -163,13 +163,11 @@ class Lines:
         lines = numpy.searchsorted(self.firsts, steps, "right") - 1
         return lines, self.parts[steps] + shares * (self.parts[steps + 1] - self.parts[steps]), *degrees(*at.T)
 
-    def nearest_few(self, longitudes: Floats, latitudes: Floats) -> list[OnLine] | None:
-        """The same for a few places, one by one, without arrays of a few items; None where it takes more to be sure."""
+    def nearest_few(self, longitudes: Floats, latitudes: Floats) -> list[OnLine]:
+        """The same for a few places, one by one, without arrays of a few items."""
         if self.pieces is None:
             self.pieces = Pieces(self)
         found = self.pieces.nearest_few(mercator(longitudes, latitudes))
-        if found is None:
-            return None
         steps = [step for step, _, _ in found]
         lines = numpy.searchsorted(self.firsts, steps, "right").tolist()
         before, after = self.parts.take(steps).tolist(), self.parts.take([step + 1 for step in steps]).tolist()
@@ -261,18 +259,29 @@ class Pieces:
             left = left[unsure]
         return steps, shares, self.at(steps, shares)
 
-    def nearest_few(self, places: Floats) -> list[tuple[int, float, tuple[float, float]]] | None:
-        """The same for a few points, as (step, position, point); None where a step is nearest that is not among the pieces whose middles are."""
-        count, found = min(NEIGHBOURS, len(self.steps)), []
+    def nearest_few(self, places: Floats) -> list[tuple[int, float, Point]]:
+        """The same for a few points, as (step, position, point)."""
+        count = min(NEIGHBOURS, len(self.steps))
         distances, near = (column.reshape(len(places), count) for column in self.tree.query(places, count))
-        among = self.steps.take(near)
-        farthest = distances[:, -1].tolist()
-        for (x, y), steps, rows, most in zip(places.tolist(), among.tolist(), self.rows.take(among, axis=0).tolist(), farthest):
-            apart, step, share, point = min(foot(x, y, *each) for each in zip(steps, rows))
-            if count < len(self.steps) and math.sqrt(apart) * (1 + 1e-9) + self.reach + 1e-12 >= most:
-                return None
+        farthest, found = distances[:, -1].tolist(), []
+        for place, pieces, most in zip(places.tolist(), near, farthest):
+            apart, step, share, point = self.nearest_of(place, pieces)
+            number = count
+            while number < len(self.steps) and self.is_unsure(apart, most):
+                number = min(4 * number, len(self.steps))
+                distances, pieces = self.tree.query(place, number)
+                (apart, step, share, point), most = self.nearest_of(place, pieces), float(distances[-1])
             found.append((step, share, point))
         return found
+
+    def nearest_of(self, place: Sequence[float], pieces: Integers) -> tuple[float, int, float, Point]:
+        """The nearest point to a place among those of some pieces: the square of the distance, the step, the position along it, and the point."""
+        steps = self.steps.take(pieces)
+        return min(foot(place[0], place[1], *each) for each in zip(steps.tolist(), self.rows.take(steps, axis=0).tolist()))
+
+    def is_unsure(self, apart: float, farthest: float) -> bool:
+        """Whether a piece whose middle is at least so far away may have a point that is as near as the nearest one known, by the square of its distance."""
+        return math.sqrt(apart) * (1 + 1e-9) + self.reach + 1e-12 >= farthest
 
     def nearest_among(self, places: Floats, count: int) -> tuple[Integers, Floats, Integers]:
         """The nearest steps to places among the so many pieces whose middles are nearest, how far along they are nearest, and the numbers of places

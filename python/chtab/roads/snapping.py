@@ -38,7 +38,7 @@ AT_END = 1.0
 # The least part of a road between its end and a spot that is not at the end.
 INSIDE = 1e-9
 # Up to so many places are taken to roads one by one: to call numpy takes longer.
-FEW = 4
+FEW = 3
 # Metres in a nanometre.
 NANOMETRE = 1e-9
 
@@ -347,8 +347,9 @@ class Roads:
         if not len(self):
             raise ChtabError("the graph has no road between two places")
         x, y = numpy.asarray(longitudes, float), numpy.asarray(latitudes, float)
-        few = self.lines.nearest_few(x, y) if 0 < len(x) <= FEW else None
-        return self.spots_at(x, y, *self.lines.nearest(x, y)) if few is None else self.few_spots(x.tolist(), y.tolist(), few)
+        if 0 < len(x) <= FEW:
+            return self.few_spots(x.tolist(), y.tolist(), self.lines.nearest_few(x, y))
+        return self.spots_at(x, y, *self.lines.nearest(x, y))
 
     def few_spots(self, longitudes: Sequence[float], latitudes: Sequence[float], found: Sequence[OnLine]) -> Spots:
         """The spots of a few places at these points of roads, as `spots_at` makes them of many."""
@@ -436,8 +437,8 @@ class Roads:
         """Takes one place to the nearest point at which a road leads in a direction, in degrees clockwise from north, or at most `within` degrees off
         it, on any road but some. Trips leave the spot and arrive at it in that direction alone. If no road leads that way, there are no spots."""
         def fits(steps: Integers) -> Marks:
-            leads: Marks = self.facing(steps, bearing, within) > 0
-            return leads & ~numpy.isin(numpy.searchsorted(self.lines.firsts, steps, "right") - 1, but) if but else leads
+            found = self.facing(steps, bearing, within) > 0
+            return found & ~numpy.isin(numpy.searchsorted(self.lines.firsts, steps, "right") - 1, but) if but else found
 
         steps, share, at = self.lines.nearest_facing(longitude, latitude, fits)
         roads = numpy.searchsorted(self.lines.firsts, steps, "right") - 1
