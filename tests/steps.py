@@ -18,7 +18,6 @@ from helpers.maps import COUNTRY, osm, tool
 from helpers import running
 from helpers.packages import run_checks
 from helpers.running import PROGRAM
-from helpers.ways import both
 from oracles import mapping, telling
 import chtab
 from chtab import files
@@ -421,7 +420,7 @@ def path_of(teller, start, end, nodes):
 GROUPS = (
     (("python3-numpy", "python3-scipy", "python3-shapely"), [
         turns_at_a_cross, where_roads_end_and_bend, slight_ways, fast_roads, exits_of_rings, restrictions_close_branches,
-        *both(steps_add_up, what_is_kept_changes_no_answer), random_maps_agree_with_the_other_teller,
+        steps_add_up, what_is_kept_changes_no_answer, random_maps_agree_with_the_other_teller,
     ]),
 )
 

@@ -58,23 +58,23 @@ def write(arcs: Arcs, folder: str, program: str, running: Running) -> Handle | N
     built, and where progress is reported. Returns a handle of the network if it was built in this process."""
     graph, saved, coordinates, bends, labels = (os.path.join(folder, name) for name in (GRAPH, SAVED, COORDINATES, BENDS, LABELS))
     comments = [f"Weights are {arcs.base}."] * bool(arcs.base) + ([] if arcs.scale is None else [files.scale_comment(arcs.scale)])
-    with told_of(graph):
+    with naming(graph):
         files.write_graph_columns(graph, arcs.labels.count, (arcs.tails, arcs.heads, arcs.weights), comments)
-    with told_of(coordinates):
+    with naming(coordinates):
         if arcs.places is not None:
             files.write_coordinate_columns(coordinates, [numpy.rint(part * 1e6).astype(numpy.int64) for part in arcs.places], arcs.turns)
         if arcs.beside is not None:
             arcs.beside.copy_to(folder)
-    with told_of(bends):
+    with naming(bends):
         if arcs.bends:
             files.write_bends(bends, arcs.bends)
-    with told_of(labels):
+    with naming(labels):
         files.write_labels(labels, labelling_of(arcs, digest_of(graph)))
     return build(program, graph, saved, running)
 
 
 @contextlib.contextmanager
-def told_of(path: str) -> Iterator[None]:
+def naming(path: str) -> Iterator[None]:
     """Names the file in faults of the system while it is written, such as on a full disk."""
     try:
         yield
@@ -143,7 +143,7 @@ def save_like(giver: InProcess, graph: str, saved: str, fresh: int) -> Handle:
     # Networks of the same nodes have texts of about one length.
     known = giver.setting.saved
     room = os.path.getsize(known) * 9 // 8 if known is not None and os.path.exists(known) else 0
-    with told_of(saved), open(saved, "wb") as out:
+    with naming(saved), open(saved, "wb") as out:
         out.write(handle.save(room))
     return handle
 

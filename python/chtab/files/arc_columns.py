@@ -11,7 +11,7 @@ import numpy
 
 from chtab.errors import DataFault
 from chtab.files import columns, edge_lines, measures, row_index
-from chtab.files.columns import refused, told
+from chtab.files.columns import refused, quoted
 from chtab.files.node_labels import Labels, Numbers, labels_of_ends, labels_of_nodes
 
 if TYPE_CHECKING:
@@ -106,11 +106,11 @@ def rows_back(both_ways: Any, rows: int) -> Integers:
     if isinstance(both_ways, bool | numpy.bool_):
         return numpy.arange(rows if both_ways else 0)
     if isinstance(both_ways, str):
-        raise DataFault(f"both_ways is True, False, or a column of these, not {told(both_ways)}", "both_ways")
+        raise DataFault(f"both_ways is True, False, or a column of these, not {quoted(both_ways)}", "both_ways")
     marks = columns.array_of("both_ways", both_ways)
     place = columns.first_of([not isinstance(value, bool | numpy.bool_) for value in marks.reshape(-1).tolist()])
     if place is not None or marks.ndim != 1:
-        what = told(both_ways) if place is None else told(marks.reshape(-1)[place])
+        what = quoted(both_ways) if place is None else quoted(marks.reshape(-1)[place])
         raise DataFault(f"both_ways is True, False, or a column of these, not {what}", "both_ways", place)
     if len(marks) != rows:
         raise DataFault(f"both_ways has {len(marks):,} rows, and there are {rows:,} rows of arcs", "both_ways")
@@ -155,7 +155,7 @@ def scale_in(scale: float | None) -> float | None:
     if scale is None:
         return None
     if isinstance(scale, bool) or not isinstance(scale, numbers.Real) or not (math.isfinite(scale) and scale > 0):
-        raise DataFault(f"scale is a number above 0, not {told(scale)}", "scale")
+        raise DataFault(f"scale is a number above 0, not {quoted(scale)}", "scale")
     return int(scale) if int(scale) == scale else float(scale)
 
 

@@ -27,7 +27,7 @@ EXACT = 2**53 - 1
 INTEGERS, STRINGS, TUPLES = "integers", "strings", "tuples"
 
 
-def told(value: object) -> str:
+def quoted(value: object) -> str:
     """A value as text for a message, shortened."""
     bits = value.bit_length() if isinstance(value, int) else 0
     return f"an integer of {bits:,} bits" if bits > MOST_BITS else reprlib.repr(value)
@@ -158,7 +158,7 @@ def tuples_in(name: str, column: Iterable[Any]) -> LabelArray:
     see_that_labels(name, values)
     for row, value in enumerate(values):
         if not all(is_number(type(part)) or isinstance(part, str) for part in value) or any(part != part for part in value):
-            raise refused(name, row, f"{told(value)} is no label; the parts of a tuple are integers, floats and strings")
+            raise refused(name, row, f"{quoted(value)} is no label; the parts of a tuple are integers, floats and strings")
     return objects_of([tuple(part.item() if isinstance(part, numpy.generic) else part for part in value) for value in values])
 
 
@@ -175,7 +175,7 @@ def no_label(name: str, array: NDArray[Any]) -> DataFault:
         place = first_of(numpy.isnan(array))
         place = first_of(~are_whole(array)) if place is None else place
     value = array.reshape(-1)[place or 0]
-    return refused(name, row_of(array, place or 0), f"{told(value)} is no label; a label is an integer, a string or a tuple")
+    return refused(name, row_of(array, place or 0), f"{quoted(value)} is no label; a label is an integer, a string or a tuple")
 
 
 def see_that_labels(name: str, values: Sequence[object], width: int = 1) -> set[type]:
@@ -187,8 +187,8 @@ def see_that_labels(name: str, values: Sequence[object], width: int = 1) -> set[
     first = kind_of(type(values[0]))
     place = 0 if first is None else next(place for place, value in enumerate(values) if kind_of(type(value)) != first)
     if kind_of(type(values[place])) is None:
-        raise refused(name, place // width, f"{told(values[place])} is no label; a label is an integer, a string or a tuple")
-    raise refused(name, place // width, f"the label {told(values[place])} is not one of {first}, as those before it")
+        raise refused(name, place // width, f"{quoted(values[place])} is no label; a label is an integer, a string or a tuple")
+    raise refused(name, place // width, f"the label {quoted(values[place])} is not one of {first}, as those before it")
 
 
 def objects_like(array: NDArray[Any], values: Iterable[object]) -> LabelArray:
@@ -215,7 +215,7 @@ def integers_like(name: str, array: NDArray[Any], values: Iterable[Any]) -> Labe
         return numpy.array(values, numpy.int64).reshape(array.shape)
     place = next((place for place, value in enumerate(values) if value.bit_length() > MOST_BITS), None)
     if place is not None:
-        raise refused(name, row_of(array, place), f"{told(values[place])} is no label; one has at most {MOST_BITS:,} bits")
+        raise refused(name, row_of(array, place), f"{quoted(values[place])} is no label; one has at most {MOST_BITS:,} bits")
     return objects_like(array, values)
 
 
@@ -228,7 +228,7 @@ def durations_in(name: str, column: Column) -> Any:
     if array.dtype == object and array.ndim == 1 and array.size and isinstance(array[0], datetime.timedelta | numpy.timedelta64):
         for row, value in enumerate(array.tolist()):
             if not isinstance(value, datetime.timedelta | numpy.timedelta64 | int) or isinstance(value, bool):
-                raise refused(name, row, f"{told(value)} is no duration, as those before it")
+                raise refused(name, row, f"{quoted(value)} is no duration, as those before it")
         array = numpy.array([numpy.timedelta64(value) for value in array], "timedelta64[ns]")
     if array.dtype.kind != "m":
         return None
@@ -251,7 +251,7 @@ def numbers_in(name: str, column: Column, with_booleans: bool = False) -> NDArra
     if array.dtype.kind == "O":
         return numbers_of_objects(name, array.tolist())
     if array.dtype.kind not in "iuf":
-        raise refused(name, 0, f"{told(array[0])} is neither an integer nor a float")
+        raise refused(name, 0, f"{quoted(array[0])} is neither an integer nor a float")
     if array.dtype.kind == "f":
         return array.astype(numpy.longdouble)
     place = first_of(array > numpy.uint64(GREATEST)) if array.dtype.kind == "u" else None
@@ -265,7 +265,7 @@ def numbers_of_objects(name: str, values: Sequence[Any]) -> NDArray[Any]:
     kinds = set(map(type, values))
     if not all(map(is_number, kinds)):
         place = next(place for place, value in enumerate(values) if not is_number(type(value)))
-        raise refused(name, place, "there is none" if values[place] is None else f"{told(values[place])} is neither an integer nor a float")
+        raise refused(name, place, "there is none" if values[place] is None else f"{quoted(values[place])} is neither an integer nor a float")
     if kinds == {float}:
         return numpy.array(values).astype(numpy.longdouble)
     if all(map(is_integer, kinds)):
@@ -273,7 +273,7 @@ def numbers_of_objects(name: str, values: Sequence[Any]) -> NDArray[Any]:
             return numpy.array([*map(int, values)], numpy.int64)
     large = next((place for place, value in enumerate(values) if is_integer(type(value)) and not LEAST <= int(value) <= GREATEST), None)
     if large is not None:
-        raise refused(name, large, f"{told(values[large])} is {'too large' if values[large] > 0 else 'below 0'}")
+        raise refused(name, large, f"{quoted(values[large])} is {'too large' if values[large] > 0 else 'below 0'}")
     return numpy.array([*map(numpy.longdouble, values)], numpy.longdouble)
 
 

@@ -9,7 +9,7 @@ import numpy
 
 from chtab.errors import DataFault
 from chtab.files import arc_columns, columns, row_index
-from chtab.files.columns import told
+from chtab.files.columns import quoted
 
 # The attribute in which osmnx has the ways of an edge: one number, or a list of them.
 WAYS = "osmid"
@@ -38,7 +38,7 @@ def columns_of_frame(
 ) -> arc_columns.Columns:
     """The columns with these names, and further ones of `arc_columns.Columns`."""
     if not hasattr(frame, "columns"):
-        raise TypeError(f"the frame is a DataFrame, as pandas.read_csv reads one, not {told(frame)}")
+        raise TypeError(f"the frame is a DataFrame, as pandas.read_csv reads one, not {quoted(frame)}")
     lines = None if geometry is None else column_of(frame, geometry)
     sources, targets, weights = (column_of(frame, name) for name in names)
     index = getattr(frame, "index", None)
@@ -74,7 +74,7 @@ def arcs_of_networkx(
     try:
         return arc_columns.arcs_of(given)
     except DataFault as fault:
-        raise told_of(fault, graph, nodes, edges) from None
+        raise located(fault, graph, nodes, edges) from None
 
 
 def places_of(graph: Any, nodes: Sequence[Any], names: tuple[str | None, str | None]) -> Sequence[list[Any] | None]:
@@ -86,14 +86,14 @@ def places_of(graph: Any, nodes: Sequence[Any], names: tuple[str | None, str | N
     return found if is_there else (None, None)
 
 
-def told_of(fault: DataFault, graph: Any, nodes: Sequence[Any], edges: Sequence[Any]) -> DataFault:
+def located(fault: DataFault, graph: Any, nodes: Sequence[Any], edges: Sequence[Any]) -> DataFault:
     """The fault of a column, with the node or edge of its row."""
     if fault.row is None:
         return fault
     if fault.column in ("nodes", "x", "y"):
-        where = f"node {told(nodes[fault.row])}"
+        where = f"node {quoted(nodes[fault.row])}"
     else:
-        where = "the edge from {} to {}".format(*map(told, edges[fault.row][:2]))
+        where = "the edge from {} to {}".format(*map(quoted, edges[fault.row][:2]))
     hint = ""
     if fault.column in ("x", "y", "geometry") and "crs" in graph.graph and "4326" not in str(graph.graph["crs"]):
         hint = f"; the graph's places are of {graph.graph['crs']}: `osmnx.project_graph(graph, to_crs=4326)` gives degrees"

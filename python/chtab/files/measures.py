@@ -99,7 +99,7 @@ class Measure:
 
     # Answers.
 
-    def told(self, weights: Integers, missing: float | None = None) -> Weights:
+    def in_unit(self, weights: Integers, missing: float | None = None) -> Weights:
         """The answers of weights, an array of int64 with -1 where there is no walk. They have `missing` there, by default -1 if answers are whole,
         and otherwise NaN.
         """
@@ -123,7 +123,7 @@ class Measure:
         import pandas
 
         if not self.is_whole:
-            return pandas.Series(self.told(weights))
+            return pandas.Series(self.in_unit(weights))
         return pandas.Series(pandas.arrays.IntegerArray(numpy.array(weights, numpy.int64), weights < 0))
 
 

@@ -10,7 +10,7 @@ import numpy
 
 from chtab.errors import DataFault
 from chtab.files import columns
-from chtab.files.columns import GREATEST, INTEGERS, LEAST, TUPLES, row_of, told
+from chtab.files.columns import GREATEST, INTEGERS, LEAST, TUPLES, row_of, quoted
 
 if TYPE_CHECKING:
     from numpy.typing import NDArray
@@ -83,7 +83,7 @@ def no_number(name: str, column: NDArray[Any], given: Any) -> DataFault:
     """The fault of the first value that is no number of a node."""
     values = column if column.dtype != object and not isinstance(given, list | tuple) else numpy.array(given, object)
     place = columns.first_of([not is_node(value) for value in values.reshape(-1).tolist()]) or 0
-    return columns.refused(name, row_of(values, place), f"{told(values.reshape(-1).tolist()[place])} is no node: a node is a whole number")
+    return columns.refused(name, row_of(values, place), f"{quoted(values.reshape(-1).tolist()[place])} is no node: a node is a whole number")
 
 
 def is_node(value: object) -> bool:
@@ -127,7 +127,7 @@ class Labels:
         place = columns.first_of(nodes == 0)
         if place is not None:
             row, label = row_of(labels, place), labels.reshape(-1)[place:place + 1].tolist()[0]
-            raise DataFault(f"{name}[{row}]: no node has the label {told(label)}; labels are {self.kind}", name, row)
+            raise DataFault(f"{name}[{row}]: no node has the label {quoted(label)}; labels are {self.kind}", name, row)
         return nodes
 
     def tuples_of(self, name: str, given: Any) -> LabelArray:
@@ -193,7 +193,7 @@ def doubled(name: str, labels: Sequence[Label]) -> DataFault:
     known: dict[Label, int] = {}
     for row, label in enumerate(labels):
         if known.setdefault(label, row) != row:
-            return columns.refused(name, row, f"the label {told(label)} is in row {known[label]} already")
+            return columns.refused(name, row, f"the label {quoted(label)} is in row {known[label]} already")
     raise AssertionError("no label is repeated")
 
 
@@ -201,7 +201,7 @@ def labels_of_ends(names: Sequence[str], sources: LabelArray, targets: LabelArra
     """The labels in either of two columns, in ascending order, and the nodes of both columns, int64 (2, m)."""
     kinds = [columns.kind_of(type(values[:1].tolist()[0])) for values in (sources, targets) if len(values)]
     if len(set(kinds)) > 1:
-        raise columns.refused(names[1], 0, f"the label {told(targets[:1].tolist()[0])} is not one of {kinds[0]}, as those of {names[0]}")
+        raise columns.refused(names[1], 0, f"the label {quoted(targets[:1].tolist()[0])} is not one of {kinds[0]}, as those of {names[0]}")
     if sources.dtype == targets.dtype == numpy.int64:
         values, places = numpy.unique(numpy.concatenate([sources, targets]), return_inverse=True)
     else:

@@ -43,7 +43,7 @@ class Asked(NamedTuple):
         The values of each target, one for each column.
     limits : list of int
         The limits, in the unit of the graph.
-    told : list of number
+    given : list of number
         The limits, in the unit of the caller.
     share : callable, optional
         The share of a value that counts at each of some weights within a limit, both in the unit of the caller; None: all of it.
@@ -54,7 +54,7 @@ class Asked(NamedTuple):
     kind: str
     values: Floats
     limits: list[int]
-    told: list[Any]
+    given: list[Any]
     share: Share | None
     measure: Measure
 
@@ -190,14 +190,14 @@ def begun(kind: str, shape: tuple[int, ...]) -> State:
 def state_of(rows: near_rows.Rows, asked: Asked) -> State:
     """The state of an aggregate over some rows: arrays (rows, c, m)."""
     owners, state = rows.owners(), begun(asked.kind, asked.shape(len(rows)))
-    weights = asked.measure.told(rows.weights)
-    for place, (limit, told) in enumerate(zip(asked.limits, asked.told)):
+    weights = asked.measure.in_unit(rows.weights)
+    for place, (limit, given) in enumerate(zip(asked.limits, asked.given)):
         is_near = rows.weights <= limit
         near, values = owners[is_near], asked.values[rows.places[is_near]]
         if asked.kind in ("min", "max"):
             extremes(state[0][:, :, place], near, values, numpy.minimum if asked.kind == "min" else numpy.maximum)
             continue
-        shares = numpy.ones(len(near)) if asked.share is None else asked.share(weights[is_near], told)
+        shares = numpy.ones(len(near)) if asked.share is None else asked.share(weights[is_near], given)
         for column in range(values.shape[1]):
             parts = PARTS[asked.kind](near, values[:, column], shares, len(rows))
             for array, part in zip(state, parts):

@@ -10,7 +10,7 @@ import numpy
 
 from chtab.errors import DataFault
 from chtab.files import columns, row_index
-from chtab.files.columns import refused, told
+from chtab.files.columns import refused, quoted
 from chtab.roads.groups import Found, Groups
 from chtab.roads.snapping import NONE, Spots
 
@@ -158,7 +158,7 @@ class ArcNames:
 
     def of_others(self, name: str, places: Integers, names: Sequence[Any]) -> Found:
         """Refuses what is no name."""
-        raise refused(name, int(places[0]), f"{told(names[0])} names no arc; names are {NAMES}")
+        raise refused(name, int(places[0]), f"{quoted(names[0])} names no arc; names are {NAMES}")
 
     def of_nodes(self, name: str, places: Integers, names: Sequence[Any]) -> Found:
         """The arcs to and from nodes."""
@@ -172,7 +172,7 @@ class ArcNames:
     def of_ends(self, name: str, places: Integers, sources: Any, targets: Any, keys: LabelArray | None = None) -> Found:
         """The arcs from nodes to others; with keys all arcs of the rows of these edges, which lead back too in a graph without directions."""
         def named(place: int) -> str:
-            return told(tuple(column[place:place + 1].tolist()[0] if isinstance(column, numpy.ndarray) else column[place] for column in parts))
+            return quoted(tuple(column[place:place + 1].tolist()[0] if isinstance(column, numpy.ndarray) else column[place] for column in parts))
 
         parts = [sources, targets] + [keys] * (keys is not None)
         tails, heads = all_of(functools.partial(self.crossings_of, name, places, ends) for ends in (sources, targets))
@@ -215,7 +215,7 @@ class ArcNames:
             except ValueError as fault:
                 raise refused(name, place, str(fault).removeprefix(f"{name}[0]: ")) from None
             except TypeError:
-                raise refused(name, place, f"{told(label)} is no label; labels are {getattr(own, 'kind', columns.INTEGERS)}") from None
+                raise refused(name, place, f"{quoted(label)} is no label; labels are {getattr(own, 'kind', columns.INTEGERS)}") from None
         return nodes
 
     def of_spots(self, name: str, places: Integers, given: Sequence[Spots]) -> Found:
@@ -258,7 +258,7 @@ class ArcNames:
         """The arcs of all streets that have these names, or these numbers."""
         streets = self.layers.streets
         if streets is None:
-            raise refused(name, int(places[0]), f"{told(names[0])} names no arc, as streets have no names here; names are {NAMES}")
+            raise refused(name, int(places[0]), f"{quoted(names[0])} names no arc, as streets have no names here; names are {NAMES}")
         by_name: dict[str, list[int]] = {}
         for number, street in enumerate(streets.streets, 1):
             for word in {street.name, *street.ref.split(", ")} - {""}:
@@ -266,7 +266,7 @@ class ArcNames:
         found = self.of_items(by_name, names, Groups.of(numpy.array(streets.of_arcs, numpy.int64)))
         missing = columns.first_of(found.counts(len(places)) == 0)
         if missing is not None:
-            raise refused(name, int(places[missing]), f"no street of the map is called {told(names[missing])}")
+            raise refused(name, int(places[missing]), f"no street of the map is called {quoted(names[missing])}")
         return found.through(places)
 
     def of_items(self, numbers_by: dict[Any, list[int]], wanted: Sequence[Any], arcs: Groups) -> Found:
@@ -299,8 +299,8 @@ class ArcNames:
             raise refused(name, int(found.places[twice]), f"there is another value for row {found.items[twice]}")
         lacking = columns.first_of(place_of[self.rows] < 0)
         if lacking is not None:
-            told_of = f"{name} has {len(column):,} rows, and there are {len(place_of):,} rows of arcs"
-            raise DataFault(f"{told_of}: row {self.rows[lacking]} has no value", name)
+            counts = f"{name} has {len(column):,} rows, and there are {len(place_of):,} rows of arcs"
+            raise DataFault(f"{counts}: row {self.rows[lacking]} has no value", name)
         return column if numpy.array_equal(place_of, numpy.arange(len(column))) else column.iloc[numpy.maximum(place_of, 0)]
 
 

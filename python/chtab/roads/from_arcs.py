@@ -96,7 +96,7 @@ def see_that_same_nodes(labels: NDArray[Any], own: NDArray[Any]) -> None:
     if len(own) != len(labels):
         raise DataFault(f"like has {len(labels):,} nodes, and there are {len(own):,} here", "nodes")
     apart = next(row for row, (one, other) in enumerate(zip(own.tolist(), labels.tolist())) if one != other)
-    raise DataFault(f"node {columns.told(own[apart])} is {columns.told(labels[apart])} in like: both networks have the same nodes", "nodes", apart)
+    raise DataFault(f"node {columns.quoted(own[apart])} is {columns.quoted(labels[apart])} in like: both networks have the same nodes", "nodes", apart)
 
 
 def with_nodes_of(given: arc_columns.Columns, like: Any) -> arc_columns.Columns:
@@ -124,7 +124,7 @@ def with_turns_of(arcs: arc_columns.Arcs, like: Any) -> arc_columns.Arcs:
         labels = like.labels[[apart - 1, int(ends[apart]) - 1]].tolist()
         text = "turns are restricted in like, where trips to the node {} end at the node {}, and no arc leads there from it here: give the arcs of " \
             "`like.graph` with other weights, or leave `like` out"
-        raise DataFault(text.format(*map(columns.told, labels)), "targets")
+        raise DataFault(text.format(*map(columns.quoted, labels)), "targets")
     return dataclasses.replace(arcs, turns=like.coordinates.turns())
 
 

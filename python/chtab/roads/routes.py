@@ -56,7 +56,7 @@ class Routes(showing.OnMap, collections.abc.Sequence):
         labels, measure = self.layers.labels, self.layers.measure
         sources, targets = (labels.of(column).tolist() for column in self.pairs.T)
         heads = labels.of(self.heads).tolist()
-        weights = measure.told(self.arc_weights).tolist()
+        weights = measure.in_unit(self.arc_weights).tolist()
         found = zip(sources, targets, self.paths.weights.tolist(), self.firsts.tolist(), self.firsts[1:].tolist())
         return [
             Answer(source, target, None, None, None) if weight < 0

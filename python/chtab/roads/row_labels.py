@@ -7,7 +7,7 @@ import numpy
 
 from chtab.errors import DataFault
 from chtab.files import columns, row_index
-from chtab.files.columns import refused, told
+from chtab.files.columns import refused, quoted
 from chtab.roads.groups import Found, Groups
 
 if TYPE_CHECKING:
@@ -58,7 +58,7 @@ class RowLabels:
         if missing is not None and columns.is_integer(type(label_of(wanted, missing))):
             raise refused(name, missing, self.why_missing(label_of(wanted, missing)))
         if missing is None and several is not None:
-            raise refused(name, several, f"{counts[several]} rows of the frame are called {told(label_of(wanted, several))}")
+            raise refused(name, several, f"{counts[several]} rows of the frame are called {quoted(label_of(wanted, several))}")
         return found if missing is None else None
 
     def matched(self, labels: LabelArray, wanted: LabelArray) -> Found:
@@ -73,8 +73,8 @@ class RowLabels:
     def why_missing(self, label: int) -> str:
         """Why a number names no row."""
         if self.covered:
-            return f"no row of the frame is called {told(label)}"
-        return f"nothing says which row is called {told(label)}: give an array, or a list, in the order of rows"
+            return f"no row of the frame is called {quoted(label)}"
+        return f"nothing says which row is called {quoted(label)}: give an array, or a list, in the order of rows"
 
     def see_that_plain(self, name: str, places: Integers, rows: Integers) -> None:
         """Refuses the first number of a row that is also what another row is called."""

@@ -11,7 +11,7 @@ from chtab import files
 from chtab.engine import making
 from chtab.errors import DataFault
 from chtab.files import arc_columns, columns, edge_lines, measures
-from chtab.files.columns import told
+from chtab.files.columns import quoted
 from chtab.files.frames import column_of
 from chtab.roads.arc_names import ArcNames
 from chtab.roads.snapping import Spots
@@ -146,7 +146,7 @@ class Given(NamedTuple):
         rows = self.names.rows_of_index(name, index)
         if rows is None or len(numpy.unique(rows.items)) < len(rows.items):
             place = int(index.duplicated().argmax())
-            raise columns.refused(name, place, f"the label {told(index[place])} is in the index already")
+            raise columns.refused(name, place, f"the label {quoted(index[place])} is in the index already")
 
     # What is weighed anew.
 
@@ -159,7 +159,7 @@ class Given(NamedTuple):
             found = self.names.of_list("weights", list(weights))
             closed = columns.first_of(found.counts(len(weights)) == 0)
             if closed is not None:
-                raise columns.refused("weights", closed, f"{told(list(weights)[closed])} has no arc that is open")
+                raise columns.refused("weights", closed, f"{quoted(list(weights)[closed])} has no arc that is open")
         elif hasattr(weights, "iloc"):
             found = self.names.of_index("weights", weights.index)
             self.see_that_once("weights", weights.index)

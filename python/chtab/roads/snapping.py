@@ -18,7 +18,7 @@ import numpy
 from chtab.engine.walks import ranges
 from chtab.errors import ChtabError, DataFault, TooFar
 from chtab.files import row_index
-from chtab.files.columns import degrees_in, see_that_long, told
+from chtab.files.columns import degrees_in, see_that_long, quoted
 from chtab.files.showing import SHOWN, table_text
 from chtab.roads.lines import Lines, metres_between
 
@@ -329,7 +329,7 @@ class Roads:
             Each road is now farther from a place than it may be.
         """
         if not isinstance(spots, Spots):
-            raise TypeError(f"{name} are Spots, as `snap` gives them, not {told(spots)}")
+            raise TypeError(f"{name} are Spots, as `snap` gives them, not {quoted(spots)}")
         if spots.origin.roads == self.origin.roads:
             return spots
         if spots.origin.nodes != self.origin.nodes or not (spots.sides == FORWARD | BACKWARD).all():

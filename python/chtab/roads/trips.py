@@ -124,8 +124,8 @@ def limits_in(measure: Measure, limits: Any) -> list[tuple[int, float]]:
     if not given or min(wholes) <= 0:
         raise ValueError("limits are one or several numbers above 0, and none is infinite")
     numbers = [measure.number("limits", limit) for limit in given]
-    told = [int(each) if each == math.floor(each) else float(each) for each in numbers]
-    return sorted(zip(wholes, told), reverse=True)
+    shown = [int(each) if each == math.floor(each) else float(each) for each in numbers]
+    return sorted(zip(wholes, shown), reverse=True)
 
 
 def see_that_one(spot: Spots) -> None:
