@@ -560,8 +560,9 @@ class Network:
 
         - a row of the columns or of the frame that the network was made of, from 0 on, or of files
           the arc's place in the graph;
-        - `(source, target)`, all arcs from one node to another; `(source, target, key)`, the edge
-          of a graph of networkx or osmnx with this key; `(node,)`, all arcs to and from a node;
+        - `(source, target)`, all arcs from one node to another; `{node, node}`, all arcs between
+          two nodes, in whichever directions there are some; `(source, target, key)`, the edge of a
+          graph of networkx or osmnx with this key; `(node,)`, all arcs to and from a node;
         - spots of `snap`: at each place the road, in both directions, or the crossing if it is less
           than a metre away;
         - `"way/23456"`, a way of OpenStreetMap, or the name or the number of a street of a map that

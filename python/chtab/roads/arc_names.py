@@ -22,20 +22,13 @@ if TYPE_CHECKING:
 # A way of OpenStreetMap, as the addresses of its pages have it.
 WAY = re.compile(r"way/(-?\d+)", re.ASCII)
 NAMES = (
-    "a row, (source, target), (source, target, key), (node,), spots of `snap`, 'way/NUMBER' or a "
-    "street"
+    "a row, (source, target), (source, target, key), {node, node}, (node,), spots of `snap`, "
+    "'way/NUMBER' or a street"
 )
-# The kinds of names: rows, spots, ways and streets; and by their lengths those that name nodes.
-ROW, SPOTS, WAYS, STREETS, NODE, PAIR, EDGE, OTHER = (
-    "row",
-    "spots",
-    "ways",
-    "streets",
-    "node",
-    "pair",
-    "edge",
-    "other",
-)
+# The kinds of names: rows, spots, ways and streets; those of both directions between two nodes; and by
+# their lengths those that name nodes.
+ROW, SPOTS, WAYS, STREETS, BOTH = "row", "spots", "ways", "streets", "both"
+NODE, PAIR, EDGE, OTHER = "node", "pair", "edge", "other"
 BY_NODES = {1: NODE, 2: PAIR, 3: EDGE}
 
 
@@ -47,6 +40,8 @@ def kind_of(name: Any) -> str:
         return WAYS if WAY.fullmatch(name) else STREETS
     if isinstance(name, Spots):
         return SPOTS
+    if isinstance(name, set | frozenset):
+        return BOTH if len(name) == 2 else OTHER
     return BY_NODES.get(len(name), OTHER) if isinstance(name, tuple | list) else OTHER
 
 
@@ -122,6 +117,7 @@ class ArcNames:
             SPOTS: self.of_spots,
             WAYS: self.of_ways,
             STREETS: self.of_streets,
+            BOTH: self.of_both,
             NODE: self.of_nodes,
             PAIR: self.of_tuples,
             EDGE: self.of_tuples,
@@ -221,6 +217,19 @@ class ArcNames:
         return self.by_node.of_each(
             self.crossings_of(name, places, [label for label, in names])
         ).through(places)
+
+    def of_both(self, name: str, places: Integers, names: Sequence[Any]) -> Found:
+        """The arcs between two nodes in either direction, of which there may be one alone."""
+        ends = [list(column) for column in zip(*map(tuple, names))]
+        one, other = (self.crossings_of(name, places, labels) for labels in ends)
+        keys = numpy.append(self.key_of(one, other), self.key_of(other, one))
+        found = self.by_ends.of_each(keys)
+        found = Found(found.items, found.places % len(places))
+        missing = columns.first_of(found.counts(len(places)) == 0)
+        if missing is not None:
+            text = f"there is no arc between the nodes of {quoted(names[missing])}"
+            raise refused(name, int(places[missing]), text)
+        return found.through(places)
 
     def of_tuples(self, name: str, places: Integers, names: Sequence[Any]) -> Found:
         """The arcs between two nodes, or the edges with keys, all of one length."""

@@ -127,19 +127,27 @@ class Routes(showing.OnMap, collections.abc.Sequence):
             )
         return found
 
-    def to_frame(self) -> pandas.DataFrame:
+    def to_frame(self, metres: bool = False) -> pandas.DataFrame:
         """Returns the routes as a frame.
+
+        Parameters
+        ----------
+        metres : bool
+            Whether the frame has a column of the metres along each route.
 
         Returns
         -------
         pandas.DataFrame
             A row for each pair, called by its place, `query`: source, target, weight (NA where no
-            path leads), how many arcs (NA), and the list of nodes (empty).
+            path leads), how many arcs (NA), the metres (NaN) if they are wanted, and the list of
+            nodes (empty).
 
         Raises
         ------
         ImportError
             pandas is not installed.
+        ChtabError
+            Metres are wanted, and the network has no places of nodes.
         """
         import pandas
 
@@ -147,12 +155,28 @@ class Routes(showing.OnMap, collections.abc.Sequence):
         is_missing = self.paths.weights < 0
         frame = pandas.DataFrame(rows, columns=["source", "target", "nodes"])
         frame.insert(2, "weight", self.layers.measure.series(self.paths.weights))
-        frame.insert(
-            3,
-            "arcs",
-            pandas.Series(pandas.arrays.IntegerArray(self.paths.counts.copy(), is_missing)),
-        )
+        counts = pandas.arrays.IntegerArray(self.paths.counts.copy(), is_missing)
+        frame.insert(3, "arcs", pandas.Series(counts))
+        if metres:
+            along = numpy.where(is_missing, numpy.nan, self.lengths())
+            frame.insert(4, "metres", along)
         return frame.rename_axis("query")
+
+    def lengths(self) -> NDArray[numpy.float64]:
+        """Returns the metres along each route, 0 where no path leads.
+
+        Returns
+        -------
+        array of float64, shape (n,)
+            The metres along roads, with their bends if the network knows them.
+
+        Raises
+        ------
+        ChtabError
+            The network has no places of nodes.
+        """
+        of_arcs = self.layers.roads.nanometres[self.paths.arcs].astype(numpy.int64)
+        return numpy.diff(numpy.append(0, numpy.cumsum(of_arcs))[self.firsts]) * 1e-9
 
     def to_geojson(self, names: dict | None = None) -> dict:
         """Returns the routes as lines on a map, which follow the bends of roads if the network

@@ -33,6 +33,8 @@ NONE = -1
 FORWARD, BACKWARD = 1, 2
 # A place that is less than this many metres from an end of its road is at the end.
 AT_END = 1.0
+# Spots of two networks that are at most this many metres apart are at the same point.
+SAME = 0.01
 # The least part of a road between its end and a spot that is not at the end.
 INSIDE = 1e-9
 # Metres in a nanometre.
@@ -441,7 +443,7 @@ class Roads:
         if spots.origin.nodes != self.origin.nodes or not len(self):
             return spots, numpy.zeros(len(spots), bool)
         found = replace(self.find_any(*spots.places.T), sides=spots.sides)
-        return found, metres_between(found.longitudes, found.latitudes, spots.longitudes, spots.latitudes) < AT_END
+        return found, metres_between(found.longitudes, found.latitudes, spots.longitudes, spots.latitudes) <= SAME
 
     def sides_of(self, arcs: Integers) -> Integers:
         """The directions in which arcs lead along their roads, `FORWARD` or `BACKWARD`."""
