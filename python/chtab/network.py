@@ -561,8 +561,9 @@ class Network:
 
         - a row of the columns or of the frame that the network was made of, from 0 on, or of files
           the arc's place in the graph;
-        - `(source, target)`, all arcs from one node to another; `(source, target, key)`, the edge
-          of a graph of networkx or osmnx with this key; `(node,)`, all arcs to and from a node;
+        - `(source, target)`, all arcs from one node to another; `{node, node}`, all arcs between
+          two nodes, in whichever directions there are some; `(source, target, key)`, the edge of a
+          graph of networkx or osmnx with this key; `(node,)`, all arcs to and from a node;
         - spots of `snap`: at each place the road, in both directions, or the crossing if it is less
           than a metre away;
         - `"way/23456"`, a way of OpenStreetMap, or the name or the number of a street of a map that
@@ -696,7 +697,7 @@ class Network:
             found = self._few_distances(pairs)
         if found is None:
             found = self._all_distances(pairs, targets, progress)
-        return self._measure.told(found, missing)
+        return self._measure.in_unit(found, missing)
 
     @timed
     def _all_distances(
@@ -748,7 +749,7 @@ class Network:
         ValueError, ProgramFault, TimedOut
             As `distances` raises them; or a limit is out of its range.
         """
-        return self._measure.told(self._table(sources, targets, within, progress), missing)
+        return self._measure.in_unit(self._table(sources, targets, within, progress), missing)
 
     def _table(
         self, sources: Nodes, targets: Nodes, within: Limit, progress: Progress,
@@ -797,7 +798,7 @@ class Network:
         labels = self._layers.labels
         index, columns = labels.index_of("source", sources), labels.index_of("target", targets)
         if not self._measure.is_whole:
-            return pandas.DataFrame(self._measure.told(table), index, columns)
+            return pandas.DataFrame(self._measure.in_unit(table), index, columns)
         cells = {place: self._measure.series(column).array for place, column in enumerate(table.T)}
         return pandas.DataFrame(cells, index).set_axis(columns, axis=1)
 
@@ -1046,7 +1047,7 @@ class Network:
         asked = questions.asked(self._trips, sources, targets, direction)
         question = asked.near(count, self._measure.limit("within", within))
         rows = blocks.rows(self._engine, question, workers, progress)
-        return Near(rows, *asked.labels(), self._measure.told(rows.weights))
+        return Near(rows, *asked.labels(), self._measure.in_unit(rows.weights))
 
     @by_name("count", "within", "direction")
     @timed
@@ -1101,9 +1102,9 @@ class Network:
         places, weights = numpy.full((2, len(rows), max(1, question.most())), NO_WALK)
         at = rows.owners(), rows.ranks()
         places[at], weights[at] = rows.places, rows.weights
-        told = self._measure.told(weights, missing)
+        found = self._measure.in_unit(weights, missing)
         labels = asked.labels()
-        return Nearest.of(places, told, *labels, self._layers, asked.source_places())
+        return Nearest.of(places, found, *labels, self._layers, asked.source_places())
 
     @by_name("sources", "targets", "aggregate", "decay", "direction")
     @timed
@@ -1270,7 +1271,7 @@ class Network:
         ProgramFault, TimedOut
             As `distances` raises them.
         """
-        return self._measure.told(self._trips.weights(*self._trips.pairs(starts, ends)), missing)
+        return self._measure.in_unit(self._trips.weights(*self._trips.pairs(starts, ends)), missing)
 
     @by_name("within")
     @timed
@@ -1300,7 +1301,7 @@ class Network:
         """
         limit, roads = self._measure.limit("within", within), self.roads
         table = self._trips.table(roads.own("starts", starts), roads.own("ends", ends), limit)
-        return self._measure.told(table, missing)
+        return self._measure.in_unit(table, missing)
 
     @timed
     def trip_routes(self, starts: Spots, ends: Spots) -> TripRoutes:
@@ -1356,7 +1357,7 @@ class Network:
         found = self._trips.reach(self._trips.one("spot", spot), limit)
         if self._has_turns:
             found = found[self._layers.ends_of(self._layers.all_nodes) - 1]
-        return self._measure.told(found, missing)
+        return self._measure.in_unit(found, missing)
 
     @timed
     def isochrones(self, spot: Spots, limits: ArrayLike) -> Isochrones:
@@ -1390,8 +1391,8 @@ class Network:
         spot, asked = self._trips.one("spot", spot), limits_in(self._measure, limits)
         areas = self._trips.isochrones(spot, [limit for limit, _ in asked])
         features = [
-            geojson.feature(area, {"limit": told}, "MultiPolygon")
-            for (_, told), area in zip(asked, areas)
+            geojson.feature(area, {"limit": limit}, "MultiPolygon")
+            for (_, limit), area in zip(asked, areas)
         ]
         return Isochrones(geojson.collection(features))
 

@@ -1,4 +1,5 @@
-"""The types of arguments and results, for annotations: `from chtab.typing import Integers`. It needs numpy."""
+"""The types of arguments and results, for annotations: `from chtab.typing import Integers`. It
+needs numpy."""
 import os
 from collections.abc import Iterable, Mapping
 from typing import IO, Any, Literal, TypeAlias

@@ -540,6 +540,28 @@ def test_a_network_goes_back_to_frames():
         chtab.Network.from_geodataframe(geopandas.GeoDataFrame(geometry=lines), both_ways=True, program=PROGRAM).close()
 
 
+def test_routes_have_metres():
+    import numpy
+
+    with of_country() as network:
+        lengths = numpy.append(network.roads.lines.metres, 0)[network.roads.road_of]
+        pairs = [(1, 500), (500, 9), (7, 7)]
+        frame = network.routes(pairs).to_frame(metres=True)
+        assert [*frame.columns] == ["source", "target", "weight", "arcs", "metres", "nodes"]
+        assert numpy.allclose(frame.metres, network.along(lengths, pairs), atol=1e-6) and frame.metres[2] == 0
+        assert "metres" not in network.routes(pairs).to_frame()
+
+
+def test_a_road_is_closed_in_whichever_directions_it_has():
+    """By a set of its nodes: both directions, or the one that there is."""
+    for both_ways, left in (True, [[0, -1, -1], [-1, 0, 2], [-1, 2, 0]]), (False, [[0, -1, -1], [-1, 0, 2], [-1, -1, 0]]):
+        with of_frame(frame_of(), both_ways=both_ways) as network, network.changed(closed=[{"y", "x"}]) as closed:
+            assert closed.table(["x", "y", "z"], ["x", "y", "z"], missing=-1).tolist() == left
+            fault = raises(chtab.DataFault, network.changed, None, [0, {"x", "z"}], told="there is no arc between the nodes of")
+            assert fault.row == 1
+            raises(chtab.DataFault, network.changed, None, [{"x"}], told="names no arc")
+
+
 def test_answers_print_shortly():
     with of_country() as network:
         spots = network.snap(*zip(VADUZ, MALBUN))

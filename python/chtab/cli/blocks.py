@@ -64,7 +64,8 @@ def main(arguments: Sequence[str]) -> None:
     from chtab.engine.opening import Running
 
     if words.scheduler:
-        # A closed client of Dask may leave a future behind, about which asyncio would write a message.
+        # A closed client of Dask may leave a future behind, about which asyncio would write a
+        # message.
         logging.getLogger("asyncio").setLevel(logging.CRITICAL)
     sources, targets = files.read_list(words.sources), files.read_list(words.targets)
     saved = os.path.abspath(words.saved) if words.saved else None

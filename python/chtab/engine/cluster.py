@@ -1,5 +1,5 @@
-"""Questions by the workers of a cluster of Dask. Each worker keeps the networks that it was asked for, and
-needs the files, the program and the library at the same paths."""
+"""Questions by the workers of a cluster of Dask. Each worker keeps the networks that it was asked
+for, and needs the files, the program and the library at the same paths."""
 from __future__ import annotations
 
 import os
@@ -40,7 +40,8 @@ def send_package(client: Any) -> None:
 
 
 class Tasks:
-    """Tasks of a cluster, and their values as they come. What is still under way is ended with them."""
+    """Tasks of a cluster, and their values as they come. What is still under way is ended with
+    them."""
 
     def __init__(self, client: Any) -> None:
         import distributed
@@ -55,7 +56,8 @@ class Tasks:
         self.completed.add(future)
 
     def __iter__(self) -> Iterator[tuple[Any, Any]]:
-        """Yields what was begun with the value of its call. A call that is begun meanwhile follows."""
+        """Yields what was begun with the value of its call. A call that is begun meanwhile
+        follows."""
         for future in self.completed:
             yield self.begun.pop(future), future.result()
 

@@ -1,5 +1,5 @@
-"""The deadlines of answers. The `timeout` of a network covers a whole call, however many questions of
-the library it asks, and is checked between them."""
+"""The deadlines of answers. The `timeout` of a network covers a whole call, however many questions
+of the library it asks, and is checked between them."""
 from __future__ import annotations
 
 import contextlib
@@ -39,7 +39,8 @@ CALL = OfThread()
 
 
 def current(seconds: float | None) -> Deadline:
-    """The deadline of the call that this thread is making; outside of a call, a new one from now."""
+    """The deadline of the call that this thread is making; outside of a call, a new one from
+    now."""
     return CALL.deadline or Deadline(seconds)
 
 

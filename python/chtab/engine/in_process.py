@@ -1,4 +1,5 @@
-"""Answers by the library for C, in this process: each thread has a handle on the one network in memory."""
+"""Answers by the library for C, in this process: each thread has a handle on the one network in
+memory."""
 from __future__ import annotations
 
 import contextlib
@@ -23,8 +24,9 @@ if TYPE_CHECKING:
     from chtab.engine.progress import Asked
     from chtab.typing import Integers
 
-# The most that one call of the library answers: distances, routes, and sources and targets of a table.
-# Hardly any call then takes more than a second. With a time limit a table has smaller blocks.
+# The most that one call of the library answers: distances, routes, and sources and targets of a
+# table. Hardly any call then takes more than a second. With a time limit a table has smaller
+# blocks.
 PAIRS, ROUTES, SIDE, SHORT = 1 << 13, 1 << 11, 1 << 12, 1 << 10
 # How many cells of a table are worth a further thread, which searches from each target once more.
 WORTH = 1 << 20
@@ -52,14 +54,16 @@ class OfThread(threading.local):
 
 
 class InProcess:
-    """Answers questions about nodes, which count from 1, of any number of threads and forked processes.
+    """Answers questions about nodes, which count from 1, of any number of threads and forked
+    processes.
 
-    The first question of a thread makes a handle for it. All handles share one network in memory, which
-    the first handle opens. That handle belongs to the first thread that asks, and after the end of this
-    thread to the next new one. Large questions are answered by up to `setting.workers` threads.
+    The first question of a thread makes a handle for it. All handles share one network in memory,
+    which the first handle opens. That handle belongs to the first thread that asks, and after the
+    end of this thread to the next new one. Large questions are answered by up to `setting.workers`
+    threads.
 
-    The first question of a forked process opens the network anew, and leaves the handles of its parent
-    alone.
+    The first question of a forked process opens the network anew, and leaves the handles of its
+    parent alone.
 
     Parameters
     ----------
@@ -124,8 +128,8 @@ class InProcess:
         return handle
 
     def built(self) -> bytes | None:
-        """The hierarchy of a network that has none saved, where several workers of the program build it;
-        None where the library builds it, which starts no threads."""
+        """The hierarchy of a network that has none saved, where several workers of the program
+        build it; None where the library builds it, which starts no threads."""
         setting = self.setting
         if setting.workers == 1:
             return None
@@ -135,9 +139,9 @@ class InProcess:
             return contents_of(path)
 
     def opened_like(self, graph: bytes, fresh: int) -> library.Handle:
-        """A handle in the network of another graph with as many nodes, whose hierarchy is built in the
-        order of this one's: only the last `fresh` per cent of the nodes are ordered afresh. This network
-        goes on answering meanwhile."""
+        """A handle in the network of another graph with as many nodes, whose hierarchy is built in
+        the order of this one's: only the last `fresh` per cent of the nodes are ordered afresh.
+        This network goes on answering meanwhile."""
         giver, handle = self.first_handle().share(), library.Handle(self.calls)
         # The giver is closed when the call ends, also where the wait for it is broken off.
         interruptible(LONG, handle.open_like, graph, giver, fresh)
@@ -178,10 +182,11 @@ class InProcess:
 
     @contextlib.contextmanager
     def lent_handle(self) -> Iterator[library.Handle]:
-        """Lends a handle to one question of a thread that is not the caller's, or on near rows, and frees
-        its places afterwards."""
+        """Lends a handle to one question of a thread that is not the caller's, or on near rows, and
+        frees its places afterwards."""
         handle = self.spare_handle()
-        # A process that is forked meanwhile has a list of its own, and this handle stays with its parent.
+        # A process that is forked meanwhile has a list of its own, and this handle stays with its
+        # parent.
         spare = self.spare
         yield handle
         # A network that was closed meanwhile has answered this question.
@@ -209,8 +214,8 @@ class InProcess:
             return list(self.handles)
 
     def close(self) -> None:
-        """Closes all handles, each once the call that uses it has ended. A question of another thread
-        fails if it needs further calls."""
+        """Closes all handles, each once the call that uses it has ended. A question of another
+        thread fails if it needs further calls."""
         self.is_closed = True
         if self.owner != os.getpid():
             self.leave_parent()
@@ -228,11 +233,17 @@ class InProcess:
     # Questions.
 
     def in_parts(
-        self, count: int, most: int, call: Callable[[library.Handle, slice], Any], name: str, things: str,
-        progress: Asked = None, searches: int = 1,
+        self,
+        count: int,
+        most: int,
+        call: Callable[[library.Handle, slice], Any],
+        name: str,
+        things: str,
+        progress: Asked = None,
+        searches: int = 1,
     ) -> None:
-        """Calls for all parts of `count` items, each of so many searches and at most `most` items. `name`
-        and `things` are what progress says is done."""
+        """Calls for all parts of `count` items, each of so many searches and at most `most` items.
+        `name` and `things` are what progress says is done."""
         # Loading is not counted, and comes before the time is.
         own, caller, timeout = self.handle(), threading.current_thread(), self.setting.timeout
         scale = 1 if self.nodes >= SMALL else SEARCHES
@@ -259,13 +270,14 @@ class InProcess:
         return sources, targets
 
     def few_distances(self, sources: Sequence[int], targets: Sequence[int]) -> list[int] | None:
-        """The distances of at most `library.FEW` pairs of nodes from 1 to `nodes`, given as two lists;
-        None if this needs arrays."""
+        """The distances of at most `library.FEW` pairs of nodes from 1 to `nodes`, given as two
+        lists; None if this needs arrays."""
         own = self.handle()
         return own.few_distances([node - 1 for node in sources], [node - 1 for node in targets])
 
     def distances(self, pairs: Integers, progress: Asked = None) -> Integers:
-        """The distances of pairs of nodes, an array (n, 2): int64 (n,), -1 where there is no walk."""
+        """The distances of pairs of nodes, an array (n, 2): int64 (n,), -1 where there is no
+        walk."""
         sources, targets = self.columns(pairs)
         found = numpy.empty(len(sources), numpy.int64)
 
@@ -276,15 +288,21 @@ class InProcess:
         return found
 
     def table(
-        self, sources: Integers, targets: Integers, within: int | None = None, progress: Asked = None,
+        self,
+        sources: Integers,
+        targets: Integers,
+        within: int | None = None,
+        progress: Asked = None,
     ) -> Integers:
-        """The distances from each node of one column to each of another, int64 (k, l), -1 where there is
-        no walk, or none of at most `within`."""
+        """The distances from each node of one column to each of another, int64 (k, l), -1 where
+        there is no walk, or none of at most `within`."""
         rows, columns = (library.nodes_of(nodes, self.nodes) for nodes in (sources, targets))
         found = numpy.empty((len(rows), len(columns)), numpy.int64)
         limit = library.NO_LIMIT if within is None else within
         side = SIDE if self.setting.timeout is None else SHORT
-        height, width = self.height_of(len(rows), len(columns), side), max(1, min(len(columns), side))
+        height, width = self.height_of(len(rows), len(columns), side), max(
+            1, min(len(columns), side)
+        )
         across = -(-len(columns) // width)
 
         def ask(handle: library.Handle, part: slice) -> None:
@@ -314,23 +332,29 @@ class InProcess:
                 weights, ends, _, lines = handle.routes_with_lines(*some, self.room)
                 if not len(weights):
                     self.make_room()
-                made.append((start, (weights, numpy.diff(ends, prepend=0), lines[lines != library.NO_LINE])))
+                made.append(
+                    (start, (weights, numpy.diff(ends, prepend=0), lines[lines != library.NO_LINE]))
+                )
                 start += len(weights)
 
         self.in_parts(len(sources), ROUTES, ask, "routes", "pairs", progress)
         nothing: Any = (0, tuple(numpy.zeros((3, 0), numpy.int64)))
-        columns: Any = zip(*(each for _, each in sorted([nothing, *made], key=lambda each: each[0])))
+        columns: Any = zip(
+            *(each for _, each in sorted([nothing, *made], key=lambda each: each[0]))
+        )
         weights, counts, lines = (numpy.concatenate(column) for column in columns)
         return Paths(weights, numpy.maximum(counts - 1, 0), lines.astype(numpy.int64))
 
     def sums(
         self, pairs: Integers, values: NDArray[numpy.uint64],
     ) -> tuple[Integers, NDArray[numpy.uint64]]:
-        """The weights of the routes of pairs, -1 where there is no walk, and the sums of the values of
-        their arcs, 0 where there is no walk. `values` has one for each arc of the graph. Raises a
-        `ValueError` if a sum is 2^64 or more."""
+        """The weights of the routes of pairs, -1 where there is no walk, and the sums of the values
+        of their arcs, 0 where there is no walk. `values` has one for each arc of the graph. Raises
+        a `ValueError` if a sum is 2^64 or more."""
         sources, targets = self.columns(pairs)
-        weights, sums = numpy.empty(len(sources), numpy.int64), numpy.empty(len(sources), numpy.uint64)
+        weights, sums = numpy.empty(len(sources), numpy.int64), numpy.empty(
+            len(sources), numpy.uint64
+        )
 
         def ask(handle: library.Handle, part: slice) -> None:
             weights[part], sums[part] = handle.route_sums(sources[part], targets[part], values)

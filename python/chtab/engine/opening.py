@@ -1,5 +1,5 @@
-"""What it takes to open a network: its files, and how they are answered from. Another process can open it
-anew by the same."""
+"""What it takes to open a network: its files, and how they are answered from. Another process can
+open it anew by the same."""
 from __future__ import annotations
 
 import numbers
@@ -69,8 +69,8 @@ class Running:
     asked: measures.Asked = measures.Asked()
     # Where the building of a network of arcs reports its progress, as `progress_of` takes it.
     progress: Progress = None
-    # The network with the same nodes in whose order one of arcs is built, and how many per cent of the
-    # nodes are ordered afresh.
+    # The network with the same nodes in whose order one of arcs is built, and how many per cent of
+    # the nodes are ordered afresh.
     like: Any = None
     fresh: int = 5
 
@@ -100,8 +100,8 @@ def see_that_count(name: str, value: Any, least: int, most: int) -> None:
 
 
 def library_of(program: str, choice: Path | bool | None) -> str:
-    """The path of the library: the one that the caller names, or the one beside the program, which is
-    made first where that can be done. Raises a `ChtabError` if there is none."""
+    """The path of the library: the one that the caller names, or the one beside the program, which
+    is made first where that can be done. Raises a `ChtabError` if there is none."""
     if choice is False:
         text = "library=False has no effect: runs of the program no longer answer"
         warnings.warn(text, FutureWarning, stacklevel=6)
@@ -113,7 +113,10 @@ def library_of(program: str, choice: Path | bool | None) -> str:
         see_to(program)
         found = library.beside(program)
     if found is None:
-        why = f"there is no {library.NAME} beside the program {program}, or it is older than the sources"
+        why = (
+            f"there is no {library.NAME} beside the program {program}, or it is older than the "
+            "sources"
+        )
         raise ChtabError(f"{why}; in a checkout `packaging/library` makes it, by gcc")
     return found
 
@@ -148,7 +151,8 @@ def of_folder(
     folder: str, running: Running, saved: Path | None = None, coordinates: Path | None = None,
     bends: Path | None = None,
 ) -> Opening:
-    """The opening of a network that was made in a folder. Given files replace those of the folder."""
+    """The opening of a network that was made in a folder. Given files replace those of the
+    folder."""
     names = making.GRAPH, making.SAVED, making.LABELS
     graph, own, labelling = (os.path.join(folder, name) for name in names)
     saved, coordinates, bends = paths_of(saved or own, coordinates, bends)
@@ -171,8 +175,9 @@ def see_that_readable(*paths: str | None) -> None:
 def made(
     arcs: Arcs, folder: Path | None, running: Running,
 ) -> tuple[Opening, folders.Folder | None, Handle | None]:
-    """The opening of arcs, whose files are written; the temporary folder that keeps them, None where the
-    caller names one; and a handle of the library in the network, if it was built in this process."""
+    """The opening of arcs, whose files are written; the temporary folder that keeps them, None
+    where the caller names one; and a handle of the library in the network, if it was built in this
+    process."""
     program = program_of(running.program)
     see_to(program)
     # Said before a hierarchy is built.

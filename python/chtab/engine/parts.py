@@ -13,8 +13,8 @@ from chtab.engine.progress import progress_of
 if TYPE_CHECKING:
     from chtab.engine.progress import Asked, Progress
 
-# With a time limit a part takes about so many seconds; the first one has so many items, and the next
-# one has at most so many times as many.
+# With a time limit a part takes about so many seconds; the first one has so many items, and the
+# next one has at most so many times as many.
 SECONDS, FIRST, GROWTH = 0.02, 64, 4
 
 
@@ -31,7 +31,9 @@ class Parts:
         Counts the items that are done.
     """
 
-    def __init__(self, count: int, most: int, deadline: deadlines.Deadline, progress: Progress) -> None:
+    def __init__(
+        self, count: int, most: int, deadline: deadlines.Deadline, progress: Progress
+    ) -> None:
         self.count, self.most, self.deadline, self.progress = count, most, deadline, progress
         self.begun, self.is_stopped, self.lock = 0, False, threading.Lock()
         self.size = most if deadline.is_open else min(most, FIRST)
@@ -72,8 +74,8 @@ def make(
 ) -> None:
     """Makes all parts of `count` items, by `work`, which makes those that it is given.
 
-    Up to `workers` threads do so, each by its own call. Whatever one of them raises ends the others.
-    Raises `TimedOut` after so many seconds of the call that this thread is making.
+    Up to `workers` threads do so, each by its own call. Whatever one of them raises ends the
+    others. Raises `TimedOut` after so many seconds of the call that this thread is making.
     """
     deadline = deadlines.current(seconds)
     with progress_of(progress, name, count, things, False) as counted:

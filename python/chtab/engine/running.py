@@ -16,18 +16,20 @@ from chtab.errors import ChtabError, ProgramFault
 if TYPE_CHECKING:
     from chtab.engine.progress import Asked as Progress
 
-# Seconds between two looks at the progress of building; and its lines, with how many steps of a stage
-# are done, and their total.
+# Seconds between two looks at the progress of building; and its lines, with how many steps of a
+# stage are done, and their total.
 LOOK = 0.2
 PROGRESS = re.compile(r"chtab: [^,]+, ([\d,]*\d) of ([\d,]*\d) ")
 
 
 @functools.cache
 def see_to(program: str) -> None:
-    """Makes sure that the program can be run. In a checkout its script proves and builds it first, with
-    the library, and reports that on standard error."""
+    """Makes sure that the program can be run. In a checkout its script proves and builds it first,
+    with the library, and reports that on standard error."""
     try:
-        done = subprocess.run([program, "--help"], stdin=subprocess.DEVNULL, stdout=subprocess.DEVNULL)
+        done = subprocess.run(
+            [program, "--help"], stdin=subprocess.DEVNULL, stdout=subprocess.DEVNULL
+        )
     except OSError as fault:
         raise ChtabError(f"{program} can't be run: {fault.strerror}") from None
     if done.returncode:
@@ -44,8 +46,8 @@ def fault_of(text: bytes, status: int) -> ProgramFault:
 
 
 def bound(command: Sequence[str]) -> list[str]:
-    """A command that ends when the thread that starts it is gone, such as by SIGKILL: by `setpriv` of
-    Linux, where it is installed."""
+    """A command that ends when the thread that starts it is gone, such as by SIGKILL: by `setpriv`
+    of Linux, where it is installed."""
     found = shutil.which("setpriv") if sys.platform == "linux" else None
     return [found, "--pdeathsig", "KILL", *command] if found else list(command)
 
@@ -84,7 +86,8 @@ def watch(process: subprocess.Popen[bytes], lines: IO[bytes], progress: Progress
             pass
         if not progress:
             continue
-        # Read by `pread`, because the process writes to the same open file, and shares its position.
+        # Read by `pread`, because the process writes to the same open file, and shares its
+        # position.
         some = os.pread(lines.fileno(), 1 << 20, read)
         complete = some[:some.rfind(b"\n") + 1]
         read += len(complete)

@@ -1,4 +1,5 @@
-"""Tables in files, in blocks: by threads of the library on this machine, or on a cluster of Dask."""
+"""Tables in files, in blocks: by threads of the library on this machine, or on a cluster of
+Dask."""
 from __future__ import annotations
 
 import concurrent.futures
@@ -33,8 +34,8 @@ class Failed(ChtabError):
 
 @dataclass(frozen=True)
 class Choices:
-    """How a table is made: the limit of its cells or None, the side of its blocks or None, how many are
-    made at a time, and the address of a scheduler of Dask or None."""
+    """How a table is made: the limit of its cells or None, the side of its blocks or None, how many
+    are made at a time, and the address of a scheduler of Dask or None."""
 
     within: int | None = None
     side: int | None = None
@@ -84,7 +85,9 @@ def on_threads(
     with InProcess(setting) as engine:
         engine.load()
         with concurrent.futures.ThreadPoolExecutor(choices.threads) as threads:
-            begun = {threads.submit(cells_of, engine, each, choices.within): each for each in blocks}
+            begun = {
+                threads.submit(cells_of, engine, each, choices.within): each for each in blocks
+            }
             try:
                 for future in concurrent.futures.as_completed(list(begun)):
                     yield begun.pop(future), future.result()
@@ -127,8 +130,8 @@ def on_cluster(
 
 
 def make(setting: Setting, sources: Any, targets: Any, out: Path, choices: Choices) -> int:
-    """Writes the table of these nodes to OUT (.csv or .npy), which appears once it is complete. Returns
-    the number of its blocks."""
+    """Writes the table of these nodes to OUT (.csv or .npy), which appears once it is complete.
+    Returns the number of its blocks."""
     out = pathlib.Path(out)
     if out.suffix not in (".csv", ".npy"):
         raise Failed("OUT has to end in .csv or .npy")
@@ -153,7 +156,11 @@ def make(setting: Setting, sources: Any, targets: Any, out: Path, choices: Choic
 
 
 def fill(
-    made: NDArray[numpy.int64], call: Any, setting: Setting, blocks: Sequence[Block], choices: Choices,
+    made: NDArray[numpy.int64],
+    call: Any,
+    setting: Setting,
+    blocks: Sequence[Block],
+    choices: Choices,
 ) -> None:
     """Puts the cells of all blocks into a table."""
     found = call(setting, blocks, choices)

@@ -1,4 +1,5 @@
-"""Routes of many queries in flat arrays, for callers that need sums over their arcs rather than each route."""
+"""Routes of many queries in flat arrays, for callers that need sums over their arcs rather than
+each route."""
 from __future__ import annotations
 
 from dataclasses import dataclass
@@ -14,8 +15,8 @@ NO_WALK = -1
 
 
 class Paths(NamedTuple):
-    """The routes of pairs of nodes: their weights, -1 where there is no walk, how many arcs each has, and
-    the arcs of all of them by their places in the graph, from 0 on."""
+    """The routes of pairs of nodes: their weights, -1 where there is no walk, how many arcs each
+    has, and the arcs of all of them by their places in the graph, from 0 on."""
 
     weights: Integers
     counts: Integers
@@ -48,4 +49,6 @@ class Walks:
 def ranges(firsts: Integers, counts: Integers) -> Integers:
     """For each pair the `count` numbers from `first` on, all in one array."""
     ends = numpy.cumsum(counts)
-    return numpy.arange(ends[-1] if len(ends) else 0) + numpy.repeat(firsts - (ends - counts), counts)
+    return numpy.arange(ends[-1] if len(ends) else 0) + numpy.repeat(
+        firsts - (ends - counts), counts
+    )

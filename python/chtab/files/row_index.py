@@ -1,4 +1,5 @@
-"""The index of a frame or of columns of pandas: what the rows of a caller's arcs are called. pandas is not imported."""
+"""The index of a frame or of columns of pandas: what the rows of a caller's arcs are called. pandas
+is not imported."""
 from __future__ import annotations
 
 from collections.abc import Sequence
@@ -17,7 +18,8 @@ UNKNOWN: LabelArray = numpy.zeros(0, numpy.int64)
 
 
 def labels_in(index: Any) -> LabelArray:
-    """The labels of an index of pandas, in order: integers, strings or tuples. Raises a `DataFault` for other labels, such as dates."""
+    """The labels of an index of pandas, in order: integers, strings or tuples. Raises a `DataFault`
+    for other labels, such as dates."""
     return columns.column_labels_in("index", list(index) if is_of_levels(index) else index)
 
 
@@ -32,7 +34,8 @@ def are_numbers(labels: LabelArray, count: int) -> bool:
 
 
 def kept(index: Any, rows: int) -> LabelArray | None:
-    """The labels of the index of a caller's rows; None if they are 0, 1, .., or if there is no index, and `UNKNOWN` if they can't be kept."""
+    """The labels of the index of a caller's rows; None if they are 0, 1, .., or if there is no
+    index, and `UNKNOWN` if they can't be kept."""
     if index is None:
         return None
     try:
@@ -48,7 +51,8 @@ def index_of(column: Any) -> Any:
 
 
 def matched(names: Sequence[str], given: Sequence[Any]) -> list[Any]:
-    """Columns that go together, row by row. Those of pandas are put into the order of the first one's index.
+    """Columns that go together, row by row. Those of pandas are put into the order of the first
+    one's index.
 
     Raises
     ------
@@ -61,8 +65,19 @@ def matched(names: Sequence[str], given: Sequence[Any]) -> list[Any]:
         index, other = given[own[0]].index, given[place].index
         if other is index or other.equals(index):
             continue
-        if not (len(other) == len(index) and other.is_unique and index.is_unique and other.isin(index).all()):
-            text = f"the rows of {names[place]} and of {names[own[0]]} have other labels, so that nothing says which go together"
-            raise DataFault(f"{text}: give columns of one frame, or arrays, as `to_numpy()` gives them", names[place])
+        if not (
+            len(other) == len(index)
+            and other.is_unique
+            and index.is_unique
+            and other.isin(index).all()
+        ):
+            text = (
+                f"the rows of {names[place]} and of {names[own[0]]} have other labels, so that "
+                "nothing says which go together"
+            )
+            raise DataFault(
+                f"{text}: give columns of one frame, or arrays, as `to_numpy()` gives them",
+                names[place],
+            )
         found[place] = given[place].iloc[other.get_indexer(index)]
     return found

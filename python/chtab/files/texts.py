@@ -1,4 +1,5 @@
-"""The texts that the program writes: distances, routes, tables and near rows; and tables as CSV and as arrays of numpy."""
+"""The texts that the program writes: distances, routes, tables and near rows; and tables as CSV and
+as arrays of numpy."""
 from __future__ import annotations
 
 import array
@@ -15,8 +16,8 @@ if TYPE_CHECKING:
 
 
 class Answer(NamedTuple):
-    """The answer of `dist` to a query. `weight` is None if there is no walk. `nodes` of the route and `weights` of its arcs are None if there is no
-    walk, or if the text has only distances."""
+    """The answer of `dist` to a query. `weight` is None if there is no walk. `nodes` of the route
+    and `weights` of its arcs are None if there is no walk, or if the text has only distances."""
 
     source: Any
     target: Any
@@ -132,9 +133,15 @@ def read_rows(source: Source, width: int) -> Iterator[tuple[int, list[int | None
         first = next(file, "")
         is_csv = first.startswith("source,")
         for line in file if is_csv else itertools.chain([first], file):
-            words = ["t", *(cell or "-" for cell in line.strip("\n").split(","))] if is_csv else line.split()
+            words = (
+                ["t", *(cell or "-" for cell in line.strip("\n").split(","))]
+                if is_csv
+                else line.split()
+            )
             if words[:1] != ["t"] or len(words) != 2 + width:
-                raise FileFault(f"not a row of `chtab table` with {width} targets: {line.strip()[:60]}")
+                raise FileFault(
+                    f"not a row of `chtab table` with {width} targets: {line.strip()[:60]}"
+                )
             yield int(words[1]), [number_of(cell) for cell in words[2:]]
 
 
@@ -160,14 +167,21 @@ def read_near(source: Source) -> Iterator[tuple[int, list[tuple[int, int]]]]:
     with reading(source) as file:
         for count, line in enumerate(file, 1):
             words = line.split()
-            if words[:1] != ["n"] or len(words) < 3 or not all(map(str.isdigit, words[1:])) or len(words) != 3 + 2 * int(words[2]):
+            if (
+                words[:1] != ["n"]
+                or len(words) < 3
+                or not all(map(str.isdigit, words[1:]))
+                or len(words) != 3 + 2 * int(words[2])
+            ):
                 raise FileFault(f"not a row of `chtab near`: {line.strip()[:60]}")
             yield int(words[1]), list(zip(map(int, words[3::2]), map(int, words[4::2])))
     if not count:
         raise FileFault("the text is empty: there is no row of `chtab near`")
 
 
-def write_csv(target: Target, targets: Iterable[object], rows: Iterable[tuple[object, Iterable[object]]]) -> None:
+def write_csv(
+    target: Target, targets: Iterable[object], rows: Iterable[tuple[object, Iterable[object]]]
+) -> None:
     """Writes a table as CSV: a row for each source, a column for each target.
 
     Parameters
@@ -187,4 +201,6 @@ def write_csv(target: Target, targets: Iterable[object], rows: Iterable[tuple[ob
     with writing(target) as file:
         lines = csv.writer(file, lineterminator="\n")
         lines.writerow(["source", *targets])
-        lines.writerows([source, *("" if cell is None else cell for cell in cells)] for source, cells in rows)
+        lines.writerows(
+            [source, *("" if cell is None else cell for cell in cells)] for source, cells in rows
+        )

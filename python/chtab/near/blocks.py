@@ -1,5 +1,5 @@
-"""Near rows of any number of sources and targets, in blocks: by threads of the library, or by the workers
-of a cluster of Dask."""
+"""Near rows of any number of sources and targets, in blocks: by threads of the library, or by the
+workers of a cluster of Dask."""
 from __future__ import annotations
 
 import concurrent.futures
@@ -26,8 +26,8 @@ if TYPE_CHECKING:
 LENGTH, PAIRS = 2**16, 2**26
 # How many blocks are under way for each thread of a cluster.
 AHEAD = 2
-# A function that makes the value of a block from its portions of rows; blocks with their values, as they
-# are completed.
+# A function that makes the value of a block from its portions of rows; blocks with their values, as
+# they are completed.
 Make: TypeAlias = "Callable[[Block, Iterable[tuple[int, near_rows.Rows]]], Any]"
 Made: TypeAlias = "Generator[tuple[Block, Any], None, None]"
 # A question between nodes, or between spots.
@@ -36,8 +36,8 @@ Question: TypeAlias = NearQuestion | SpotQuestion
 
 @dataclass(frozen=True)
 class Block:
-    """A block: the rows of some sources among some of the targets, with the places where both start, and
-    their question."""
+    """A block: the rows of some sources among some of the targets, with the places where both
+    start, and their question."""
 
     row: int
     column: int
@@ -45,8 +45,8 @@ class Block:
 
 
 def cut(question: NearQuestion, nodes: int, workers: int = 1) -> Iterator[Block]:
-    """Cuts a question with lists of any length into blocks, on a network with this many nodes, for this
-    many workers.
+    """Cuts a question with lists of any length into blocks, on a network with this many nodes, for
+    this many workers.
 
     If all nodes have few pairs, a single worker answers for them at once. Otherwise the sources are
     divided.
@@ -62,7 +62,8 @@ def cut(question: NearQuestion, nodes: int, workers: int = 1) -> Iterator[Block]
 def parts_of(
     sources: Integers | None, nodes: int, most: int, workers: int,
 ) -> Sequence[tuple[int, Integers | None]]:
-    """The sources in parts, each with the place at which it starts. A row has at most this many pairs."""
+    """The sources in parts, each with the place at which it starts. A row has at most this many
+    pairs."""
     if sources is None and workers == 1 and nodes * most <= PAIRS:
         return [(0, None)] if nodes else []
     sources = numpy.arange(1, nodes + 1) if sources is None else sources
@@ -127,8 +128,8 @@ def side_by_side(engine: InProcess, found: Iterable[Block], make: Make, workers:
 
 
 def on_cluster(engine: InProcess, found: Iterable[Block], make: Make, client: Any) -> Made:
-    """Makes blocks by the workers of a cluster, which send rows. The values are made in this process, one
-    after the other."""
+    """Makes blocks by the workers of a cluster, which send rows. The values are made in this
+    process, one after the other."""
     deadline, left = deadlines.current(engine.setting.timeout), iter(found)
     with cluster.Tasks(client) as tasks:
         def begin() -> None:
@@ -153,8 +154,8 @@ def values(
     engine: InProcess, question: Question, make: Make, workers: Any = 1, progress: Any = None,
 ) -> Iterator[tuple[Block, Any]]:
     """Yields each block of a question with its value, as it is completed. `workers` is a number of
-    threads, or a client of Dask, and `progress` is what `progress_of` takes. A question between spots is
-    one block."""
+    threads, or a client of Dask, and `progress` is what `progress_of` takes. A question between
+    spots is one block."""
     engine.see_that_open()
     if isinstance(question, SpotQuestion):
         block = Block(0, 0, question)

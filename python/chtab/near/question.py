@@ -19,13 +19,14 @@ if TYPE_CHECKING:
 
 # The most that one call of the library gives: pairs, and the rows that it copies with them.
 PAIRS = 1 << 20
-# The most rows of a call that searches from each source; and with a time limit, as long as searches take.
+# The most rows of a call that searches from each source; and with a time limit, as long as searches
+# take.
 TOGETHER, SHORT = 1 << 13, 1 << 9
-# A sweep may have this many pairs of 16 bytes each, or this many for each node. A call therefore takes
-# much more than a second only in networks of many millions of nodes.
+# A sweep may have this many pairs of 16 bytes each, or this many for each node. A call therefore
+# takes much more than a second only in networks of many millions of nodes.
 SWEPT, FEW = 1 << 24, 4
-# From this share of the nodes as sources on, all rows are swept, because a sweep takes as long as that
-# many searches.
+# From this share of the nodes as sources on, all rows are swept, because a sweep takes as long as
+# that many searches.
 SHARE = 1 / 4
 # How many sources are sampled to estimate the pairs of all rows.
 SAMPLE = 64
@@ -110,8 +111,8 @@ class NearRows:
         return True
 
     def has_few(self) -> bool:
-        """Whether the rows of all nodes have few enough pairs for a sweep. If the bound of a row is too
-        large, a sample of nodes decides."""
+        """Whether the rows of all nodes have few enough pairs for a sweep. If the bound of a row is
+        too large, a sample of nodes decides."""
         enough, most = max(SWEPT, FEW * self.nodes), self.question.most()
         if self.nodes * most <= enough:
             return True
@@ -133,9 +134,9 @@ class NearRows:
             start += len(ends)
 
     def sums(self, values: NDArray[numpy.uint64], limits: Sequence[int]) -> Floats:
-        """For each source, column and limit the sum of the values of the targets within the limit, float64
-        (n, c, m). The values are whole numbers, uint64 (l, c), and the sum of each column is small enough
-        to be exact as a float."""
+        """For each source, column and limit the sum of the values of the targets within the limit,
+        float64 (n, c, m). The values are whole numbers, uint64 (l, c), and the sum of each column
+        is small enough to be exact as a float."""
         columns = [numpy.ascontiguousarray(column) for column in values.T]
         within = numpy.array(limits, numpy.uint64)
         found = numpy.zeros((len(self.sources), len(columns), len(limits)))

@@ -1,4 +1,5 @@
-"""Questions of callers on nearness: their sources, targets, values and limits as nodes and numbers."""
+"""Questions of callers on nearness: their sources, targets, values and limits as nodes and
+numbers."""
 from __future__ import annotations
 
 from collections.abc import Callable, Sequence
@@ -40,8 +41,8 @@ class Asked:
         return self.trips.layers
 
     def near(self, count: int | None, within: int | None) -> blocks.Question:
-        """The question to the library, with those nodes where trips end in place of the ones that trips
-        lead to. A row has at most all targets."""
+        """The question to the library, with those nodes where trips end in place of the ones that
+        trips lead to. A row has at most all targets."""
         most = max(1, len(self.targets))
         count = None if count is None else min(blocks.count_in("count", count), most)
         sources, targets, layers = self.sources, self.targets, self.layers
@@ -56,7 +57,8 @@ class Asked:
         return NearQuestion(sources, targets, count, within, self.is_from)
 
     def spots_of(self, nodes: Integers | Spots, side: int) -> Spots:
-        """Spots at nodes, or spots as they are. Those of sources and of targets are on no road together."""
+        """Spots at nodes, or spots as they are. Those of sources and of targets are on no road
+        together."""
         if isinstance(nodes, Spots):
             return nodes
         return self.layers.roads.at_nodes(nodes, self.layers.ends_of(nodes), side)
@@ -65,12 +67,16 @@ class Asked:
         """The labels of sources, or the places of spots in their list."""
         if self.sources is None:
             nodes = self.layers.all_nodes
-            return self.layers.labels.of(nodes) if self.layers.has_turns else self.layers.labels.values
+            return (
+                self.layers.labels.of(nodes) if self.layers.has_turns else self.layers.labels.values
+            )
         return self.labels_of(self.sources)
 
     def labels_of(self, nodes: Integers | Spots) -> LabelArray:
         """The labels of nodes, or the places of spots in their list."""
-        return numpy.arange(len(nodes)) if isinstance(nodes, Spots) else self.layers.labels.of(nodes)
+        return (
+            numpy.arange(len(nodes)) if isinstance(nodes, Spots) else self.layers.labels.of(nodes)
+        )
 
     def labels(self) -> tuple[LabelArray, LabelArray]:
         """The labels of sources and targets."""
@@ -82,8 +88,8 @@ class Asked:
 
 
 class Values(NamedTuple):
-    """The question of an aggregate: its nodes, the values of targets (l, c), the names of their columns or
-    None, and whether the caller gave several columns."""
+    """The question of an aggregate: its nodes, the values of targets (l, c), the names of their
+    columns or None, and whether the caller gave several columns."""
 
     asked: Asked
     values: Floats
@@ -92,8 +98,8 @@ class Values(NamedTuple):
 
 
 class Limits(NamedTuple):
-    """Limits in the unit of the graph and in that of the caller, as they were given, and whether that was
-    a list."""
+    """Limits in the unit of the graph and in that of the caller, as they were given, and whether
+    that was a list."""
 
     whole: list[int]
     numbers: list[Any]
@@ -109,7 +115,8 @@ def asked(trips: Trips, sources: Any, targets: Any, direction: str) -> Asked:
 
 
 def sources_in(trips: Trips, sources: Any) -> Integers | Spots | None:
-    """The nodes of labels, or spots; for None all nodes that are no copies, or None where none is."""
+    """The nodes of labels, or spots; for None all nodes that are no copies, or None where none
+    is."""
     if sources is None:
         return trips.layers.all_nodes if trips.layers.has_turns else None
     return ends_in(trips, "sources", sources)

@@ -1,5 +1,5 @@
-"""Near rows in compressed form: the places and weights of the targets that are near, for each source in
-order of weight and place."""
+"""Near rows in compressed form: the places and weights of the targets that are near, for each
+source in order of weight and place."""
 from __future__ import annotations
 
 from collections.abc import Iterable, Sequence
@@ -14,8 +14,8 @@ if TYPE_CHECKING:
 
 @dataclass(frozen=True)
 class Rows:
-    """Rows, one after the other. Row i has the places and weights `offsets[i]` to `offsets[i + 1] - 1`,
-    all int64."""
+    """Rows, one after the other. Row i has the places and weights `offsets[i]` to `offsets[i + 1] -
+    1`, all int64."""
 
     offsets: Integers
     places: Integers
@@ -57,8 +57,8 @@ def below(parts: Sequence[Rows]) -> Rows:
 
 
 def beside(parts: Sequence[tuple[int, Rows]], count: int | None = None) -> Rows:
-    """Joins rows of the same sources for several parts of the targets, and keeps the first pairs of each
-    row, or all. `parts` are pairs of the place at which a part starts and its rows."""
+    """Joins rows of the same sources for several parts of the targets, and keeps the first pairs of
+    each row, or all. `parts` are pairs of the place at which a part starts and its rows."""
     owners = numpy.concatenate([rows.owners() for _, rows in parts])
     places = numpy.concatenate([rows.places + first for first, rows in parts])
     weights = numpy.concatenate([rows.weights for _, rows in parts])

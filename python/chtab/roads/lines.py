@@ -20,8 +20,6 @@ if TYPE_CHECKING:
 
 # The latitudes up to which the projection is used; at the poles it is infinite.
 STEEPEST = 89.9
-# A place is on a line if it is at most this far from it in the plane, which is 6 mm at the equator.
-ON_LINE = 1e-9
 # Pieces of lines whose middles are nearest to a place, among which its nearest step is looked for first.
 NEIGHBOURS = 16
 
@@ -191,17 +189,6 @@ class Lines:
             self.pieces = Pieces(self)
         steps, shares, at = self.pieces.nearest_fitting(mercator([longitude], [latitude]), fits)
         return steps, shares, degrees(*at.T)
-
-    def are_on(self, lines: Integers, longitudes: Floats, latitudes: Floats) -> Marks:
-        """Whether each place is on its line, as the points that `nearest` finds are."""
-        if self.pieces is None:
-            self.pieces = Pieces(self)
-        counts = self.firsts[lines + 1] - self.firsts[lines] - 1
-        owner = numpy.repeat(numpy.arange(len(lines)), counts)
-        _, squares = self.pieces.feet(ranges(self.firsts[lines], counts), mercator(longitudes, latitudes)[owner])
-        least = numpy.full(len(lines), numpy.inf)
-        numpy.fmin.at(least, owner, squares)
-        return least <= ON_LINE**2
 
     def bearings(self, steps: Integers) -> Floats:
         """The directions in which steps lead, in degrees clockwise from north."""

@@ -20,7 +20,8 @@ if TYPE_CHECKING:
 
 
 def listed(name: str, given: Any) -> Any:
-    """The argument itself, or a list of its items if it is a set, a view of a dict, or an iterator."""
+    """The argument itself, or a list of its items if it is a set, a view of a dict, or an
+    iterator."""
     if isinstance(given, Spots):
         text = f"{name} are labels of nodes, not Spots: `trip_table` and `trips` take these"
         raise TypeError(f"{text}, and `nearest_nodes` gives nodes")
@@ -62,8 +63,8 @@ def with_ends(layers: Layers, pairs: Integers) -> Integers:
 
 
 def values_of_rows(layers: Layers, values: Any) -> NDArray[Any]:
-    """The finite values of all rows, in one column or several: int64, or float64. Columns of pandas are
-    put in the order of rows."""
+    """The finite values of all rows, in one column or several: int64, or float64. Columns of pandas
+    are put in the order of rows."""
     given = ArcNames(layers).in_rows("values", values) if hasattr(values, "iloc") else values
     found = numpy.asarray(given)
     if found.ndim != 2:
@@ -109,7 +110,13 @@ def along(engine: InProcess, layers: Layers, values: NDArray[Any], pairs: Intege
 
 
 def are_counts(values: NDArray[Any], most: int) -> bool:
-    """Whether values are whole numbers from 0 on, of which the sum of any `most` is exact as a float."""
-    if values.ndim != 1 or values.dtype.kind not in "iu" or not len(values) or int(values.min()) < 0:
+    """Whether values are whole numbers from 0 on, of which the sum of any `most` is exact as a
+    float."""
+    if (
+        values.ndim != 1
+        or values.dtype.kind not in "iu"
+        or not len(values)
+        or int(values.min()) < 0
+    ):
         return False
     return int(values.max()) * most <= EXACT

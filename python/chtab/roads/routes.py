@@ -23,8 +23,9 @@ if TYPE_CHECKING:
 class Routes(showing.OnMap, collections.abc.Sequence):
     """Routes in the order of the pairs.
 
-    Each is a `files.Answer` with `source`, `target`, `weight`, `nodes` and `weights`, the last three None where no path leads. Nodes are called
-    as the network calls them, and weights are in its `unit`. GeoPandas takes routes as they are: `GeoDataFrame.from_features(routes)`.
+    Each is a `files.Answer` with `source`, `target`, `weight`, `nodes` and `weights`, the last
+    three None where no path leads. Nodes are called as the network calls them, and weights are in
+    its `unit`. GeoPandas takes routes as they are: `GeoDataFrame.from_features(routes)`.
 
     Examples
     --------
@@ -40,7 +41,8 @@ class Routes(showing.OnMap, collections.abc.Sequence):
         # The pairs of nodes by their numbers, their paths, and the files of the network.
         self.pairs, self.paths, self.layers = pairs, paths, layers
         self.heads, self.arc_weights = (
-            numpy.asarray(column)[paths.arcs] for column in (layers.graph.heads, layers.graph.weights)
+            numpy.asarray(column)[paths.arcs]
+            for column in (layers.graph.heads, layers.graph.weights)
         )
         self.firsts = numpy.append(0, numpy.cumsum(paths.counts))
         sums = numpy.diff(numpy.append(0, numpy.cumsum(self.arc_weights))[self.firsts])
@@ -56,11 +58,24 @@ class Routes(showing.OnMap, collections.abc.Sequence):
         labels, measure = self.layers.labels, self.layers.measure
         sources, targets = (labels.of(column).tolist() for column in self.pairs.T)
         heads = labels.of(self.heads).tolist()
-        weights = measure.told(self.arc_weights).tolist()
-        found = zip(sources, targets, self.paths.weights.tolist(), self.firsts.tolist(), self.firsts[1:].tolist())
+        weights = measure.in_unit(self.arc_weights).tolist()
+        found = zip(
+            sources,
+            targets,
+            self.paths.weights.tolist(),
+            self.firsts.tolist(),
+            self.firsts[1:].tolist(),
+        )
         return [
-            Answer(source, target, None, None, None) if weight < 0
-            else Answer(source, target, measure.one(weight), [source, *heads[first:last]], weights[first:last])
+            Answer(source, target, None, None, None)
+            if weight < 0
+            else Answer(
+                source,
+                target,
+                measure.one(weight),
+                [source, *heads[first:last]],
+                weights[first:last],
+            )
             for source, target, weight, first, last in found
         ]
 
@@ -71,16 +86,21 @@ class Routes(showing.OnMap, collections.abc.Sequence):
         return f"<{len(self):,} routes on {self.layers.path}>"
 
     def rows(self) -> list[NDArray[numpy.int64] | None]:
-        """Returns the arcs of the routes, as rows of the columns or frame that the network was made of.
+        """Returns the arcs of the routes, as rows of the columns or frame that the network was made
+        of.
 
         Returns
         -------
         list of array of int64
-            For each pair the rows of the arcs in the order of its route, from 0 on, as `frame.iloc` counts them and `graph.edges` of networkx has
-            them; of files the lines of the graph. None where no path leads.
+            For each pair the rows of the arcs in the order of its route, from 0 on, as `frame.iloc`
+            counts them and `graph.edges` of networkx has them; of files the lines of the graph.
+            None where no path leads.
         """
         found = numpy.split(self.layers.rows_of(self.paths.arcs), self.firsts[1:-1])
-        return [rows if weight >= 0 else None for rows, weight in zip(found, self.paths.weights.tolist())]
+        return [
+            rows if weight >= 0 else None
+            for rows, weight in zip(found, self.paths.weights.tolist())
+        ]
 
     def edges(self) -> list[list[tuple] | None]:
         """Returns the arcs of the routes by their nodes, as networkx and osmnx name edges.
@@ -88,8 +108,9 @@ class Routes(showing.OnMap, collections.abc.Sequence):
         Returns
         -------
         list of list of tuple
-            For each pair its edges in the order of the route: (source, target, key) where the network was made of a graph whose edges have keys, and
-            else (source, target). None where no path leads.
+            For each pair its edges in the order of the route: (source, target, key) where the
+            network was made of a graph whose edges have keys, and else (source, target). None where
+            no path leads.
         """
         labelling = self.layers.labelling
         keys = None if labelling is None else labelling.keys
@@ -99,22 +120,34 @@ class Routes(showing.OnMap, collections.abc.Sequence):
                 found.append(None)
                 continue
             ends = zip(answer.nodes, answer.nodes[1:])
-            found.append([(*pair, keys[row]) for pair, row in zip(ends, rows.tolist())] if keys else list(ends))
+            found.append(
+                [(*pair, keys[row]) for pair, row in zip(ends, rows.tolist())]
+                if keys
+                else list(ends)
+            )
         return found
 
-    def to_frame(self) -> pandas.DataFrame:
+    def to_frame(self, metres: bool = False) -> pandas.DataFrame:
         """Returns the routes as a frame.
+
+        Parameters
+        ----------
+        metres : bool
+            Whether the frame has a column of the metres along each route.
 
         Returns
         -------
         pandas.DataFrame
-            A row for each pair, called by its place, `query`: source, target, weight (NA where no path leads), how many arcs (NA), and the list
-            of nodes (empty).
+            A row for each pair, called by its place, `query`: source, target, weight (NA where no
+            path leads), how many arcs (NA), the metres (NaN) if they are wanted, and the list of
+            nodes (empty).
 
         Raises
         ------
         ImportError
             pandas is not installed.
+        ChtabError
+            Metres are wanted, and the network has no places of nodes.
         """
         import pandas
 
@@ -122,11 +155,32 @@ class Routes(showing.OnMap, collections.abc.Sequence):
         is_missing = self.paths.weights < 0
         frame = pandas.DataFrame(rows, columns=["source", "target", "nodes"])
         frame.insert(2, "weight", self.layers.measure.series(self.paths.weights))
-        frame.insert(3, "arcs", pandas.Series(pandas.arrays.IntegerArray(self.paths.counts.copy(), is_missing)))
+        counts = pandas.arrays.IntegerArray(self.paths.counts.copy(), is_missing)
+        frame.insert(3, "arcs", pandas.Series(counts))
+        if metres:
+            along = numpy.where(is_missing, numpy.nan, self.lengths())
+            frame.insert(4, "metres", along)
         return frame.rename_axis("query")
 
+    def lengths(self) -> NDArray[numpy.float64]:
+        """Returns the metres along each route, 0 where no path leads.
+
+        Returns
+        -------
+        array of float64, shape (n,)
+            The metres along roads, with their bends if the network knows them.
+
+        Raises
+        ------
+        ChtabError
+            The network has no places of nodes.
+        """
+        of_arcs = self.layers.roads.nanometres[self.paths.arcs].astype(numpy.int64)
+        return numpy.diff(numpy.append(0, numpy.cumsum(of_arcs))[self.firsts]) * 1e-9
+
     def to_geojson(self, names: dict | None = None) -> dict:
-        """Returns the routes as lines on a map, which follow the bends of roads if the network knows them.
+        """Returns the routes as lines on a map, which follow the bends of roads if the network
+        knows them.
 
         Parameters
         ----------
@@ -136,8 +190,9 @@ class Routes(showing.OnMap, collections.abc.Sequence):
         Returns
         -------
         dict
-            A collection of GeoJSON with a feature for each pair, in their order: `query` (its place), `source`, `target`, `weight` and `arcs`,
-            with `from` and `to` as other names of both ends. Where no path leads the geometry, the weight and the arcs are null.
+            A collection of GeoJSON with a feature for each pair, in their order: `query` (its
+            place), `source`, `target`, `weight` and `arcs`, with `from` and `to` as other names of
+            both ends. Where no path leads the geometry, the weight and the arcs are null.
 
         Raises
         ------
@@ -145,7 +200,11 @@ class Routes(showing.OnMap, collections.abc.Sequence):
             The network has no places of nodes.
         """
         is_there = self.paths.weights >= 0
-        lines = iter(self.layers.lines_of(self.pairs[is_there, 0], self.paths.counts[is_there], self.paths.arcs))
+        lines = iter(
+            self.layers.lines_of(
+                self.pairs[is_there, 0], self.paths.counts[is_there], self.paths.arcs
+            )
+        )
         return geojson.collection(
             geojson.query_feature(place, each, next(lines) if each.nodes else None, names or {})
             for place, each in enumerate(self)
@@ -157,7 +216,8 @@ class Routes(showing.OnMap, collections.abc.Sequence):
         Returns
         -------
         geopandas.GeoDataFrame
-            A row for each pair, as `to_frame` has it, with its line in degrees (EPSG:4326), or None where no path leads.
+            A row for each pair, as `to_frame` has it, with its line in degrees (EPSG:4326), or None
+            where no path leads.
 
         Raises
         ------
@@ -170,8 +230,8 @@ class Routes(showing.OnMap, collections.abc.Sequence):
 
 
 class Trip(NamedTuple):
-    """A route between two spots. `weight`, `metres` and the `line` of (longitude, latitude), rounded to millionths of a degree, are None if no path
-    leads; `nodes` are the nodes along it."""
+    """A route between two spots. `weight`, `metres` and the `line` of (longitude, latitude),
+    rounded to millionths of a degree, are None if no path leads; `nodes` are the nodes along it."""
 
     weight: float | None
     metres: float | None
@@ -189,7 +249,8 @@ class Trip(NamedTuple):
         Returns
         -------
         dict
-            A feature of GeoJSON with these properties, the weight and the metres; its line is None where there is no way.
+            A feature of GeoJSON with these properties, the weight and the metres; its line is None
+            where there is no way.
         """
         return geojson.feature(self.line, self.properties(properties))
 
@@ -199,11 +260,16 @@ class Trip(NamedTuple):
 
     def properties(self, more: dict | None) -> dict[str, Any]:
         """The properties of the feature."""
-        return {**(more or {}), "weight": self.weight, "metres": self.metres and round(self.metres, 1)}
+        return {
+            **(more or {}),
+            "weight": self.weight,
+            "metres": self.metres and round(self.metres, 1),
+        }
 
 
 class TripRoutes(showing.OnMap, list):
-    """Trips in the order of their spots: a list of `Trip`, which makes frames, GeoJSON and pictures."""
+    """Trips in the order of their spots: a list of `Trip`, which makes frames, GeoJSON and
+    pictures."""
 
     shown_by = "weight"
 
@@ -216,10 +282,12 @@ class TripRoutes(showing.OnMap, list):
         Returns
         -------
         dict
-            A collection of GeoJSON with a feature for each trip, in their order: `query` (its place), `weight` and `metres`. Where there is no
-            way the geometry and both are null.
+            A collection of GeoJSON with a feature for each trip, in their order: `query` (its
+            place), `weight` and `metres`. Where there is no way the geometry and both are null.
         """
-        return geojson.collection(each.to_geojson({"query": place}) for place, each in enumerate(self))
+        return geojson.collection(
+            each.to_geojson({"query": place}) for place, each in enumerate(self)
+        )
 
     def to_frame(self) -> pandas.DataFrame:
         """Returns the trips as a frame.
@@ -227,7 +295,8 @@ class TripRoutes(showing.OnMap, list):
         Returns
         -------
         pandas.DataFrame
-            A row for each trip, called by its place, `query`: weight and metres (NaN where there is no way), and the list of nodes.
+            A row for each trip, called by its place, `query`: weight and metres (NaN where there is
+            no way), and the list of nodes.
 
         Raises
         ------
@@ -236,7 +305,11 @@ class TripRoutes(showing.OnMap, list):
         """
         import pandas
 
-        return pandas.DataFrame([each._replace(line=None) for each in self], columns=Trip._fields).drop(columns="line").rename_axis("query")
+        return (
+            pandas.DataFrame([each._replace(line=None) for each in self], columns=Trip._fields)
+            .drop(columns="line")
+            .rename_axis("query")
+        )
 
     def to_geodataframe(self) -> geopandas.GeoDataFrame:
         """Returns the trips as a GeoDataFrame.
@@ -244,7 +317,8 @@ class TripRoutes(showing.OnMap, list):
         Returns
         -------
         geopandas.GeoDataFrame
-            A row for each trip, as `to_frame` has it, with its line in degrees (EPSG:4326), or None where there is no way.
+            A row for each trip, as `to_frame` has it, with its line in degrees (EPSG:4326), or None
+            where there is no way.
 
         Raises
         ------

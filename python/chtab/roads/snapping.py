@@ -18,7 +18,7 @@ import numpy
 from chtab.engine.walks import ranges
 from chtab.errors import ChtabError, DataFault, TooFar
 from chtab.files import row_index
-from chtab.files.columns import degrees_in, see_that_long, told
+from chtab.files.columns import degrees_in, see_that_long, quoted
 from chtab.files.showing import SHOWN, table_text
 from chtab.roads import sphere
 from chtab.roads.lines import Lines, metres_between
@@ -35,6 +35,8 @@ NONE = -1
 FORWARD, BACKWARD = 1, 2
 # A place that is less than this many metres from an end of its road is at the end.
 AT_END = 1.0
+# Spots of two networks that are at most this many metres apart are at the same point.
+SAME = 0.01
 # The least part of a road between its end and a spot that is not at the end.
 INSIDE = 1e-9
 # Up to so many places are taken to roads one by one: to call numpy takes longer.
@@ -334,7 +336,7 @@ class Roads:
             Each road is now farther from a place than it may be.
         """
         if not isinstance(spots, Spots):
-            raise TypeError(f"{name} are Spots, as `snap` gives them, not {told(spots)}")
+            raise TypeError(f"{name} are Spots, as `snap` gives them, not {quoted(spots)}")
         if spots.origin.roads == self.origin.roads:
             return spots
         if spots.origin.nodes != self.origin.nodes or not (spots.sides == FORWARD | BACKWARD).all():
@@ -484,7 +486,7 @@ class Roads:
         if spots.origin.nodes != self.origin.nodes or not len(self):
             return spots, numpy.zeros(len(spots), bool)
         found = replace(self.find_any(*spots.places.T), sides=spots.sides)
-        return found, metres_between(found.longitudes, found.latitudes, spots.longitudes, spots.latitudes) < AT_END
+        return found, metres_between(found.longitudes, found.latitudes, spots.longitudes, spots.latitudes) <= SAME
 
     def sides_of(self, arcs: Integers) -> Integers:
         """The directions in which arcs lead along their roads, `FORWARD` or `BACKWARD`."""

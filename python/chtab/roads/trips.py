@@ -1,4 +1,5 @@
-"""Trips between spots on roads, and what is reached from a spot. `legs.py` has the ways from spot to spot."""
+"""Trips between spots on roads, and what is reached from a spot. `legs.py` has the ways from spot
+to spot."""
 from __future__ import annotations
 
 import math
@@ -61,7 +62,9 @@ class Trips:
         pairs, added = ways_between(starts, ends)
         is_there = (pairs > 0).all(axis=2)
         between = self.engine.distances(pairs[is_there])
-        best = totals(added, is_there, between, self.roads.along(starts, ends)).min(axis=1, initial=FAR)
+        best = totals(added, is_there, between, self.roads.along(starts, ends)).min(
+            axis=1, initial=FAR
+        )
         return numpy.where(best < FAR, best, NO_WALK)
 
     def table(self, starts: Spots, ends: Spots, within: int | None = None) -> Integers:
@@ -85,7 +88,12 @@ class Trips:
         places, firsts = list(map(tuple, traces.places.tolist())), traces.firsts.tolist()
         trips = [Trip(None, None, None, []) for _ in range(len(found))]
         for leg, first, last in zip(there, firsts, firsts[1:]):
-            trips[leg] = Trip(int(found.weights[leg]), float(found.metres[leg]), places[first:last], listed(found.nodes(leg)))
+            trips[leg] = Trip(
+                int(found.weights[leg]),
+                float(found.metres[leg]),
+                places[first:last],
+                listed(found.nodes(leg)),
+            )
         return trips
 
     def reach(self, spot: Spots, within: int | None = None) -> Integers:
@@ -98,20 +106,26 @@ class Trips:
         return numpy.where(found <= limit, found, NO_WALK)
 
     def from_nodes(self, nodes: Integers, added: Integers, within: int | None) -> Integers:
-        """The least weights at which all nodes are reached over some nodes, each with an added weight; `FAR` if a node is not reached."""
+        """The least weights at which all nodes are reached over some nodes, each with an added
+        weight; `FAR` if a node is not reached."""
         found = numpy.full(len(self.roads.places), FAR)
         own = None if within is None else within - int(added.min(initial=0))
         if not len(nodes) or own is not None and own < 0:
             return found
-        for start, rows in blocks.rows_by(self.engine, NearQuestion(None, nodes, within=own, is_from=True)):
+        for start, rows in blocks.rows_by(
+            self.engine, NearQuestion(None, nodes, within=own, is_from=True)
+        ):
             owners = start + rows.owners()
             for place, more in enumerate(added.tolist()):
                 is_its = rows.places == place
-                found[owners[is_its]] = numpy.minimum(found[owners[is_its]], rows.weights[is_its] + more)
+                found[owners[is_its]] = numpy.minimum(
+                    found[owners[is_its]], rows.weights[is_its] + more
+                )
         return found
 
     def isochrones(self, spot: Spots, limits: Sequence[int]) -> list[Any]:
-        """The answer of `Network.isochrones`: polygons for limits in the unit of the graph, in descending order."""
+        """The answer of `Network.isochrones`: polygons for limits in the unit of the graph, in
+        descending order."""
         from chtab.roads import reach
 
         return reach.polygons(self.roads, spot, self.reach(spot, limits[0]), limits)
@@ -124,13 +138,17 @@ def limits_in(measure: Measure, limits: Any) -> list[tuple[int, float]]:
     if not given or min(wholes) <= 0:
         raise ValueError("limits are one or several numbers above 0, and none is infinite")
     numbers = [measure.number("limits", limit) for limit in given]
-    told = [int(each) if each == math.floor(each) else float(each) for each in numbers]
-    return sorted(zip(wholes, told), reverse=True)
+    shown = [int(each) if each == math.floor(each) else float(each) for each in numbers]
+    return sorted(zip(wholes, shown), reverse=True)
 
 
 def see_that_one(spot: Spots) -> None:
     """Refuses anything but a single spot."""
     if not isinstance(spot, Spots):
-        raise TypeError(f"reach starts at a spot, as `snap` gives one, not at {type(spot).__name__}")
+        raise TypeError(
+            f"reach starts at a spot, as `snap` gives one, not at {type(spot).__name__}"
+        )
     if len(spot) != 1:
-        raise ValueError(f"reach starts at one spot, not at {len(spot)}: take one of them, as spots[:1]")
+        raise ValueError(
+            f"reach starts at one spot, not at {len(spot)}: take one of them, as spots[:1]"
+        )
