@@ -901,8 +901,8 @@ class Network:
             A flow for each row of the arcs that the network was made of, with the labels of the
             frame; for each edge of a graph with keys that isn't closed, by (source, target, key);
             or for each arc of a graph file. Flows are whole numbers, or floats if demands are
-            floats or have a scale. A pair without a route adds nothing, and
-            `attrs["pairs without a route"]` counts these pairs.
+            floats or have a scale, in the unit of the demands. A pair without a route adds nothing,
+            and `attrs["pairs without a route"]` counts these pairs.
 
         Raises
         ------
