@@ -37,7 +37,7 @@ class Town:
 
     def way(self, nodes, **tags):
         """Adds a way. Its number."""
-        self.ways.append((nodes, {key.replace("__", ":"): value for key, value in tags.items()}))
+        self.ways.append((nodes, tags))
         return len(self.ways)
 
     def streets(self):
@@ -96,16 +96,13 @@ class Town:
         gate = self.node(3.5 * BLOCK, 3.4 * BLOCK)
         yard = [self.node((3.5 + part / 10) * BLOCK, (3.4 + part / 20) * BLOCK) for part in range(1, 3)]
         self.gates = {gate}
-        self.way([self.nodes_near((3, 3)), gate, *yard], highway="service", service="parking_aisle")
+        self.way([self.grid[3, 3], gate, *yard], highway="service", service="parking_aisle")
         for at in range(1, SIDE, 4):
             self.way([self.grid[at, 0], self.node(at * BLOCK, -0.7 * BLOCK, 9.0)], highway="residential", name=f"Close {at}")
         x, y = self.nodes[self.grid[5, 0] - 1]
         short = self.node(x + 0.4, y - 0.3)
         self.way([self.grid[5, 0], short, self.node(x + 60, y - 45)], highway="service", name="Short Lane")
         self.way([short, self.node(x - 50, y - 60)], highway="service", name="Other Lane")
-
-    def nodes_near(self, place):
-        return self.grid[place]
 
     def blocks(self, name, first, corner, side):
         """A small grid of streets by itself, whose south-west corner is a node that is there."""

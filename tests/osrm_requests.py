@@ -188,6 +188,8 @@ def places_without_a_way():
         assert (status, value["code"]) == (400, "NoRoute"), value
         table = answer(address, "table", [(9.5, 47.1), (9.51, 47.1)], "driving", annotations="distance,duration")
         assert table["durations"] == [[0, 5], [None, 0]] and table["distances"][1][0] is None, table
+        scaled = answer(address, "table", [(9.5, 47.1), (9.51, 47.1)], "driving", scale_factor="2.5")
+        assert scaled["durations"] == [[0, 12.5], [None, 0]] and open("told").read() == "", open("told").read()
         assert abs(table["distances"][0][1] - on_sphere((9.5, 47.1), (9.51, 47.1))) < TENTH
         assert get(address, "/route/v1/bicycle/9.5,47.1;9.51,47.1")[1]["code"] == "InvalidValue"
         assert get(address, "/trip/v1/driving/9.5,47.1;9.51,47.1")[1]["code"] == "NoTrips"

@@ -247,14 +247,14 @@ def forbidden(world, found):
     return never | turned_back(found, never) if never else never
 
 
-def turned_back(found, never):
-    """The pairs of arcs by which one turns back where just two roads meet, and may go on by the other one."""
+def turned_back(found, never, everywhere=False):
+    """The pairs of arcs by which one turns back where just two roads meet, or everywhere, and may go on by another one."""
     ends = {arc[4]: arc[:2] for arc in found}
     branches = [node for pair in ends.values() for node in pair]
     pairs = set()
     for a, (_, node, *_, piece, _) in enumerate(found):
         outs = [b for b, arc in enumerate(found) if arc[0] == node and (a, b) not in never]
-        if branches.count(node) == 2 and any(found[b][4] != piece for b in outs):
+        if (everywhere or branches.count(node) == 2) and any(found[b][4] != piece for b in outs):
             pairs |= {(a, b) for b in outs if found[b][4] == piece and a != b}
     return pairs
 

@@ -191,6 +191,25 @@ def test_trips_on_random_maps():
     assert longer > 60, longer
 
 
+def test_turning_back_at_dead_ends_alone():
+    """Trips on random maps where one turns back at dead ends alone; the option needs --turns, and the files say so."""
+    draw, longer = random.Random("dead ends"), 0
+    for _ in range(300):
+        text = random_map(draw, 16)
+        choices = {"nodes": draw.choice(["crossings", "all"]), "metric": draw.choice(["time", "metres"])}
+        world = mapping.Map(text, "car")
+        found = mapping.arcs(world, choices["nodes"] == "all", choices["metric"] == "metres")
+        never = mapping.forbidden(world, found)
+        never |= mapping.turned_back(found, never, everywhere=True)
+        if never:
+            longer += same_trips(text, found, never, "car", choices | {"turning_back": "dead-ends"})
+    assert longer > 20, longer
+    pathlib.Path("back.osm").write_text(crossroads("no_left_turn"))
+    tool("osm_to_gr", "--turning-back", "dead-ends", "back.osm", "back", status=2)
+    tool("osm_to_gr", "--turns", "--turning-back", "dead-ends", "back.osm", "back")
+    assert ", turning back at dead ends alone." in open("back.gr").readline()
+
+
 def same_trips(text, found, never, profile, choices):
     """Compares the trips between all nodes that stand once but for turns; how many there are that a restriction makes longer."""
     copies = {node[0] for arc in found for node in arc[:2] if node[1]}

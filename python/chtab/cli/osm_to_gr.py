@@ -60,6 +60,10 @@ def words_of(arguments: Sequence[str]) -> argparse.Namespace:
     parser.add_argument("--metric", choices=UNITS, default="time", help="weights are milliseconds of travel, or metres (time)")
     parser.add_argument("--turns", action="store_true", help="no turn is taken that the map forbids: a crossing with such turns becomes several nodes")
     parser.add_argument(
+        "--turning-back", choices=("crossings", "dead-ends"), default="crossings",
+        help="with --turns: one turns back at dead ends and crossings, or at dead ends alone, which takes four times as many nodes (crossings)",
+    )
+    parser.add_argument(
         "--nodes", choices=("crossings", "all"), default="crossings",
         help="crossings: nodes are where ways meet or end, and an arc is a stretch of way between two of them; all: each bend is a node too (crossings)",
     )
@@ -82,7 +86,10 @@ def words_of(arguments: Sequence[str]) -> argparse.Namespace:
         help="OpenStreetMap's XML, plain or packed (.gz, .bz2, .xz), or .osm.pbf (by Debian's package python3-pyosmium); - is standard input",
     )
     parser.add_argument("out", metavar="OUT", help="the files that are written, without their suffix")
-    return parser.parse_args(arguments)
+    found = parser.parse_args(arguments)
+    if found.turning_back != "crossings" and not found.turns:
+        parser.error("--turning-back is about turns: give --turns too")
+    return found
 
 
 def main(arguments: Sequence[str]) -> None:

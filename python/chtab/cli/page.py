@@ -103,7 +103,7 @@ def add_listening(parser: argparse.ArgumentParser) -> None:
     )
     parser.add_argument(
         "--processes", type=number_of(1, 64, "number of processes"), default=1, metavar="N",
-        help="how many processes answer, 1 to 64 (1); each holds the network in memory",
+        help="how many processes answer, 1 to 64 (1); they have the network in memory together if the library answers, and each has a run of its own otherwise",
     )
     parser.add_argument("--log", metavar="FILE", help="write a line for each request to the end of FILE; '-' is standard output")
     parser.add_argument(

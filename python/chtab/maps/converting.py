@@ -39,6 +39,7 @@ class Choices(NamedTuple):
     names: bool = False
     driving_side: str = "right"
     exclude: tuple[str, ...] = ()
+    turning_back: str = "crossings"
 
 
 class Numbered(NamedTuple):
@@ -83,6 +84,8 @@ def convert(path: str, choices: Choices, is_told: bool = False, is_logged: bool 
     if not made.tails:
         raise FileFault(f"{name_of(path)}: the map has no road for {profile.people}")
     forbidden = restrictions.forbidden_turns(restricting, made, nodes, report)
+    if choices.turning_back == "dead-ends":
+        forbidden = turning_back.only_at_dead_ends(made, forbidden)
     if forbidden:
         made = turns.split(made, turning_back.without_turning_back(made, forbidden))
     return numbered(made, kept_of(made, choices.part, report), survey.streets, choices.driving_side), report
@@ -129,7 +132,7 @@ def name_of(path: str) -> str:
 def comments_of(path: str, choices: Choices) -> list[str]:
     """The comments of a graph's files: the map, and the choices."""
     more = ", turns as the map restricts them" * choices.turns + ", no ferries" * (not choices.ferries)
-    more += "".join(f", without {name}" for name in choices.exclude)
+    more += "".join(f", without {name}" for name in choices.exclude) + ", turning back at dead ends alone" * (choices.turning_back == "dead-ends")
     people = profiles.profile(choices.profile).people
     return [f"Roads for {people}, from {name_of(path)}: nodes {choices.nodes}, part {choices.part}{more}.", *SOURCE]
 

@@ -1,13 +1,14 @@
-"""Turning back in the middle of a road: where one way becomes another, and nothing else leads on, a driver goes on.
+"""Turning back: in the middle of a road, where one way becomes another and nothing else leads on, a driver goes on. Where it is asked for, so does a
+driver at each crossing, and turns back at dead ends alone.
 
-Turning back makes a trip shorter only where it leads round a forbidden turn. It is therefore forbidden along the roads that lead away from such a turn,
-up to the next crossing of three or more roads, or to a dead end.
+Turning back makes a trip shorter only where it leads round a forbidden turn. In the middle of roads it is therefore forbidden along those that lead away
+from such a turn, up to the next crossing of three or more roads, or to a dead end.
 """
 from __future__ import annotations
 
 import collections
 import itertools
-from collections.abc import Mapping
+from collections.abc import Mapping, Sequence
 from typing import TYPE_CHECKING
 
 if TYPE_CHECKING:
@@ -27,15 +28,30 @@ def without_turning_back(network: Network, forbidden: Mapping[int, set[int]]) ->
         node = network.heads[arc]
         if branches[node] != 2:
             continue
-        ahead = [out for out in outs[node] if network.pieces[out] != network.pieces[arc] and out not in found.get(arc, ())]
-        back = [out for out in outs[node] if network.pieces[out] == network.pieces[arc] and out != arc]
-        if ahead and back:
-            found.setdefault(arc, set()).update(back)
+        ahead = forbid_back(network, arc, outs[node], found)
         for out in ahead:
             if out not in seen:
                 seen.add(out)
                 todo.append(out)
     return found
+
+
+def only_at_dead_ends(network: Network, forbidden: Mapping[int, set[int]]) -> dict[int, set[int]]:
+    """The same with those that lead back from any node where something else leads on."""
+    found, outs = {arc: set(others) for arc, others in forbidden.items()}, outs_of(network)
+    for arc, node in enumerate(network.heads):
+        forbid_back(network, arc, outs[node], found)
+    return found
+
+
+def forbid_back(network: Network, arc: int, outs: Sequence[int], found: dict[int, set[int]]) -> list[int]:
+    """Forbids to turn back behind an arc, if any of the arcs `outs` leads on; these."""
+    piece = network.pieces[arc]
+    ahead = [out for out in outs if network.pieces[out] != piece and out not in found.get(arc, ())]
+    back = [out for out in outs if network.pieces[out] == piece and out != arc]
+    if ahead and back:
+        found.setdefault(arc, set()).update(back)
+    return ahead
 
 
 def outs_of(network: Network) -> dict[int, list[int]]:

@@ -26,8 +26,8 @@ OPTIONAL = "bends", "names", "nodes"
 
 
 class Named(NamedTuple):
-    """A network of the command line: its name for clients, empty if they may use any name, the start of the names of its files, and its saved
-    hierarchy or None."""
+    """A network of the command line: its name for clients, empty if they may use any name, with the classes of ways that it lacks behind a slash; the start
+    of the names of its files, and its saved hierarchy or None."""
 
     name: str
     out: str
@@ -83,6 +83,11 @@ class Served:
     @property
     def engine(self) -> InProcess:
         return self.network._engine
+
+    @property
+    def profiles(self) -> tuple[str, ...]:
+        """The names by which clients may call the network, without the classes of ways that it lacks; none if any name will do."""
+        return (self.name.partition("/")[0],) if self.name else ()
 
     def open_once(self) -> None:
         """Opens the network before processes are forked: they then have it in memory together."""

@@ -81,7 +81,7 @@ class Material:
         first = networks.first.network
         self.tiles = Tiles(first.roads, first.unit == "milliseconds")
         self.osrm = [
-            answering.Answers(each.network, (each.name.partition("/")[0],) if each.name else choices.profiles, choices.osrm, each.streets, each.numbers) for each in networks
+            answering.Answers(each.network, each.profiles or choices.profiles, choices.osrm, each.streets, each.numbers) for each in networks
         ]
         self.by_name = {each.name: answers for each, answers in zip(networks, self.osrm) if each.name}
         # The index of roads is made now, and what simplifies lines is loaded, and not while the first client waits.

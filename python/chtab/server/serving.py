@@ -1,6 +1,6 @@
 """The processes of the service: how several of them answer at one port, and how they end.
 
-With several processes, the first one reads the networks and supervises the others, which are forked from it. Each has its own engine. All of them
+With several processes, the first one reads the networks and supervises the others, which are forked from it and share what it has made. All of them
 accept connections from one socket, so that no waiting connection is lost when a process ends. A process that ends by itself is restarted.
 """
 from __future__ import annotations

@@ -336,7 +336,8 @@ def nearest_answer(insides: Sequence[str], general: options.General) -> str:
 def rows_of(numbers: Any, digits: int, is_there: Marks) -> str:
     """The rows of a table as a text of JSON: numbers of which so many digits lie behind the point, null where there is no way."""
     if numbers.max(initial=0, where=is_there) < cells.MOST:
-        return cells.rows(numpy.rint(numbers).astype(numpy.int64) if numbers.dtype.kind == "f" else numbers, digits, is_there)
+        is_whole = numbers.dtype.kind != "f"
+        return cells.rows(numbers if is_whole else numpy.rint(numpy.where(is_there, numbers, 0)).astype(numpy.int64), digits, is_there)
     told = (numbers / 10**digits).round(digits)
     return json.dumps([[cell if is_way else None for cell, is_way in zip(*row)] for row in zip(told.tolist(), is_there.tolist())])
 
