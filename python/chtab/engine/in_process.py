@@ -30,7 +30,7 @@ TOGETHER, WIDTH = 1 << 13, 1 << 13
 # The most routes that one call gives, and how many nodes of routes have room at first.
 ROUTES, ROOM = 1 << 11, 1 << 16
 # The most pairs whose flows one call gives. Each call takes steps for all legs of the network, which that many pairs hide.
-FLOWS = 1 << 16
+FLOWS = 1 << 17
 # In a network of fewer nodes than this so many searches take as long as one in a large network.
 SMALL, SEARCHES = 1 << 16, 1 << 4
 # No places: keeping these frees the places that a handle has.

@@ -28,7 +28,7 @@ if TYPE_CHECKING:
     Unsigned = NDArray[numpy.uint64]
 
 # The most pairs that a worker answers before the next part is dealt out, and the most workers.
-PART, MOST_WORKERS = 1 << 16, 64
+PART, MOST_WORKERS = 1 << 17, 64
 # The sum of all demands is below this, so that no flow is more than int64 holds.
 LIMIT = 2**63
 # The word of `Series.attrs` for the number of pairs without a route.
@@ -99,11 +99,16 @@ class OnRoads(BetweenNodes):
         missed, flows = 0, numpy.zeros(count, numpy.uint64)
         told = progress_of(progress, "flows", len(pairs), "pairs", False)
         with told, concurrent.futures.ThreadPoolExecutor(workers) as threads:
-            found = map(of_part, parts) if workers == 1 else threads.map(of_part, parts)
-            for part, (without, more) in zip(parts, found):
-                missed += without
-                flows += more
-                told.step(len(pairs[part]))
+            try:
+                found = map(of_part, parts) if workers == 1 else threads.map(of_part, parts)
+                for part, (without, more) in zip(parts, found):
+                    missed += without
+                    flows += more
+                    told.step(len(pairs[part]))
+            except BaseException:
+                # Otherwise the end of the pool would wait for all parts that are left.
+                threads.shutdown(wait=False, cancel_futures=True)
+                raise
         return missed, flows
 
 
