@@ -138,7 +138,13 @@ def test_progress_of_flows(monkeypatch):
     steps = []
     with chtab.Network.from_arrays([1, 2], [2, 3], [1, 1], program=PROGRAM) as network:
         network.flows([1] * 10, [3] * 10, progress=lambda done, total: steps.append((done, total)))
-    assert steps == [(2 * part, 10) for part in range(1, 6)]
+        assert steps == [(2 * part, 10) for part in range(1, 6)]
+
+        def stop(done, total):
+            raise KeyboardInterrupt
+
+        raises(KeyboardInterrupt, partial(network.flows, progress=stop), [1] * 10, [3] * 10)
+        assert network.flows([1], [3]).tolist() == [1, 1]
 
 
 # Equilibrium.

@@ -107,6 +107,14 @@ def test_what_c_would_misread_is_refused():
         raises(ValueError, handle.route_sums, *words, told="lengths")
     raises(ValueError, handle.route_sums, outside, right, values, told="not one of the network")
     raises(ValueError, handle.route_sums, right[:1], numpy.array([2], numpy.uint32), values | 1, told="2^64 or more")
+    missed, flows = handle.flows(numpy.array([0, 2, 1], numpy.uint32), numpy.array([2, 0, 2], numpy.uint32), numpy.array([2, 3, 5], numpy.uint64), 2)
+    assert (missed, flows.tolist(), flows.dtype) == (1, [2, 7], numpy.uint64)
+    for wrong in None, [1, 2], values.astype(numpy.int64), values.astype(float), values.astype(numpy.uint32), values[::-1], values.reshape(1, 2):
+        raises(TypeError, handle.flows, right, right, wrong, 2)
+    for words in (right, right[:1], values, 2), (right, right, values[:1], 2), (right, right, values, 1), (right, right, values, 3):
+        raises(ValueError, handle.flows, *words, told="lengths")
+    raises(ValueError, handle.flows, outside, right, values, 2, told="not one of the network")
+    raises(ValueError, handle.flows, right, numpy.array([2, 2], numpy.uint32), values, 2, told="more than 2^63")
     many = numpy.zeros(65_537, numpy.uint32)
     raises(ValueError, handle.table, many, right, told="65,536")
     raises(ValueError, handle.table, right, many, told="65,536")

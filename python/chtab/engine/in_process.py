@@ -32,7 +32,7 @@ PAIRS, ROUTES, SIDE, SHORT = 1 << 13, 1 << 11, 1 << 12, 1 << 10
 WORTH = 1 << 20
 # The most pairs whose flows one call gives. Each call takes steps for all legs of the network, which
 # that many pairs hide.
-FLOWS = 1 << 16
+FLOWS = 1 << 17
 # How many nodes of routes have room at first.
 ROOM = 1 << 16
 # In a network of fewer nodes than this so many searches take as long as one in a large network.

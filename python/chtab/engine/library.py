@@ -365,6 +365,8 @@ class Handle:
         given += [ctypes.byref(missed), address(flows, numpy.uint64, True), len(flows)]
         with self.lock:
             status = self.calls.chtab_flows(self.at, *given)
+        if status == SUM_TOO_LARGE:
+            raise ValueError("a flow is more than 2^63")
         see_that_done(status)
         return missed.value, flows
 
