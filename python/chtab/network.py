@@ -999,19 +999,19 @@ class Network:
     @by_name("count", "within", "direction")
     @timed
     def near(
-        self, sources: ArrayLike | None, targets: ArrayLike, *, count: int | None = None,
-        within: Limit = None, direction: Direction = "to", workers: int | distributed.Client = 1,
-        progress: Progress = None,
+        self, sources: ArrayLike | Spots | None, targets: ArrayLike | Spots, *,
+        count: int | None = None, within: Limit = None, direction: Direction = "to",
+        workers: int | distributed.Client = 1, progress: Progress = None,
     ) -> Near:
         """Finds the targets near each source: the first ones, or all, or those within a limit.
 
         Parameters
         ----------
-        sources : array of labels, shape (n,), or None
-            Nodes, which may repeat. None: all nodes, in the order of `labels`.
-        targets : array of labels, shape (l,)
-            Nodes, which may repeat; each place of the list counts. A source that is a target has
-            the weight 0 there.
+        sources : array of labels, shape (n,), Spots, or None
+            Nodes, which may repeat, or spots as `snap` gives them. None: all `crossings`.
+        targets : array of labels, shape (l,), or Spots
+            Nodes, which may repeat, or spots; each place of the list counts. A source that is a
+            target has the weight 0 there.
         count : int, optional
             The most targets of a source, from 1 on. Of equally near ones, those that come first in
             the list are taken.
@@ -1023,7 +1023,7 @@ class Network:
         workers : int or distributed.Client
             How many threads work on blocks of the answer at a time, 1 by default; or a client of
             Dask, on whose workers the library answers. All machines need the files, the program
-            and the library at the same paths.
+            and the library at the same paths. Spots are asked for by the network's own `workers`.
         progress : bool or callable, optional
             True reports progress on standard error; a callable gets how many blocks are done, and
             their total. By default only calls of several blocks and more than ten seconds report
@@ -1032,7 +1032,8 @@ class Network:
         Returns
         -------
         chtab.Near
-            The places and weights in compressed form, with `to_frame` and `to_sparse`.
+            The places and weights in compressed form, with `to_frame` and `to_sparse`. Spots are
+            called by their places in their list, from 0 on.
 
         Raises
         ------
@@ -1057,7 +1058,7 @@ class Network:
     @by_name("count", "within", "direction")
     @timed
     def nearest_targets(
-        self, sources: ArrayLike | None, targets: ArrayLike, *, count: int = 1,
+        self, sources: ArrayLike | Spots | None, targets: ArrayLike | Spots, *, count: int = 1,
         within: Limit = None, direction: Direction = "to", missing: float | None = None,
         workers: int | distributed.Client = 1, progress: Progress = None,
     ) -> Nearest:
@@ -1068,10 +1069,10 @@ class Network:
 
         Parameters
         ----------
-        sources : array of labels, shape (n,), or None
-            Nodes, as `near` takes them.
-        targets : array of labels, shape (l,)
-            Nodes, as `near` takes them.
+        sources : array of labels, shape (n,), Spots, or None
+            Nodes or spots, as `near` takes them.
+        targets : array of labels, shape (l,), or Spots
+            Nodes or spots, as `near` takes them.
         count : int
             How many targets of each source, from 1 on.
         within : number or duration, optional
@@ -1115,8 +1116,8 @@ class Network:
     @timed
     def accessibility(
         self, values: ArrayLike | pandas.DataFrame | dict, within: Limit | list[Limit], *,
-        sources: ArrayLike | None = None, targets: ArrayLike | None = None, aggregate: str = "sum",
-        decay: str | Callable | None = None, direction: Direction = "to",
+        sources: ArrayLike | Spots | None = None, targets: ArrayLike | Spots | None = None,
+        aggregate: str = "sum", decay: str | Callable | None = None, direction: Direction = "to",
         workers: int | distributed.Client = 1, progress: Progress = None,
     ) -> NDArray[numpy.float64] | pandas.DataFrame:
         """Aggregates values over the targets within a limit, for each source: such as the jobs
@@ -1127,13 +1128,14 @@ class Network:
         values : array of float, shape (l,) or (l, c), float, or pandas.DataFrame
             The value of each target, in one column or several. A single number is the value of each
             target, and True is 1. Without `targets`, a Series, a frame or a dict has the labels of
-            targets as its index, and an array has a value for each node in the order of `labels`.
+            targets as its index, and an array has a value for each of `crossings`. A Series of
+            values and one of targets go by their index.
         within : number, duration, or list of these, length m
             A limit in the network's `unit`, or several. A target at exactly the limit counts.
-        sources : array of labels, shape (n,), optional
-            Nodes, which may repeat; by default all nodes, in the order of `labels`.
-        targets : array of labels, shape (l,), optional
-            Nodes; each place of the list counts.
+        sources : array of labels, shape (n,), or Spots, optional
+            Nodes or spots, which may repeat; by default all `crossings`.
+        targets : array of labels, shape (l,), or Spots, optional
+            Nodes or spots; each place of the list counts.
         aggregate : {"sum", "mean", "median", "count", "std", "min", "max"}
             The aggregate. `count` is how many targets are near, and `std` the standard deviation of
             their values as a whole population.
@@ -1349,9 +1351,8 @@ class Network:
 
         Returns
         -------
-        array of int64 or float64, shape (nodes,)
-            The weights of nodes in the order of `labels`, in the network's `unit`. Where turns are
-            restricted, a crossing is one node, that of `nearest_nodes`.
+        array of int64 or float64, shape (n,)
+            The weights of all `crossings`, in the network's `unit`.
 
         Raises
         ------
