@@ -29,8 +29,6 @@ from helpers.serving import COUNTRY, SERVICE, ask, children_of, raw, running_ser
 from helpers.waiting import PATIENCE, until
 
 ROUTE = "/route/v1/car/9.5209,47.1410;9.5450,47.2200?overview=false"
-# The status of a service that can't begin what answers.
-GIVEN_UP = 70
 
 
 def runs_below(number):
@@ -82,23 +80,23 @@ def answers_well(address):
 
 
 def files_that_are_changed():
-    """A file that is written over, so that what was there is gone: what has read it answers on. Where no process can be begun anew, the service ends
-    with a status of its own."""
+    """A file that is written over, so that what was there is gone: what was read before processes were forked answers on, also in processes that take the
+    place of those that died."""
     for words in (), ("--processes", 2):
         copied("net")
         with running_service(*words, out="net") as (child, address):
-            assert ask(address, ROUTE)[0] == 200 and ask(address, "/health")[0] == 200
+            before = ask(address, ROUTE)
+            assert before[0] == 200 and ask(address, "/health")[0] == 200
             with open("net.gr", "a") as file:
                 file.write("c changed\n")
-            assert ask(address, ROUTE)[0] == 200 and ask(address, "/health")[0] == 200
-            if not words:
-                continue
-            for victim in children_of(child.pid):
+            victims = children_of(child.pid) if words else []
+            for victim in victims:
                 os.kill(victim, signal.SIGKILL)
-            until(lambda: child.poll() is not None, told)
-            assert child.poll() == GIVEN_UP, (child.poll(), told())
+            until(lambda: not {*victims} & {*children_of(child.pid)}, told)
+            until(lambda: answers_well(address) and (not words or len(children_of(child.pid)) == 2), told)
+            assert all(ask(address, ROUTE) == before for _ in range(10)) and ask(address, "/health")[0] == 200
         lines = told()
-        assert "net.gr has changed since it was opened" in lines and "Traceback" not in lines and lines.count("\n") < 30, lines
+        assert child.returncode == 0 and "Traceback" not in lines and lines.count("\n") < 30, (child.returncode, lines)
 
 
 def health_is_no_better_than_answers():
