@@ -91,7 +91,19 @@ const RING_QUICKLY: Files = (
 /// enough memory.
 #[test]
 fn built_refused_in_turn(rt: HostRuntime) -> Result<(), Fail> {
-    expect(&rt, rt.alloc(), HOPS, Builder::By(OrderBy::Difference), STAR)?;
-    expect(&rt, rt.alloc(), HOPS, Builder::By(OrderBy::Difference), RING)?;
+    expect(
+        &rt,
+        rt.alloc(),
+        HOPS,
+        Builder::By(OrderBy::Difference),
+        STAR,
+    )?;
+    expect(
+        &rt,
+        rt.alloc(),
+        HOPS,
+        Builder::By(OrderBy::Difference),
+        RING,
+    )?;
     expect(&rt, rt.alloc(), HOPS, Builder::Quickly, RING_QUICKLY)
 }

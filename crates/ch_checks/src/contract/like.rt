@@ -66,15 +66,11 @@ const AS_GIVEN: &[u8] =
     b"p ch 5 8\no 5\no 2\no 4\no 1\no 3\nl 5 1 1 1 0\nl 4 5 1 1 0\nl 2 3 1 1 0\nl 1 2 1 1 0\n\
       l 4 1 2 2 5\nl 3 4 1 1 0\nl 1 3 2 2 2\nl 3 1 3 3 4\n";
 
-/// The ring with two given nodes, and the others by depth.
+/// The ring with two given nodes, and the others by depth. With no given node it is the same by chains: the nodes are looked at in
+/// the given order, and no neighbour of a contracted node is contracted in the same round.
 const BEGUN_AS_GIVEN: &[u8] =
     b"p ch 5 8\no 5\no 2\no 1\no 3\no 4\nl 5 1 1 1 0\nl 4 5 1 1 0\nl 2 3 1 1 0\nl 1 2 1 1 0\n\
       l 1 3 2 2 2\nl 4 1 2 2 5\nl 3 4 1 1 0\nl 4 3 4 4 1\n";
-
-/// The ring with no given node. A node that is judged alone is preferred to one with a slightly lesser key.
-const AFRESH: &[u8] =
-    b"p ch 5 8\no 1\no 2\no 3\no 4\no 5\nl 1 2 1 1 0\nl 5 1 1 1 0\nl 2 3 1 1 0\nl 5 2 2 2 1\n\
-      l 3 4 1 1 0\nl 5 3 3 3 2\nl 4 5 1 1 0\nl 5 4 4 4 3\n";
 
 /// It holds if any one request for memory is refused. With no node afresh both hierarchies have the given order.
 #[test]
@@ -88,7 +84,13 @@ fn built_like_refused_in_turn(rt: HostRuntime) -> Result<(), Fail> {
         false,
         BEGUN_AS_GIVEN,
     )?;
-    expect(&rt, rt.alloc(), Percent { number: 100 }, true, AFRESH)
+    expect(
+        &rt,
+        rt.alloc(),
+        Percent { number: 100 },
+        true,
+        BEGUN_AS_GIVEN,
+    )
 }
 
 /// A list that lacks a node is refused as an order, with enough memory or without.
