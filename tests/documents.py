@@ -36,7 +36,7 @@ PATH = re.compile(r"[\w.-]+(?:/[\w.-]+)+/?|[\w-]+/")
 FILE = re.compile(r"[\w-]+\.(?:antt|c|cpp|md|py|rs|rt|sh|toml)")
 # A name of the reader's own stands for it: a word in capitals, as NAME. What the documents' commands make, what is installed, and a unit.
 OF_THE_READER = re.compile(r"\b[A-Z]+(?:_[A-Z]+)*\b")
-ELSEWHERE = re.compile(r"guide/|lib/chtab|.*\bout/|km/h")
+ELSEWHERE = re.compile(r"guide/|lib/chtab|.*\bout/|km/h|app\.c$")
 # A name in code, alone or with `::`.
 NAME = re.compile(r"(?:\w+::)*\w+")
 # Words and places that no document, source or script has.
@@ -158,7 +158,7 @@ def statements():
     """The parts of docs/PROVED.md that each tell what is proved of some calls, as (crate, text, text of the calls, whether all names in
     that are calls): the rows of its tables, and paragraphs with the lists below them."""
     crate, columns = None, []
-    for block in re.split(r"\n\n(?!- )", PROVED.read_text().split("\n## Only tested")[0]):
+    for block in re.split(r"\n\n(?!- )", PROVED.read_text().split("\n## Neither")[0]):
         if head := re.match(r"## `(\w+)`", block):
             crate = head[1]
         for row in re.findall(r"^\|(.*)\|$", block, re.MULTILINE):
