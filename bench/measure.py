@@ -209,9 +209,3 @@ def network(word):
 def add_networks(parser, *default):
     """The words of a script that name its networks."""
     parser.add_argument("networks", nargs="*", metavar="NETWORK", default=default, help=f"{NETWORKS} ({', '.join(default)} where none is given)")
-
-
-def query_seconds(inputs, saved, many, rounds):
-    """The median of the CPU seconds of a query by a saved hierarchy: the difference of runs with one query and with many."""
-    commands = {count: [PROGRAM, "dist", "--saved", saved, inputs.graph, inputs.queries(count)] for count in (1, many)}
-    return statistics.median((each[many] - each[1]) / (many - 1) for each in each_round(rounds, commands, processor_seconds))
