@@ -36,7 +36,7 @@
 #include <stdint.h>
 
 /* The version of this header: millions for the first number, thousands for the second. */
-#define CHTAB_VERSION 1001000
+#define CHTAB_VERSION 1002000
 
 /* Stands for no distance, if there is no walk: the greatest number of 64 bits. Each distance is less. */
 #define CHTAB_NO_DISTANCE ((uint64_t)-1)

@@ -23,7 +23,7 @@ if typing.TYPE_CHECKING:
     from chtab.roads.routes import Routes
     from chtab.roads.snapping import Spots
 
-__version__ = "1.1"
+__version__ = "1.2"
 __all__ = ["ChtabError", "DataFault", "FileFault", "Near", "Network", "ProgramFault", "Routes", "Spots", "TimedOut", "TooFar", "__version__"]
 
 # Imported when they are first used, because code that only reads files doesn't need numpy.
