@@ -15,9 +15,9 @@ FOREIGN = (
     r"|hangs? (?:apart|together)|(?:a|its|the|one|clean|each) rooms? of|stands?(?! for\b)(?!-)|stood|beg(?:in|ins|an|un)"
 )
 FIELD = re.compile(rf"\b(?:{HARD}|{FOREIGN})\b", re.IGNORECASE)
-# In pages for users a hierarchy has edges, and a graph has paths; *walk* is named where its definition is meant.
-OF_USERS = re.compile(r"\blegs?\b|(?<!\*)\bwalks?\b(?!\*)", re.IGNORECASE)
-FOR_USERS = "README.md", "docs/GUIDE.md", "docs/REFERENCE.md", "docs/PYTHON.md"
+# A hierarchy has edges, and a graph has paths. Three pages say what the definitions, and OSRM, call them.
+OF_CODE = re.compile(r"\blegs?\b|(?<!\*)\bwalks?\b(?!\*)", re.IGNORECASE)
+WITH_CODE = "docs/BELIEVE.md", "docs/DEFINITIONS.md", "docs/SERVICE.md"
 
 
 def prose(page):
@@ -82,7 +82,7 @@ def check_words(tally, page):
     """Tables too have the field's words; headings too."""
     name = str(page.relative_to(ROOT))
     for line in by_hand(page).splitlines():
-        for words in (FIELD, *([OF_USERS] if name in FOR_USERS else [])):
+        for words in (FIELD, *([] if name in WITH_CODE else [OF_CODE])):
             found = words.search(bare(line))
             tally.expect(not found, f"{name} has '{found and found[0]}': {line.strip()[:120]}")
 
