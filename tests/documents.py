@@ -25,7 +25,7 @@ from helpers.running import ROOT, Count
 
 PAGES = (
     ROOT / "README.md", ROOT / "CONTRIBUTING.md", ROOT / "CHANGELOG.md", *sorted((ROOT / "docs").glob("*.md")), ROOT / "examples" / "README.md",
-    ROOT / "bench" / "README.md", *sorted((ROOT / "python").glob("README*")),
+    ROOT / "bench" / "README.md", ROOT / "packaging" / "README.md",
 )
 PROVED, MEASUREMENTS, REFERENCE = (ROOT / "docs" / name for name in ("PROVED.md", "MEASUREMENTS.md", "REFERENCE.md"))
 MOST_LINES_OF_README, MOST_WORDS_OF_ARCHITECTURE = 120, 4_500

@@ -7,8 +7,8 @@ MOST_LINES, MOST_COLUMNS, MOST_WORDS, MOST_OF_CELL = 5, 100, 30, 25
 # What scripts write into a page, between two marks.
 WRITTEN = re.compile(r"<!-- What stands from here.*?<!-- End of what.*?-->", re.DOTALL)
 CODE = re.compile(r"`([^`]+)`")
-# Words that hide who does what, or that turn a sentence round.
-HARD = r"as ever|of whose|(?:is|are|was|were|be|been|being) told|whoever|hence|thus|thereby|signs? of life"
+# Words that hide who does what, that turn a sentence round, or that make a chain.
+HARD = r"(?:that|those) of (?:[\w']+ ){1,4}of|as ever|of whose|(?:is|are|was|were|be|been|being) told|whoever|hence|thus|thereby|signs? of life"
 # Words that the field has others for: arguments, CPU time, wall time, synthetic, components, workspace, 'is', 'start'.
 FOREIGN = (
     r"words of the (?:command )?line|processor (?:time|seconds)|\w*(?:seconds|minutes) of processors?|by the clock|made[- ]up"
