@@ -451,13 +451,15 @@ def check_columns(tally):
 
 
 def check_text(tally, path):
-    """A file of text has none of the strange words."""
+    """A file of text has none of the strange words, and the pages that it names are there."""
     try:
         text = path.read_text()
     except UnicodeDecodeError:
         return
     found = STRANGE.search(text)
     tally.expect(not found, f"{told(path)} has `{found and found[0]}`")
+    for name in re.findall(r"\bdocs/\w+\.(?:md|antt\.txt|svg|png)\b", text):
+        tally.expect((ROOT / name).is_file(), f"{told(path)} names {name}, which is not there")
 
 
 def main():
