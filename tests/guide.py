@@ -17,10 +17,10 @@ from pathlib import Path
 
 from helpers.packages import missing
 from helpers.running import ROOT, Count, build
-from helpers.serving import SERVICE
 
 PAGES = ROOT / "README.md", ROOT / "docs" / "GUIDE.md", ROOT / "docs" / "PYTHON.md", ROOT / "examples" / "README.md"
 PACKAGES = "python3-numpy", "python3-scipy", "python3-shapely", "python3-pandas"
+OF_SERVER = "python3-aiohttp", "python3-numpy", "python3-scipy", "python3-shapely", "libjs-leaflet", "curl"
 # The pages with requests to the server, which README.md starts.
 SERVED = PAGES[0], ROOT / "docs" / "OPERATING.md", ROOT / "docs" / "SERVICE.md"
 # Those of a section that imports one.
@@ -114,7 +114,7 @@ def main():
                 print(f"left out: the Python of {page.name} needs {', '.join(lacking)}")
             else:
                 run_python(tally, page, folder)
-        if absent := missing(*SERVICE, "curl"):
+        if absent := missing(*OF_SERVER):
             print(f"left out: the server needs {', '.join(absent)}")
         else:
             run_server(tally, folder)
