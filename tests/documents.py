@@ -28,8 +28,9 @@ PAGES = (
     ROOT / "bench" / "README.md", ROOT / "packaging" / "README.md",
 )
 PROVED, MEASUREMENTS, REFERENCE = (ROOT / "docs" / name for name in ("PROVED.md", "MEASUREMENTS.md", "REFERENCE.md"))
+MOST_LINES_OF_README, MOST_WORDS_OF_ARCHITECTURE = 110, 2_600
 # Pages that are longer are two pages, or say what another one says. Those that list all options and all calls may be longer.
-MOST_LINES, LONGER = 300, {"README.md": 110, "REFERENCE.md": 380, "PYTHON.md": 380}
+MOST_LINES, LONGER = 300, {"REFERENCE.md": 380, "PYTHON.md": 380}
 # An option that is added changes at most so many files.
 MOST_FILES_OF_OPTION = 12
 # A name of a file or folder with a slash; one without, of what a document is about; and the suffixes of text.
@@ -470,8 +471,8 @@ def main():
         check_names(tally, page)
         check_commits(tally, page)
         check_prose(tally, page)
-        lines = len(page.read_text().splitlines())
-        tally.expect(lines <= LONGER.get(page.name, MOST_LINES), f"{told(page)} has {lines} lines")
+        most, lines = LONGER.get(page.name, MOST_LINES), len(page.read_text().splitlines())
+        tally.expect(lines <= most, f"{told(page)} has {lines} lines")
     for path in sorted(COMMANDS.glob("*.py")):
         check_help(tally, path)
     check_proved(tally)
@@ -494,6 +495,10 @@ def main():
     layers.check_times(tally)
     for path in tracked():
         check_text(tally, path)
+    lines = len((ROOT / "README.md").read_text().splitlines())
+    tally.expect(lines <= MOST_LINES_OF_README, f"README.md has {lines} lines")
+    words = len((ROOT / "docs" / "ARCHITECTURE.md").read_text().split())
+    tally.expect(words <= MOST_WORDS_OF_ARCHITECTURE, f"ARCHITECTURE.md has {words} words")
     tally.finish()
 
 

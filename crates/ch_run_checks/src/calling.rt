@@ -1,4 +1,4 @@
-//! A caller of the crates: from the bytes of a graph file to a distance.
+//! A caller of the crates, as in docs/CALLING.md: from the bytes of a graph file to a distance.
 ghost use Rattle.std.specs.Prelude.{◌≡◌, ◌≤◌, ◌⊎◌, IfOk};
 ghost use Rattle.ch_graph.specs.Graph.{Network};
 ghost use Rattle.ch_graph.specs.Walk.{IsAnswer};
