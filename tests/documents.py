@@ -18,10 +18,11 @@ sys.path.insert(0, str(Path(__file__).resolve().parent.parent / "packaging"))
 
 import believe
 import options
-from helpers import adding, layers, statements
+from helpers import adding, layers
 from helpers.planting import pairs_of
 from helpers.prose import CODE, check_prose, check_sentence, prose
 from helpers.running import ROOT, Count
+from helpers.statements import check_proved
 
 PAGES = (
     ROOT / "README.md", ROOT / "CONTRIBUTING.md", ROOT / "CHANGELOG.md", *sorted((ROOT / "docs").glob("*.md")), ROOT / "examples" / "README.md",
@@ -377,7 +378,7 @@ def main():
         tally.expect(lines <= most, f"{told(page)} has {lines} lines")
     for path in sorted(COMMANDS.glob("*.py")):
         check_help(tally, path)
-    statements.check_proved(tally)
+    check_proved(tally)
     for edit in sorted([*ROOT.glob("crates/*/must-fail/*.edit"), *ROOT.glob("crates/*/planted/*.edit"), *ROOT.glob("python/planted/*.edit")]):
         check_edit(tally, edit)
     check_limits(tally)
