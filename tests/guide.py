@@ -76,16 +76,29 @@ def run_command(tally, command, wanted, folder):
     tally.expect(is_wanted, f"{command}\n  status {done.returncode}\n  wanted: {wanted}\n  came:   {done.stdout}{done.stderr}")
 
 
+def requests(text):
+    """The requests of a page by curl, each with the answer that follows, where `..` is any text."""
+    return re.findall(r"^    (curl .*)\n((?:    (?!curl ).*\n)*)", text, re.MULTILINE)
+
+
+def is_answered(answer, wanted):
+    """Whether an answer is the wanted one, but for blanks."""
+    pattern = ".*".join(re.escape(re.sub(r"\s", "", part)) for part in wanted.split(".."))
+    return re.fullmatch(pattern or ".+", re.sub(r"\s", "", answer)) is not None
+
+
 def run_server(tally, folder):
     """The server of README.md, by the files that the commands above it made, answers the requests of the pages."""
     command = re.search(r"^    (tools/page\.py .*)$", SERVED[0].read_text(), re.MULTILINE)[1]
     with subprocess.Popen([*shlex.split(command), "--port", "0"], cwd=folder, stdout=subprocess.PIPE, text=True) as server:
         address = server.stdout.readline().strip().rstrip("/")
         for page in SERVED:
-            for line in re.findall(r"^    (curl .*)$", page.read_text(), re.MULTILINE):
-                asked = line.replace("curl ", "curl --silent --show-error --fail ", 1).replace("http://127.0.0.1:8080", address)
+            for line, wanted in requests(page.read_text()):
+                options = "--silent --show-error" if wanted else "--silent --show-error --fail"
+                asked = line.replace("curl ", f"curl {options} ", 1).replace("http://127.0.0.1:8080", address)
                 done = subprocess.run(asked, shell=True, capture_output=True, text=True)
-                tally.expect(done.returncode == 0 and done.stdout, f"{page.name}: {line}: {done.stderr}")
+                is_wanted = done.returncode == 0 and is_answered(done.stdout, wanted)
+                tally.expect(is_wanted, f"{page.name}: {line}\n  wanted: {wanted}\n  came:   {done.stdout}{done.stderr}")
         server.terminate()
 
 
