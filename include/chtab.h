@@ -18,9 +18,10 @@
  * nothing, unless its comment says so, and the handle is as before. You may pass a closed handle, wrong nodes, wrong
  * lengths or faulty files: each call tests what it gets, and returns a status.
  *
- * Threads. Make one call at a time with a handle. Give each thread a handle of its own with chtab_share: they share one
- * network in memory. Do not call from a signal handler. In a forked child of a process that had threads, do not call with
- * the handles of the parent: open new ones.
+ * Threads. Make one call at a time with a handle: if two threads use one at once, a call may return CHTAB_OK with a wrong
+ * answer, and the network may be lost. Give each thread a handle of its own with chtab_share: they share one network in
+ * memory. Do not call from a signal handler. In a forked child of a process that had threads, do not call with the handles
+ * of the parent: open new ones.
  *
  * Your duties. The library cannot test these:
  *   - A pointer is not NULL, even if its length is 0, and points to as many elements as its length says.
@@ -82,7 +83,7 @@ typedef enum chtab_status {
     CHTAB_BAD_SAVED = 9,    /* the hierarchy's bytes are faulty: see the fault's line and kind */
     CHTAB_WRONG_SAVED = 10, /* the hierarchy is not right for the graph: see the fault's kind and place */
     CHTAB_NO_PLACES = 11,   /* the handle keeps no near places: give it some with chtab_near_places */
-    CHTAB_SUM_TOO_LARGE = 12, /* a sum is 2^64 or more */
+    CHTAB_SUM_TOO_LARGE = 12, /* a sum is 2^64 or more, or a flow is more than 2^63 */
     CHTAB_OTHER_NODES = 13, /* the graph has another number of nodes than the network in whose order it is built */
     CHTAB_FRESH_RANGE = 14  /* more than 100 per cent of the nodes would be ordered afresh */
 } chtab_status;
@@ -220,6 +221,17 @@ uint32_t chtab_routes(chtab *handle, const uint32_t *sources, size_t sources_len
 uint32_t chtab_route_sums(chtab *handle, const uint32_t *sources, size_t sources_len, const uint32_t *targets,
                           size_t targets_len, const uint64_t *values, size_t values_len, uint64_t *pairs,
                           uint64_t *weights, size_t weights_len, uint64_t *sums, size_t sums_len);
+
+/* Writes flows on the lines of the graph's file, and the number of pairs without a walk to `missed`. demands[i] is what goes
+ * from sources[i] to targets[i], and flows[l] is the sum of the demands of the pairs whose routes take the arc on line l. Lines
+ * count from 0, and flows_len is the number of the graph's arcs. Routes are those of chtab_routes: of several arcs between two
+ * nodes, one of least weight has the flow, and of these the first. A pair without a walk adds nothing. The call takes a search
+ * for each pair, and beside the searches some steps for each leg of the hierarchy, once for all pairs. Flows of parts of the
+ * pairs add up, so that several threads can share the pairs.
+ * Errors: CHTAB_CLOSED, CHTAB_LENGTHS, CHTAB_NODE_RANGE, CHTAB_NO_MEMORY. With CHTAB_SUM_TOO_LARGE a flow is more than 2^63. With
+ * an error nothing is written. */
+uint32_t chtab_flows(chtab *handle, const uint32_t *sources, size_t sources_len, const uint32_t *targets, size_t targets_len,
+                     const uint64_t *demands, size_t demands_len, uint64_t *missed, uint64_t *flows, size_t flows_len);
 
 /* Searches from each of these nodes, the places, and keeps the results for near rows. They replace the places that the
  * handle kept. A row has the first `count` places (CHTAB_ALL: all of them) in order of distance, and at equal distances in

@@ -182,12 +182,12 @@ def check_widest(tally, folder):
 
 def text_of_request(folder, graph, options, request, places):
     """What a run over one request writes, where these places were given last before it. A route that the run's options don't ask for goes by
-    the order of depth, by rounds where the options say so, or by the saved hierarchy."""
+    the order of depth, or by the saved hierarchy."""
     match request:
         case Places():
             return b""
         case Route(start, end):
-            routed = {"--routes": None} if {"--routes", "--rounds"} & options.keys() else {"--routes": None, "--deep": None}
+            routed = {"--routes": None} if "--routes" in options else {"--routes": None, "--deep": None}
             return text_of_run(folder, graph, options | routed, [Query(start, end)])
         case Near(source, within):
             return text_of_near(folder, graph, options | own_limit(within), [source], places)
@@ -258,8 +258,7 @@ def check_many(tally, folder):
 
 
 # How the roads are asked, and by how many workers.
-WAYS = [{}, {"--routes": None}, {"--routes": None, "--deep": None}, {"--deep": None, "--hops": 1}, {"--routes": None, "--within": 300_000},
-        {"--routes": None, "--rounds": None}]
+WAYS = [{}, {"--routes": None}, {"--routes": None, "--deep": None}, {"--deep": None, "--hops": 1}, {"--routes": None, "--within": 300_000}]
 SHARED = [{}, {"--workers": 2, "--piece": 1}, {"--workers": 4, "--piece": 7}, {"--workers": 64, "--piece": 1000}]
 
 

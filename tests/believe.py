@@ -1,12 +1,13 @@
 #!/usr/bin/python3
-"""Tests that docs/claim.antt.txt has the definitions that a distance rests on, and no others, and that docs/BELIEVE.md takes an hour.
+"""Tests that docs/claim.antt.txt has the definitions that a distance rests on, and no others, and that docs/BELIEVE.md takes about an hour.
 
   believe.py           compares the file and the page with the sources
   believe.py --write   writes the file; that needs the kit, for the bodies of standard words
 
 The clause `written` of `run_dist` is where the list starts. A definition of `crates/*/specs` belongs to it if the clause, or a definition
 of the list, mentions its name. The names of ROUTES are left out: they count only where routes are written. Those of SAVED count only where
-a hierarchy was saved or an order is given.
+a hierarchy was saved or an order is given. A name that is neither of a definition nor of a type of the code nor of the kit's library is a fault,
+and so is an operator that is not the library's.
 
 It only reads files, and needs no built program. The last line is 'N passed, N failed'.
 """
@@ -19,9 +20,10 @@ from helpers.running import ROOT, Count
 PAGE = ROOT / "docs" / "BELIEVE.md"
 CONTRACT = ROOT / "crates/ch_run/src/run/dist.rt"
 ROUTES = {"IsRouteText", "IsOfRoutes", "LevelsAndLegs"}
-SAVED = {"source_reading", "SourceReading", "NoFile", "SavedFile", "OrderFile", "ComesFromFile", "AreChecked", "AreBuiltLike", "OrderAndLegs"}
+SAVED = {"ComesFromFile", "AreChecked", "AreBuiltLike", "OrderAndLegs"}
 IMPORT = re.compile(r"^(?:ghost )?use Rattle\.([\w.]+)\.\{([^}]*)\};?$", re.MULTILINE)
-MODULE = re.compile(r"^use Rattle\.([\w.]+) as (\w+)$", re.MULTILINE)
+MODULE = re.compile(r"^(?:ghost )?use Rattle\.([\w.]+) as (\w+);?$", re.MULTILINE)
+OPERATORS = "std.specs.Prelude"
 HEAD = re.compile(r"(?:unfoldable )?(?:abbrev )?pub (?:(?:record|data) )?(\w+)")
 
 
@@ -30,6 +32,7 @@ class Source:
 
     def __init__(self, path):
         self.path, self.text = path, path.read_text()
+        self.unread = re.findall(r"^(?:pub |ghost )*use Rattle\b.*$", MODULE.sub("", IMPORT.sub("", self.text)), re.MULTILINE)
         self.imports = {word: (module, word) for module, word in MODULE.findall(self.text)}
         for module, names in IMPORT.findall(self.text):
             for item in names.split(", "):
@@ -64,16 +67,25 @@ def words(text):
     return set(re.findall(r"\w[\w']*", re.sub(r"--.*", "", text)))
 
 
+def operators(source, text):
+    """The imported operators of which a definition has each sign. In names of operators a circle stands where an argument does."""
+    bare = re.sub(r"--.*", "", text)
+    return {name for name in source.imports if "◌" in name and all(sign in bare for sign in name.split("◌") if sign)}
+
+
 class Closure:
-    """What the clause needs without some names: the definitions of each file, the types of the code, and the words of std."""
+    """What the clause needs without some names: the definitions of each file, the types of the code, and the words of std. `lost` has the names that
+    are none of these, and the imports that are not read."""
 
     def __init__(self, left_out=frozenset()):
         self.files, self.left_out = sources(), left_out
-        self.definitions, self.types, self.std = {}, set(), set()
+        self.definitions, self.types, self.std, self.lost = {}, set(), set(), set()
         self.follow(Source(CONTRACT), clause())
 
     def follow(self, source, text):
         """Adds what a text of this file mentions."""
+        self.lost.update(source.unread)
+        self.lost.update(name for name in operators(source, text) if source.imports[name][0] != OPERATORS)
         for word in words(text) - ROUTES - SAVED - self.left_out:
             module, name = source.imports.get(word, (None, word))
             if module is None and source.owner(name) in source.definitions:
@@ -84,6 +96,8 @@ class Closure:
                 self.std.add(name)
             elif module and ".declared." in module:
                 self.types.add(module.split(".TheVariants")[0])
+            elif module:
+                self.lost.add(f"{module}.{name}")
 
     def add(self, source, name):
         known = self.definitions.setdefault(source, set())
@@ -122,7 +136,7 @@ class Closure:
 
 # How long a reader takes, in seconds: a word, a line of a definition, and a row of a table.
 WORD, LINE, ROW = 60 / 200, 30, 10
-MOST_MINUTES = 60
+MOST_MINUTES = 65
 
 
 def page_seconds():
@@ -149,12 +163,22 @@ def check_claim(tally, pieces, std):
     """The file is what the sources make. The bodies of standard words are compared where the kit is."""
     text = claim.FILE.read_text()
     tally.expect(text.startswith("\n\n".join(pieces) + "\n\n"), "docs/claim.antt.txt is not what tests/believe.py --write makes of the sources")
+    lost = Closure().lost
+    tally.expect(not lost, f"the claim mentions what is no definition, type or standard word: {sorted(lost)}")
     if folder := claim.kit():
+        tally.expect(not (found := claim.unexplained(folder)), f"standard words use what is not explained: {sorted(found)}")
         tally.expect(text.endswith(claim.standard_text(folder, std) + "\n"), "docs/claim.antt.txt has other standard words than the kit")
 
 
+def check_example(tally):
+    """A test of the crates runs the worked example, on the very bytes of both files."""
+    code = (ROOT / "crates/ch_run_checks/src/calling.rt").read_text()
+    for text in *((ROOT / "examples" / name).read_text() for name in ("first.gr", "first.p2p")), claim.ANSWERS:
+        tally.expect('b"{}"'.format(text.replace("\n", "\\n")) in code, f"calling.rt of ch_run_checks does not have {text!r}")
+
+
 def check_hour(tally, page, pieces):
-    """The page says how many lines each part has and how long it takes. The page takes an hour at most, with the first part, the types and the
+    """The page says how many lines each part has and how long it takes. The page takes about an hour, with the first part, the types and the
     standard words that this names."""
     _, _, first, example, *others, _ = pieces
     looked_up = Closure(claim.PARTS[0][0])
@@ -202,6 +226,7 @@ def check_page(tally):
     """Compares the file and the page with the sources."""
     page, (pieces, std) = PAGE.read_text(), made()
     check_claim(tally, pieces, std)
+    check_example(tally)
     check_hour(tally, page, pieces)
     check_way(tally, page)
     check_bugs(tally, page)

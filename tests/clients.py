@@ -19,7 +19,7 @@ from helpers import running
 from helpers.moods import holding
 from helpers.packages import PYTHON, run_checks
 from helpers.running import PROGRAM, ROOT
-from helpers.serving import COUNTRY, SERVICE, ask, by_both, faulty_service, send, service
+from helpers.serving import COUNTRY, SERVICE, ask, faulty_service, send, service
 from helpers.waiting import PATIENCE, until
 
 sys.path.insert(0, str(ROOT / "python"))
@@ -143,7 +143,7 @@ def fifty_clients_for_a_minute():
 
 
 def a_full_queue_and_a_program_that_dies():
-    """Where too many wait, some get the answer to come again, and none is lost; a program that died is started anew and asked once more."""
+    """Where too many wait, some get the answer to come again, and none is lost; one that the library has no memory for is told so."""
     with faulty_service("", "--waiting", "4") as (_, address), concurrent.futures.ThreadPoolExecutor(20) as clients:
         with holding():
             asking = [clients.submit(ask, address, "/api/route", {"from": VADUZ, "to": ESCHEN}) for _ in range(20)]
@@ -151,10 +151,7 @@ def a_full_queue_and_a_program_that_dies():
         found = [each.result() for each in asking]
         assert [status for status, _ in found].count(200) == 4, found
         assert all(status == 200 or (status == 503 and "waiting" in value["error"]) for status, value in found), found
-    with faulty_service("dies=9") as (_, address):
-        found = [ask(address, "/api/table", {"sources": [VADUZ], "targets": [ESCHEN]})[0] for _ in range(30)]
-        assert found == [200] * 30, found
-    with faulty_service("dies=1") as (_, address):
+    with faulty_service("fails=0") as (_, address):
         assert ask(address, "/api/table", {"sources": [VADUZ], "targets": [ESCHEN]})[0] == 503
     assert "Traceback" not in open("told").read()
 
@@ -195,7 +192,7 @@ def what_browsers_are_told():
 
 GROUPS = (
     (SERVICE, [
-        *by_both(requests_are_answered, faults_are_told_in_a_line, clients_that_go_away), fifty_clients_for_a_minute,
+        requests_are_answered, faults_are_told_in_a_line, clients_that_go_away, fifty_clients_for_a_minute,
         a_full_queue_and_a_program_that_dies, a_service_ends_well, what_browsers_are_told,
     ]),
 )

@@ -55,18 +55,6 @@ def library(program):
     return in_process.make()
 
 
-@pytest.fixture(params=["program", "library"])
-def way(request):
-    """How the networks of a test are asked that are opened with the built program: by runs of it, or by the library for C."""
-    if request.param == "program":
-        yield request.param
-        return
-    from helpers import ways
-
-    with ways.by_library():
-        yield request.param
-
-
 @pytest.fixture
 def random_graphs():
     """A call that draws so many small graphs: for each its seed, the source of randomness, the arcs in three columns (`tails`, `heads`,

@@ -1,8 +1,8 @@
 #!/usr/bin/python3
 """Tests that the documents name what exists: links and their anchors, files, commits, the calls and clauses that carry what is proved,
 the scripts of all figures, and the text of planted bugs. Tests that docs/REFERENCE.md has each option, limit, fault and status once, that
-lines and sentences are short, in the help of the tools too, that what users of Python see has docstrings, that there is one version, and
-that no file speaks of the machine that it was written on.
+lines and sentences are short, in the help of the tools too, that what users of Python see has docstrings, that there is one version, where
+code says that there is no memory, and that no file speaks of the machine that it was written on.
 
 It only reads files, and needs no built program. The last line is 'N passed, N failed'.
 """
@@ -18,7 +18,7 @@ sys.path.insert(0, str(Path(__file__).resolve().parent.parent / "packaging"))
 
 import believe
 import options
-from helpers import adding, layers
+from helpers import adding, lacks, layers
 from helpers.planting import pairs_of
 from helpers.prose import CODE, check_prose, check_sentence, prose
 from helpers.running import ROOT, Count
@@ -230,8 +230,9 @@ def check_added(tally):
 
 def check_faults(tally):
     """Each line of a fault, each fault of a file and each word of a saved hierarchy has one row."""
-    for name, text, more in all_in(tally, FAULTS, r'^(\w+) .* = codes "(chtab: [^"]*)"( \+\+ read_fault_text)?'):
-        begins = f"`{text}line N" if name == "read_heading" or more else f"`{text}"
+    for name, words in all_in(tally, FAULTS, r'^(read_heading|fault_words) .* = codes "([^"]*)"'):
+        text = f"chtab: {words}"
+        begins = f"`{text}line N" if name == "read_heading" else f"`{text}"
         expect_once(tally, f"the line {text}", [row for row in rows("What does a fault look like?") if row[0].startswith(begins)])
     for file, heading in ("ch_read/specs/Text.antt", "What does FAULT mean?"), ("ch_hierarchy/specs/FaultText.antt", "What does WORD mean?"):
         texts = all_in(tally, ROOT / "crates" / file, r'^(?:kind|fault)_text \(?[A-Z].* = codes "([^"]*)"$')
@@ -244,7 +245,7 @@ def check_faults(tally):
 def check_statuses(tally):
     """Each exit status of the program and of its script has one row."""
     found = [*all_in(tally, FAULTS, r"^status_of .* = (\d+)$"), *all_in(tally, ROOT / "crates/ch_words/specs/Line.antt", r"status_of .* = (\d+)$")]
-    found += [*all_in(tally, ROOT / "chtab", r"^ +exit (\d+)$"), *all_in(tally, ROOT / "crates/chtab/src/program.rt", r"\bCLOSED_PIPE: u8 = (\d+)")]
+    found += all_in(tally, ROOT / "chtab", r"^ +exit (\d+)$")
     for status in sorted(set(found)):
         expect_once(tally, f"the status {status}", [row for row in rows("Exit statuses") if row[0] == status])
     for row in rows("Exit statuses")[1:]:
@@ -396,12 +397,11 @@ def main():
     check_columns(tally)
     layers.check_layers(tally)
     layers.check_times(tally)
+    lacks.check_lacks(tally)
     for path in tracked():
         check_text(tally, path)
-    lines = len((ROOT / "README.md").read_text().splitlines())
-    tally.expect(lines <= MOST_LINES_OF_README, f"README.md has {lines} lines")
-    words = len((ROOT / "docs" / "ARCHITECTURE.md").read_text().split())
-    tally.expect(words <= MOST_WORDS_OF_ARCHITECTURE, f"ARCHITECTURE.md has {words} words")
+    tally.expect((lines := len((ROOT / "README.md").read_text().splitlines())) <= MOST_LINES_OF_README, f"README.md has {lines} lines")
+    tally.expect((words := len((ROOT / "docs" / "ARCHITECTURE.md").read_text().split())) <= MOST_WORDS_OF_ARCHITECTURE, f"ARCHITECTURE.md has {words} words")
     tally.finish()
 
 

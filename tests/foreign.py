@@ -4,19 +4,21 @@
   foreign.py GRAPH FILE   writes the hierarchy of GRAPH to FILE
   foreign.py              the test, on examples/liechtenstein.gr
 
-The test compares what `--saved` answers with what the program answers by its own hierarchy, and then leaves shortcuts out of the
-file, one at a time: the program has to say that it is refused, or to give the same distances. The last line is 'N passed, N failed'.
+The test compares what `--saved` answers with what the program answers by its own hierarchy, and its routes with those that the rules name for
+the file. Then it leaves shortcuts out of the file, one at a time: the program has to say that it is refused, or to give the same distances.
+Some of these files are refused, so a program that leaves `--saved` aside fails. The last line is 'N passed, N failed'.
 """
 import random
 import sys
 import tempfile
 from pathlib import Path
 
-from helpers.running import ROOT, Count, build, side_by_side, run
+from helpers.running import ROOT, Answer, Count, build, side_by_side, run
 from helpers.writing import write_lines, write_list, write_queries
 from oracles.contracting import contract, text_of
 from oracles.reading import graph_of
 from oracles.routes import checked
+from oracles.rules import routes_text
 
 GRAPH = ROOT / "examples" / "liechtenstein.gr"
 # How many shortcuts are left out, each from a file of its own.
@@ -24,9 +26,13 @@ LEFT_OUT = 300
 
 
 def hierarchy_of(graph):
-    """The saved hierarchy of a graph file."""
-    nodes, arcs = graph_of(graph)
-    return text_of(nodes, *contract(nodes, arcs))
+    """The nodes of a graph file in an order, and the legs of its hierarchy in this order."""
+    return contract(*graph_of(graph))
+
+
+def text_by(order, legs):
+    """The saved file of a hierarchy."""
+    return text_of(len(order), order, legs)
 
 
 def without(place, lines):
@@ -43,7 +49,8 @@ class Runs:
         nodes, arcs = graph_of(GRAPH)
         self.arcs = set(arcs)
         draw = random.Random("foreign")
-        write_queries(self.folder / "trips.p2p", [(draw.randint(1, nodes), draw.randint(1, nodes)) for _ in range(200)])
+        self.trips = [(draw.randint(1, nodes), draw.randint(1, nodes)) for _ in range(200)]
+        write_queries(self.folder / "trips.p2p", self.trips)
         for name in "from.ss", "to.ss":
             write_list(self.folder / name, [draw.randint(1, nodes) for _ in range(40)])
 
@@ -52,13 +59,13 @@ class Runs:
         return run([tool, *words, GRAPH, *files], self.folder)
 
 
-def check_routes(tally, runs, distances):
-    """The routes by the hierarchy are walks of the graph, and their distances are these."""
-    found = checked(runs.arcs, runs.answer("dist", "--routes", "--saved", "own.ch").out.decode())
+def check_routes(tally, runs, order, legs, distances):
+    """The routes by the file are those that the rules name for it, and walks of the graph of these distances."""
+    answer = runs.answer("dist", "--routes", "--saved", "own.ch")
+    tally.expect(answer == Answer(0, routes_text(order, legs, runs.trips).encode(), b""), "routes that the rules do not name")
+    found = checked(runs.arcs, answer.out.decode())
     told = [f"d {start} {end} {'-' if weight is None else weight}" for start, end, weight, _ in found]
     tally.expect(told == distances.decode().splitlines(), "routes of other distances")
-    for _ in found:
-        tally.expect(True, "")
 
 
 def check_without(tally, runs, lines, distances):
@@ -78,13 +85,15 @@ def check_without(tally, runs, lines, distances):
         is_refused = answer.status == 1 and answer.out == b"" and answer.err.startswith(b"chtab: saved hierarchy refused: ")
         tally.expect(is_refused or answer == distances, f"without {lines[place]}: {answer.status}, {answer.err or 'other distances'}")
         refused += is_refused
+    tally.expect(refused > 0, "no file without a shortcut is refused")
     print(f"{len(shortcuts)} shortcuts: of {LEFT_OUT} files without one {refused} are refused, the others give the same distances")
 
 
 def test():
     build()
     tally = Count()
-    lines = hierarchy_of(GRAPH).splitlines()
+    order, legs = hierarchy_of(GRAPH)
+    lines = text_by(order, legs).splitlines()
     with tempfile.TemporaryDirectory() as folder:
         runs = Runs(folder)
         write_lines(runs.folder / "own.ch", lines)
@@ -94,7 +103,7 @@ def test():
             for tool in "dist", "table":
                 own, saved = (runs.answer(tool, *words, *more) for more in ([], ["--saved", "own.ch"]))
                 tally.expect(own.status == 0 and saved == own, f"{tool} {words}: {saved.err or 'other answers'}")
-        check_routes(tally, runs, distances.out)
+        check_routes(tally, runs, order, legs, distances.out)
         check_without(tally, runs, lines, distances)
     tally.finish()
 
@@ -104,7 +113,7 @@ def main():
         test()
     if len(sys.argv) != 3:
         sys.exit(__doc__)
-    Path(sys.argv[2]).write_text(hierarchy_of(sys.argv[1]))
+    Path(sys.argv[2]).write_text(text_by(*hierarchy_of(sys.argv[1])))
 
 
 if __name__ == "__main__":

@@ -159,8 +159,10 @@ def check_installed(tally, prefix, folder):
         tally.expect((status, err) == (0, "") and "usage:" in out.lower(), f"{name} --help: {status} {err}")
         check_page(tally, prefix, name, {f"\\fB{option}\\fR" for option in options_of([name], folder, path)} | {".SH SYNOPSIS"})
         tally.expect(out.startswith(f"Usage: {name} "), f"{name} is told by another name: {out[:60]}")
-    unit = prefix / "share" / "doc" / "chtab" / "chtab-page.service"
-    tally.expect(f"\nExecStart={prefix}/bin/chtab-page " in unit.read_text(), "the unit for systemd names another command than the installed one")
+    for name in "chtab-page.service", "chtab-page@.service":
+        unit = prefix / "share" / "doc" / "chtab" / name
+        tally.expect(f"\nExecStart={prefix}/bin/chtab-page " in unit.read_text(), f"{name} for systemd names another command than the installed one")
+    tally.expect((prefix / "share" / "doc" / "chtab" / "nginx.conf").is_file(), "the site for nginx is not installed")
     check_page(tally, prefix, "chtab", tools | {"--help", "--version"})
     check_found(tally, prefix, folder)
 
@@ -190,8 +192,7 @@ def check_found(tally, prefix, folder):
     found = said([sys.executable, "-c", text], folder, SYSTEM, PYTHONPATH=str(prefix / "lib" / "chtab" / "python"))
     tally.expect(found == (0, f"{prefix}/lib/chtab/chtab\n", ""), f"the program beside the package: {found}")
     found = said([prefix / "bin" / "chtab", "dist", "none.gr", "none.p2p"], folder)
-    wanted = "chtab: none.gr: there is no such file\nchtab: none.p2p: there is no such file\nchtab: cannot read graph\n"
-    tally.expect(found == (3, "", wanted), f"files that are not there: {found}")
+    tally.expect(found == (3, "", "chtab: cannot read graph\n"), f"files that are not there: {found}")
 
 
 def by_library(graph, saved):
@@ -294,7 +295,7 @@ def check_in_root(tally, root, package):
             status, out, err = root.run([name, "--help"], user)
             named = set(re.findall(r"/usr/share/doc/\S+\.md", out))
             tally.expect((status, err) == (0, "") and named <= set(listed), f"{name} --help of {user}: {status} {err} {named}")
-    for path in "share/bash-completion/completions/chtab", "share/doc/chtab/copyright", "share/doc/chtab/chtab-page.service", "lib/python3/dist-packages/chtab/py.typed", *OF_LIBRARY:
+    for path in "share/bash-completion/completions/chtab", "share/doc/chtab/copyright", "share/doc/chtab/chtab-page.service", "share/doc/chtab/chtab-page@.service", "share/doc/chtab/nginx.conf", "lib/python3/dist-packages/chtab/py.typed", *OF_LIBRARY:
         tally.expect(f"/usr/{path}" in listed, f"the package has no /usr/{path}")
     text = f"import chtab; n = chtab.Network.open('{first[0]}'); print(n.distances([(1, 3)])[0], chtab.__file__)"
     found = root.run(["/usr/bin/python3", "-c", text], "nobody")
@@ -428,7 +429,7 @@ def check_environment(tally, folder, wheel):
     tally.expect(said([bin / "chtab", "dist", *FIRST], "/", elsewhere) == (0, FIRST_TEXT, ""), "the program of the wheel")
     tally.expect(said([bin / "chtab", "--version"], "/", elsewhere) == (0, VERSION, ""), "the version of the wheel")
     found = said([bin / "chtab", "dist", "none.gr", "none.p2p"], "/", elsewhere)
-    tally.expect(found[0] == 3 and found[2].startswith("chtab: none.gr: there is no such file\n"), f"files that are not there: {found}")
+    tally.expect(found == (3, "", "chtab: cannot read graph\n"), f"files that are not there: {found}")
     text = f"import chtab, chtab.engine.program; n = chtab.Network.open('{FIRST[0]}'); print(n.distances([(1, 3)])[0], chtab.engine.program.program_of())"
     found = said([bin / "python", "-c", text], "/", elsewhere)
     tally.expect(found[0] == 0 and found[1].startswith("9 ") and found[1].endswith("chtab/bin/chtab\n"), f"from Python, by the wheel: {found}")

@@ -83,6 +83,49 @@ def compare_names(tally):
     tally.expect(ctypes.sizeof(Handle) == 16, "a handle has 16 bytes")
 
 
+# The header's types for those of the library, and its names of parameters that have another one there.
+NAMES = {"second": "handle"}
+TYPES = {"u8": "uint8_t", "u32": "uint32_t", "u64": "uint64_t", "Handle": "chtab", "Fault": "chtab_fault", "Found": "chtab_found"}
+
+
+def in_header(name, kind):
+    """A parameter of the library as the header declares it: a slice is a pointer and a length, and the allocator is no parameter of C."""
+    if kind == "Global":
+        return []
+    is_lent, is_changed, is_slice, item = re.fullmatch(r"(&?)(mut )?(\[?)(\w+)\]?", kind).groups()
+    name, declared_type = NAMES.get(name, name), TYPES[item]
+    if not is_lent:
+        return [f"{declared_type} {name}"]
+    pointer = f"{'' if is_changed else 'const '}{declared_type} *{name}"
+    return [pointer, f"size_t {name}_len"] if is_slice else [pointer]
+
+
+def exports():
+    """The parameters of each call of the library, in order, as the header declares them."""
+    found = re.findall(r'pub extern "C" fn (\w+)\((.*?)\) -> u32', (SOURCES / "handle.rt").read_text(), re.DOTALL)
+    return {name: [part for each in re.findall(r"(\w+): ([^,\n]+)", listed) for part in in_header(*each)] for name, listed in found}
+
+
+def fields(path, name):
+    """The members of a type of the library that C sees, in order, as the header declares them."""
+    body = re.search(rf"^#\[repr\(C\)\]\n(?:#.*\n)*pub struct {name} \{{\n(.*?)^\}}", path.read_text(), re.MULTILINE | re.DOTALL)[1]
+    return [f"{TYPES[kind]} {member}" for member, kind in re.findall(r"^    pub (\w+): (\w+),$", body, re.MULTILINE)]
+
+
+def compare_types(tally):
+    """Each function of the header has the parameters of the library's call, by order, name and type. The structures have the same members."""
+    text = re.sub(r"/\*.*?\*/", "", HEADER.read_text(), flags=re.DOTALL)
+    declarations = {name: [] if listed == "void" else [" ".join(part.split()) for part in listed.split(",")]
+                    for name, listed in re.findall(r"^uint32_t (chtab_\w+)\((.*?)\);", text, re.MULTILINE | re.DOTALL)}
+    tally.expect(declarations.keys() == exports().keys() == declared(), f"the header has {sorted(declarations)}, handle.rt {sorted(exports())}")
+    for name, parameters in exports().items():
+        tally.expect(declarations.get(name) == parameters, f"{name}: the header has {declarations.get(name)}, the library {parameters}")
+    for name, path, own in ("chtab_found", "answers.rt", "Found"), ("chtab_fault", "faults.rt", "Fault"):
+        listed = re.search(rf"typedef struct {name} {{(.*?)}}", text, re.DOTALL)[1]
+        members = [" ".join(part.split()) for part in listed.split(";") if part.strip()]
+        tally.expect(members == fields(SOURCES / path, own), f"{name}: the header has {members}, the library {fields(SOURCES / path, own)}")
+
+
 def flags():
     """How the example is compiled and linked, by pkg-config where it is there."""
     if shutil.which("pkg-config"):
@@ -203,6 +246,30 @@ def refuse_large_route_sums(tally, library):
     library.close(handle)
 
 
+def refuse_large_flows(tally, library):
+    """A flow of more than 2^63 refuses all flows, also after others were given, and 2^63 is given. Lengths come before nodes."""
+    status, handle, _ = library.open(LINE, OF_LINE)
+    half = 2**63
+    for demands, owed in (
+        ([half, 0, 5], (0, 1, [half, half])), ([half - 1, 1, 0], (0, 1, [half - 1, half])), ([half, 1, 0], (STATUS["SUM_TOO_LARGE"], 7, [7, 7])),
+        ([half - 1, 2, 0], (STATUS["SUM_TOO_LARGE"], 7, [7, 7])), ([2**64 - 1, 0, 0], (STATUS["SUM_TOO_LARGE"], 7, [7, 7])),
+        ([1, 2, 2**64 - 1], (0, 1, [1, 3])), ([0, 0, 0], (0, 1, [0, 0])),
+    ):
+        told = library.flows(handle, [0, 1, 2], [2, 2, 0], demands, 2)
+        tally.expect(told == owed, f"flows of {demands}: {told}, not {owed}")
+    told = library.flows(handle, [1] * 4, [2, 1, 2, 2], [half // 2, 2**64 - 1, half // 2 - 1, 2], 2)
+    tally.expect(told == (STATUS["SUM_TOO_LARGE"], 7, [7, 7]), f"a flow of several pairs that is too large: {told}")
+    for sources, targets, demands, room, name in (
+        ([9], [0, 0], [1], 2, "LENGTHS"), ([9], [0], [1, 1], 2, "LENGTHS"), ([9], [0], [], 2, "LENGTHS"), ([9], [0], [1], 1, "LENGTHS"),
+        ([9], [0], [1], 3, "LENGTHS"), ([3], [0], [1], 2, "NODE_RANGE"), ([0], [3], [1], 2, "NODE_RANGE"), ([0, 2**32 - 1], [1, 1], [1, 0], 2, "NODE_RANGE"),
+    ):
+        told = library.flows(handle, sources, targets, demands, room)
+        tally.expect(told == (STATUS[name], 7, [7] * room), f"flows {sources} {targets} {demands}: {told}")
+    tally.expect(library.flows(handle, [], [], [], 2) == (0, 0, [0, 0]), "flows of no pairs")
+    tally.expect(library.flows(Handle(), [0], [1], [1], 2) == (STATUS["CLOSED"], 7, [7, 7]), "flows by a closed handle")
+    library.close(handle)
+
+
 def refuse_likes(tally, library):
     """What is wrong is told in the order that the header says, and both handles stay."""
     status, handle, _ = library.open(LINE, OF_LINE)
@@ -235,6 +302,7 @@ def main():
             saved[graph].write_bytes(run(["save", graph], folder).out)
         compile_header(tally, folder)
         compare_names(tally)
+        compare_types(tally)
         run_example(tally, folder, saved)
         refuse_memory(tally, folder, saved)
         run_page(tally, folder)
@@ -242,6 +310,7 @@ def main():
     tell_faults(tally, library)
     refuse_large_sums(tally, library)
     refuse_large_route_sums(tally, library)
+    refuse_large_flows(tally, library)
     refuse_likes(tally, library)
     fuzzed = done(sys.executable, ROOT / "tests/library/fuzz.py", calls, 1)
     passed, failed = map(int, (re.search(r"(\d+) passed, (\d+) failed$", fuzzed.stdout.strip()) or re.match("(0) (1)", "0 1")).groups())

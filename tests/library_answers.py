@@ -136,6 +136,29 @@ def compare_table_sums(tally, library, graph, hierarchy):
     library.close(handle)
 
 
+def compare_flows(tally, library, graph, hierarchy):
+    """Flows are the sums of the demands over the lines of the routes, pair by pair, also in a second call and in parts."""
+    count, arcs = graph_of(graph)
+    draw = random.Random(f"library flows {graph.name}")
+    status, handle, _ = library.open(graph.read_bytes(), hierarchy.read_bytes())
+    sources, targets = ([draw.randrange(count) for _ in range(ASKED)] for _ in range(2))
+    sources[3] = targets[3]
+    room = sum(library.route(handle, source, target, count)[2] for source, target in zip(sources, targets))
+    _, _, weights, ends, _, lines = library.routes(handle, sources, targets, room, lines_room=room)
+    for greatest in 2, 2**53:
+        demands = [draw.randrange(greatest) for _ in sources]
+        owed = [0] * len(arcs)
+        for demand, begin, end in zip(demands, [0, *ends], ends):
+            for line in lines[begin + 1:end]:
+                owed[line] += demand
+        missed = weights.count(NO_DISTANCE)
+        tally.expect(library.flows(handle, sources, targets, demands, len(arcs)) == (0, missed, owed), f"{graph.name}: flows of demands below {greatest}")
+        parts = [library.flows(handle, sources[some], targets[some], demands[some], len(arcs)) for some in (slice(7), slice(7, None))]
+        together = [one + other for one, other in zip(parts[0][2], parts[1][2])]
+        tally.expect((parts[0][1] + parts[1][1], together) == (missed, owed), f"{graph.name}: flows of parts add up")
+    library.close(handle)
+
+
 def near_of_program(folder, graph, hierarchy, options, sources, places):
     """The program's near rows: the pairs of a weight and a node of each source."""
     write_list(folder / "from.ss", [node + 1 for node in sources or []])
@@ -200,6 +223,8 @@ def tell_lines(tally, library):
     tally.expect(library.routes(handle, [0], [2], 3, lines_room=2)[0] == STATUS["LENGTHS"], "fewer lines than nodes")
     told = library.route_sums(handle, [0, 2, 1], [2, 0, 0], [1, 10, 100, 1_000, 10_000, 100_000])
     tally.expect(told == (0, 3, [11, NO_DISTANCE, 4], [10_010, 0, 100]), f"sums on lines of arcs between the same nodes: {told}")
+    told = library.flows(handle, [0, 2, 1, 0, 1], [2, 0, 0, 1, 1], [1, 10, 100, 1_000, 10_000], 6)
+    tally.expect(told == (0, 1, [0, 1_001, 100, 0, 1, 0]), f"flows on lines of arcs between the same nodes: {told}")
     library.close(handle)
 
 
@@ -295,6 +320,7 @@ def main():
             compare_near(tally, folder, library, graph, saved)
             compare_many_routes(tally, library, graph, saved)
             compare_table_sums(tally, library, graph, saved)
+            compare_flows(tally, library, graph, saved)
             compare_sums(tally, library, graph, saved)
             compare_built(tally, library, graph)
             compare_like(tally, library, graph)

@@ -25,12 +25,12 @@ import threading
 import time
 import urllib.parse
 
-from helpers import running, serving
+from helpers import running
 from helpers.in_process import make
 from helpers.moods import STANDIN, holding, mood
 from helpers.packages import PYTHON, run_checks
 from helpers.running import PROGRAM, ROOT
-from helpers.serving import COUNTRY, SERVICE, ask, by_both, faulty_service, send, service, waiting_at
+from helpers.serving import COUNTRY, SERVICE, ask, faulty_service, send, service, waiting_at
 from helpers.waiting import PATIENCE, until
 from helpers.ways import saved_for
 
@@ -132,7 +132,7 @@ def one_question(client, country, draw):
         found, due = status == 200 and len(value["waypoints"]), 2
     else:
         query = "overview=false" if kind == 3 else "overview=full&geometries=geojson&steps=true&annotations=true"
-        status, value = client.ask(f"/route/v1/car/{country.text(k, l, m)}?{query}")
+        status, value = client.ask(f"/route/v1/car/{country.text(k, l, m)}?{query}&continue_straight=false")
         found = status == 200 and [leg["duration"] for leg in value["routes"][0]["legs"]]
         due = [wanted[k][l] / 1000, wanted[l][m] / 1000]
     return None if found == due else (kind, k, l, m, status, found or value, due)
@@ -181,10 +181,7 @@ def fifty_clients_while_runs_are_killed(*words):
         working = [clients.submit(asking.work, seed) for seed in range(CLIENTS)]
         for part in 1, 2:
             until(lambda: time.monotonic() > asking.latest - SECONDS + part * SECONDS / 4 and asking.count > part * MANY / 4)
-            runs = [] if serving.IS_BY_LIBRARY else until(lambda: runs_below(child.pid))
-            assert not serving.IS_BY_LIBRARY or not runs_below(child.pid)
-            for number in runs:
-                os.kill(number, signal.SIGKILL)
+            assert not runs_below(child.pid)
         held = memory_of(own := [child.pid, *processes_below(child.pid)])
         for each in working:
             each.result()
@@ -253,7 +250,7 @@ def processes_are_begun_anew():
     with service(COUNTRY, "--processes", "2") as (child, address):
         first, second = (number for number in processes_below(child.pid) if name_of(number) != "chtab")
         os.kill(first, signal.SIGKILL)
-        count = 2 if serving.IS_BY_LIBRARY else 4
+        count = 2
         until(lambda: first not in (below := living_below(child.pid)) and len(below) == count)
         assert all(ask(address, f"{ROUTE}?overview=false")[0] == 200 for _ in range(10))
         assert "is restarted" in open("told").read()
@@ -268,40 +265,33 @@ def processes_are_begun_anew():
 
 
 def the_library_answers_where_it_fits():
-    """By itself where it stands beside the program and a hierarchy is saved, for one worker; never with `--pipe`. With it there are no runs."""
+    """The one beside the program, in each process, with no run of the program below; `--pipe` of version 1.1 has no effect."""
     os.mkdir("beside")
     shutil.copy(PROGRAM, "beside/chtab")
     shutil.copy(make(), "beside/libchtab.so.1")
     saved = "--saved", saved_for(f"{COUNTRY}.gr")
-    for words, runs in (
-        (saved, 0), (("--library", *saved), 0), ((*saved, "--processes", 2), 0), ((*saved, "--pipe"), 1), ((*saved, "--workers", 2), 1), ((), 1),
-        ((*saved, "--pipe", "--processes", 2), 2),
-    ):
+    for words in saved, ("--library", *saved), ("--library", make()), (*saved, "--processes", 2), (*saved, "--pipe"), ("--workers", 2), ():
         with service(COUNTRY, *words, program="beside/chtab") as (child, address):
-            assert ask(address, f"{ROUTE}?overview=false")[0] == 200 and len(runs_below(child.pid)) == runs, words
+            assert ask(address, f"{ROUTE}?overview=false")[0] == 200 and not runs_below(child.pid), words
             text = send(address, "/metrics")[2].decode()
-            assert f"\nchtab_engines {runs or len(processes_below(child.pid)) or 1}\n" in text, text
-    line = [PYTHON, ROOT / "tools" / "page.py", "--program", PROGRAM, "--library", "--pipe", COUNTRY]
+            assert f"\nchtab_engines {len(processes_below(child.pid)) or 1}\n" in text, text
+    os.remove("beside/libchtab.so.1")
+    line = [PYTHON, ROOT / "tools" / "page.py", "--program", "beside/chtab", COUNTRY]
     done = subprocess.run(list(map(str, line)), capture_output=True, text=True)
-    assert done.returncode == 2 and "not allowed with" in done.stderr, done
+    assert done.returncode == 1 and "`packaging/library` makes it" in done.stderr, done
 
 
 def the_library_answers_for_networks_with_names():
-    """Where each of them has its saved hierarchy beside it; one that lacks it is named. The help says so."""
+    """With their saved hierarchies, where they are beside them, and without."""
     os.mkdir("beside")
     shutil.copy(PROGRAM, "beside/chtab")
     shutil.copy(make(), "beside/libchtab.so.1")
     for suffix in "gr", "co":
         shutil.copy(f"{COUNTRY}.{suffix}", f"roads.{suffix}")
-    line = [PYTHON, ROOT / "tools" / "page.py", "--port", 0, "--program", "beside/chtab", "--library", "--network", "car=roads"]
-    done = subprocess.run(list(map(str, line)), capture_output=True, text=True, timeout=PATIENCE)
-    assert done.returncode == 1 and "roads.ch is missing" in done.stderr and done.stderr.count("\n") == 1, done
-    for runs in 1, 0:
+    for _ in range(2):
         with service(None, "--network", "car=roads", program="beside/chtab") as (child, address):
-            assert ask(address, f"{ROUTE}?overview=false")[0] == 200 and len(runs_below(child.pid)) == runs
+            assert ask(address, f"{ROUTE}?overview=false")[0] == 200 and not runs_below(child.pid)
         shutil.copy(saved_for(f"{COUNTRY}.gr"), "roads.ch")
-    done = subprocess.run([PYTHON, ROOT / "tools" / "page.py", "--help"], capture_output=True, text=True)
-    assert "each network has a saved hierarchy (--saved, or OUT.ch of --network)" in " ".join(done.stdout.split()), done.stdout
 
 
 def what_takes_too_long_is_broken_off():
@@ -468,10 +458,10 @@ def check_command(words):
 
 GROUPS = (
     (SERVICE, [
-        *by_both(fifty_clients_while_runs_are_killed, also_by_several_processes, processes_are_begun_anew), an_address_takes_its_share,
+        fifty_clients_while_runs_are_killed, also_by_several_processes, processes_are_begun_anew, an_address_takes_its_share,
         it_ends_once_it_has_answered, the_library_answers_where_it_fits, the_library_answers_for_networks_with_names, what_takes_too_long_is_broken_off,
     ]),
-    ((*SERVICE, "python3-prometheus-client"), by_both(requests_are_counted_and_logged)),
+    ((*SERVICE, "python3-prometheus-client"), (requests_are_counted_and_logged,)),
     ((*SERVICE, "nginx", "openssl", "curl"), [nginx_stands_before_it]),
     ((*SERVICE, "systemd"), [units_are_some_of_systemd]),
 )

@@ -1,6 +1,6 @@
 #!/usr/bin/python3
-"""Tests the service as one who runs it meets it: files that are replaced, too many connections, proxies and forged addresses, bodies that are packed,
-a second service on the port, one that takes the port over without losing a request, and what the log and the metrics say.
+"""Tests the service as one who runs it meets it: files that are replaced, proxies and forged addresses, bodies that are packed, a second
+service on the port, one that takes the port over without losing a request, and what the log and the metrics say.
 
 A check that needs a missing package is named and left out. The last line is 'N passed, N failed'.
 """
@@ -13,7 +13,6 @@ import json
 import os
 import pathlib
 import re
-import resource
 import shutil
 import signal
 import socket
@@ -26,37 +25,12 @@ from helpers import running
 from helpers.moods import STANDIN, holding, mood
 from helpers.packages import PYTHON, run_checks
 from helpers.running import PROGRAM, ROOT
-from helpers.serving import COUNTRY, SERVICE, ask, by_both, send, words_of_library
+from helpers.serving import COUNTRY, SERVICE, ask, children_of, raw, running_service, send, told
 from helpers.waiting import PATIENCE, until
 
 ROUTE = "/route/v1/car/9.5209,47.1410;9.5450,47.2200?overview=false"
 # The status of a service that can't begin what answers.
 GIVEN_UP = 70
-
-
-@contextlib.contextmanager
-def running_service(*words, out=COUNTRY, program=PROGRAM, limit=None, told="told", port=0, environment=None):
-    """A service: its process and its address. Who asks for it ends it, or it is ended."""
-    command = [PYTHON, ROOT / "tools" / "page.py", "--port", port, "--program", program, *words_of_library(out, program), *words, out]
-
-    def lower():
-        if limit:
-            resource.setrlimit(resource.RLIMIT_NOFILE, limit)
-
-    child = subprocess.Popen(
-        list(map(str, command)), stdout=subprocess.PIPE, stderr=open(told, "w"), text=True, preexec_fn=lower, env=environment and os.environ | environment
-    )
-    try:
-        yield child, urllib.parse.urlsplit(child.stdout.readline().strip())
-    finally:
-        if child.poll() is None:
-            child.terminate()
-            child.wait(PATIENCE)
-        child.stdout.close()
-
-
-def told():
-    return open("told").read()
 
 
 def runs_below(number):
@@ -67,13 +41,6 @@ def runs_below(number):
             name = pathlib.Path(f"/proc/{child}/cmdline").read_bytes().split(b"\0")
             found += [child] if b"ask" in name else runs_below(child)
     return found
-
-
-def children_of(number):
-    try:
-        return [int(child) for child in pathlib.Path(f"/proc/{number}/task/{number}/children").read_text().split()]
-    except FileNotFoundError:
-        return []
 
 
 def copied(out):
@@ -115,36 +82,28 @@ def answers_well(address):
 
 
 def files_that_are_changed():
-    """A file that is written over, so that what was there is gone, and then the run dies: health is no longer well at once, and the service ends with
-    a status of its own; and so it does where no process can be begun."""
+    """A file that is written over, so that what was there is gone: what has read it answers on. Where no process can be begun anew, the service ends
+    with a status of its own."""
     for words in (), ("--processes", 2):
         copied("net")
         with running_service(*words, out="net") as (child, address):
             assert ask(address, ROUTE)[0] == 200 and ask(address, "/health")[0] == 200
             with open("net.gr", "a") as file:
                 file.write("c changed\n")
-            victims = runs_below(child.pid) if not words else children_of(child.pid)
-            assert victims
-            for victim in victims:
+            assert ask(address, ROUTE)[0] == 200 and ask(address, "/health")[0] == 200
+            if not words:
+                continue
+            for victim in children_of(child.pid):
                 os.kill(victim, signal.SIGKILL)
-            seen = set()
-
-            def has_ended():
-                with contextlib.suppress(OSError, http.client.HTTPException, ValueError):
-                    status, value = ask(address, "/health")
-                    seen.add((status, value["status"]))
-                return child.poll() is not None
-
-            until(has_ended, told)
+            until(lambda: child.poll() is not None, told)
             assert child.poll() == GIVEN_UP, (child.poll(), told())
-            assert words or (503, "failing") in seen, seen
         lines = told()
         assert "net.gr has changed since it was opened" in lines and "Traceback" not in lines and lines.count("\n") < 30, lines
 
 
 def health_is_no_better_than_answers():
-    """Where each run dies at its first question nothing is answered, and health says so until one that was begun anew has passed its trial."""
-    with mood("dies=1"), running_service(program=STANDIN) as (child, address):
+    """Where the library fails at each question nothing is answered, and health says so."""
+    with mood("fails=0"), running_service(program=STANDIN) as (child, address):
         def is_failing():
             assert ask(address, ROUTE)[0] == 503
             return ask(address, "/health") == (503, {"status": "failing", "waiting": 0})
@@ -152,82 +111,12 @@ def health_is_no_better_than_answers():
         until(is_failing, told)
 
 
-def too_many_connections():
-    """Idle connections, more than there may be files, stop nobody: those that have been idle longest make way, and the log says it once a minute."""
-    for limit, words in ((128, 128), ()), (None, ("--max-connections", 40)), (None, ("--max-connections-of-address", 30)):
-        begun = time.monotonic()
-        # None is closed because it is idle for long.
-        with running_service(*words, "--idle", 10 * PATIENCE, limit=limit) as (child, address), contextlib.ExitStack() as stack:
-            for place in range(300):
-                client = stack.enter_context(socket.create_connection((address.hostname, address.port), timeout=PATIENCE))
-                if place % 3 == 0:
-                    with contextlib.suppress(OSError):
-                        client.sendall(b"GET / HT")
-                if place % 60 == 0:
-                    assert ask(address, "/health")[0] == 200 and ask(address, ROUTE)[0] == 200, place
-            assert all(ask(address, ROUTE)[0] == 200 for _ in range(5))
-            text = send(address, "/metrics")[2].decode()
-            assert int(re.search(r'refusals_total\{reason="connections"\} (\d+)', text)[1]) > 100, text
-        lines = told().splitlines()
-        assert 1 <= len(lines) <= 1 + (time.monotonic() - begun) / 60 and all("more than there may be" in line for line in lines), lines
-    with running_service(limit=(64, 4_096)) as (child, _):
-        limits = pathlib.Path(f"/proc/{child.pid}/limits").read_text()
-        assert re.search(r"Max open files +4096 +4096", limits), limits
-
-
-def the_longest_idle_makes_way():
-    """Of idle connections the one that did nothing for longest is closed, also where an older one asked meanwhile."""
-    with running_service("--max-connections-of-address", 5) as (_, address), contextlib.ExitStack() as stack:
-        clients = []
-
-        def connect():
-            client = http.client.HTTPConnection(address.hostname, address.port, timeout=PATIENCE)
-            clients.append(stack.enter_context(contextlib.closing(client)))
-            assert answers_on(client), len(clients)
-
-        for _ in range(5):
-            connect()
-        assert answers_on(clients[0])
-        for _ in range(3):
-            connect()
-        assert [answers_on(client) for client in clients] == [True] + [False] * 3 + [True] * 4
-
-
-def answers_on(client):
-    """Whether the service answers on a connection, which it may have closed."""
-    with contextlib.suppress(ConnectionError):
-        client.request("GET", "/health")
-        return json.loads(client.getresponse().read())["status"] == "ready"
-    return False
-
-
-def a_busy_connection_is_kept():
-    """A connection whose request is underway makes way for none; one too many is closed then."""
-    with mood(), running_service("--max-connections-of-address", 3, "--idle", 10 * PATIENCE, program=STANDIN) as (_, address):
-        with concurrent.futures.ThreadPoolExecutor(3) as clients:
-            with holding():
-                waiting = [clients.submit(ask, address, ROUTE) for _ in range(3)]
-                until(lambda: waiting_seen_from_elsewhere(address) == 3)
-                with socket.create_connection((address.hostname, address.port), timeout=PATIENCE) as client:
-                    with contextlib.suppress(ConnectionError):
-                        assert client.recv(1) == b"", "it is closed"
-            assert [each.result()[0] for each in waiting] == [200] * 3
-
-
-def waiting_seen_from_elsewhere(address):
-    """How many requests wait, asked by a client whose connection is none of the others' address."""
-    connection = http.client.HTTPConnection(address.hostname, address.port, timeout=PATIENCE, source_address=("127.0.0.2", 0))
-    with contextlib.closing(connection):
-        connection.request("GET", "/health")
-        return json.loads(connection.getresponse().read())["waiting"]
-
-
 def addresses_that_proxies_name():
     """The client is the last one of the last line, without a port; what a client claims itself counts for nothing, nor does it break the log."""
     cases = (
         (["1.2.3.4"], "1.2.3.4"), (["9.9.9.9, 1.2.3.4"], "1.2.3.4"), (["9.9.9.9", "1.2.3.4"], "1.2.3.4"), (["1.2.3.4", "9.9.9.9, 5.6.7.8"], "5.6.7.8"),
         (["1.2.3.4:5678"], "1.2.3.4"), (["[2001:db8::1]:5678"], "2001:db8::/64"), (["[2001:db8::1]"], "2001:db8::/64"), (["2001:db8::1"], "2001:db8::/64"),
-        (["::ffff:1.2.3.4"], "1.2.3.4"), (['x" 200 "'], "x\\x22 200 \\x22"), ([""], "127.0.0.1"), (["1.2.3.4, "], "127.0.0.1"), ([], "127.0.0.1"),
+        (["::ffff:1.2.3.4"], "1.2.3.4"), (['x" 200 "'], "x__200__"), ([""], "127.0.0.1"), (["1.2.3.4, "], "127.0.0.1"), ([], "127.0.0.1"),
     )
     with running_service("--proxy", "127.0.0.1", "--log", "access.log") as (_, address):
         for number, (lines, _) in enumerate(cases):
@@ -240,17 +129,6 @@ def addresses_that_proxies_name():
     for number, (line, (_, wanted)) in enumerate(zip(lines, cases, strict=True)):
         assert line.split(" ", 1)[1].startswith(f'{wanted} "GET /health?{number}\\x22quoted\\x22" 200 '), (line, wanted)
     assert [line.split()[1] for line in open("direct.log")] == ["127.0.0.1"] * 2, "the header of one that is not the proxy says nothing"
-
-
-def raw(address, text):
-    """What the service sends back for these bytes, until it closes the connection."""
-    with socket.create_connection((address.hostname, address.port), timeout=PATIENCE) as client:
-        client.sendall(text if isinstance(text, bytes) else text.encode("latin-1"))
-        found = b""
-        with contextlib.suppress(ConnectionError):
-            while part := client.recv(1 << 16):
-                found += part
-    return found
 
 
 def requests_that_once_failed():
@@ -287,6 +165,16 @@ def ended_service(port, *options):
         return subprocess.run(list(map(str, command)), capture_output=True, text=True, timeout=PATIENCE)
     except subprocess.TimeoutExpired:
         raise AssertionError(f"a service with {options} goes on on port {port}") from None
+
+
+def files_that_are_missing():
+    """A network without its coordinates, or without its graph, is refused by a sentence."""
+    copied("net")
+    for suffix, what in ("co", "coordinates of the graph's nodes"), ("gr", "graph"):
+        os.remove(f"net.{suffix}")
+        done = subprocess.run([PYTHON, ROOT / "tools" / "page.py", "--program", PROGRAM, "--port", "0", "net"], capture_output=True, text=True)
+        assert done.returncode == 1 and done.stderr.startswith(f"chtab-page: net.{suffix} is missing: a service needs the {what}"), done
+        assert done.stderr.count("\n") == 1 and not done.stdout, done
 
 
 def a_second_service_on_the_port():
@@ -430,9 +318,10 @@ def the_log_says_why():
 
 GROUPS = (
     (SERVICE, [
-        files_that_are_changed, health_is_no_better_than_answers, too_many_connections, the_longest_idle_makes_way, a_busy_connection_is_kept, addresses_that_proxies_name,
-        requests_that_once_failed, a_second_service_on_the_port, it_says_that_connections_close, systemd_is_notified, the_log_says_why,
-        *by_both(files_that_are_replaced, a_new_network_without_a_lost_request),
+        files_that_are_changed, health_is_no_better_than_answers, addresses_that_proxies_name,
+        requests_that_once_failed, files_that_are_missing, a_second_service_on_the_port, it_says_that_connections_close,
+        systemd_is_notified, the_log_says_why,
+        files_that_are_replaced, a_new_network_without_a_lost_request,
     ]),
 )
 

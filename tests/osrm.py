@@ -6,15 +6,16 @@ A check that needs a missing package is named and left out. The last line is 'N 
 """
 import itertools
 import math
+import pathlib
 import random
 import sys
 import urllib.parse
 
-from helpers import running
-from helpers.asking_osrm import MILLIONTH, TENTH, THREE, VADUZ, answer, distances, get, on_sphere, some_nodes, text_of
+from helpers import running, serving
+from helpers.asking_osrm import MILLIONTH, TENTH, answer, distance_to, distances, get, on_sphere, some_nodes, text_of, three, write_network
 from helpers.packages import run_checks
 from helpers.running import PROGRAM, ROOT
-from helpers.serving import COUNTRY, SERVICE, by_both, service
+from helpers.serving import SERVICE, here, on_both_maps, service
 
 sys.path.insert(0, str(ROOT / "python"))
 
@@ -47,7 +48,7 @@ def routes_have_lines():
     from shapely.geometry import LineString, Point
 
     with service() as (_, address):
-        found = {form: answer(address, "route", THREE, overview="full", geometries=form) for form in ("polyline", "polyline6", "geojson")}
+        found = {form: answer(address, "route", three(), overview="full", geometries=form) for form in ("polyline", "polyline6", "geojson")}
         full = found["geojson"]["routes"][0]["geometry"]
         assert full["type"] == "LineString"
         full = list(map(tuple, full["coordinates"]))
@@ -57,15 +58,15 @@ def routes_have_lines():
         value, route = found["geojson"], found["geojson"]["routes"][0]
         assert [full[0], full[-1]] == [tuple(value["waypoints"][place]["location"]) for place in (0, -1)]
         assert abs(sum(itertools.starmap(on_sphere, zip(full, full[1:]))) - route["distance"]) < 1 + len(full) * 0.02
-        for place, waypoint in zip(THREE, value["waypoints"]):
-            assert abs(on_sphere(place, waypoint["location"]) - waypoint["distance"]) < 0.2 and (waypoint["name"], waypoint["hint"]) == ("", "")
-        [simple] = answer(address, "route", THREE, geometries="geojson")["routes"]
+        for place, waypoint in zip(three(), value["waypoints"]):
+            assert abs(on_sphere(place, waypoint["location"]) - waypoint["distance"]) < 0.2 and (waypoint["name"] == "") != serving.IS_IN_TOWN and waypoint["hint"] == ""
+        [simple] = answer(address, "route", three(), geometries="geojson")["routes"]
         fewer = list(map(tuple, simple["geometry"]["coordinates"]))
         assert len(fewer) < len(full) and set(fewer) <= set(full) and simple["duration"] == route["duration"]
         assert tuple(value["waypoints"][1]["location"]) in fewer and (fewer[0], fewer[-1]) == (full[0], full[-1])
         line = LineString(fewer)
         assert max(line.distance(Point(place)) for place in full) < 0.001
-        [none] = answer(address, "route", [VADUZ, VADUZ], overview="full", geometries="geojson")["routes"]
+        [none] = answer(address, "route", [three()[0]] * 2, overview="full", geometries="geojson")["routes"]
         assert none["distance"] == none["duration"] == 0 and len(none["geometry"]["coordinates"]) == 2, none
 
 
@@ -77,13 +78,13 @@ def steps_and_annotations():
     import polyline
 
     with service() as (_, address):
-        value = answer(address, "route", THREE, steps="true", annotations="true", overview="full", geometries="polyline6")
+        value = answer(address, "route", three(), steps="true", annotations="true", overview="full", geometries="polyline6")
         [route] = value["routes"]
         lines = []
         for leg in route["legs"]:
             steps = leg["steps"]
             assert steps[0]["maneuver"]["type"] == "depart" and steps[-1]["maneuver"]["type"] == "arrive" and len(steps) > 4
-            assert {step["mode"] for step in steps} == {"driving"} and {step["name"] for step in steps} == {""}
+            assert {step["mode"] for step in steps} == {"driving"} and ({step["name"] for step in steps} == {""}) != serving.IS_IN_TOWN
             parts = [polyline.decode(step["geometry"], 6) for step in steps]
             assert parts[-1] == [parts[-2][-1]] * 2 and all(one[-1] == other[0] for one, other in zip(parts, parts[1:]))
             line = [parts[0][0], *(place for part in parts[:-1] for place in part[1:])]
@@ -95,21 +96,22 @@ def steps_and_annotations():
         whole = polyline.decode(route["geometry"], 6)
         assert whole == lines[0] + lines[1][1:] and lines[0][-1] == lines[1][0]
         assert bearing_is_right(whole, route["legs"][0]["steps"][0]["maneuver"]["bearing_after"])
-        pairs = set(zip(*(column.tolist() for column in arcs())))
+        pairs = arcs()
         for leg in route["legs"]:
             nodes = leg["annotation"]["nodes"]
-            assert len(nodes) > 10 and all(pair in pairs for pair in zip(nodes, nodes[1:])), nodes
-        [route] = answer(address, "route", THREE, annotations="nodes,duration", overview="false")["routes"]
+            assert len(nodes) > 10 and all(pair in pairs or 0 in pair for pair in zip(nodes, nodes[1:])), nodes
+            assert nodes[0] != nodes[1] and nodes[-1] != nodes[-2] and (0 in nodes) == serving.IS_IN_TOWN, "bends have no numbers"
+        [route] = answer(address, "route", three(), annotations="nodes,duration", overview="false")["routes"]
         assert [set(leg["annotation"]) for leg in route["legs"]] == [{"nodes", "duration"}] * 2 and route["legs"][0]["steps"] == []
-        value = answer(address, "route", THREE, skip_waypoints="true", continue_straight="true", alternatives="false")
+        value = answer(address, "route", three(), skip_waypoints="true", continue_straight="true", alternatives="false")
         assert "waypoints" not in value
-        value = answer(address, "route", THREE, generate_hints="false", radiuses="100;;unlimited", hints=";;", approaches="unrestricted;;")
+        value = answer(address, "route", three(), generate_hints="false", radiuses="100;;unlimited", hints=";;", approaches="unrestricted;;")
         assert all(set(waypoint) == {"location", "name", "distance"} for waypoint in value["waypoints"])
 
 
 def check_annotation(leg, line):
     parts = leg["annotation"]
-    assert set(parts) == PARTS | {"nodes", "metadata"} and {len(parts[name]) for name in PARTS} == {len(line) - 1}
+    assert set(parts) == PARTS | {"nodes", "metadata"} and {len(parts[name]) for name in PARTS} == {len(line) - 1} and len(parts["nodes"]) == len(line)
     assert abs(sum(parts["distance"]) - leg["distance"]) < 0.5 and abs(sum(parts["duration"]) - leg["duration"]) < 1e-6
     assert parts["weight"] == parts["duration"] and set(parts["datasources"]) == {0} and len(parts["metadata"]["datasource_names"]) == 1
     for metres, seconds, speed in zip(parts["distance"], parts["duration"], parts["speed"]):
@@ -119,11 +121,10 @@ def check_annotation(leg, line):
 
 
 def arcs():
-    """The tails and heads of the country's arcs."""
-    import numpy
-
-    graph = files.read_graph(f"{COUNTRY}.gr")
-    return numpy.array(graph.tails), numpy.array(graph.heads)
+    """The pairs of nodes that arcs lead between, by the map's numbers where there are some."""
+    graph, numbers = files.read_graph(f"{here()}.gr"), pathlib.Path(f"{here()}.nodes")
+    called = [0, *map(int, numbers.read_text().split())] if numbers.exists() else range(graph.nodes + 1)
+    return {(called[tail], called[head]) for tail, head in zip(graph.tails, graph.heads)}
 
 
 def bearing_is_right(line, told):
@@ -134,7 +135,7 @@ def bearing_is_right(line, told):
 
 def tables_have_rows_of_sources():
     """Rows are those of `sources` and cells those of `destinations`, in their order; each is the duration and the metres of that route."""
-    places = some_nodes(5, "tables")[1] + [VADUZ]
+    places = some_nodes(5, "tables")[1] + [three()[0]]
     with service() as (_, address):
         whole = answer(address, "table", places, annotations="duration,distance")
         assert "fallback_speed_cells" not in whole and len(whole["sources"]) == len(whole["destinations"]) == 6
@@ -155,10 +156,10 @@ def tables_have_rows_of_sources():
 
 def nearest_roads():
     """The nearest points of as many roads as are asked for, the nearest first, compared with all roads."""
-    with service() as (_, address), chtab.Network.open(f"{COUNTRY}.gr", program=PROGRAM, load=False) as network:
+    with service() as (_, address), chtab.Network.open(f"{here()}.gr", program=PROGRAM, load=False) as network:
         draw, roads = random.Random("nearest"), network.roads
         for _ in range(12):
-            x, y = draw.uniform(9.48, 9.62), draw.uniform(47.05, 47.26)
+            x, y = (draw.uniform(min(column) - 0.01, max(column) + 0.01) for column in zip(*three()))
             number = draw.choice((1, 2, 7, 100))
             found = answer(address, "nearest", [(x, y)], number=number)["waypoints"]
             wanted = sorted((distance_to(x, y, roads.lines.of(road).tolist()), road) for road in range(len(roads)))[:number]
@@ -168,29 +169,17 @@ def nearest_roads():
                 assert abs(on_sphere((x, y), waypoint["location"]) - waypoint["distance"]) < 0.2
             told = [waypoint["distance"] for waypoint in found]
             assert told == sorted(told) and all(len(waypoint["nodes"]) == 2 for waypoint in found)
-        assert "waypoints" not in answer(address, "nearest", [VADUZ], skip_waypoints="true")
-
-
-def distance_to(x, y, line):
-    """The metres from a place to a line, on a plane that touches the earth there."""
-    wide = 111_195.08 * math.cos(math.radians(y))
-    flat = [((u - x) * wide, (v - y) * 111_195.08) for u, v in line]
-    best = math.inf
-    for (a, b), (c, d) in zip(flat, flat[1:]):
-        square = (c - a) ** 2 + (d - b) ** 2
-        part = min(1, max(0, -(a * (c - a) + b * (d - b)) / square)) if square else 0
-        best = min(best, math.hypot(a + part * (c - a), b + part * (d - b)))
-    return best
+        assert "waypoints" not in answer(address, "nearest", three()[:1], skip_waypoints="true")
 
 
 def addresses_are_read():
     """Coordinates as polylines, escapes, `.json`, and all of 500 coordinates, in their order."""
     import polyline
 
-    swapped = [place[::-1] for place in THREE]
+    swapped = [place[::-1] for place in three()]
     with service() as (_, address):
-        wanted = answer(address, "route", THREE, overview="full")
-        plain = text_of(THREE)
+        wanted = answer(address, "route", three(), overview="full")
+        plain = text_of(three())
         encoded = [
             plain + ".json", plain.replace(";", "%3B").replace(",", "%2c"), plain.replace("9", "%39") + "%2ejson", plain.replace(";", ";+"),
             f"polyline({urllib.parse.quote(polyline.encode(swapped, 5))})", f"polyline6({urllib.parse.quote(polyline.encode(swapped, 6))}).json",
@@ -210,40 +199,6 @@ def addresses_are_read():
         assert [leg["duration"] for leg in route["routes"][0]["legs"]] == distances(list(zip(nodes, nodes[1:])))
         status, value = get(address, f"/table/v1/car/{text_of(many)}?sources=0;499&destinations=all")
         assert status == 200 and (len(value["durations"]), len(value["durations"][1])) == (2, 500)
-
-
-def bearings_choose_the_way():
-    """A place is left and come to in the direction that is asked for; a nearer road that leads elsewhere is passed over."""
-    comments = "c Roads for cars, by hand.\nc Weights are milliseconds.\n"
-    # A road from west to east, one to the north at its middle, and one way round the block from its east end back to its west end.
-    nodes = [(9.5, 47.1), (9.505, 47.1), (9.51, 47.1), (9.505, 47.11)]
-    both = [(1, 2, 10_000), (2, 1, 10_000), (2, 3, 10_000), (3, 2, 10_000), (2, 4, 20_000), (4, 2, 20_000)]
-    write_network("bearings", nodes, [*both, (3, 1, 30_000)], comments)
-    with service("bearings") as (_, address):
-        start, goal = (9.5025, 47.1), (9.5005, 47.1)
-        plain, east, west = (
-            answer(address, "route", [start, goal], **({"bearings": f"{bearing},30;"} if bearing else {}), overview="full", geometries="geojson")["routes"][0]
-            for bearing in ("", "90", "270")
-        )
-        assert plain["duration"] == west["duration"] == 4 and east["duration"] == 14, (plain["duration"], west["duration"], east["duration"])
-        assert east["geometry"]["coordinates"][1][0] > 9.5025 > west["geometry"]["coordinates"][1][0]
-        into = answer(address, "route", [start, goal], bearings=";90,30")["routes"][0]
-        assert into["duration"] == 6, "the goal is come to from the west"
-        near = (9.5049, 47.1003)
-        for bearing, place in ("90,20", (9.5049, 47.1)), ("0,20", (9.505, 47.1003)), ("180,20", (9.505, 47.1003)), ("0,180", (9.505, 47.1003)):
-            [waypoint] = answer(address, "nearest", [near], bearings=bearing)["waypoints"]
-            assert on_sphere(waypoint["location"], place) < 1, (bearing, waypoint)
-        assert get(address, "/nearest/v1/car/9.5049,47.1003?bearings=45,5")[1]["code"] == "NoSegment"
-        assert get(address, "/nearest/v1/car/9.5049,47.1003?bearings=90,20&radiuses=5")[1]["code"] == "NoSegment"
-        table = answer(address, "table", [start, goal], bearings="90,30;")
-        assert table["durations"][0][1] == east["duration"] and table["durations"][1][0] > 0
-
-
-def write_network(out, places, arcs_there, comments):
-    """A graph of nodes at some places, in degrees."""
-    open(f"{out}.gr", "w").write(comments + f"p sp {len(places)} {len(arcs_there)}\n" + "".join(f"a {u} {v} {w}\n" for u, v, w in arcs_there))
-    lines = "".join(f"v {node} {round(x * 1e6)} {round(y * 1e6)}\n" for node, (x, y) in enumerate(places, 1))
-    open(f"{out}.co", "w").write(comments + f"p aux sp co {len(places)}\n{lines}")
 
 
 def trips_visit_each_place_once():
@@ -340,10 +295,13 @@ def tracks_that_part():
 
 
 GROUPS = (
-    ((*SERVICE, "python3-polyline"), by_both(
-        durations_are_those_of_the_program, routes_have_lines, steps_and_annotations, tables_have_rows_of_sources, nearest_roads, addresses_are_read,
-        bearings_choose_the_way, trips_visit_each_place_once, tracks_are_matched, tracks_that_part,
-    )),
+    ((*SERVICE, "python3-polyline"), [
+        *on_both_maps(
+            durations_are_those_of_the_program, routes_have_lines, steps_and_annotations, tables_have_rows_of_sources, nearest_roads,
+            trips_visit_each_place_once, tracks_are_matched,
+        ),
+        addresses_are_read, tracks_that_part,
+    ]),
 )
 
 if __name__ == "__main__":

@@ -4,25 +4,32 @@ profiles by options, and pages that ask in a browser.
 
 A check that needs a missing package is named and left out. The last line is 'N passed, N failed'.
 """
+import collections
 import contextlib
 import functools
+import http.client
 import http.server
 import json
 import math
 import os
 import pathlib
+import random
 import socket
 import subprocess
 import threading
 import urllib.parse
 
 from helpers import running
-from helpers.asking_osrm import ESCHEN, PLAIN, TENTH, VADUZ, answer, get, on_sphere, some_nodes, text_of
+from helpers.any_options import drawn_request
+from helpers.asking_osrm import ESCHEN, PLAIN, TENTH, VADUZ, answer, get, on_sphere, some_nodes, text_of, three
+from helpers.maps import tool
 from helpers.packages import PYTHON, run_checks
 from helpers.running import PROGRAM, ROOT
-from helpers.serving import BROWSER, COUNTRY, SERVICE, by_both, send, service, shown_page
+from helpers.serving import BROWSER, COUNTRY, SERVICE, on_both_maps, send, service, shown_page
 from helpers.waiting import PATIENCE
 
+# How many requests with drawn options are asked.
+REQUESTS = 1_500
 REFUSED = (
     ("/route", "InvalidUrl", "has the form"), ("/route/v1", "InvalidUrl", "has the form"), ("/route/v1/car", "InvalidUrl", "has the form"),
     ("/route/v1/car/", "InvalidUrl", "has the form"), (f"/route/v1//{PLAIN}", "InvalidUrl", "has the form"), (f"/route/v1/car/{PLAIN}/x", "InvalidUrl", "form"),
@@ -52,8 +59,9 @@ REFUSED = (
         ("alternatives=some", "InvalidQuery", "alternatives"), ("alternatives=-1", "InvalidQuery", "alternatives"), ("alternatives=", "InvalidQuery", "alternatives"),
         *((f"bearings={text}", "InvalidQuery", "bearings") for text in ("361,20;", "0,181;", "0;", "x,20;", ",20;", "0,;", "-1,20;", "0,20,5;", "0.5,20;")),
         ("bearings=0,20", "InvalidOptions", "1 elements for 2"), ("bearings=0,20;;", "InvalidOptions", "3 elements for 2"),
-        ("approaches=curb;curb", "InvalidOptions", "approaches: not supported"), ("exclude=motorway", "InvalidOptions", "exclude: not supported"),
-        ("snapping=some", "InvalidQuery", "snapping"), ("waypoints=0;1", "InvalidOptions", "waypoints: not supported"),
+        ("approaches=opposite;curb", "InvalidQuery", "approaches: one of"), ("approaches=curb", "InvalidOptions", "1 elements"), ("exclude=motorway", "InvalidValue", "no network without motorway"), ("exclude=x", "InvalidValue", "some of toll"),
+        ("snapping=some", "InvalidQuery", "snapping"), ("waypoints=0", "InvalidValue", "first and the last"), ("waypoints=1;0;2", "InvalidOptions", "waypoints: an index"),
+        ("waypoints=0;1&steps=true", "InvalidOptions", "waypoints: not supported with steps"), ("waypoints=", "InvalidQuery", "waypoints"),
         ("annotations=all", "InvalidQuery", "annotations"), ("annotations=", "InvalidQuery", "annotations"), ("steps=1", "InvalidQuery", "steps"),
         ("steps=", "InvalidQuery", "steps"), ("overview=none", "InvalidQuery", "overview"), ("geometries=wkt", "InvalidQuery", "geometries"),
         ("radiuses=5", "InvalidOptions", "1 elements for 2"), ("radiuses=5;5;5", "InvalidOptions", "3 elements for 2"), ("radiuses=-1;", "InvalidQuery", "radiuses"),
@@ -67,7 +75,8 @@ REFUSED = (
     ("/route/v1/car/9.5209,47.1410;9.5,46.0?radiuses=;1000", "NoSegment", "coordinate 1 is"), ("/nearest/v1/car/9.5,46.0?radiuses=10", "NoSegment", "coordinate 0 is"),
     ("/table/v1/car/9.5,46.0;9.5209,47.1410?radiuses=1;1", "NoSegment", "coordinate 0 is"),
     *((f"/table/v1/car/{PLAIN}?{query}", code, told) for query, code, told in (
-        ("fallback_speed=10", "InvalidOptions", "fallback_speed: not supported"), ("fallback_coordinate=input", "InvalidOptions", "fallback_coordinate: not"),
+        ("fallback_speed=0", "InvalidOptions", "fallback_speed: metres"), ("fallback_speed=-1", "InvalidQuery", "fallback_speed"), ("fallback_speed=", "InvalidQuery", "fallback"),
+        ("fallback_speed=1000001", "InvalidOptions", "1,000,000"), ("fallback_coordinate=middle", "InvalidQuery", "fallback_coordinate: one of"),
         ("scale_factor=0", "InvalidOptions", "scale_factor"), ("scale_factor=-1", "InvalidQuery", "scale_factor"), ("scale_factor=x", "InvalidQuery", "scale_factor"),
         ("scale_factor=NaN", "InvalidQuery", "scale_factor"), ("scale_factor=1000000000.1", "InvalidOptions", "at most 1,000,000,000"),
         ("scale_factor=" + "9" * 308, "InvalidOptions", "at most 1,000,000,000"), ("sources=2", "InvalidOptions", "from 0 to 1"), ("sources=-1", "InvalidQuery", "sources"),
@@ -81,18 +90,17 @@ REFUSED = (
     (f"/nearest/v1/car/{PLAIN}", "TooBig", "at most 1 coordinates"), ("/nearest/v1/car/9.5,47.1?number=0", "InvalidOptions", "number"),
     ("/nearest/v1/car/9.5,47.1?number=101", "TooBig", "at most 100"), ("/nearest/v1/car/9.5,47.1?number=x", "InvalidQuery", "number"),
     ("/nearest/v1/car/9.5,47.1?number=-1", "InvalidQuery", "number"), ("/nearest/v1/car/9.5,47.1?number=9999999999", "InvalidQuery", "number"),
-    ("/nearest/v1/car/9.5,47.1?number=2&bearings=0,20", "InvalidOptions", "bearings: with number=1"),
     *((f"/trip/v1/car/{PLAIN}?{query}", code, told) for query, code, told in (
         ("roundtrip=yes", "InvalidQuery", "roundtrip"), ("source=last", "InvalidQuery", "source"), ("destination=first", "InvalidQuery", "destination"),
         ("alternatives=true", "InvalidQuery", "alternatives: not an option of trip"), ("continue_straight=true", "InvalidQuery", "not an option"),
-        ("exclude=toll", "InvalidOptions", "exclude: not"), ("approaches=curb;", "InvalidOptions", "approaches: not"),
+        ("exclude=toll,ferry", "InvalidValue", "without toll and ferry"), ("approaches=kerb;", "InvalidQuery", "approaches"),
     )),
     ("/trip/v1/car/9.5,47.1", "InvalidOptions", "two coordinates"), (f"/trip/v1/car/{';'.join(['9.5,47.1'] * 101)}", "TooBig", "at most 100"),
     ("/trip/v1/car/9.5209,47.1410;9.5,46.0?radiuses=;1000", "NoSegment", "coordinate 1 is"),
     *((f"/match/v1/car/{PLAIN}?{query}", code, told) for query, code, told in (
         ("timestamps=1", "InvalidOptions", "1 elements for 2"), ("timestamps=2;1", "InvalidOptions", "timestamps"), ("timestamps=1;x", "InvalidQuery", "timestamps"),
         ("timestamps=;", "InvalidQuery", "timestamps"), ("timestamps=1.5;2", "InvalidQuery", "timestamps"), ("gaps=join", "InvalidQuery", "gaps"),
-        ("tidy=1", "InvalidQuery", "tidy"), ("waypoints=0;1", "InvalidOptions", "waypoints: not supported"), ("bearings=0,20;", "InvalidOptions", "bearings: not"),
+        ("tidy=1", "InvalidQuery", "tidy"), ("waypoints=0;1", "InvalidOptions", "waypoints: not supported"), ("approaches=curb;", "InvalidOptions", "approaches: not"),
         ("source=first", "InvalidQuery", "not an option of match"),
     )),
     ("/match/v1/car/9.5,47.1", "InvalidOptions", "two coordinates"), (f"/match/v1/car/{';'.join(['9.5,47.1'] * 501)}", "TooBig", "at most 500"),
@@ -114,9 +122,52 @@ def what_is_refused():
         assert get(address, f"/route/v1/car/{PLAIN}")[0] == 200
         most, one = (answer(address, "table", [VADUZ, ESCHEN], scale_factor=scale)["durations"][0][1] for scale in ("1000000000", "1"))
         assert math.isclose(most, 1e9 * one, rel_tol=1e-6), (most, one)
-        status, _, text = send(address, f"/route/v1/car/{PLAIN}", {})
+        status, _, text = send(address, f"/route/v1/car/{PLAIN}", method="PUT")
         assert (status, set(json.loads(text))) == (405, {"code", "message"}), text
     assert open("told").read() == "", open("told").read()
+
+
+def requests_are_posted():
+    """What follows the profile in an address may be the body of a request: the answer is the same, also to what no address has room for."""
+    with service() as (_, address):
+        places = text_of(three())
+        for name, query in ("route", "overview=full&steps=true"), ("table", "annotations=duration,distance"), ("trip", ""), ("match", "radiuses=20;20;20"):
+            wanted = get(address, f"/{name}/v1/car/{places}?{query}")
+            for path, body in (f"/{name}/v1/car", f"{places}?{query}\n"), (f"/{name}/v1/car/", f"{places}.json?{query}"):
+                status, _, text = send(address, path, body.encode())
+                assert (status, json.loads(text)) == wanted, (name, text[:200])
+        one, status = text_of(three()[:1]), get(address, f"/nearest/v1/car/{text_of(three()[:1])}")[0]
+        assert send(address, "/nearest/v1/car", one.encode())[0] == status == 200
+        many = ";".join([places] * 166)
+        status, _, text = send(address, "/match/v1/car/", f"{many}?radiuses={';'.join(['5.000000000000000000000000000000000000000000000000000000000001'] * 498)}".encode())
+        assert json.loads(text)["code"] in ("Ok", "NoMatch"), text[:200]
+        for path, body, code in (
+            ("/route/v1/car", b"", "InvalidUrl"), ("/route/v1/car", b"x", "InvalidQuery"), ("/route/v1/car?steps=true", places.encode(), "InvalidUrl"),
+            ("/route/v1/car", "9.5,47.1;9.6,47.1\u00e4".encode(), "InvalidUrl"), ("/route/v1/car", b"9.5,47.1;9.6,47.1\0", "InvalidUrl"),
+            ("/route/v1", places.encode(), "InvalidUrl"), ("/route/v1/car", b"/" * 900_000, "InvalidUrl"), ("/tile/v1/car", b"1", "InvalidService"),
+        ):
+            status, _, text = send(address, path, body)
+            assert (status, json.loads(text)["code"]) == (400, code), (path, body[:40], text)
+        assert send(address, "/route/v1/car", b" " * 1_100_000)[0] == 413
+    assert open("told").read() == "", open("told").read()
+
+
+def any_options_get_an_answer():
+    """Requests with all options, drawn, some strange: each is answered, or refused by a line, and nothing is told on standard error."""
+    draw, counts = random.Random("any options"), collections.Counter()
+    places = [*three(), *some_nodes(20, "any options")[1]]
+    with service() as (_, address):
+        connection = http.client.HTTPConnection(address.hostname, address.port, timeout=PATIENCE)
+        for _ in range(REQUESTS):
+            target = drawn_request(draw, places)
+            connection.request("GET", target)
+            found = connection.getresponse()
+            value = json.loads(found.read())
+            assert found.status in (200, 400) and (found.status == 200) == (value["code"] == "Ok"), (target, found.status, value)
+            counts[target.split("/")[1], value["code"]] += 1
+        connection.close()
+    assert open("told").read() == "", open("told").read()
+    assert all(counts[name, "Ok"] > REQUESTS / 100 for name in ("route", "table", "nearest", "trip", "match")), counts
 
 
 def raw_answer(address, sent):
@@ -267,6 +318,31 @@ def names_of_profiles():
         assert done.returncode == 2 and "Traceback" not in done.stderr, (more, done)
 
 
+def classes_are_excluded():
+    """Requests that exclude classes of ways are answered by the network without them, in whatever order they name them; others by the whole one."""
+    subprocess.run([ROOT / "examples" / "town.py"], check=True)
+    for name, words in ("whole", ()), ("no_toll", ("--exclude", "toll")), ("neither", ("--exclude", "ferry,toll")):
+        tool("osm_to_gr", "--quiet", "--part", "large", *words, "town.osm", name)
+    east, west = (13.293, 53.569), (13.262, 53.569)
+    ashore, across = (13.2882, 53.5540), (13.3068, 53.5540)
+    networks = "car=whole", "car/toll=no_toll", "car/toll,ferry=neither", "foot=whole"
+    with service(None, *(word for each in networks for word in ("--network", each))) as (_, address):
+        found = {}
+        for query in "", "exclude=", "exclude=toll", "exclude=%74oll", "exclude=toll,ferry", "exclude=ferry,toll":
+            status, value = get(address, f"/table/v1/car/{text_of([west, east, ashore, across])}?{query}")
+            assert status == 200, value
+            found[query] = value["durations"][1][0], value["durations"][2][3]
+        assert found[""] == found["exclude="] and found["exclude=toll"] == found["exclude=%74oll"] and found["exclude=toll,ferry"] == found["exclude=ferry,toll"]
+        assert found[""][0] < found["exclude=toll"][0] == found["exclude=toll,ferry"][0] and found[""][1] == found["exclude=toll"][1] > 600, found
+        assert found["exclude=toll,ferry"][1] is None
+        for path in f"/route/v1/car/{PLAIN}?exclude=ferry", f"/route/v1/foot/{PLAIN}?exclude=toll", f"/nearest/v1/car/{A}?exclude=motorway":
+            assert get(address, path)[1]["code"] == "InvalidValue", path
+        assert get(address, f"/route/v1/bus/{PLAIN}")[1]["message"] == "the profiles are car, foot"
+    for word in "car/=whole", "car/x=whole", "car/toll,=whole":
+        done = subprocess.run([PYTHON, ROOT / "tools" / "page.py", "--network", word], capture_output=True, text=True)
+        assert done.returncode == 2 and "Traceback" not in done.stderr, done
+
+
 def limits_are_options():
     """The sizes of requests by osrm-routed's names. A larger table is answered, with distances too."""
     many = some_nodes(130, "limits")[1]
@@ -317,7 +393,8 @@ def another_site():
 
 GROUPS = (
     ((*SERVICE, "python3-polyline"), [
-        *by_both(what_is_refused, places_without_a_way, clients_get_what_they_ask_for), names_of_profiles, limits_are_options,
+        what_is_refused, places_without_a_way, clients_get_what_they_ask_for, names_of_profiles, classes_are_excluded, limits_are_options,
+        *on_both_maps(requests_are_posted, any_options_get_an_answer),
     ]),
     (BROWSER, [other_sites_and_the_page]),
 )

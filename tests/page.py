@@ -15,7 +15,7 @@ from helpers import running
 from helpers.maps import tool
 from helpers.packages import run_checks
 from helpers.running import PROGRAM, ROOT
-from helpers.serving import BROWSER, COUNTRY, Keys, ask, browser, by_both, service, shown_page
+from helpers.serving import BROWSER, COUNTRY, Keys, ask, browser, service, shown_page
 from helpers.writing import write_graph
 
 sys.path.insert(0, str(ROOT / "python"))
@@ -431,7 +431,7 @@ def the_map_and_the_address():
 
 GROUPS = (
     (BROWSER, [
-        *by_both(a_page_with_routes_and_reach), a_page_where_there_is_no_way, a_page_by_keyboard_alone, names_are_never_run,
+        a_page_with_routes_and_reach, a_page_where_there_is_no_way, a_page_by_keyboard_alone, names_are_never_run,
         html_that_gets_in_is_not_run, places_are_called_as_the_page_calls_them, a_list_of_turns, places_on_the_way, the_map_and_the_address,
     ]),
 )

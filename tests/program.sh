@@ -7,7 +7,7 @@ set -u
 # expect_routes NAME COUNT GRAPH QUERIES: in each order the routes are walks of the graph, as many as this, each of the distance's weight.
 expect_routes() {
   local order
-  for order in --deep --rounds ""; do
+  for order in --deep ""; do
     "$root/chtab" dist --routes $order "$3" "$4" >routes.txt 2>err.txt
     compare "$1 $order, status" 0 "$?"
     compare "$1 $order, routes" "$2 routes" "$(python3 -m oracles.routes "$3" routes.txt 2>&1)"
@@ -15,21 +15,34 @@ expect_routes() {
   done
 }
 
-# expect_left NAME OUT WORD..: a reader that takes the first line of what the program writes on these words, and goes away: it ends silently.
+# expect_left NAME OUT WORD..: a reader that takes the first line of what the program writes on these words, and goes away: a write fails.
 expect_left() {
   local name=$1 out=$2 statuses
   shift 2
   "$root/chtab" "$@" 2>err.txt | head -n 1 >out.txt
   statuses=("${PIPESTATUS[@]}")
-  compare "$name, status" 141 "${statuses[0]}"
+  compare "$name, status" 3 "${statuses[0]}"
   compare "$name, standard output" "$out" "$(cat out.txt)"
-  compare "$name, standard error" "" "$(cat err.txt)"
+  compare "$name, standard error" "chtab: cannot write after N bytes" "$(sed 's/[0-9][0-9]*/N/' err.txt)"
+}
+
+# expect_bytes NAME STATUS ERR WORD..: nothing on standard output, and exactly these bytes on standard error.
+expect_bytes() {
+  local name=$1 status=$2
+  printf '%b' "$3" >wanted.txt
+  shift 3
+  "$root/chtab" "$@" >out.txt 2>err.txt
+  compare "$name, status" "$status" "$?"
+  compare "$name, bytes" "" "$(cmp out.txt /dev/null 2>&1; cmp err.txt wanted.txt 2>&1)"
 }
 
 # expect_same_saved NAME GRAPH QUERIES SOURCES TARGETS: a graph that is saved, in each order, gives the same routes and the same table.
 expect_same_saved() {
   local order
-  for order in --deep --rounds ""; do
+  "$root/chtab" save --quick "$2" >quick.ch
+  expect "$1, distances by the hierarchy saved --quick" 0 "$("$root/chtab" dist "$2" "$3")" "" dist --saved quick.ch "$2" "$3"
+  expect "$1, table by the hierarchy saved --quick" 0 "$("$root/chtab" table "$2" "$4" "$5")" "" table --saved quick.ch "$2" "$4" "$5"
+  for order in --deep ""; do
     "$root/chtab" save $order "$2" >same.ch
     compare "$1, saved $order, status" 0 "$?"
     expect "$1, routes by the hierarchy saved $order" 0 "$("$root/chtab" dist --routes $order "$2" "$3")" "" \
@@ -118,7 +131,7 @@ for most in 0 60000 300000 1152921504606846976; do
 done
 expect_same_saved "Liechtenstein" "$lg" fifty.p2p from.ss to.ss
 compare "Liechtenstein, saved by two workers" "$(cksum <same.ch)" "$("$root/chtab" save --workers 2 --piece 7 "$lg" | cksum)"
-for order in --deep --rounds; do
+for order in --deep --quick; do
   compare "Liechtenstein, saved $order by two workers" "$("$root/chtab" save $order "$lg" | cksum)" \
     "$("$root/chtab" save $order --workers 2 --piece 7 "$lg" | cksum)"
 done
@@ -161,15 +174,12 @@ printf 'p aux sp ss 65537\n' >many.ss
 compare "near rows of many cells" "2049 n 1 1 1 0" "$(uniq -c rows.txt | sed 's/^ *//')"
 expect "a source of near rows out of range" 1 "" "chtab: sources line 2: node out of range" near graph.gr four.ss two.ss
 expect "a target of near rows out of range" 1 "" "chtab: targets line 2: node out of range" near --all graph.gr four.ss
-expect "missing targets of near rows" 3 "" "chtab: missing.ss: there is no such file
-chtab: cannot read targets" near --all --count 3 graph.gr missing.ss
+expect "missing targets of near rows" 3 "" "chtab: cannot read targets" near --all --count 3 graph.gr missing.ss
 expect "a source out of range" 1 "" "chtab: sources line 2: node out of range" table graph.gr four.ss two.ss
 expect "a target out of range" 1 "" "chtab: targets line 2: node out of range" table graph.gr two.ss four.ss
 expect "too many sources" 1 "" "chtab: sources line 1: size too large" table graph.gr many.ss two.ss
-expect "missing sources" 3 "" "chtab: missing.ss: there is no such file
-chtab: cannot read sources" table graph.gr missing.ss two.ss
-expect "a folder as targets" 3 "" "chtab: $root: this is a folder
-chtab: cannot read targets" table graph.gr two.ss "$root"
+expect "missing sources" 3 "" "chtab: cannot read sources" table graph.gr missing.ss two.ss
+expect "a folder as targets" 3 "" "chtab: cannot read targets" table graph.gr two.ss "$root"
 expect "a table" 0 "t 1 0 4
 t 2 - 0" "" table graph.gr two.ss two.ss
 
@@ -268,34 +278,22 @@ refused_saved "saved: too few nodes" "saved line 4: too few lines" 'p ch 3 0\no 
 refused_saved "saved: too few legs" "saved line 5: too few lines" 'p ch 3 1\no 1\no 2\no 3\n'
 
 printf 'p\n' >bad.txt
+expect_bytes "a refused graph, to the last byte" 1 'chtab: graph line 1: bad problem line\n' dist bad.txt "$q"
+expect_bytes "a refused word, to the last byte" 2 'chtab: a word is not UTF-8\n' dist "$g" $'\xff'
 expect "the graph is judged before the saved hierarchy" 1 "" "chtab: graph line 1: bad problem line" dist --saved bad.txt bad.txt bad.txt
 expect "the saved hierarchy is judged before the queries" 1 "" "chtab: saved line 1: bad problem line" dist --saved bad.txt "$g" bad.txt
 expect_saved "it is checked before the queries" 1 "" "$no order" "$g" bad.txt "1 1 2" "$one" "$two"
 expect "it is judged before the sources" 1 "" "chtab: saved line 1: bad problem line" table --saved bad.txt "$g" bad.txt bad.txt
 expect "then the queries are judged" 1 "" "chtab: queries line 1: bad problem line" dist --saved "$ch" "$g" bad.txt
-expect "a missing graph, and no saved hierarchy" 3 "" "chtab: missing.ch: there is no such file
-chtab: missing.gr: there is no such file
-chtab: missing.p2p: there is no such file
-chtab: cannot read graph" dist --saved missing.ch missing.gr missing.p2p
-expect "a missing hierarchy" 3 "" "chtab: missing.ch: there is no such file
-chtab: missing.p2p: there is no such file
-chtab: cannot read saved" dist --saved missing.ch "$g" missing.p2p
-expect "a missing hierarchy, table" 3 "" "chtab: missing.ch: there is no such file
-chtab: missing.ss: there is no such file
-chtab: missing.ss: there is no such file
-chtab: cannot read saved" table --saved missing.ch "$g" missing.ss missing.ss
-expect "a missing order" 3 "" "chtab: missing.ch: there is no such file
-chtab: cannot read order" save --fresh 7 --like missing.ch "$g"
-expect "a missing order, behind a sign of equality" 3 "" "chtab: missing.ch: there is no such file
-chtab: cannot read order" save --like=missing.ch --fresh=7 "$g"
-expect "a folder as saved hierarchy" 3 "" "chtab: $root: this is a folder
-chtab: cannot read saved" dist --saved "$root" "$g" "$q"
-expect "missing queries, and a saved hierarchy" 3 "" "chtab: missing.p2p: there is no such file
-chtab: cannot read queries" dist --saved "$ch" "$g" missing.p2p
-expect "a missing graph to save" 3 "" "chtab: missing.gr: there is no such file
-chtab: cannot read graph" save missing.gr
-expect "a folder to save" 3 "" "chtab: $root: this is a folder
-chtab: cannot read graph" save "$root"
+expect "a missing graph, and no saved hierarchy" 3 "" "chtab: cannot read graph" dist --saved missing.ch missing.gr missing.p2p
+expect "a missing hierarchy" 3 "" "chtab: cannot read saved" dist --saved missing.ch "$g" missing.p2p
+expect "a missing hierarchy, table" 3 "" "chtab: cannot read saved" table --saved missing.ch "$g" missing.ss missing.ss
+expect "a missing order" 3 "" "chtab: cannot read order" save --fresh 7 --like missing.ch "$g"
+expect "a missing order, behind a sign of equality" 3 "" "chtab: cannot read order" save --like=missing.ch --fresh=7 "$g"
+expect "a folder as saved hierarchy" 3 "" "chtab: cannot read saved" dist --saved "$root" "$g" "$q"
+expect "missing queries, and a saved hierarchy" 3 "" "chtab: cannot read queries" dist --saved "$ch" "$g" missing.p2p
+expect "a missing graph to save" 3 "" "chtab: cannot read graph" save missing.gr
+expect "a folder to save" 3 "" "chtab: cannot read graph" save "$root"
 expect "a refused graph to save" 1 "" "chtab: graph line 1: bad problem line" save bad.txt
 expect "plain distances read no saved hierarchy" 0 "$("$root/chtab" dist "$g" "$q")" "" dist --plain --saved missing.ch "$g" "$q"
 expect "plain distances read no order" 0 "$("$root/chtab" dist "$g" "$q")" "" dist --plain --like missing.ch "$g" "$q"
@@ -305,14 +303,10 @@ expect_words "two files to save" 2 err "'$q'" save "$g" "$q"
 expect_words "no saved file" 2 err "--saved" dist --saved
 expect_words "help of save" 0 out "chtab save --deep roads.gr" save --help
 
-expect "a missing graph" 3 "" "chtab: missing.gr: there is no such file
-chtab: cannot read graph" dist --plain missing.gr "$q"
-expect "missing queries" 3 "" "chtab: missing.p2p: there is no such file
-chtab: cannot read queries" dist --plain "$g" missing.p2p
-expect "a folder as graph" 3 "" "chtab: $root: this is a folder
-chtab: cannot read graph" dist --plain "$root" "$q"
-expect "a folder as queries" 3 "" "chtab: $root: this is a folder
-chtab: cannot read queries" dist --plain "$g" "$root"
+expect "a missing graph" 3 "" "chtab: cannot read graph" dist --plain missing.gr "$q"
+expect "missing queries" 3 "" "chtab: cannot read queries" dist --plain "$g" missing.p2p
+expect "a folder as graph" 3 "" "chtab: cannot read graph" dist --plain "$root" "$q"
+expect "a folder as queries" 3 "" "chtab: cannot read queries" dist --plain "$g" "$root"
 
 "$root/chtab" dist --plain "$g" "$q" >/dev/full 2>err.txt
 compare "a full device, status" 3 "$?"
@@ -327,8 +321,22 @@ read_end, write_end = os.pipe()
 os.close(read_end)
 sys.exit(subprocess.run([sys.argv[1], "dist", "--plain", *sys.argv[2:]], stdout=write_end).returncode)
 PYTHON
-compare "a closed pipe, status" 141 "$?"
-compare "a closed pipe, standard error" "" "$(cat err.txt)"
+compare "a closed pipe, status" 3 "$?"
+compare "a closed pipe, standard error" "chtab: cannot write after 0 bytes" "$(cat err.txt)"
+
+# Only a terminal is told which files can't be read.
+python3 - "$root/chtab" dist --saved "$root" missing.gr missing.p2p >out.txt <<'PYTHON'
+import os, pty, subprocess, sys
+mine, its = pty.openpty()
+status = subprocess.run(sys.argv[1:], stdout=subprocess.DEVNULL, stderr=its).returncode
+print(os.read(mine, 65536).decode().replace("\r\n", "\n"), end="")
+sys.exit(status)
+PYTHON
+compare "missing files, told to a terminal, status" 3 "$?"
+compare "missing files, told to a terminal" "chtab: $root: this is a folder
+chtab: missing.gr: there is no such file
+chtab: missing.p2p: there is no such file
+chtab: cannot read graph" "$(cat out.txt)"
 
 # Reads of the program itself, without the script that starts it, by a library that is loaded before it: the one of `refusals.py`.
 program=$root/crates/chtab/out/chtab
@@ -368,10 +376,8 @@ expect "a faulty request" 1 "d 1 3 9" "chtab: request line 3: node out of range"
 expect "a table that is cut short" 1 "" "chtab: request line 4: too few lines" ask "$g" < <(printf 't 1 2\ns 2\ns 3\n')
 expect "requests for too many cells" 1 "d 1 3 9" "chtab: request line 2: too many cells" ask "$g" < <(printf 'q 1 3\nt 4096 1025\n')
 expect "a folder as requests" 3 "" "chtab: cannot read requests" ask "$g" <"$root"
-expect "a missing graph, and requests" 3 "" "chtab: missing.gr: there is no such file
-chtab: cannot read graph" ask missing.gr <requests.txt
-expect "a missing hierarchy, and requests" 3 "" "chtab: missing.ch: there is no such file
-chtab: cannot read saved" ask --saved missing.ch "$g" <requests.txt
+expect "a missing graph, and requests" 3 "" "chtab: cannot read graph" ask missing.gr <requests.txt
+expect "a missing hierarchy, and requests" 3 "" "chtab: cannot read saved" ask --saved missing.ch "$g" <requests.txt
 expect "a refused graph, and requests" 1 "" "chtab: graph line 1: bad problem line" ask bad.txt <requests.txt
 expect_words "a file of requests" 2 err "'requests.txt'" ask "$g" requests.txt
 expect_words "requests without a graph" 2 err "GRAPH" ask

@@ -56,7 +56,7 @@ FILES = {
     **{f"{nodes}.gr": f"p sp {nodes} 0\n" for nodes in (1, 4_096, 10_000, 65_536, 1_000_001)},
 }
 
-# Runs with many steps, and the nodes that they contract. Two workers build by rounds.
+# Runs with many steps, and the nodes that they contract.
 MANY_STEPS = [
     *((["save", "--piece", "1048576", f"{nodes}.gr"], nodes) for nodes in (1, 4_096, 10_000, 1_000_001)),
     (["table", "--workers", "2", "--piece", "1048576", "65536.gr", "list.ss", "list.ss"], 65_536),

@@ -12,8 +12,9 @@ name, all runs of one kind write the same bytes, what is saved is the hierarchy 
 fault in it. A hierarchy that an independent program makes by an order of its own is accepted, and gives the same distances.
 With `--like`, that order and the hierarchy by it of other weights give the hierarchy that the rules name, and the same distances.
 
-The same holds by rounds, with 1, 2, 3, 4 and 64 workers and with pieces of 1 and 64 nodes. Workers share a job of building only if it has
-64 nodes, so a graph of up to 300 nodes is drawn for each tenth of the others. The last line is 'N passed, N failed', of graphs.
+With `save --quick`, runs by 1, 2, 3, 4 and 64 workers and with pieces of 1 and 64 nodes write the same text. It is that of the nodes contracted
+in the order that it tells, and gives the same distances. Workers share a job of building only if it has 64 nodes, so a graph of up to 300
+nodes is drawn for each tenth of the others. The last line is 'N passed, N failed', of graphs.
 """
 import sys
 import tempfile
@@ -25,12 +26,12 @@ from helpers.running import Count, build, side_by_side
 from oracles.checking import first_fault
 from oracles.contracting import contract_in_order, text_of
 from oracles.reading import read
-from oracles.rules import hierarchy_text, routes_text, text_like
+from oracles.rules import hierarchy_text, routes_text, text_like, text_quick
 
 # The words for each order of contraction.
-WORDS = {"difference": (), "depth": ("--deep",), "rounds": ("--rounds",)}
+WORDS = {"difference": (), "depth": ("--deep",)}
 
-# The numbers of workers and the pieces with which a graph is contracted by rounds.
+# The numbers of workers and the pieces with which a graph is contracted quickly.
 SHARES = [("--workers", str(workers), "--piece", str(piece)) for workers, piece in product((1, 2, 3, 4, 64), (1, 64))]
 
 
@@ -71,16 +72,16 @@ def check_runs(case, folder, *options, order="difference"):
     return text
 
 
-def check_rounds(case, folder):
-    """By rounds, runs with any workers and pieces save the hierarchy that the rules name, and write the routes by it; by the saved one, too."""
+def check_quick(case, folder):
+    """With `--quick`, runs with any workers and pieces save one text, that of its order. By it and without it, runs have the right answers."""
     hops = case.hops[0]
     bound = ["--hops", str(hops)]
-    saved = folder.save("saved.ch", folder.run("save", "--rounds", *bound, "graph.gr"))
-    routes = check_saved(case, hops, "rounds", saved)
+    saved = folder.save("saved.ch", folder.run("save", "--quick", *bound, "graph.gr"))
+    _, (order, _) = read("saved", saved.encode(), case.nodes)
+    routes = check_text(case, saved, text_quick(case.nodes, case.arcs, hops, [node for node, in order]))
     for share in SHARES:
-        assert folder.run("save", "--rounds", *share, *bound, "graph.gr") == saved, share
-        assert folder.run("dist", "--rounds", "--routes", *share, *bound, "graph.gr", "queries.p2p") == routes, share
-    assert check_runs(case, folder, *bound, order="rounds") == routes
+        assert folder.run("save", "--quick", *share, *bound, "graph.gr") == saved, share
+        assert folder.run("dist", *share, *bound, "graph.gr", "queries.p2p") == case.distances(), share
     assert check_runs(case, folder, "--saved", "saved.ch") == routes
 
 
@@ -106,7 +107,7 @@ def check_wide_graph(seed):
     with tempfile.TemporaryDirectory() as kept:
         folder = Folder(kept)
         case.write(folder)
-        check_rounds(case, folder)
+        check_quick(case, folder)
         check_like(case, folder)
 
 
@@ -126,7 +127,7 @@ def check_graph(seed):
             texts.add((hops, saved, check_runs(case, folder, *options, *bound, order=order)))
             texts.add((hops, saved, check_runs(case, folder, *options, "--saved", "saved.ch")))
         assert len(texts) == 2, "routes are not those of the rules, or depend on the number of workers, or on whether the hierarchy was saved"
-        check_rounds(case, folder)
+        check_quick(case, folder)
         check_like(case, folder)
         own = contract_in_order(case.nodes, case.arcs, case.order)
         folder.save("own.ch", text_of(case.nodes, case.order, own))

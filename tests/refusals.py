@@ -29,8 +29,9 @@ from itertools import count, pairwise
 
 from helpers.asking import answers_after, answers_of, requests_of
 from helpers.refusing import Refusing
-from helpers.running import PROGRAM, ROOT, SECONDS, Answer, Count, agrees, build, side_by_side, with_files
-from oracles.rules import hierarchy_text, text_like
+from helpers.running import PROGRAM, ROOT, SECONDS, Answer, Count, agrees, build, run, side_by_side, with_files
+from oracles.reading import read
+from oracles.rules import text_like, text_quick
 
 # Requests on a line and on a star, each with its answer.
 LINE_ASKED = [(b"q 1 3\n", b"d 1 3 9\n"), (b"q 3 1\n", b"d 3 1 -\n"), (b"c\nt 2 2\ns 1\ns 3\n\ns 3\ns 2\n", b"t 1 9 4\nt 3 0 -\n"),
@@ -117,11 +118,8 @@ ASKS = {
     "requests for routes by a saved hierarchy": (["ask", "--routes", "--saved", "star.ch", "star.gr"], STAR_ASKED),
 }
 
-# The runs that build by rounds, with enough nodes for several workers.
-BY_ROUNDS = {
-    "a hierarchy by rounds": (["save", "--rounds", "rings.gr"], Answer(0, hierarchy_text(198, RINGS, 5, "rounds").encode(), b"")),
-    "routes by rounds": (["dist", "--rounds", "--routes", "rings.gr", "rings.p2p"], Answer(0, b"d 1 3 2\nr 2\na 1 2 1\na 2 3 1\nd 3 4 -\n", b"")),
-}
+# The words that save a hierarchy that is built quickly, with enough nodes for several workers.
+QUICKLY = ["save", "--quick", "rings.gr"]
 
 OUT_OF_MEMORY = Answer(3, b"", b"chtab: out of memory\n")
 
@@ -150,9 +148,6 @@ RUNS = {
 
 # The errors of the system, as <errno.h> of Linux has them.
 INTERRUPTED, DEVICE_FAILED, DEVICE_FULL, READER_GONE = 4, 5, 28, 32
-
-# The status of a run whose reader went away: the one that a shell shows for a program that the system ended for it.
-STATUS_OF_READER_GONE = 141
 
 # The most requests for memory that a run of these kinds could need.
 MOST_REQUESTS = 20_000
@@ -207,10 +202,9 @@ def fail_help(refusing, tally):
         for at in range(1, counts.writes + 1):
             taken = 100 * (at - 1)
             told = f"chtab: cannot write after {taken} bytes\n".encode()
-            gone = Answer(STATUS_OF_READER_GONE, ample.out[:taken], b"")
-            for error, wanted in (DEVICE_FULL, Answer(3, ample.out[:taken], told)), (READER_GONE, gone):
+            for error in DEVICE_FULL, READER_GONE:
                 answer, _ = refusing.run(words, MOST_BYTES=100, REFUSE_WRITE=at, REFUSE_WITH=error)
-                tally.expect(answer == wanted, f"{words}, write {at} fails with {error}: {answer}")
+                tally.expect(answer == Answer(3, ample.out[:taken], told), f"{words}, write {at} fails with {error}: {answer}")
 
 
 def has_tests_in_turn(crate):
@@ -274,8 +268,7 @@ def fail_devices(refusing, tally, name, words, files, text):
             taken = len(answer.out)
             told = Answer(3, text[:taken], f"chtab: cannot write after {taken} bytes\n".encode())
             tally.expect(answer == told, f"{what}, write {at} fails: {answer}")
-            for error, wanted in ((0, told), (DEVICE_FULL, told), (READER_GONE, Answer(STATUS_OF_READER_GONE, text[:taken], b"")),
-                                  (INTERRUPTED, done)):
+            for error, wanted in (0, told), (DEVICE_FULL, told), (READER_GONE, told), (INTERRUPTED, done):
                 answer, _ = refusing.run(words, requests=stream, MOST_BYTES=most, REFUSE_WRITE=at, REFUSE_WITH=error)
                 tally.expect(answer == wanted, f"{what}, write {at} fails with {error}: {answer}")
             return taken
@@ -299,7 +292,7 @@ def asked_in(files):
 
 
 def close_pipe(tally, folder):
-    """Closes a pipe once it is full, while the program writes a text that is longer: it ends silently."""
+    """Closes a pipe once it is full, while the program writes a text that is longer: its write fails."""
     (folder / "one.gr").write_text("p sp 1 0\n")
     (folder / "ones.ss").write_text("p aux sp ss 400\n" + "s 1\n" * 400)
     read_end, write_end = os.pipe()
@@ -312,8 +305,14 @@ def close_pipe(tally, folder):
     os.close(read_end)
     os.close(write_end)
     err = process.communicate(timeout=SECONDS)[1]
-    is_silent = (process.returncode, err) == (STATUS_OF_READER_GONE, b"")
-    tally.expect(is_silent, f"a full pipe is closed: {process.returncode}, {err}")
+    is_told = process.returncode == 3 and re.fullmatch(rb"chtab: cannot write after \d+ bytes\n", err)
+    tally.expect(is_told, f"a full pipe is closed: {process.returncode}, {err}")
+
+
+def quick_answer(folder):
+    """What `save --quick` owes for the rings, in the order that it finds."""
+    _, (order, _) = read("saved", run(QUICKLY, folder).out, 198)
+    return Answer(0, text_quick(198, RINGS, 5, [node for node, in order]).encode(), b"")
 
 
 def main():
@@ -325,10 +324,10 @@ def main():
             (refusing.folder / name).write_text(text)
         for name, (words, wanted) in KINDS.items():
             refuse_memory(refusing, tally, name, words, wanted)
-        for name, (words, wanted) in BY_ROUNDS.items():
-            refuse_memory(refusing, tally, name, words, wanted)
-            refuse_memory(refusing, tally, f"{name} by two workers", [*words, *TWO_WORKERS], wanted)
-            refuse_threads(refusing, tally, name, words, wanted, ())
+        wanted = quick_answer(refusing.folder)
+        refuse_memory(refusing, tally, "a quick hierarchy", QUICKLY, wanted)
+        refuse_memory(refusing, tally, "a quick hierarchy by two workers", [*QUICKLY, *TWO_WORKERS], wanted)
+        refuse_threads(refusing, tally, "a quick hierarchy", QUICKLY, wanted, ())
         for name, (words, asked) in ASKS.items():
             for most in 16, 65_536:
                 done = Answer(0, answers_of(asked), b"")

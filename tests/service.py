@@ -28,7 +28,7 @@ from helpers.in_process import make
 from helpers.moods import STANDIN, holding, mood
 from helpers.packages import PYTHON, run_checks
 from helpers.running import PROGRAM, ROOT
-from helpers.serving import by_both, words_of_library
+from helpers.serving import words_of_library
 from helpers.waiting import PATIENCE, until
 import chtab
 from chtab.roads import snapping
@@ -417,8 +417,7 @@ def numbers_that_are_none_are_refused():
 def what_the_library_lacks_is_told():
     """A service that is to answer by the library for C, and can't: it ends with status 1 and a line."""
     for words, told in (
-        (["--library", make()], "saved hierarchy"), (["--library", "none.so", "--saved", FIRST_SAVED], "is not chtab's library for C"),
-        (["--library", make(), "--saved", FIRST_SAVED], "saved"), (["--library", "--saved", FIRST_SAVED], "`packaging/library` makes it"),
+        (["--library", "none.so", "--saved", FIRST_SAVED], "is not chtab's library for C"), (["--library", make(), "--saved", FIRST_SAVED], "saved"),
     ):
         line = [PYTHON, ROOT / "tools" / "page.py", "--port", 0, "--program", PROGRAM, COUNTRY, *words]
         done = subprocess.run(list(map(str, line)), capture_output=True, text=True, timeout=PATIENCE)
@@ -430,8 +429,8 @@ GROUPS = (
     (SERVICE, [
         health_is_told_at_once, answers_end_where_they_say, clients_that_do_nothing_are_dropped, ports_that_are_none, what_the_library_lacks_is_told,
         the_loop_answers_for_a_moment_alone, answers_come_in_the_order_of_requests,
-        *by_both(each_form_of_a_request_has_the_same_answer, a_client_that_takes_no_answers_is_held_up),
-        *by_both(places_that_are_too_far, pages_of_other_sites_may_ask, many_clients_get_their_own_answers, numbers_that_are_none_are_refused),
+        each_form_of_a_request_has_the_same_answer, a_client_that_takes_no_answers_is_held_up,
+        places_that_are_too_far, pages_of_other_sites_may_ask, many_clients_get_their_own_answers, numbers_that_are_none_are_refused,
     ]),
 )
 

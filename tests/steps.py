@@ -18,7 +18,6 @@ from helpers.maps import COUNTRY, osm, tool
 from helpers import running
 from helpers.packages import run_checks
 from helpers.running import PROGRAM
-from helpers.ways import both
 from oracles import mapping, telling
 import chtab
 from chtab import files
@@ -199,6 +198,28 @@ def exits_of_rings():
         assert told(ask, ENDS[11], ENDS[13])[0].startswith("roundabout ") and told(ask, ENDS[11], ENDS[12])[0].startswith("rotary ")
 
 
+def names_that_change_beside_a_turn():
+    """A street that changes its name less than 30 metres behind a turn, or before one, is told with the turn; farther away it has a step of its own."""
+    tags = {"highway": "residential"}
+
+    def ways(first, bridge="Bridge"):
+        names = (([2, 1], "West"), ([1, 3], first), ([3, 4], "North"), ([1, 5], "East"))
+        return [(refs, tags | {"name": bridge if name == "Bridge" else name}) for refs, name in names]
+
+    def nodes(far):
+        return {1: (0, 0), 2: (-1, 0), 3: (0, far), 4: (0, 1), 5: (1, 0)}
+
+    with asked(osm(nodes(0.2), ways("Bridge"))) as (ask, _):
+        assert told(ask, WEST, NORTH) == ["turn left North"] and told(ask, NORTH, WEST) == ["end of road right West"]
+        assert [step["name"] for step in steps_of(ask, [(-0.0009, 0), (0, 0.0009)])] == ["West", "North", "North"]
+    with asked(osm(nodes(0.5), ways("Bridge"))) as (ask, _):
+        assert told(ask, WEST, NORTH) == ["turn left Bridge", "new name straight North"]
+        assert told(ask, NORTH, WEST) == ["new name straight Bridge", "end of road right West"]
+    with asked(osm(nodes(0.2), ways("West"))) as (ask, _):
+        assert told(ask, WEST, NORTH) == ["turn left North"], "no longer a street that continues"
+        assert told(ask, NORTH, WEST) == ["turn right West"]
+
+
 def restrictions_close_branches():
     """A turn that the map forbids is no branch that is open: what is left needs no word."""
     nodes = {1: (0, 0), 2: (-1, 0), 4: (1, 0), 6: (1, 0.5)}
@@ -359,7 +380,8 @@ def compare(draw, ask, teller, told_of):
     except answering.Refusal as fault:
         assert fault.code == "NoRoute", fault
         return collections.Counter()
-    path = path_of(teller, start, end, list(map(str, route["legs"][0]["annotation"]["nodes"])))
+    # Without the nodes beside the ends of the leg, and without bends.
+    path = path_of(teller, start, end, [str(node) for node in route["legs"][0]["annotation"]["nodes"][1:-1] if node])
     if path is None:
         return collections.Counter()
     wanted, steps = teller.tell(path), route["legs"][0]["steps"]
@@ -420,8 +442,8 @@ def path_of(teller, start, end, nodes):
 
 GROUPS = (
     (("python3-numpy", "python3-scipy", "python3-shapely"), [
-        turns_at_a_cross, where_roads_end_and_bend, slight_ways, fast_roads, exits_of_rings, restrictions_close_branches,
-        *both(steps_add_up, what_is_kept_changes_no_answer), random_maps_agree_with_the_other_teller,
+        turns_at_a_cross, where_roads_end_and_bend, slight_ways, fast_roads, exits_of_rings, names_that_change_beside_a_turn, restrictions_close_branches,
+        steps_add_up, what_is_kept_changes_no_answer, random_maps_agree_with_the_other_teller,
     ]),
 )
 

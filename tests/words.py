@@ -19,10 +19,10 @@ import options
 from helpers.running import PROGRAM, ROOT, Answer, Count, agrees, build, run
 
 # A line of three nodes; four nodes with two shortest paths from 2 to 4, of which the orders by difference and by depth take one each; and
-# four nodes with two shortest paths from 4 to 1, of which only the order by rounds takes the one over 2.
+# four nodes with two shortest paths from 4 to 1, of which only the order that `--quick` finds takes the one over 2.
 LINE = "p sp 3 2\na 1 2 4\na 2 3 5\n"
 TIES = "p sp 4 6\na 1 4 1\na 2 1 1\na 2 3 1\na 3 2 1\na 3 4 1\na 4 3 1\n"
-ROUNDS = "p sp 4 5\na 1 4 1\na 2 1 1\na 3 1 1\na 4 2 1\na 4 3 1\n"
+QUICK = "p sp 4 5\na 1 4 1\na 2 1 1\na 3 1 1\na 4 2 1\na 4 3 1\n"
 FILES = {
     "line.gr": LINE,
     "--plain": LINE,
@@ -33,9 +33,10 @@ FILES = {
     "ties.p2p": "p aux sp p2p 1\nq 2 4\n",
     "requests.txt": "q 1 3\nt 1 2\ns 2\ns 3\ns 1\n",
     "ties.txt": "q 2 4\n",
-    "rounds.gr": ROUNDS,
-    "rounds.p2p": "p aux sp p2p 1\nq 4 1\n",
-    "rounds.txt": "r 4 1\n",
+    "quick.gr": QUICK,
+    "quick.p2p": "p aux sp p2p 1\nq 4 1\n",
+    "quick.txt": "r 4 1\n",
+    "that.ch": "p ch 4 0\no 3\no 2\no 1\no 4\n",
     "order.ch": "p ch 3 0\no 1\no 3\no 2\n",
     "twice.ch": "p ch 3 0\no 1\no 3\no 1\n",
 }
@@ -54,9 +55,8 @@ BY_DEPTH = "d 2 4 2\nr 2\na 2 3 1\na 3 4 1\n"
 SAVED = "p ch 3 2\no 1\no 2\no 3\nl 1 2 4 1 0\nl 2 3 5 1 0\n"
 SAVED_BY_DEPTH = "p ch 3 2\no 1\no 3\no 2\nl 1 2 4 1 0\nl 2 3 5 1 0\n"
 ONE_BY_ONE = "d 4 1 2\nr 2\na 4 3 1\na 3 1 1\n"
-BY_ROUNDS = "d 4 1 2\nr 2\na 4 2 1\na 2 1 1\n"
-SAVED_BY_ROUNDS = "p ch 4 6\no 3\no 2\no 1\no 4\nl 3 1 1 1 0\nl 4 3 1 1 0\nl 2 1 1 1 0\nl 4 2 1 1 0\nl 1 4 1 1 0\nl 4 1 2 2 2\n"
-# The same nodes one after the other, in that order.
+BY_QUICK = "d 4 1 2\nr 2\na 4 2 1\na 2 1 1\n"
+SAVED_QUICKLY = "p ch 4 6\no 2\no 3\no 1\no 4\nl 2 1 1 1 0\nl 4 2 1 1 0\nl 3 1 1 1 0\nl 4 3 1 1 0\nl 1 4 1 1 0\nl 4 1 2 2 2\n"
 SAVED_IN_THAT_ORDER = "p ch 4 6\no 3\no 2\no 1\no 4\nl 3 1 1 1 0\nl 4 3 1 1 0\nl 2 1 1 1 0\nl 4 2 1 1 0\nl 1 4 1 1 0\nl 4 1 2 2 3\n"
 ASKED = "d 1 3 9\nt 2 5 -\n"
 ASKED_FOR_ROUTES = "d 1 3 9\nr 2\na 1 2 4\na 2 3 5\nt 2 5 -\n"
@@ -75,13 +75,11 @@ READ = [
     ("dist ties.gr ties.p2p --saved=ties.ch --routes", BY_DEPTH),
     ("dist --routes --deep --saved line.ch --workers 64 --piece 1 --hops 16 line.gr line.p2p", ROUTES),
     ("dist --plain --saved none.ch line.gr line.p2p", DISTANCES),
-    ("dist --routes rounds.gr rounds.p2p", ONE_BY_ONE),
-    ("dist --routes --deep rounds.gr rounds.p2p", ONE_BY_ONE),
-    ("dist --rounds rounds.gr --routes rounds.p2p", BY_ROUNDS),
-    ("dist rounds.gr --workers 64 rounds.p2p --routes --piece 1 --rounds", BY_ROUNDS),
-    ("dist --rounds rounds.gr rounds.p2p", "d 4 1 2\n"),
-    ("dist --rounds --plain line.gr --routes line.p2p", DISTANCES),
-    ("dist --rounds --saved deep.ch rounds.gr --routes rounds.p2p", ONE_BY_ONE),
+    ("dist --routes quick.gr quick.p2p", ONE_BY_ONE),
+    ("dist --routes --deep quick.gr quick.p2p", ONE_BY_ONE),
+    ("dist --saved quick.ch quick.gr --routes quick.p2p", BY_QUICK),
+    ("dist quick.gr quick.p2p", "d 4 1 2\n"),
+    ("dist --saved deep.ch quick.gr --routes quick.p2p", ONE_BY_ONE),
     ("dist --like order.ch line.gr line.p2p", DISTANCES),
     ("dist --routes --like first.ch ties.gr ties.p2p", BY_DIFFERENCE),
     ("dist ties.gr --fresh 24 ties.p2p --like=first.ch --routes", BY_DIFFERENCE),
@@ -118,14 +116,14 @@ READ = [
     ("save line.gr", SAVED),
     ("save line.gr --deep", SAVED_BY_DEPTH),
     ("save --workers 64 line.gr --piece 1 --hops 16", SAVED),
-    ("save --rounds line.gr", SAVED_BY_DEPTH),
-    ("save rounds.gr --rounds", SAVED_BY_ROUNDS),
-    ("save --workers 64 rounds.gr --rounds --piece 1 --hops 16", SAVED_BY_ROUNDS),
+    ("save --quick line.gr", SAVED_BY_DEPTH),
+    ("save quick.gr --quick", SAVED_QUICKLY),
+    ("save --workers 64 quick.gr --quick --piece 1 --hops 16", SAVED_QUICKLY),
     ("save --like line.ch line.gr", SAVED),
     ("save line.gr --like order.ch", SAVED_BY_DEPTH),
     ("save --like line.ch --fresh 33 line.gr", SAVED),
     ("save --fresh 100 line.gr --like line.ch", SAVED_BY_DEPTH),
-    ("save --like rounds.ch --fresh 0 --hops 1 --workers 2 rounds.gr", SAVED_IN_THAT_ORDER),
+    ("save --like that.ch --fresh 0 --hops 1 --workers 2 quick.gr", SAVED_IN_THAT_ORDER),
     ("ask --like order.ch line.gr < requests.txt", ASKED),
     ("ask --routes ties.gr --like first.ch < ties.txt", BY_DIFFERENCE),
     ("ask --routes ties.gr --fresh 100 --like first.ch < ties.txt", BY_DEPTH),
@@ -136,11 +134,10 @@ READ = [
     ("ask --routes ties.gr < ties.txt", BY_DIFFERENCE),
     ("ask --deep ties.gr --routes < ties.txt", BY_DEPTH),
     ("ask ties.gr --routes --saved ties.ch < ties.txt", BY_DEPTH),
-    ("ask rounds.gr < rounds.txt", ONE_BY_ONE),
-    ("ask --routes rounds.gr < rounds.txt", ONE_BY_ONE),
-    ("ask --rounds rounds.gr < rounds.txt", BY_ROUNDS),
-    ("ask rounds.gr --rounds --routes --workers 2 < rounds.txt", BY_ROUNDS),
-    ("ask --rounds --saved=deep.ch rounds.gr < rounds.txt", ONE_BY_ONE),
+    ("ask quick.gr < quick.txt", ONE_BY_ONE),
+    ("ask --routes quick.gr < quick.txt", ONE_BY_ONE),
+    ("ask quick.gr --saved quick.ch --routes --workers 2 < quick.txt", BY_QUICK),
+    ("ask --saved=deep.ch quick.gr < quick.txt", ONE_BY_ONE),
 ]
 
 # Words that name another file than is meant, and the fault.
@@ -191,12 +188,12 @@ OTHER_LISTS = "SOURCES and TARGETS are needed, or with --all TARGETS alone"
 # What is told where an order is mixed with other options.
 WITH_SAVED = "error: the argument '--like' cannot be used with '--saved'\n"
 WITH_DEEP = "error: the argument '--like' cannot be used with '--deep'\n"
-WITH_ROUNDS = "error: the argument '--like' cannot be used with '--rounds'\n"
+WITH_QUICK = "error: the argument '--like' cannot be used with '--quick'\n"
 FRESH_ALONE = "error: the argument '--fresh' cannot be used without '--like'\n"
 
 # What is told where both orders are given, the first of them first.
-DEEP_FIRST = "error: the argument '--deep' cannot be used with '--rounds'\n"
-ROUNDS_FIRST = "error: the argument '--rounds' cannot be used with '--deep'\n"
+DEEP_FIRST = "error: the argument '--deep' cannot be used with '--quick'\n"
+QUICK_FIRST = "error: the argument '--quick' cannot be used with '--deep'\n"
 
 # Other words that are refused, and part of what is told of them.
 REFUSED = [
@@ -221,7 +218,7 @@ REFUSED = [
     ("table --plain g s t", "unexpected argument '--plain'"),
     ("table --routes g s t", "unexpected argument '--routes'"),
     ("table --deep g s t", "unexpected argument '--deep'"),
-    ("table --rounds g s t", "unexpected argument '--rounds'"),
+    ("table --quick g s t", "unexpected argument '--quick'"),
     ("table --within -1 g s t", "unexpected argument '-1'"),
     ("table g s t --within", "a value is required"),
     ("table --within 1 --within 1 g s t", "cannot be used multiple times"),
@@ -244,7 +241,7 @@ REFUSED = [
     ("near --plain g s t", "unexpected argument '--plain'"),
     ("near --routes g s t", "unexpected argument '--routes'"),
     ("near --deep g s t", "unexpected argument '--deep'"),
-    ("near g s t --rounds", "unexpected argument '--rounds'"),
+    ("near g s t --quick", "unexpected argument '--quick'"),
     ("save", "required arguments were not provided"),
     ("save g h", "unexpected argument 'h'"),
     ("save --saved h g", "unexpected argument '--saved'"),
@@ -252,23 +249,17 @@ REFUSED = [
     ("ask", "required arguments were not provided"),
     ("ask g q", "unexpected argument 'q'"),
     ("ask --plain g", "unexpected argument '--plain'"),
-    ("save --deep --rounds g", DEEP_FIRST),
-    ("save --rounds g --deep", ROUNDS_FIRST),
-    ("save g --rounds --deep", "\n\nUsage: chtab save [OPTIONS] <GRAPH>\n"),
-    ("save --rounds --deep g h", "unexpected argument 'h'"),
-    ("save --rounds --rounds g", "cannot be used multiple times"),
-    ("dist --deep g --rounds q", DEEP_FIRST),
-    ("dist --rounds --routes --deep g q", ROUNDS_FIRST),
-    ("dist g q --deep --plain --rounds", "\n\nUsage: chtab dist [OPTIONS] <GRAPH> <QUERIES>\n"),
-    ("dist --saved h --rounds g q --deep", ROUNDS_FIRST),
-    ("ask g --deep --rounds", DEEP_FIRST),
-    ("ask --rounds --deep g", ROUNDS_FIRST),
-    ("ask --rounds --deep g", "\n\nUsage: chtab ask [OPTIONS] <GRAPH>\n"),
+    ("save --deep --quick g", DEEP_FIRST),
+    ("save --quick g --deep", QUICK_FIRST),
+    ("save g --quick --deep", "\n\nUsage: chtab save [OPTIONS] <GRAPH>\n"),
+    ("save --quick --deep g h", "unexpected argument 'h'"),
+    ("save --quick --quick g", "cannot be used multiple times"),
+    ("save --rounds g", "unexpected argument '--rounds'"),
+    ("dist --routes --quick g q", "unexpected argument '--quick'"),
+    ("ask --quick g", "unexpected argument '--quick'"),
     ("dist --like o --saved h g q", WITH_SAVED),
     ("dist --saved h g q --like o --plain", WITH_SAVED),
     ("dist --deep --like o g q", WITH_DEEP),
-    ("dist --like o --routes --rounds g q", WITH_ROUNDS),
-    ("dist --deep --like o --rounds g q", DEEP_FIRST),
     ("dist --fresh 5 g q", FRESH_ALONE),
     ("dist --fresh 5 --saved h g q", FRESH_ALONE),
     ("dist --fresh 5 --saved h g q", "\n\nUsage: chtab dist [OPTIONS] <GRAPH> <QUERIES>\n"),
@@ -281,11 +272,10 @@ REFUSED = [
     ("near --all g --fresh 100 t", FRESH_ALONE),
     ("near --all g --fresh 100 t", "Usage: chtab near [OPTIONS] <GRAPH> <SOURCES> <TARGETS>"),
     ("save --like o --deep g", WITH_DEEP),
-    ("save --rounds --like o g", WITH_ROUNDS),
+    ("save --quick --like o g", WITH_QUICK),
     ("save g --fresh 1", FRESH_ALONE),
     ("ask --like o --saved h g", WITH_SAVED),
     ("ask --like o --deep g", WITH_DEEP),
-    ("ask g --rounds --like o", WITH_ROUNDS),
 ]
 
 # Words that ask for help, and parts of what it says beside its options, which come from the table.
@@ -307,7 +297,7 @@ HELPS = {
         "chtab near --all --within 900000 roads.gr doctors.ss",
     ],
     "save --help": [
-        "Usage: chtab save [OPTIONS] <GRAPH>", "chtab save --deep roads.gr >roads.ch", "chtab save --rounds --workers 4 roads.gr >roads.ch",
+        "Usage: chtab save [OPTIONS] <GRAPH>", "chtab save --deep roads.gr >roads.ch", "chtab save --quick --workers 4 roads.gr >roads.ch",
         "chtab save --like roads.ch roads-at-noon.gr >roads-at-noon.ch",
     ],
     "ask --help": [
@@ -421,10 +411,10 @@ def main():
         folder = Path(place)
         for name, text in FILES.items():
             (folder / name).write_text(text)
-        for name, text in ("line.ch", SAVED), ("rounds.ch", SAVED_BY_ROUNDS):
+        for name, text in ("line.ch", SAVED), ("quick.ch", SAVED_QUICKLY):
             (folder / name).write_text(text)
         (folder / "first.ch").write_bytes(run(["save", "ties.gr"], folder).out)
-        for name, graph in ("ties.ch", "ties.gr"), ("deep.ch", "rounds.gr"):
+        for name, graph in ("ties.ch", "ties.gr"), ("deep.ch", "quick.gr"):
             (folder / name).write_bytes(run(["save", "--deep", graph], folder).out)
         for check in check_read, check_refused, check_help, check_version, check_full:
             check(tally, folder)

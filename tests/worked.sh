@@ -117,8 +117,7 @@ expect "no source of near rows" 0 "" "" near ring.gr nothing.ss one.ss
 expect "no node, no near rows" 0 "" "" near --all none.gr nothing.ss
 expect "no source" 0 "" "" table ring.gr nothing.ss one.ss
 expect "no node, no table" 0 "" "" table none.gr nothing.ss nothing.ss
-expect "a missing file is told before a faulty one" 3 "" "chtab: missing.p2p: there is no such file
-chtab: cannot read queries" dist bad.txt missing.p2p
+expect "a missing file is told before a faulty one" 3 "" "chtab: cannot read queries" dist bad.txt missing.p2p
 "$root/chtab" dist none.gr none.p2p >/dev/full 2>err.txt
 compare "no query, on a full device, status" 0 "$?"
 

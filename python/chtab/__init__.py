@@ -5,9 +5,10 @@
     with chtab.Network.open("roads.gr", saved="roads.ch") as network:
         weights = network.distances([(1, 3), (3, 1)])
 
-`Network` answers questions, and needs numpy. Its calls return `Routes`, `Near` and `Spots` among others, and all errors are `ChtabError`s.
-`chtab.files` reads and writes each kind of file; it and most commands of `tools/` need no other package. `chtab.typing` has the types of arguments
-and results. All other modules are internal.
+`Network` answers questions, and needs numpy. Its calls return `Routes`, `Near` and `Spots` among
+others, and all errors are `ChtabError`s. `chtab.files` reads and writes each kind of file; it and
+most commands of `tools/` need no other package. `chtab.typing` has the types of arguments and
+results. All other modules are internal.
 """
 from __future__ import annotations
 
@@ -18,24 +19,44 @@ from chtab import _moved
 from chtab.errors import ChtabError, DataFault, FileFault, ProgramFault, TimedOut, TooFar
 
 if typing.TYPE_CHECKING:
-    from chtab.near.accessibility import Near
+    from chtab.near.found import Near
     from chtab.network import Network
     from chtab.roads.routes import Routes
     from chtab.roads.snapping import Spots
 
 __version__ = "1.2"
-__all__ = ["ChtabError", "DataFault", "FileFault", "Near", "Network", "ProgramFault", "Routes", "Spots", "TimedOut", "TooFar", "__version__"]
+__all__ = [
+    "ChtabError",
+    "DataFault",
+    "FileFault",
+    "Near",
+    "Network",
+    "ProgramFault",
+    "Routes",
+    "Spots",
+    "TimedOut",
+    "TooFar",
+    "__version__",
+]
 
 # Imported when they are first used, because code that only reads files doesn't need numpy.
-LATER = {"Near": "chtab.near.accessibility", "Network": "chtab.network", "Routes": "chtab.roads.routes", "Spots": "chtab.roads.snapping"}
+LATER = {
+    "Near": "chtab.near.found",
+    "Network": "chtab.network",
+    "Routes": "chtab.roads.routes",
+    "Spots": "chtab.roads.snapping",
+}
 
 
 # Hidden from type checkers, so that they find misspelt names.
 if not typing.TYPE_CHECKING:
     def __getattr__(name):
-        """A class of `LATER`, or a module by the name that it had in version 1.1."""
+        """A class of `LATER`, one of the public modules, or a module by the name that it had in
+        version 1.1."""
         if name in LATER:
             return getattr(importlib.import_module(LATER[name]), name)
+        if name in ("files", "typing"):
+            return importlib.import_module(f"chtab.{name}")
         return _moved.attribute(__name__, name)
 
 

@@ -1,4 +1,5 @@
-"""The errors of this package. Each is a `ChtabError`, and its message is one line for a user. Errors can be pickled."""
+"""The errors of this package. Each is a `ChtabError`, and its message is one line for a user.
+Errors can be pickled."""
 from __future__ import annotations
 
 from collections.abc import Iterable, Mapping
@@ -12,7 +13,8 @@ class FileFault(ChtabError, ValueError):
 
 
 class DataFault(ChtabError, ValueError):
-    """A value of a column is refused, or a label is no node of the network; the message names the column and the row.
+    """A value of a column is refused, or a label is no node of the network; the message names the
+    column and the row.
 
     Attributes
     ----------
@@ -36,35 +38,42 @@ class TooFar(ChtabError, ValueError):
         The metres from the nearest road or node, by the index of each such place.
     """
 
-    def __init__(self, text: str, places: Mapping[int, float] | Iterable[tuple[int, float]] = ()) -> None:
+    def __init__(
+        self, text: str, places: Mapping[int, float] | Iterable[tuple[int, float]] = ()
+    ) -> None:
         super().__init__(text)
         self.places = dict(places)
 
 
 class ProgramFault(ChtabError, RuntimeError):
-    """The program ended before it had answered, or its output is no answer. The message is the program's own line, if it wrote one.
+    """The program or the library refuses a file, has no memory, or failed. The message is the
+    program's own line, if it wrote one.
 
     Attributes
     ----------
     status : int
-        The exit status of the program; below 0, the signal that ended it; 0 if its output is no answer. If the library for C answers, it is the
-        status that the program would have.
+        The exit status of the program; below 0, the signal that ended it; 0 if an answer doesn't
+        fit its question. For the library it is the status that the program would have.
     line, place : int
-        The line of the file, from 1 on, and the edge, arc or node of the hierarchy, from 0 on, that the library refuses; 0 if there is none.
+        The line of the file, from 1 on, and the edge, arc or node of the hierarchy, from 0 on, that
+        the library refuses; 0 if there is none.
     kind : str
         The fault there, in the program's words; empty if the library refuses no file.
     """
 
-    # The defaults are for pickle, which makes the error from its message and sets the attributes afterwards.
-    def __init__(self, text: str, status: int = 0, line: int = 0, kind: str = "", place: int = 0) -> None:
+    # The defaults are for pickle, which makes the error from its message and sets the attributes
+    # afterwards.
+    def __init__(
+        self, text: str, status: int = 0, line: int = 0, kind: str = "", place: int = 0
+    ) -> None:
         super().__init__(text)
         self.status, self.line, self.kind, self.place = status, line, kind, place
 
 
 class TimedOut(ChtabError, TimeoutError):
-    """The program took longer than allowed, and was ended."""
+    """A call took longer than `timeout` allows."""
 
 
-def unasked() -> ProgramFault:
-    """The fault of a run whose output doesn't answer its question."""
-    return ProgramFault("chtab wrote what it was not asked for", 0)
+def mismatch() -> ProgramFault:
+    """The fault of an answer that doesn't fit its question."""
+    return ProgramFault("chtab's library answered what it was not asked for", 0)

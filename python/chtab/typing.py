@@ -1,15 +1,12 @@
-"""The types of arguments and results, for annotations: `from chtab.typing import Integers`. It needs numpy."""
+"""The types of arguments and results, for annotations: `from chtab.typing import Integers`. It
+needs numpy."""
 import os
 from collections.abc import Iterable, Mapping
-from typing import IO, TYPE_CHECKING, Any, Literal, TypeAlias, TypedDict
+from typing import IO, Any, Literal, TypeAlias
 
 import numpy
 from numpy.typing import ArrayLike, NDArray
 
-from chtab.engine.progress import Asked as Progress
-
-if TYPE_CHECKING:
-    from chtab.network import Network
 
 # Columns as callers give them: arrays, lists, and columns of frames.
 Column: TypeAlias = ArrayLike
@@ -35,38 +32,3 @@ Point: TypeAlias = tuple[float, float]
 # Whether weights are those from sources to targets, or from targets to sources.
 Direction: TypeAlias = Literal["to", "from"]
 
-
-class OfRuns(TypedDict, total=False):
-    """How the program runs for a network; `Network.open` explains each."""
-
-    program: Path | None
-    workers: int
-    timeout: float | None
-    load: bool
-    routes: bool
-    runs: int
-    library: bool | Path
-
-
-class OfBuilding(OfRuns, total=False):
-    """The same for a network of arcs, whose building can report its progress, and can use the order of another network."""
-
-    progress: Progress
-    like: "Network | None"
-    fresh: int
-
-
-class OfLines(OfBuilding, total=False):
-    """The further arguments for a GeoDataFrame; `Network.from_arrays` explains each."""
-
-    scale: float | None
-    unit: str | None
-    both_ways: bool
-
-
-class OfRows(OfLines, total=False):
-    """The further arguments for a frame; `Network.from_arrays` explains each."""
-
-    nodes: ArrayLike | None
-    x: ArrayLike | None
-    y: ArrayLike | None

@@ -4,15 +4,20 @@ import json
 import math
 import random
 
-from helpers.maps import COUNTRY
+from helpers import serving
 from helpers.running import run
-from helpers.serving import send
+from helpers.serving import here, send
 from chtab import files
 
 VADUZ, ESCHEN, MALBUN = (9.5209, 47.1410), (9.5450, 47.2200), (9.6079, 47.1020)
-THREE = VADUZ, ESCHEN, MALBUN
+THREE, OF_TOWN = (VADUZ, ESCHEN, MALBUN), ((13.2632, 53.5511), (13.2795, 53.5623), (13.2850, 53.5525))
 # An answer rounds metres to tenths, and a place to millionths of a degree, which is 0.11 m.
 TENTH, MILLIONTH = 0.051, 0.000_000_6
+
+
+def three():
+    """Three places of the network that checks ask."""
+    return OF_TOWN if serving.IS_IN_TOWN else THREE
 
 
 def text_of(places):
@@ -34,8 +39,8 @@ def answer(address, name, places, profile="car", **options):
 
 
 def some_nodes(count, seed):
-    """Nodes of the country with their places, at which no other node lies."""
-    coordinates = files.read_coordinates(f"{COUNTRY}.co")
+    """Nodes of the network that checks ask with their places, at which no other node lies."""
+    coordinates = files.read_coordinates(f"{here()}.co")
     crowds = collections.Counter(map(coordinates.of, coordinates.known()))
     nodes = random.Random(seed).sample([node for node in coordinates.known() if crowds[coordinates.of(node)] == 1], count)
     return nodes, [coordinates.of(node) for node in nodes]
@@ -44,7 +49,7 @@ def some_nodes(count, seed):
 def distances(pairs):
     """What `chtab dist` says of pairs of nodes, in seconds."""
     files.write_queries("pairs.p2p", pairs)
-    done = run(["dist", f"{COUNTRY}.gr", "pairs.p2p"], ".")
+    done = run(["dist", f"{here()}.gr", "pairs.p2p"], ".")
     words = [line.split()[-1] for line in done.out.decode().splitlines()]
     assert done.status == 0 and len(words) == len(pairs)
     return [None if word == "-" else int(word) / 1000 for word in words]
@@ -58,3 +63,22 @@ def on_sphere(start, end):
 
 
 PLAIN = "9.5209,47.1410;9.5450,47.2200"
+
+
+def write_network(out, places, arcs_there, comments):
+    """A graph of nodes at some places, in degrees."""
+    open(f"{out}.gr", "w").write(comments + f"p sp {len(places)} {len(arcs_there)}\n" + "".join(f"a {u} {v} {w}\n" for u, v, w in arcs_there))
+    lines = "".join(f"v {node} {round(x * 1e6)} {round(y * 1e6)}\n" for node, (x, y) in enumerate(places, 1))
+    open(f"{out}.co", "w").write(comments + f"p aux sp co {len(places)}\n{lines}")
+
+
+def distance_to(x, y, line):
+    """The metres from a place to a line, on a plane that touches the earth there."""
+    wide = 111_195.08 * math.cos(math.radians(y))
+    flat = [((u - x) * wide, (v - y) * 111_195.08) for u, v in line]
+    best = math.inf
+    for (a, b), (c, d) in zip(flat, flat[1:]):
+        square = (c - a) ** 2 + (d - b) ** 2
+        part = min(1, max(0, -(a * (c - a) + b * (d - b)) / square)) if square else 0
+        best = min(best, math.hypot(a + part * (c - a), b + part * (d - b)))
+    return best

@@ -20,7 +20,10 @@ HEAD = """\
 # The parts, each with the names that it leaves to the next one, and what it is.
 PARTS = (
     (
-        {"Gave", "GaveAll", "GaveUntilFault", "Took", "TookUntilFault", "DeviceFault", "lines", "heading_in", "items_in", "IsAccepted", "IsWithinLimits"},
+        {
+            "Gave", "GaveAll", "GaveUntilFault", "Took", "TookUntilFault", "DeviceFault", "lines", "heading_in", "items_in", "IsAccepted",
+            "IsWithinLimits", "SourceReading", "NoFile", "SavedFile", "OrderFile",
+        },
         "What a distance is, what files name, and what is written",
     ),
     ({"lines", "heading_in", "items_in", "IsAccepted", "IsWithinLimits"}, "What the reads of an input gave, and what the writes of an output took"),
@@ -32,7 +35,8 @@ NOTES = (
 -- `GaveAll gives old bytes new` says that the reads of an input gave these bytes, one after the other: from `old` up to a read that gave none,
 -- which left it as `new`. `Took takes old text new` says that the writes of an output took this text, and `TookUntilFault` that they took its
 -- first bytes up to a write that failed. Part 2 has the definitions. `gives` and `takes` say what one call of a device may do. They are the
--- device's own, and have no meaning here, so that no code can claim a call that it did not make.
+-- device's own, and have no meaning here, so that no code can claim a call that it did not make. `NoFile` says that the run reads no saved
+-- hierarchy and no order.
 --
 -- Of a file, `lines bytes` are its lines, `heading_in form lines` is what its problem line declares, and `items_in form part lines` are the
 -- numbers of each of its item lines: docs/REFERENCE.md describes the files, and part 3 has the definitions. `IsAccepted form bytes` and
@@ -78,7 +82,7 @@ STANDARD = {
     "logic/Lib/Chars.antt": ("codes",),
     "logic/Lib/Pointwise.antt": ("pointwise",),
     "core/specs/Option.antt": ("is_some", "is_none", "MatchOption", "option_map", "option_and_then", "option_map_or"),
-    "core/specs/Result.antt": ("IfOk",),
+    "core/specs/Result.antt": ("MatchResult", "IfOk"),
     "core/specs/List.antt": (
         "slice_get", "slice_index", "All", "Contains", "AllZip", "fold", "sum_by", "filter", "list_all", "cons_option", "filter_map", "flat_map",
         "onto_first", "slice_split",
@@ -94,7 +98,10 @@ IN_WORDS = {
     "nat_lt": "less, as a truth value", "zero": "the number 0", "suc": "of a number: the next one", "slice_index_or": "another name of get_or",
 }
 # What the bodies use that has a long definition of its own.
-USED = {"is_ascii_digit": "a byte from 48 to 57", "digit_value": "of such a byte: it less 48", "code": "of a character: its code point"}
+USED = {
+    "is_ascii_digit": "a byte from 48 to 57", "digit_value": "of such a byte: it less 48", "code": "of a character: its code point",
+    "String": "texts, as lists of characters", "nil": "the text without characters", "nat_eq": "equal, as a truth value",
+}
 
 
 def wrapped(text):
@@ -135,8 +142,12 @@ def part_text(number, note, heading, closure, before):
 
 def declaration(path, name):
     """A type of the code in one line: its fields, or its cases."""
+    if re.search(rf"^pub struct {name};$", path.read_text(), re.MULTILINE):
+        return f"{name} has one value, without fields"
     body = re.search(rf"^pub (struct|enum) {name}\b.*?{{(.*?)^}}", path.read_text(), re.MULTILINE | re.DOTALL)
-    parts = re.findall(r"^ *(?:pub )?(\w.*),$", body[2], re.MULTILINE)
+    bare = re.sub(r"//.*", "", body[2])
+    joined = re.sub(r"(\w+) {\n(.*?)\n    }", lambda case: f"{case[1]} {{ {' '.join(case[2].split()).rstrip(',')} }}", bare, flags=re.DOTALL)
+    parts = re.findall(r"^ *(?:pub )?(\w.*),$", joined, re.MULTILINE)
     return f"{name} = {'; '.join(parts)}" if body[1] == "struct" else f"{name} = {' | '.join(parts)}"
 
 
@@ -171,6 +182,18 @@ def kit_definition(path, name):
     indent = len(lines[start]) - len(lines[start].lstrip())
     end = next((at for at in range(start, len(lines)) if not lines[at].strip()), len(lines))
     return "\n".join(line[indent:] for line in lines[start:end])
+
+
+def unexplained(folder):
+    """The words of the kit that the bodies of standard words use, and that the text neither has nor explains."""
+    known, found = {*IN_WORDS, *USED, *(name for names in STANDARD.values() for name in names)}, set()
+    for path, names in STANDARD.items():
+        text = (folder / path).read_text()
+        imports = [item.rpartition(" as ") for listed in re.findall(r"^ *(?:pub )?use [\w.]+\.\{([^}]*)\}", text, re.MULTILINE) for item in listed.split(",")]
+        own = {word.strip() for _, _, word in imports} | set(re.findall(r"^ *(?:abbrev |unfoldable )*pub (?:record |data )?(\w+)", text, re.MULTILINE))
+        for name in names:
+            found |= set(re.findall(r"\w[\w']*", re.sub(r"--.*", "", kit_definition(folder / path, name)))) & own - known
+    return found
 
 
 def standard_text(folder, std):

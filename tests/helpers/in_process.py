@@ -140,6 +140,11 @@ class Library:
         rooms = [(len(sources) if length is None else length, ctypes.c_uint64) for length in (weights_room, sums_room)]
         return self.many(self.calls.chtab_route_sums, handle, lists, rooms)
 
+    def flows(self, handle, sources, targets, demands, room):
+        """The status, the number of pairs without a walk, and the flows."""
+        lists = [(sources, ctypes.c_uint32), (targets, ctypes.c_uint32), (demands, ctypes.c_uint64)]
+        return self.many(self.calls.chtab_flows, handle, lists, [(room, ctypes.c_uint64)])
+
     def near_sums(self, handle, sources, values, limits, room=None):
         """The status, the number of sources, and the sums."""
         lists = [(sources, ctypes.c_uint32), (values, ctypes.c_uint64), (limits, ctypes.c_uint64)]

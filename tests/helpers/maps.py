@@ -1,8 +1,10 @@
 """For the tests of maps: small maps in XML, what the package makes of them, and random ones."""
+import functools
 import os
 import pathlib
 import subprocess
 import sys
+import tempfile
 from xml.sax.saxutils import quoteattr
 
 from helpers.packages import PYTHON
@@ -14,9 +16,20 @@ from chtab import files  # noqa: E402
 from chtab.maps import converting  # noqa: E402
 
 COUNTRY = ROOT / "examples" / "liechtenstein"
+# The files of the town, in a folder that is there as long as this process.
+FOLDER = tempfile.TemporaryDirectory()
 ROAD = {"highway": "residential"}
 # A thousandth of a degree is 111.195 m at the equator, which takes 13,343 ms at 30 km/h.
 BLOCK = 13_343
+
+
+@functools.cache
+def town():
+    """The start of the names of the files of the town that examples/town.py draws, with its restricted turns, bends and names. Made once."""
+    out = pathlib.Path(FOLDER.name) / "town"
+    subprocess.run([ROOT / "examples" / "town.py"], cwd=FOLDER.name, check=True)
+    tool("osm_to_gr", "--quiet", "--turns", "--bends", "--names", f"{out}.osm", out)
+    return out
 
 
 def osm(nodes, ways, relations=(), head=""):

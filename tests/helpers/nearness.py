@@ -40,27 +40,27 @@ def dense(near):
 @contextlib.contextmanager
 def small_portions(pairs, swept, together):
     """Calls of the library that give so few pairs, sweeps of so few, and so few sources of a call."""
-    from chtab.near import by_library
+    from chtab.near import question
 
     names, numbers = ("PAIRS", "SWEPT", "FEW", "TOGETHER"), (pairs, swept, 0, together)
-    before = [getattr(by_library, name) for name in names]
+    before = [getattr(question, name) for name in names]
     for name, number in zip(names, numbers):
-        setattr(by_library, name, number)
+        setattr(question, name, number)
     try:
         yield
     finally:
         for name, number in zip(names, before):
-            setattr(by_library, name, number)
+            setattr(question, name, number)
 
 
 @contextlib.contextmanager
 def small_blocks(length, pairs):
     """Blocks of so few sources and targets."""
-    from chtab.near import row_blocks
+    from chtab.near import blocks
 
-    before = row_blocks.LENGTH, row_blocks.PAIRS
-    row_blocks.LENGTH, row_blocks.PAIRS = length, pairs
+    before = blocks.LENGTH, blocks.PAIRS
+    blocks.LENGTH, blocks.PAIRS = length, pairs
     try:
         yield
     finally:
-        row_blocks.LENGTH, row_blocks.PAIRS = before
+        blocks.LENGTH, blocks.PAIRS = before

@@ -1,16 +1,17 @@
 """The service of a network, as a process of its own, what it answers, and its page in a browser."""
 import contextlib
-import functools
 import http.client
 import json
+import os
 import pathlib
 import re
+import resource
 import signal
+import socket
 import subprocess
 import urllib.parse
 
-from helpers.in_process import make
-from helpers.maps import COUNTRY
+from helpers.maps import COUNTRY, town
 from helpers.moods import STANDIN, mood
 from helpers.packages import PYTHON
 from helpers.running import PROGRAM, ROOT
@@ -29,37 +30,46 @@ class Keys:
     ARROW_LEFT, ARROW_UP, ARROW_RIGHT, ARROW_DOWN = "\ue012", "\ue013", "\ue014", "\ue015"
 
 
-# Whether services with the built program answer by the library for C.
-IS_BY_LIBRARY = False
+# Whether services are those of the town.
+IS_IN_TOWN = False
+
+
+def here():
+    """The start of the names of the files of the network that checks ask: those of the country, or of the town."""
+    return town() if IS_IN_TOWN else COUNTRY
 
 
 def words_of_library(out, program):
-    """The words that let a service answer by the library for C, where that is asked for."""
-    saved = saved_for(f"{out}.gr") if IS_BY_LIBRARY and program == PROGRAM else None
-    return [] if saved is None else ["--library", make(), "--saved", saved]
+    """The words that give a service a hierarchy of its network, so that it builds none."""
+    saved = saved_for(f"{out}.gr") if program == PROGRAM else None
+    return [] if saved is None else ["--saved", saved]
 
 
-def by_both(*checks):
-    """These checks with services that ask a run of the program, and with services that ask the library for C."""
-    def other(check):
-        @functools.wraps(check)
-        def by():
-            global IS_BY_LIBRARY
-            IS_BY_LIBRARY = True
-            try:
-                check()
-            finally:
-                IS_BY_LIBRARY = False
+def in_town(check):
+    """A check with services of the town."""
+    def there():
+        global IS_IN_TOWN
+        IS_IN_TOWN = True
+        try:
+            check()
+        finally:
+            IS_IN_TOWN = False
 
-        by.__name__ = f"{check.__name__}_by_the_library"
-        return by
+    there.__name__ = f"{check.__name__}_in_town"
+    there.__doc__ = check.__doc__
+    return there
 
-    return [*checks, *map(other, checks)]
+
+def on_both_maps(*checks):
+    """These checks with services of the country, and with services of the town."""
+    return [*checks, *(in_town(check) for check in checks)]
 
 
 @contextlib.contextmanager
-def service(out=COUNTRY, *words, program=PROGRAM):
-    """A service of a network, None where the words name networks, on a free port: its process, host and port. It ends well."""
+def service(out="", *words, program=PROGRAM):
+    """A service of a network, by default of the one that checks ask, None where the words name networks, on a free port: its process, host and
+    port. It ends well."""
+    out = here() if out == "" else out
     named = [] if out is None else [*words_of_library(out, program), out]
     command = [PYTHON, ROOT / "tools" / "page.py", "--port", 0, "--program", program, *words, *named]
     child = subprocess.Popen(list(map(str, command)), stdout=subprocess.PIPE, stderr=open("told", "w"), text=True)
@@ -75,9 +85,53 @@ def service(out=COUNTRY, *words, program=PROGRAM):
 
 @contextlib.contextmanager
 def faulty_service(words, *more):
-    """The same over the stand-in in a mood. It leaves no run behind."""
+    """The same over the stand-in in a mood."""
     with mood(words), service(COUNTRY, *more, program=STANDIN) as found:
         yield found
+
+
+@contextlib.contextmanager
+def running_service(*words, out=COUNTRY, program=PROGRAM, limit=None, told="told", port=0, environment=None):
+    """A service: its process and its address. Who asks for it ends it, or it is ended."""
+    command = [PYTHON, ROOT / "tools" / "page.py", "--port", port, "--program", program, *words_of_library(out, program), *words, out]
+
+    def lower():
+        if limit:
+            resource.setrlimit(resource.RLIMIT_NOFILE, limit)
+
+    child = subprocess.Popen(
+        list(map(str, command)), stdout=subprocess.PIPE, stderr=open(told, "w"), text=True, preexec_fn=lower, env=environment and os.environ | environment
+    )
+    try:
+        yield child, urllib.parse.urlsplit(child.stdout.readline().strip())
+    finally:
+        if child.poll() is None:
+            child.terminate()
+            child.wait(PATIENCE)
+        child.stdout.close()
+
+
+def told():
+    return open("told").read()
+
+
+def children_of(number):
+    """The numbers of the processes that a process has begun."""
+    try:
+        return [int(child) for child in pathlib.Path(f"/proc/{number}/task/{number}/children").read_text().split()]
+    except FileNotFoundError:
+        return []
+
+
+def raw(address, text):
+    """What the service sends back for these bytes, until it closes the connection."""
+    with socket.create_connection((address.hostname, address.port), timeout=PATIENCE) as client:
+        client.sendall(text if isinstance(text, bytes) else text.encode("latin-1"))
+        found = b""
+        with contextlib.suppress(ConnectionError):
+            while part := client.recv(1 << 16):
+                found += part
+    return found
 
 
 def send(address, path, body=None, method=None):

@@ -12,7 +12,7 @@ from oracles.rules import hierarchy_text
 
 # The options of a run that `dist` knows, and those that `table` does. Each is a word and its value, or None.
 FOR_ALL = "--saved", "--workers", "--piece", "--hops"
-FOR_QUERIES = "--routes", "--deep", "--rounds", *FOR_ALL
+FOR_QUERIES = "--routes", "--deep", *FOR_ALL
 FOR_TABLES = "--within", *FOR_ALL
 
 
@@ -129,7 +129,7 @@ class Drawn:
 
     def drawn_options(self, draw):
         options = {"--workers": draw.choice([1, 2, 64]), "--piece": draw.choice([1, 3]), "--hops": self.case.hops[0]}
-        more = {"--routes": None, draw.choice(["--deep", "--rounds"]): None, "--within": self.case.limit, "--saved": "own.ch"}
+        more = {"--routes": None, "--deep": None, "--within": self.case.limit, "--saved": "own.ch"}
         return options | {option: value for option, value in more.items() if draw.random() < 0.4}
 
     def write(self, folder):
@@ -150,8 +150,6 @@ class Drawn:
 
     def order(self):
         """The order in which the run builds the hierarchy."""
-        if "--rounds" in self.options:
-            return "rounds"
         return "depth" if "--deep" in self.options or "--routes" not in self.options else "difference"
 
     def owed(self, folder):

@@ -315,6 +315,35 @@ class Caller:
         owed = STATUS["SUM_TOO_LARGE" if left else "OK"], fit, [*weights[:fit], *left], [*sums[:fit], *left]
         self.expect(told == owed, "sums along routes", sources, targets, values, owed, told)
 
+    def ask_flows(self):
+        """The flows are those on the lines of the routes, which `ask_routes` compares."""
+        handle, sources = self.draw.choice(self.handles), self.nodes()
+        targets = [self.node() for _ in sources] if self.draw.random() < 0.9 else self.nodes()
+        demands = [self.draw.choice((0, 1, 9, 2**61, 2**62, 2**63)) for _ in range(len(sources) + (self.draw.random() < 0.1))]
+        room = len(self.arcs) + (self.draw.random() < 0.1)
+        told = self.library.flows(handle, sources, targets, demands, room)
+        wanted = "OK"
+        if not handle.is_open:
+            wanted = "CLOSED"
+        elif not len(targets) == len(demands) == len(sources) or room != len(self.arcs):
+            wanted = "LENGTHS"
+        elif not self.are_nodes(sources, targets):
+            wanted = "NODE_RANGE"
+        if wanted != "OK":
+            self.expect(told == (STATUS[wanted], 7, [7] * room), "flows", sources, targets, demands, wanted, told)
+            return
+        places = len(sources) * self.count
+        _, _, weights, ends, _, lines = self.library.routes(handle, sources, targets, places, lines_room=places)
+        flows = [0] * room
+        for demand, begin, end in zip(demands, [0, *ends], ends):
+            for line in lines[begin + 1:end]:
+                flows[line] += demand
+        if max(flows, default=0) > 2**63:
+            owed = STATUS["SUM_TOO_LARGE"], 7, [7] * room
+        else:
+            owed = STATUS["OK"], weights.count(NO_DISTANCE), flows
+        self.expect(told == owed, "flows", sources, targets, demands, owed, told)
+
     def is_way(self, nodes, least):
         """Whether the least weights from node to node add up."""
         return sum(self.away[one][other][0] for one, other in zip(nodes, nodes[1:])) == least
@@ -327,9 +356,9 @@ class Caller:
         calls = (
             self.open_changed, self.open_or_close, self.share, self.ask_nodes, self.ask_distances, self.ask_table, self.ask_route,
             self.keep_places, self.sweep, self.ask_near, self.save, self.ask_routes, self.ask_sums, self.open_like,
-            self.ask_route_sums,
+            self.ask_route_sums, self.ask_flows,
         )
-        self.draw.choices(calls, (20, 5, 3, 2, 20, 15, 15, 10, 3, 20, 5, 20, 15, 10, 15))[0]()
+        self.draw.choices(calls, (20, 5, 3, 2, 20, 15, 15, 10, 3, 20, 5, 20, 15, 10, 15, 15))[0]()
 
 
 def memory():

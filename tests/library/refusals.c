@@ -176,6 +176,13 @@ static uint64_t distance_of(uint32_t source, uint32_t target) {
     return weight;
 }
 
+/* The arcs of a route. */
+static uint64_t arcs_between(uint32_t source, uint32_t target) {
+    chtab_found found;
+    expect(chtab_route(&g.network, source, target, &found, g.nodes, MOST_NODES) == CHTAB_OK, "a route");
+    return found.nodes ? found.nodes - 1 : 0;
+}
+
 /* Where a route is refused memory, those before it are written, and the next call gives the others. */
 static uint32_t write_routes(void) {
     uint64_t routes = 9, weight = 0;
@@ -213,6 +220,20 @@ static uint32_t write_route_sums(void) {
         for (k = 0; k < left; k++) weight += g.row_ends[k];
     }
     expect(weight == g.whole, "all weights of routes");
+    return status;
+}
+
+/* Where flows are refused memory, none is written. Each pair has the demand 1, so that the flows count the arcs of all routes. */
+static uint32_t write_flows(void) {
+    static const uint64_t demands[8] = {1, 1, 1, 1, 1, 1, 1, 1};
+    uint64_t missed = 9, sum = 0;
+    uint32_t status;
+    size_t k;
+    memset(g.values, 7, g.arcs * sizeof *g.values);
+    status = chtab_flows(&g.network, g.ends, 8, g.targets, 8, demands, 8, &missed, g.values, g.arcs);
+    granted = -1;
+    for (k = 0; k < g.arcs; k++) sum += status == CHTAB_OK ? g.values[k] : g.values[k] == 0x0707070707070707u;
+    expect(status == CHTAB_OK ? missed <= 8 && sum == g.whole : missed == 9 && sum == g.arcs, "flows, or none");
     return status;
 }
 
@@ -311,6 +332,9 @@ static void refuse_questions(void) {
     goes_on = 1;
     refuse_each(write_route_sums, NULL, "sums along routes");
     goes_on = 0;
+    g.whole = 0;
+    for (k = 0; k < 8; k++) g.whole += arcs_between(g.ends[k], g.targets[k]);
+    refuse_each(write_flows, NULL, "flows");
     free(g.values);
     g.whole = 0;
     for (k = 0; k < 64; k++) {

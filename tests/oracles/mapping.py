@@ -243,7 +243,20 @@ def forbidden(world, found):
         else:
             for a, b in turns:
                 only.setdefault(a, set()).add(b)
-    return never | {(a, b) for a, may in only.items() for b, arc in enumerate(found) if arc[0] == found[a][1] and b not in may}
+    never |= {(a, b) for a, may in only.items() for b, arc in enumerate(found) if arc[0] == found[a][1] and b not in may}
+    return never | turned_back(found, never) if never else never
+
+
+def turned_back(found, never):
+    """The pairs of arcs by which one turns back where just two roads meet, and may go on by the other one."""
+    ends = {arc[4]: arc[:2] for arc in found}
+    branches = [node for pair in ends.values() for node in pair]
+    pairs = set()
+    for a, (_, node, *_, piece, _) in enumerate(found):
+        outs = [b for b, arc in enumerate(found) if arc[0] == node and (a, b) not in never]
+        if branches.count(node) == 2 and any(found[b][4] != piece for b in outs):
+            pairs |= {(a, b) for b in outs if found[b][4] == piece and a != b}
+    return pairs
 
 
 def trip(found, never, leaving, arriving):

@@ -31,36 +31,36 @@ class Contraction:
         """How many legs touch a node."""
         return len(self.ahead[node]) + len(self.behind[node])
 
-    def has_witness(self, away, start, end, most):
-        """Whether a chain of at most so many legs leads from one node to another, never over these nodes, and costs at most so much."""
+    def has_witness(self, avoided, start, end, most, hops):
+        """Whether a chain of at most so many legs leads from one node to another, never over the avoided one, and costs at most so much."""
         front = {start: (0, 0)}
-        for _ in range(self.hops):
+        for _ in range(hops):
             reached = {}
             for place, known in front.items():
                 for other, (cost, _) in self.ahead[place].items():
                     sum_of_both = plus(known, cost)
-                    if other not in away and sum_of_both <= min(most, reached.get(other, most)):
+                    if other != avoided and sum_of_both <= min(most, reached.get(other, most)):
                         reached[other] = sum_of_both
             if end in reached:
                 return True
             front = reached
         return False
 
-    def shortcuts(self, node, away):
-        """The cost of the shortcut of each pair that needs one, where witnesses stay away from these nodes."""
+    def shortcuts(self, node, hops):
+        """The cost of the shortcut of each pair that needs one, where a witness has at most so many legs."""
         found = {}
         for (start, (one, _)), (end, (other, _)) in product(self.behind[node].items(), self.ahead[node].items()):
             cost = plus(one, other)
-            if start != end and cost[0] <= LIMIT and cost[1] < self.nodes and not self.has_witness(away, start, end, cost):
+            if start != end and cost[0] <= LIMIT and cost[1] < self.nodes and not self.has_witness(node, start, end, cost, hops):
                 found[start, end] = cost
         return found
 
     def count(self, node):
-        """How many shortcuts a node needs where it is contracted alone."""
-        return len(self.shortcuts(node, {node}))
+        """How many shortcuts a node needs."""
+        return len(self.shortcuts(node, self.hops))
 
     def by_depth(self, node, count):
-        """The key of a node of so many shortcuts in the order by depth, and in that by rounds."""
+        """The key of a node of so many shortcuts in the order by depth."""
         return 2 * count + self.depth[node] - self.touching(node)
 
     def take_out(self, node):
@@ -82,9 +82,9 @@ class Contraction:
             self.put(start, end, cost, node)
 
 
-def contract_one(left, node):
-    """Contracts a node alone. Its legs, and the nodes that it shared one with."""
-    shortcuts = left.shortcuts(node, {node})
+def contract_one(left, node, hops):
+    """Contracts a node, where a witness has at most so many legs. Its legs, and the nodes that it shared one with."""
+    shortcuts = left.shortcuts(node, hops)
     taken, neighbours = left.take_out(node)
     left.put_all(node, shortcuts)
     return taken, neighbours
@@ -95,13 +95,13 @@ def singly(left, key, given=()):
     numbered. Keys are computed when the given nodes are contracted. The order, and all legs."""
     order, legs = list(given), []
     for node in given:
-        legs += contract_one(left, node)[0]
+        legs += contract_one(left, node, left.hops)[0]
     waiting = {node: key(node) for node in left.depth.keys() - set(given)}
     while waiting:
         node = min(waiting, key=lambda other: (waiting[other], other))
         del waiting[node]
         order.append(node)
-        taken, neighbours = contract_one(left, node)
+        taken, neighbours = contract_one(left, node, left.hops)
         legs += taken
         waiting.update({other: key(other) for other in neighbours})
     return order, legs
@@ -115,55 +115,8 @@ def by_depth(left, given=()):
     return singly(left, lambda node: left.by_depth(node, left.count(node)), given)
 
 
-def mixed(node):
-    """The number that decides between nodes of equal keys. The definitions number nodes from 0."""
-    return (node - 1) * 2654435769 % 2**32
-
-
-def round_of(left, counts):
-    """The nodes of the next round, by number: those that come before every other node within two legs."""
-    rank = {node: (left.by_depth(node, count), mixed(node), node) for node, count in counts.items()}
-
-    def around(node):
-        near = left.neighbours(node)
-        return near.union(*map(left.neighbours, near)) - {node}
-
-    return sorted(node for node in rank if all(rank[node] < rank[other] for other in around(node)))
-
-
-def contract_round(left, nodes):
-    """Contracts these nodes together: no witness touches one of them. Their legs, and the nodes that they shared one with."""
-    shortcuts = {node: left.shortcuts(node, set(nodes)) for node in nodes}
-    legs, around = [], set()
-    for node in nodes:
-        taken, neighbours = left.take_out(node)
-        legs += taken
-        around |= neighbours
-    for node in nodes:
-        left.put_all(node, shortcuts[node])
-    return legs, around
-
-
-def by_rounds(left):
-    """Contracts one round after the other. Shortcuts are counted at the opening, once more when seven tenths of the nodes are contracted, and
-    then for the neighbours of each round. The order, in which a round goes by number, and all legs."""
-    counts = {node: left.count(node) for node in left.depth}
-    order, legs = [], []
-    while counts:
-        was_early = 10 * len(order) < 7 * left.nodes
-        nodes = round_of(left, counts)
-        taken, around = contract_round(left, nodes)
-        order += nodes
-        legs += taken
-        for node in nodes:
-            del counts[node]
-        if 10 * len(order) >= 7 * left.nodes:
-            counts.update({node: left.count(node) for node in (list(counts) if was_early else around)})
-    return order, legs
-
-
 # How each order contracts what is left of a graph.
-ORDERS = {"difference": by_difference, "depth": by_depth, "rounds": by_rounds}
+ORDERS = {"difference": by_difference, "depth": by_depth}
 
 
 def hierarchy_text(nodes, arcs, hops, order):
@@ -177,6 +130,17 @@ def text_like(nodes, arcs, hops, given, fresh):
     by depth."""
     ranked, legs = by_depth(Contraction(nodes, arcs, hops), given[: nodes - nodes * fresh // 100])
     return text_of(nodes, ranked, in_order(ranked, legs))
+
+
+def text_quick(nodes, arcs, hops, order):
+    """The saved hierarchy of a graph whose nodes are contracted in this order, which `save --quick` found: only a leg is a witness until the
+    first node with more than two neighbours is contracted, and then chains of at most so many legs are."""
+    left, legs, bound = Contraction(nodes, arcs, hops), [], 1
+    for node in order:
+        if len(left.neighbours(node)) > 2:
+            bound = hops
+        legs += contract_one(left, node, bound)[0]
+    return text_of(nodes, order, in_order(order, legs))
 
 
 def in_order(order, legs):

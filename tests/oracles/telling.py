@@ -2,6 +2,7 @@
 
 It takes small maps alone: at each crossing it looks at all arcs of the map.
 """
+import itertools
 import math
 
 from oracles import mapping
@@ -117,7 +118,27 @@ class Teller:
             if kind:
                 told.append([kind, modifier, 0, self.found[one][1][0], place])
         self.count_exits(path, told)
-        return told
+        return self.joined(path, told)
+
+    def joined(self, path, told):
+        """What is told without new names less than 30 metres behind a turn, which then leads onto the street of that name, or before one."""
+        ends = [0.0, *itertools.accumulate(metres_of(self.lines[at]) for at in path)]
+        found, last = [], None
+        for number, each in enumerate(told):
+            then = told[number + 1] if number + 1 < len(told) else None
+            if each[0] != "new name":
+                last = each
+            elif is_joining(last) and ends[each[4]] - ends[last[5] if len(last) > 5 else last[4]] < 30:
+                last[5:] = [last[5] if len(last) > 5 else last[4]]
+                last[0], last[4] = "turn" if last[0] == "continue" else last[0], each[4]
+                continue
+            elif is_joining(then) and ends[then[4]] - ends[each[4]] < 30:
+                then[0] = "turn" if then[0] == "continue" else then[0]
+                continue
+            else:
+                last = None
+            found.append(each)
+        return [each[:5] for each in found]
 
     def angle(self, one, other):
         came = (ahead(self.lines[one][::-1]) + 180) % 360
@@ -194,6 +215,15 @@ class Teller:
                 if entered:
                     entered[2] = count
                 entered, count = None, 0
+
+
+def is_joining(each):
+    """Whether a new name beside it is told with it."""
+    return each is not None and each[0] in ("turn", "continue", "end of road") and each[1] != "uturn"
+
+
+def metres_of(line):
+    return sum(itertools.starmap(metres, zip(line, line[1:])))
 
 
 def called(street):

@@ -17,9 +17,9 @@ import pytest
 
 from helpers.columns import drawn, forms_of, labels_drawn, refusals
 from helpers.commands import raises, temporary
+from helpers.in_process import make
 from helpers.maps import COUNTRY
-from helpers.marks import each_way, needs
-from helpers.moods import STANDIN, lives_on, mood, noted
+from helpers.marks import needs
 from helpers.packages import PYTHON
 from helpers.running import PROGRAM, ROOT
 from helpers.waiting import PATIENCE
@@ -41,7 +41,6 @@ def of_arrays(*columns, **more):
 
 
 @needs("python3-pandas")
-@each_way
 def test_random_arcs_answer_as_scipy(random_graphs):
     """Distances, tables within limits and routes, by labels of each kind, from columns of each form."""
     import numpy
@@ -62,7 +61,6 @@ def test_random_arcs_answer_as_scipy(random_graphs):
 
 
 @needs("python3-pandas")
-@each_way
 def test_labels_come_from_the_ends():
     """Without a list of nodes the labels are those of both ends, in ascending order."""
     with of_arrays([30, 10], [-20, 30], [1, 2]) as network:
@@ -93,7 +91,6 @@ def test_labels_come_from_the_ends():
 
 
 @needs("python3-pandas")
-@each_way
 def test_rounding_is_told():
     """Weights are rounded once, to the nearest whole number, and the most that one differs is told."""
     import fractions
@@ -143,12 +140,12 @@ def test_faults_of_the_program_leave_nothing():
     arcs = SOURCES, TARGETS, WEIGHTS
     with temporary() as left:
         for more in {}, {"folder": "own"}:
-            assert raises(chtab.ProgramFault, lambda: chtab.Network.from_arrays(*arcs, program="./fails", **more), told="out of memory").status == 3
+            fails = {"program": "./fails", "library": make(), **more}
+            assert raises(chtab.ProgramFault, lambda: chtab.Network.from_arrays(*arcs, **fails), told="out of memory").status == 3
             raises(chtab.ChtabError, lambda: chtab.Network.from_arrays(*arcs, program="./none", **more), told="can't be run")
-            raises(chtab.ProgramFault, lambda: of_arrays(*arcs, workers=0, **more), told="invalid value '0'")
             raises(TypeError, lambda: of_arrays(*arcs, wieght=1, **more), told="wieght")
-            raises(ValueError, lambda: of_arrays(*arcs, runs=0, **more), told="at least one run")
-        raises(FileNotFoundError, lambda: of_arrays(*arcs, folder="none/own"))
+            raises(ValueError, lambda: of_arrays(*arcs, workers=0, **more), told="from 1 to 64")
+        raises(FileExistsError, lambda: of_arrays(*arcs, folder="fails/own"))
         assert os.listdir() == ["fails"] and left() == []
 
 
@@ -156,7 +153,6 @@ def test_faults_of_the_program_leave_nothing():
 
 
 @needs("python3-pandas")
-@each_way
 def test_a_folder_is_opened_again():
     """With labels, places and rounding; the folder that is there is not written over."""
     places = {"nodes": ["a", "b", "c"], "x": [9.5, 9.6, 9.7], "y": [47.0, 47.1, 47.2]}
@@ -186,7 +182,6 @@ def test_a_folder_is_opened_again():
 
 
 @needs("python3-pandas")
-@each_way
 def test_a_folder_that_is_made_anew_is_another_network():
     """Where a network of one folder was unpickled before, one that was made there later is not taken for it."""
     of_arrays(SOURCES, TARGETS, WEIGHTS, folder="own").close()
@@ -199,7 +194,6 @@ def test_a_folder_that_is_made_anew_is_another_network():
 
 
 @needs("python3-pandas")
-@each_way
 def test_what_a_caller_changes_later_changes_nothing():
     """The labels are a copy, which can't be written to."""
     import numpy
@@ -212,7 +206,6 @@ def test_what_a_caller_changes_later_changes_nothing():
 
 
 @needs("python3-pandas")
-@each_way
 def test_labels_of_another_graph_are_refused():
     """Labels that were changed, and those of another network, are faults of their file."""
     for name, weights in ("one", WEIGHTS), ("other", [1, 1, 1, 1]):
@@ -236,7 +229,6 @@ def test_labels_of_another_graph_are_refused():
 
 
 @needs("python3-pandas")
-@each_way
 def test_temporary_files_go_with_the_network():
     """They are gone once it is closed, dropped, or the interpreter ends; a process that was forked leaves them alone."""
     with temporary() as left:
@@ -279,7 +271,6 @@ def wrong_answers_here(seed):
 
 
 @needs("python3-pandas")
-@each_way
 def test_it_is_shared_as_any_network():
     """Threads, forked processes, and those that unpickle it: each gives and takes labels."""
     global NETWORK
@@ -296,16 +287,6 @@ def test_it_is_shared_as_any_network():
         assert wrong_answers(pickle.loads(pickle.dumps(NETWORK)), 9) == 0
         routes = pickle.loads(pickle.dumps(NETWORK.routes([("n99", "n2")])))
         assert routes[0].nodes == ["n99", "n0", "n1", "n2"]
-
-
-@needs("python3-pandas")
-def test_one_run_builds_and_another_reads():
-    """The hierarchy is built once, and the run that answers reads it."""
-    with mood(), chtab.Network.from_arrays(SOURCES, TARGETS, WEIGHTS, program=STANDIN) as network:
-        assert network.distances([("a", "c")]).tolist() == [9] and network.routes([("a", "c")])[0].weight == 9
-        runs = [words for _, *words in noted() if words[0] in ("ask", "save")]
-        assert [words[0] for words in runs] == ["save", "ask"] and all("--saved" in words for words in runs[1:]), runs
-    assert lives_on(0)
 
 
 # Large ones.
@@ -376,7 +357,6 @@ def test_no_line_runs_for_each_arc():
 
 
 @needs("python3-pandas")
-@each_way
 def test_frames():
     import pandas
 
@@ -396,7 +376,6 @@ def test_frames():
 
 
 @needs("python3-networkx")
-@each_way
 def test_graphs_answer_as_networkx():
     """Each kind of graph, with several edges between two nodes, against networkx's own search."""
     import networkx

@@ -6,7 +6,7 @@ import pytest
 
 from helpers import columns, maps
 from helpers.commands import raises
-from helpers.marks import each_way, needs
+from helpers.marks import needs
 from helpers.running import PROGRAM
 from helpers.scenarios import trips_of, with_turns
 from oracles import dijkstra
@@ -38,7 +38,6 @@ def on_line(line):
     return x + (u - x) / 3, y + (v - y) / 3
 
 
-@each_way
 @needs("python3-scipy", "python3-shapely")
 def test_roads_are_closed_at_places():
     """Just the road at a place is closed, in both directions, and none that is parallel to it; against scipy on the roads that are left."""
@@ -66,7 +65,6 @@ def test_roads_are_closed_at_places():
             assert numpy.array_equal(network.table(names, names), before)
 
 
-@each_way
 @needs("python3-scipy", "python3-shapely")
 def test_a_crossing_is_closed():
     """A place less than a metre from a crossing closes all of its roads, and so does the node; a spot that one leaves in one direction closes that."""
@@ -90,16 +88,17 @@ def test_a_crossing_is_closed():
 
 
 @needs("python3-scipy", "python3-shapely")
-def test_spots_of_another_network_are_refused():
-    """Roads have other numbers after a change: a spot closes no road on which it doesn't lie."""
+def test_spots_of_another_scenario_close_their_own_roads():
+    """Roads have other numbers after a change: a spot closes the road on which it lies, and is refused where that is closed already."""
     import numpy
 
     ends, weights, lines = ladder(numpy.random.default_rng(5))
     places = {"nodes": range(6), "x": 9.5 + 0.01 * numpy.arange(6), "y": [47.1] * 6}
     with chtab.Network.from_arrays(*zip(*ends), weights, geometry=lines, program=PROGRAM, **places) as network, network.changed(closed=[0]) as other:
-        for row, place in (6, 1), (14, 0):
-            spots = network.snap(*zip(*(on_line(lines[each]) for each in (6, 14))))
-            kept = spots if place else spots[1]
+        spots = network.snap(*zip(*(on_line(lines[each]) for each in (6, 14, 0))))
+        with other.changed(closed=spots[:2]) as again, other.changed(closed=[6, 14]) as owed:
+            assert numpy.array_equal(again.table(range(6), range(6)), owed.table(range(6), range(6)))
+        for kept in spots[2], spots:
             fault = raises(chtab.DataFault, other.changed, None, [5, kept], told="lies on no road of this network")
             assert fault.row == 1 and "closed[1]" in str(fault)
         with network.changed(closed=network.snap(*on_line(lines[6]))) as again:
@@ -110,7 +109,6 @@ def test_spots_of_another_network_are_refused():
         assert len(network.snap([9.5, 9.51], [47.1, 47.1])[-1]) == 1
 
 
-@each_way
 @needs("python3-scipy", "python3-shapely")
 def test_ways_of_maps_are_closed():
     """All arcs of a way are closed, of whichever copies of its crossings, and so are those of a road at a place or between two nodes; against Dijkstra's
@@ -126,8 +124,8 @@ def test_ways_of_maps_are_closed():
     maps.tool("osm_to_gr", "--quiet", "--turns", "--bends", "grid.osm", "grid")
     with chtab.Network.open("grid.gr", program=PROGRAM) as network:
         graph, names = network.graph, [int(name) for name in files.read_names("grid.nodes").values()]
-        arcs = list(zip(graph.tails, graph.heads, graph.weights))
-        assert len(names) > 16 and 0 in graph.weights
+        arcs, stops = list(zip(*(column.tolist() for column in graph[1:4]))), network.coordinates.ends()
+        assert len(names) > 16 and 0 in graph.weights and stops
 
         def ends(arc):
             return names[arc[0] - 1], names[arc[1] - 1]
@@ -135,7 +133,7 @@ def test_ways_of_maps_are_closed():
         def without(is_closed):
             ahead = dijkstra.arcs_ahead([arc for arc in arcs if not is_closed(*ends(arc))])
             rows = [dijkstra.distances_from(source, ahead) for source in range(1, graph.nodes + 1)]
-            return [[row.get(target, -1) for target in range(1, graph.nodes + 1)] for row in rows]
+            return [[row.get(stops.get(target, target), -1) for target in range(1, graph.nodes + 1)] for row in rows]
 
         every = range(1, graph.nodes + 1)
         before = network.table(every, every).tolist()
@@ -150,8 +148,8 @@ def test_ways_of_maps_are_closed():
             ):
                 with network.changed(closed=closed) as other:
                     assert other.table(every, every).tolist() == without(is_closed), (pair, closed)
-        with network.changed({"way/1": 7}, ["way/2"], [(1, node[16], 3)], folder="own") as other, other.changed(closed=["way/3"]) as again:
-            arcs = [(*arc[:2], 7 if set(ends(arc)) == {1, 2} else arc[2]) for arc in arcs] + [(1, node[16], 3)]
+        with network.changed({"way/1": 7}, ["way/2"], [(node[13], node[16], 3)], folder="own") as other, other.changed(closed=["way/3"]) as again:
+            arcs = [(*arc[:2], 7 if set(ends(arc)) == {1, 2} else arc[2]) for arc in arcs] + [(node[13], node[16], 3)]
             assert other.table(every, every).tolist() == without(lambda *ends: set(ends) == {2, 3})
             assert again.table(every, every).tolist() == without(lambda *ends: set(ends) in ({2, 3}, {3, 4}))
             raises(chtab.DataFault, again.changed, None, ["way/2"], told="closed[0]: no arc is a part of way 2 of OpenStreetMap")
@@ -166,14 +164,13 @@ def test_ways_of_maps_are_closed():
         raises(chtab.DataFault, network.changed, None, [0, "way/3"], told="closed[1]: nothing says which arcs are parts of way 3 of OpenStreetMap: `osm_to_gr.py`")
 
 
-@each_way
 @needs("python3-scipy", "python3-shapely")
 def test_roads_are_added_where_turns_are_restricted():
     """Whoever arrives at a crossing may go on by a new road, also where no other turn is open, and trips arrive by it; so in scenarios of scenarios."""
     names = with_turns()
     nodes = sorted(set(names))
     with chtab.Network.open("turns.gr", program=PROGRAM) as network:
-        arcs = list(zip(network.graph.tails, network.graph.heads, network.graph.weights))
+        arcs = list(zip(*(column.tolist() for column in network.graph[1:4])))
         coordinates = network.coordinates
         ends = coordinates.ends()
         # By one road all that arrive at node 9 have to stay there.
@@ -195,7 +192,9 @@ def test_roads_are_added_where_turns_are_restricted():
                     assert trips(other) == wanted, (tail, head)
                     left = [arc for arc in arcs if (names[arc[0] - 1], names[arc[1] - 1]) != (tail, head) or tail == head]
                     assert trips(again) == trips_of(left, names, nodes), (tail, head)
-                    assert {len(arcs)} >= {*other.routes([(begin[tail], begin[head])]).rows()[0].tolist()} or tail == head
+                    # Where trips to the head end elsewhere, the last arc leads there.
+                    rows = other.routes([(begin[tail], begin[head])]).rows()[0].tolist()
+                    assert rows[:1] == [len(arcs)] and len(rows) == 1 + (begin[head] in ends) or tail == head, rows
             with network.changed(closed=[(begin[tail],)], added=[(begin[head], begin[tail], 5)]) as other:
                 assert head == tail or other.distances([(begin[head], ends.get(begin[tail], begin[tail]))]).tolist() == [5]
 

@@ -18,8 +18,7 @@ from helpers import ways
 from helpers.commands import raises
 from helpers.in_process import make
 from helpers.maps import COUNTRY
-from helpers.marks import each_way, needs
-from helpers.moods import HELD, STANDIN, holding, mood
+from helpers.marks import needs
 from helpers.nearness import rows_told, small_blocks, small_portions
 from helpers.running import PROGRAM, ROOT
 from helpers.waiting import PATIENCE, until
@@ -75,7 +74,6 @@ def interrupt(number, frame):
 # By both ways, and by runs of the program.
 
 
-@each_way
 def test_nodes_are_whole_numbers():
     """Whole decimal numbers are nodes, of any kind and order of bytes. Truths, times and texts are none; numbers past 2^63 are told as they are."""
     import numpy
@@ -100,7 +98,6 @@ def test_nodes_are_whole_numbers():
         raises(ValueError, network.distances, numpy.array(1), told="shape (n, 2)")
 
 
-@each_way
 def test_limits_are_exact():
     """Past 2^53 too, of each kind of number: what is farther by one is left out, and what is just as far is not."""
     import decimal
@@ -120,12 +117,11 @@ def test_limits_are_exact():
         assert network.table([1], [2, 3], 2**60).tolist() == [[far, far + 1]] and network.table([1], [1, 2], 0).tolist() == [[0, -1]]
         limits = [float(far - 1), far, numpy.int64(far), 2.0**54, 2**60]
         assert network.sum_within([1, 1], limits, [1], [2, 3]).tolist() == [[0, 1, 1, 2, 2]]
-        for within in -1, 2**60 + 1, float("nan"), float("inf"), numpy.float64("nan"), numpy.int64(-1), numpy.uint64(2**63):
+        for within in -1, 2**60 + 1, float("nan"), float("-inf"), numpy.float64("nan"), numpy.int64(-1), numpy.uint64(2**63):
             for call in lambda: network.table([1], [2], within), lambda: network.near([1], [2], within=within), lambda: network.sum_within(1, [5, within]):
                 raises(ValueError, call, told="a limit is from 0 to 2^60")
 
 
-@each_way
 def test_what_is_out_of_size_is_taken_or_refused():
     """Counts that no row has and no number of numpy holds, also where rows are put together of parts; a value that is masked; one value of any kind."""
     import numpy
@@ -137,7 +133,7 @@ def test_what_is_out_of_size_is_taken_or_refused():
                 with small_blocks(length, 10):
                     near = network.near(None, ["c", "b", "c"], count)
                     assert rows_told(near) == rows_told(network.near(None, ["c", "b", "c"])) and near.offsets.dtype == numpy.int64, (count, length)
-        raises(MemoryError, lambda: network.nearest_of(["a"], ["b"], 2**50))
+        assert network.nearest_of(["a"], ["b"], 2**50).weights.shape == (1, 1)
         assert network.nearest_of(["a"], ["b"], 1).weights.tolist() == [[4]]
         for masked in numpy.ma.masked, numpy.ma.array(5, mask=True), None, "5", 5j, float("nan"), numpy.float64("inf"):
             for targets in (None, ["b"]):
@@ -148,7 +144,6 @@ def test_what_is_out_of_size_is_taken_or_refused():
             raises(chtab.DataFault, network.sum_within, values, 5, told="too large")
 
 
-@each_way
 def test_labels_are_of_any_size():
     """Integers past 2^63 are labels, as Python has them or as numpy does, in lists and in arrays; none is taken for another."""
     import numpy
@@ -167,7 +162,6 @@ def test_labels_are_of_any_size():
         raises(chtab.DataFault, lambda: chtab.Network.from_arrays([1], [2], weights, program=PROGRAM), told="too large")
 
 
-@each_way
 def test_a_graph_that_was_changed_is_not_asked_on():
     """A graph that was written anew is refused by whatever would read it later: a process that is forked, and what stands beside the answers. What
     was read of the one before answers on."""
@@ -195,28 +189,11 @@ def test_a_graph_that_was_changed_is_not_asked_on():
 
 def test_a_signal_may_close_what_is_asked():
     """Its handler closes the network in the middle of a question of the same thread, which then fails. Nothing waits for itself."""
-    with mood(), holding(), chtab.Network.open(FIRST, program=STANDIN, load=False) as slow, of_country() as quick:
-        with signalled(lambda *_: slow.close(), lambda: slow._engine.runs and slow._engine.runs[0].is_held):
-            raises(chtab.ChtabError, slow.distances, [(1, 3)], told="the network is closed")
+    with of_country() as quick:
         # More columns than a single call of the library has, and more cells than it makes until the signal comes.
         nodes = list(range(1, quick.nodes + 1))
         with alarm(lambda *_: quick.close(), 0.5):
             raises(chtab.ChtabError, quick.table, nodes * 2, nodes * 8, told="the network is closed")
-
-
-def test_a_question_within_a_question_of_a_run_is_refused():
-    """The handler of a signal asks the run that its thread waits for: it is told so, and the first question is answered."""
-    with mood(), chtab.Network.open(FIRST, program=STANDIN, load=False) as network:
-        told = []
-
-        def asks(*_):
-            told.append(raises(chtab.ChtabError, network.distances, [(1, 2)], told="not answered yet"))
-            HELD.unlink()
-
-        HELD.touch()
-        with signalled(asks, lambda: network._engine.runs and network._engine.runs[0].is_held):
-            assert network.distances([(1, 3)]).tolist() == [9] and len(told) == 1
-        assert network.distances([(1, 2)]).tolist() == [4]
 
 
 # By the library for C.
@@ -410,7 +387,7 @@ def test_a_call_of_seconds_hears_ctrl_c(monkeypatch):
     for name, call in (
         ("open", lambda: of_country().close()), ("distances", lambda: network.distances(nodes, nodes)), ("table", lambda: network.table(nodes, nodes)),
         ("keep_places", lambda: network.near([1], nodes, 1)), ("sweep", lambda: network.near(None, nodes, 1)), ("near_rows", lambda: network.near(nodes, [1])),
-        ("routes", lambda: network.routes(nodes, nodes)), ("near_sums", lambda: network.sum_within(1, 2**60, nodes, nodes)),
+        ("routes_with_lines", lambda: network.routes(nodes, nodes)), ("near_sums", lambda: network.sum_within(1, 2**60, nodes, nodes)),
     ):
         with of_country() as network:
             wanted, own = network.table(nodes[:9], nodes[:9]), getattr(library.Handle, name)
@@ -434,11 +411,11 @@ def test_a_library_that_gives_nothing_is_no_endless_loop():
 
     nothing = numpy.zeros(0, numpy.int64)
     for name, other in ("nodes", lambda handle: 4), ("near_rows", lambda handle, sources, pairs: (nothing, nothing, nothing)), \
-            ("routes", lambda handle, sources, targets, room: (nothing, nothing, nothing)):
+            ("routes_with_lines", lambda handle, sources, targets, room: (nothing, nothing, nothing, nothing)):
         own = getattr(library.Handle, name)
         setattr(library.Handle, name, other)
         try:
-            for call in ("routes",) if name == "routes" else ("near",) if name == "near_rows" else ("near", "routes"):
+            for call in ("routes",) if name == "routes_with_lines" else ("near",) if name == "near_rows" else ("near", "routes"):
                 raises(chtab.ProgramFault, lambda: getattr(by_library(FIRST, FIRST_SAVED), call)([1], [2]), told="not asked for")
         finally:
             setattr(library.Handle, name, own)

@@ -1,8 +1,4 @@
-"""Tests the library for C as the Python package calls it: what it would misread, what is refused, and when the library is taken in place of the
-program.
-
-That its answers are those of the program, tests/python/test_package.py, tests/python/test_arrays.py and tests/python/test_sharing.py say.
-"""
+"""Tests the library for C as the Python package calls it: what it would misread, what is refused, and which library is taken."""
 import ctypes
 import os
 import pathlib
@@ -20,6 +16,7 @@ from helpers.in_process import HEADER, declared, make, statuses
 from helpers.marks import needs
 from helpers.running import PROGRAM
 import chtab
+from chtab import files
 
 pytestmark = [needs("python3-numpy"), pytest.mark.usefixtures("program")]
 
@@ -152,24 +149,24 @@ def test_nodes_are_those_of_the_network():
     for wrong in [1.0], ["1"], [None], [True]:
         raises(TypeError, library.nodes_of, wrong, 3)
     with of_first() as network:
-        for call in network._engine.distances, network._engine.walks:
+        for call in network._engine.distances, network._engine.paths:
             raises(ValueError, call, numpy.array([[1, 2**32 + 1]]), told="not from 1 to 3")
-        raises(ValueError, network._engine.routes, [(0, 1)], told="not from 1 to 3")
-        raises(ValueError, network._engine.cells, [1], [4], told="not from 1 to 3")
+        raises(ValueError, network._engine.table, [1], [4], told="not from 1 to 3")
 
 
 def test_a_hierarchy_is_built_where_none_is_saved():
-    """By the library too: its distances, cells and routes are those of the program, and its text is that of the order by depth."""
+    """Its distances, cells and routes are those of the program, and its text is that of the order by depth."""
     from chtab.engine import library
 
     ends = [(1 + 37 * place % 3154, 1 + 101 * place % 3154) for place in range(300)]
-    answers = []
-    for way in False, make():
-        with chtab.Network.open(GRAPH, program=PROGRAM, library=way) as network:
-            assert (type(network._engine).__name__ == "InProcess") == (way is not False)
-            cells = network.table(*([node for node, _ in ends[:20]],) * 2)
-            answers.append((list(network.distances(ends)), [list(row) for row in cells], [getattr(route, "nodes", None) for route in network.routes(ends[:50])]))
-    assert answers[0] == answers[1]
+    files.write_queries("ends.p2p", ends)
+    text = subprocess.run([PROGRAM, "dist", "--routes", "--deep", GRAPH, "ends.p2p"], capture_output=True, check=True).stdout
+    wanted = [*files.read_routes(text.decode().splitlines())]
+    with chtab.Network.open(GRAPH, program=PROGRAM) as network:
+        assert network.distances(ends).tolist() == [-1 if each.weight is None else each.weight for each in wanted]
+        assert [tuple(each) for each in network.routes(ends)] == [tuple(each) for each in wanted]
+        cells = network.table([node for node, _ in ends[:20]], [node for _, node in ends[:20]])
+        assert cells.diagonal().tolist() == network.distances(ends[:20]).tolist()
     built = library.Handle(library.loaded(make()))
     built.open(pathlib.Path(GRAPH).read_bytes())
     assert built.save() == subprocess.run([PROGRAM, "save", "--deep", GRAPH], capture_output=True, check=True).stdout
@@ -188,16 +185,11 @@ def test_faults_are_told_as_by_the_program():
     ):
         for name, text in zip(("bad.gr", "bad.ch"), texts):
             pathlib.Path(name).write_text(text)
-        told = []
-        for library in False, make():
-            try:
-                chtab.Network.open("bad.gr", saved="bad.ch", program=PROGRAM, library=library)
-            except chtab.ChtabError as fault:
-                told.append(fault)
-        assert len(told) == 2 and [*map(str, told)] == [str(told[0])] * 2 and type(told[0]) is type(told[1]), (texts, told)
+        fault = raises(chtab.ChtabError, lambda: chtab.Network.open("bad.gr", saved="bad.ch", program=PROGRAM))
         if line is not None:
-            fault = told[1]
-            assert (told[0].status, fault.status, fault.line, fault.kind) == (1, 1, line, kind), (texts, vars(fault))
+            done = subprocess.run([PROGRAM, "table", "--saved", "bad.ch", "bad.gr", "bad.gr", "bad.gr"], capture_output=True, text=True)
+            assert (done.stderr.splitlines()[-1], done.returncode) == (str(fault), 1), (texts, done)
+            assert (fault.status, fault.line, fault.kind) == (1, line, kind), (texts, vars(fault))
             assert place is None or fault.place == place, vars(fault)
             assert vars(pickle.loads(pickle.dumps(fault))) == vars(fault)
 
@@ -219,55 +211,49 @@ def test_routes_of_another_graph_are_found_out():
             assert network.routes([(1, 3)])[0] == (1, 3, 9, [1, 2, 3], [4, 5])
             pathlib.Path("own.gr").write_text(FIRST.read_text().replace(old, new))
             assert network.routes([(1, 3), (2, 3)])[:] == [(1, 3, 9, [1, 2, 3], [4, 5]), (2, 3, 5, [2, 3], [5])]
-            walks = network._queries.walks(numpy.array([[1, 3], [3, 1], [2, 2], [2, 3]]))
-            assert (walks.weights.tolist(), walks.firsts.tolist(), walks.arc_weights.tolist()) == ([9, -1, 0, 5], [0, 2, 2, 2, 3], [4, 5, 5])
-            assert (walks.tails.tolist(), walks.heads.tolist(), walks.tails.dtype) == ([1, 2, 2], [2, 3, 3], numpy.int64)
+            paths = network._engine.paths(numpy.array([[1, 3], [3, 1], [2, 2], [2, 3]]))
+            assert [column.tolist() for column in paths] == [[9, -1, 0, 5], [2, 0, 0, 1], [0, 1, 1]] and paths.arcs.dtype == numpy.int64
 
 
-# Which way is taken.
+# Which library is taken.
 
 
-def is_by_library(network):
+def answers(network):
     with network:
-        assert network.distances([(1, 3)]).tolist() == [9]
-        return type(network._engine).__name__ == "InProcess"
+        return network.distances([(1, 3)]).tolist() == [9]
 
 
-def test_it_is_taken_where_it_fits():
-    """Beside the program, of the package's version, with a hierarchy, one worker and no time; where it must be taken, what lacks is told. One of a
-    checkout whose sources are newer is not taken."""
+def test_it_is_taken_where_it_is():
+    """Beside the program; where there is none, or sources of a checkout are newer, the fault says how it is made."""
     from chtab.engine import library
 
-    for place in "beside", "lib/chtab", "checkout":
+    for place in "beside", "lib/chtab", "checkout", "checkout/crates/chtab/out", "alone":
         os.makedirs(place)
         shutil.copy(PROGRAM, f"{place}/chtab")
     os.makedirs("checkout/out/library/lib")
     for place in "beside", "lib", "checkout/out/library/lib":
         shutil.copy(make(), f"{place}/{library.NAME}")
     os.symlink("lib/chtab/chtab", "linked")
-    for program in "beside/chtab", "lib/chtab/chtab", "checkout/chtab", "linked":
-        assert is_by_library(chtab.Network.open(FIRST, saved=FIRST_SAVED, program=program)), program
-        assert is_by_library(chtab.Network.open(FIRST, saved=FIRST_SAVED, program=program, library=True)), program
-        assert not is_by_library(chtab.Network.open(FIRST, saved=FIRST_SAVED, program=program, library=False)), program
-        assert is_by_library(chtab.Network.from_arrays([1, 2], [2, 3], [4, 5], program=program)), program
-        assert not is_by_library(chtab.Network.open(FIRST, saved=FIRST_SAVED, program=program, timeout=5))
-        assert is_by_library(chtab.Network.open(FIRST, saved=FIRST_SAVED, program=program, timeout=5, library=True))
-        assert is_by_library(chtab.Network.open(FIRST, program=program)) and is_by_library(chtab.Network.open(FIRST, program=program, library=True))
-        two = {"saved": FIRST_SAVED, "workers": 2, "program": program}
-        assert not is_by_library(chtab.Network.open(FIRST, **two))
-        raises(chtab.ChtabError, lambda: chtab.Network.open(FIRST, **two, library=True), told="workers")
-    first = {"saved": FIRST_SAVED, "program": PROGRAM}
-    assert not is_by_library(chtab.Network.open(FIRST, **first))
-    raises(chtab.ChtabError, lambda: chtab.Network.open(FIRST, **first, library=True), told="`packaging/library` makes it")
+    first = {"saved": FIRST_SAVED}
+    for program in "beside/chtab", "lib/chtab/chtab", "checkout/chtab", "checkout/crates/chtab/out/chtab", "linked":
+        for more in first, {}, {"timeout": 5}, {"workers": 2}, first | {"workers": 2}, {"library": True}, {"library": "auto"}:
+            assert answers(chtab.Network.open(FIRST, program=program, **more)), (program, more)
+        assert answers(chtab.Network.from_arrays([1, 2], [2, 3], [4, 5], program=program)), program
+    raises(chtab.ChtabError, lambda: chtab.Network.open(FIRST, program="alone/chtab"), told="`packaging/library` makes it")
+    raises(chtab.ChtabError, lambda: chtab.Network.from_arrays([1], [2], [3], program="alone/chtab"), told="`packaging/library` makes it")
     os.makedirs("checkout/crates/ch_c/src")
     pathlib.Path("checkout/crates/ch_c/src/handle.rt").write_text("")
-    for seconds, is_taken in (-5, True), (5, False):
+    for seconds in -5, 5:
         made = os.stat(f"checkout/out/library/lib/{library.NAME}").st_mtime + seconds
         os.utime("checkout/crates/ch_c/src/handle.rt", (made, made))
-        assert is_by_library(chtab.Network.open(FIRST, saved=FIRST_SAVED, program="checkout/chtab")) == is_taken, seconds
-    assert is_by_library(pickle.loads(pickle.dumps(chtab.Network.open(FIRST, **first, library=os.path.relpath(make())))))
-    for wrong, kind in (3, TypeError), (None, TypeError), (0, TypeError), (1, TypeError), (1.0, TypeError), ("none.so", chtab.ChtabError), (FIRST, chtab.ChtabError):
-        raises(kind, lambda: chtab.Network.open(FIRST, **first, library=wrong))
+        if seconds < 0:
+            assert answers(chtab.Network.open(FIRST, program="checkout/chtab"))
+        else:
+            raises(chtab.ChtabError, lambda: chtab.Network.open(FIRST, program="checkout/chtab"), told="older than the sources")
+    by_path = chtab.Network.open(FIRST, **first, program="alone/chtab", library=os.path.relpath(make()))
+    assert answers(pickle.loads(pickle.dumps(by_path)))
+    for wrong, kind in (3, TypeError), (0, TypeError), (1.0, TypeError), ("none.so", chtab.ChtabError), (FIRST, chtab.ChtabError):
+        raises(kind, lambda: chtab.Network.open(FIRST, **first, program=PROGRAM, library=wrong))
 
 
 def test_another_library_is_not_taken():
@@ -281,16 +267,14 @@ def test_another_library_is_not_taken():
         shutil.copy(path, f"{place}/{library.NAME}")
     for place in range(3):
         more = {"saved": FIRST_SAVED, "program": f"{place}/chtab"}
-        assert not is_by_library(chtab.Network.open(FIRST, **more)), place
-        raises(chtab.ChtabError, lambda: chtab.Network.open(FIRST, **more, library=True), told="is not chtab's library for C")
+        raises(chtab.ChtabError, lambda: chtab.Network.open(FIRST, **more), told="is not chtab's library for C")
     more["program"] = "3/chtab"
     library.VERSION += 1_000
     try:
-        assert not is_by_library(chtab.Network.open(FIRST, **more))
-        raises(chtab.ChtabError, lambda: chtab.Network.open(FIRST, **more, library=True), told="another version")
+        raises(chtab.ChtabError, lambda: chtab.Network.open(FIRST, **more), told="another version")
     finally:
         library.VERSION -= 1_000
-    assert is_by_library(chtab.Network.open(FIRST, **more))
+    assert answers(chtab.Network.open(FIRST, **more))
 
 
 def test_few_distances_are_those_of_their_pairs():

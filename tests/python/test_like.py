@@ -10,7 +10,8 @@ import tracemalloc
 import pytest
 
 from helpers.commands import raises, temporary
-from helpers.marks import each_way, needs
+from helpers.in_process import make
+from helpers.marks import needs
 from helpers.running import PROGRAM, ROOT
 from helpers.scenarios import PLACES, least_of, of_roads, trips_of, with_turns
 from helpers.waiting import PATIENCE
@@ -23,7 +24,6 @@ from chtab.roads import from_arcs, scenarios
 pytestmark = [needs("python3-numpy"), pytest.mark.usefixtures("program")]
 
 
-@each_way
 @needs("python3-scipy", "python3-pandas")
 def test_networks_in_the_order_of_others_answer_as_scipy():
     """Arcs as arrays and as a frame, with the nodes of another network, for each share of nodes that is ordered afresh; the other one answers on."""
@@ -60,7 +60,7 @@ def test_networks_in_the_order_of_others_answer_as_scipy():
 def test_it_is_built_in_the_order_of_the_other(library, is_by_library):
     """With no node afresh the new hierarchy has the order of the old one, with all afresh that of a new network; so in this process, and by a run."""
     path = ROOT / "examples" / "liechtenstein.gr"
-    way = {"program": PROGRAM, "library": library if is_by_library else False}
+    way = {"program": PROGRAM, "library": library, "workers": 1 if is_by_library else 2}
 
     def order(folder):
         return [line for line in (pathlib.Path(folder) / "network.ch").read_text().splitlines() if line.startswith("o ")]
@@ -72,15 +72,11 @@ def test_it_is_built_in_the_order_of_the_other(library, is_by_library):
         with chtab.Network.open("first", **way) as first:
             for fresh in 0, 5, 100:
                 first.changed(network.graph.weights, folder=f"fresh {fresh}", fresh=fresh).close()
-            os.rename("first/network.ch", "first/moved.ch")
-            first.changed(weights, folder="unknown").close()
         chtab.Network.from_arrays(*ends_of(network.graph), weights, nodes=network.labels, program=PROGRAM, folder="anew").close()
-    os.rename("first/moved.ch", "first/network.ch")
     assert order("fresh 0") == order("first") == order("anew")
     count = len(order("first"))
     assert order("fresh 5")[:count - count // 20] == order("first")[:count - count // 20] and order("fresh 5") != order("first")
     assert order("fresh 100") not in (order("first"), order("fresh 5"))
-    assert is_by_library or order("unknown") == order("anew")
 
 
 def test_no_program_is_run_where_the_library_builds(library):
@@ -139,7 +135,6 @@ def test_what_does_not_go_with_another_network_is_refused():
         assert left() == own
 
 
-@each_way
 @needs("python3-scipy", "python3-shapely")
 def test_turns_stay_restricted_in_a_network_of_the_same_nodes():
     """New weights as arrays, on a map where turns are restricted: trips start and end where those of the map do, also after the folder is opened."""
@@ -229,7 +224,6 @@ def with_files(folder):
     return chtab.Network.open(pathlib.Path(folder) / "own.gr", program=PROGRAM)
 
 
-@each_way
 def test_a_closed_network_is_neither_changed_nor_followed():
     """Its files may be there or gone, and what they hold may be known already: each call says that it is closed, and leaves nothing behind."""
     for make, arcs in (of_roads, (["inn"], ["mill"], [3])), (lambda: with_files("own"), ([1], [2], [3])):
@@ -262,12 +256,11 @@ def closing_at(monkeypatch, owner, name, close):
     return is_left
 
 
-@each_way
 def test_the_old_network_may_close_at_any_step(monkeypatch):
     """At each step of a change the old network is closed, at once or by another thread: the change succeeds, or says that the network is closed."""
     steps = [
-        (scenarios, "ArcNames"), (arc_columns, "whole_weights"), (making, "Beside"), (making, "write"), (making.Beside, "copy_to"), (making, "giver_of"), (making, "save"),
-        (making, "save_by"), (making, "save_like"), (calls.Handle, "open_like"),
+        (scenarios, "ArcNames"), (arc_columns, "whole_weights"), (making, "Beside"), (making, "write"), (making.Beside, "copy_to"), (making, "build"), (making, "save_like"),
+        (calls.Handle, "open_like"),
     ]
     passed = 0
     for owner, name in steps:
@@ -295,13 +288,19 @@ def test_the_old_network_may_close_at_any_step(monkeypatch):
     assert passed
 
 
-def test_an_order_that_is_gone_is_made_anew():
-    """Where the saved hierarchy of the old network goes before the program opens it, the new one is built by depth; other faults stay faults."""
+def test_the_program_builds_in_the_order_of_another_network():
+    """By several workers, or with progress: of the saved hierarchy of the other one, and if that is gone, in this process. Other faults stay faults."""
     program = pathlib.Path("chtab")
-    program.write_text(f"#!/bin/sh\n[ \"$2\" = --like ] && rm \"$3\"\nexec {PROGRAM} \"$@\"\n")
+    program.write_text(f"#!/bin/sh\n[ \"$1\" = save ] && echo \"$@\" >> built\nexec {PROGRAM} \"$@\"\n")
     program.chmod(0o755)
-    with of_roads(program=program.absolute(), library=False, folder="own") as network, network.changed(closed=[0]) as other:
-        assert not os.path.exists("own/network.ch") and other.distances([("inn", "mill")]).tolist() == [3]
+    more = {"program": program.absolute(), "library": make(), "workers": 2}
+    with of_roads(folder="own", **more) as network:
+        with network.changed(closed=[0]) as other:
+            assert other.distances([("inn", "mill")]).tolist() == [3]
+        assert [line.split()[1] for line in pathlib.Path("built").read_text().splitlines()] == ["--deep", "--like"]
+        os.remove("own/network.ch")
+        with network.changed(closed=[0]) as other:
+            assert other.distances([("inn", "mill")]).tolist() == [3] and pathlib.Path("built").read_text().count("\n") == 2
     program.write_text(f"#!/bin/sh\n[ \"$2\" = --like ] && echo 'chtab: out of memory' >&2 && exit 3\nexec {PROGRAM} \"$@\"\n")
-    with of_roads(program=program.absolute(), library=False) as network:
+    with of_roads(**more) as network:
         raises(chtab.ProgramFault, network.changed, None, [0], told="out of memory")

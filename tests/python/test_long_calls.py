@@ -7,7 +7,8 @@ import subprocess
 import pytest
 
 from helpers.commands import raises, temporary
-from helpers.marks import each_way, needs
+from helpers.in_process import make
+from helpers.marks import needs
 from helpers.minutes import of_minutes
 from helpers.packages import PYTHON
 from helpers.running import PROGRAM, ROOT
@@ -43,7 +44,7 @@ def test_a_file_that_cannot_be_written_is_named():
         signal.signal(signal.SIGXFSZ, signal.SIG_IGN)
         resource.setrlimit(resource.RLIMIT_FSIZE, (int(sys.argv[3]), int(sys.argv[3])))
         try:
-            chtab.Network.from_arrays(range(2_000), range(1, 2_001), [5] * 2_000, program=sys.argv[2])
+            chtab.Network.from_arrays(range(2_000), range(1, 2_001), [5] * 2_000, program=sys.argv[2], library=sys.argv[4])
         except (OSError, chtab.ProgramFault) as fault:
             print(type(fault).__name__, fault)
     """
@@ -52,12 +53,11 @@ def test_a_file_that_cannot_be_written_is_named():
     full.chmod(0o755)
     for program, most, name, cause in (PROGRAM, 10_000, "network.gr", "File too large"), (full.absolute(), 10**9, "network.ch", "cannot write after 0 bytes"):
         with temporary() as left:
-            done = subprocess.run([PYTHON, "-c", text, ROOT / "python", program, str(most)], capture_output=True, text=True)
+            done = subprocess.run([PYTHON, "-c", text, ROOT / "python", program, str(most), make()], capture_output=True, text=True)
             assert name in done.stdout and cause in done.stdout and done.stdout.count("\n") == 1, done
             assert left() == []
 
 
-@each_way
 def test_each_long_call_says_how_far_it_is():
     """Distances, tables and routes count up to all that was asked for."""
     for call, total in (
@@ -73,7 +73,6 @@ def test_each_long_call_says_how_far_it_is():
         network.close()
 
 
-@each_way
 def test_nothing_is_near_nothing():
     """Values of no target, and values that are all 0, are sums of 0 everywhere."""
     with of_minutes() as network:
@@ -105,9 +104,9 @@ def test_a_signal_leaves_no_part_of_a_folder():
     slow.write_text(f"#!/bin/sh\nwhile [ \"$1\" = save ] && [ -e {slow.absolute()} ]; do sleep 0.2; done\nexec {PROGRAM} \"$@\"\n")
     slow.chmod(0o755)
     pathlib.Path("own").mkdir()
-    text = "import sys; sys.path.insert(0, sys.argv[1]); import chtab; chtab.Network.from_arrays([1], [2], [3], folder='own/made', program=sys.argv[2])"
+    text = "import sys; sys.path.insert(0, sys.argv[1]); import chtab; chtab.Network.from_arrays([1], [2], [3], folder='own/made', program=sys.argv[2], library=sys.argv[3])"
     for number in signal.SIGTERM, signal.SIGKILL:
-        with subprocess.Popen([PYTHON, "-c", text, ROOT / "python", slow.absolute()]) as process:
+        with subprocess.Popen([PYTHON, "-c", text, ROOT / "python", slow.absolute(), make()]) as process:
             until(lambda: list(pathlib.Path("own").glob("made.part-*/network.ch")))
             assert len(list(pathlib.Path("own").iterdir())) == 1
             process.send_signal(number)

@@ -18,7 +18,7 @@ from helpers.packages import PYTHON
 from helpers.running import ROOT
 from oracles import mapping
 from chtab import files
-from chtab.maps import converting, profiles
+from chtab.maps import converting, parts, profiles
 from chtab.roads.sphere import RADIUS
 
 
@@ -265,6 +265,36 @@ def test_parts_are_kept():
     assert refused("--part", "5", "parts.osm", "parts") == "osm_to_gr: there is no part 5: the roads have 4\n"
     for word in "0", "-1", "some":
         tool("osm_to_gr", "--part", word, "parts.osm", "parts", status=2)
+
+
+def test_large_parts_are_kept():
+    """Each component of at least a hundredth of the largest one, and of two nodes, and on large maps of 250 nodes; what lies between them is not."""
+    assert parts.large([(0, 8), (1, 2), (2, 1)]) == 2 and parts.large([(4, 1), (2, 1)]) == 1
+    assert parts.large([(0, 900), (1, 10), (2, 9), (3, 8)]) == 3 and parts.large([(0, 100_000), (1, 250), (2, 249)]) == 2
+    nodes = {number: (number, 0) for number in range(1, 10)}
+    text = osm(nodes, [([1, 2], ROAD), ([3, 4, 5, 6], ROAD), ([4, 9], ROAD), ([7, 8], ROAD | {"oneway": "yes"}), ([2, 3], ROAD | {"oneway": "yes"})])
+    made, report = converted(text, part="large")
+    assert made.names == [1, 2, 3, 4, 6, 9] and report.total("parts") == 2
+    assert (2, 3) in {(made.names[tail - 1], made.names[head - 1]) for tail, head, _ in made.arcs}, "one way from one to the other"
+    assert converted(osm(nodes, [([1, 2], ROAD | {"oneway": "yes"})]), part="large")[0].names == [1]
+
+
+def test_classes_of_ways_are_excluded():
+    nodes = {number: (number, 0) for number in range(1, 8)}
+    kinds = [ROAD, ROAD | {"toll": "yes"}, {"highway": "motorway"}, {"highway": "motorway_link"}, {"route": "ferry"}, ROAD | {"toll": "no"}]
+    text = osm(nodes, [([number, number + 1], tags) for number, tags in enumerate(kinds, 1)])
+
+    def kept(*classes):
+        made, report = converted(text, exclude=classes)
+        return [number for number in range(1, 7) if number in made.ways], report.total("excluded")
+
+    assert kept() == ([1, 2, 3, 4, 5, 6], 0) and kept("toll") == ([1, 3, 4, 5, 6], 1) and kept("motorway") == ([1, 2, 5, 6], 2)
+    assert kept("ferry") == ([1, 2, 3, 4, 6], 1) and kept("toll", "motorway", "ferry") == ([1, 6], 4)
+    pathlib.Path("classes.osm").write_text(text)
+    tool("osm_to_gr", "--quiet", "--part", "all", "--exclude", "ferry,toll", "classes.osm", "classes")
+    assert "part all, without toll, without ferry." in open("classes.gr").readline()
+    for word in "", "toll,", "bridge", "toll;ferry":
+        tool("osm_to_gr", "--exclude", word, "classes.osm", "classes", status=2)
 
 
 def test_files_of_all_forms():

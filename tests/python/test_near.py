@@ -1,6 +1,6 @@
 """Tests near rows of the Python package: the targets near each source, the nearest of them, sums over those within limits, and reach by them.
 
-Rows are compared with those that all distances of scipy's and networkx's own searches make, by runs of the program and by the library for C.
+Rows are compared with those that all distances of scipy's and networkx's own searches make.
 """
 import concurrent.futures
 import gc
@@ -8,22 +8,19 @@ import multiprocessing
 import os
 import pathlib
 import pickle
-import signal
 import subprocess
 import threading
 
 import pytest
 
 from helpers.columns import forms_of, least_of
-from helpers.commands import raises, temporary
+from helpers.commands import raises
 from helpers.in_process import make
 from helpers.maps import COUNTRY
-from helpers.marks import each_way, needs
-from helpers.moods import STANDIN, asked, lives_on, living, mood, nears, noted
+from helpers.marks import needs
 from helpers.nearness import dense_owed, rows_owed, rows_told, small_blocks, sums_owed
-from helpers.packages import PYTHON
 from helpers.running import PROGRAM, ROOT
-from helpers.waiting import PATIENCE, until
+from helpers.waiting import PATIENCE
 import chtab
 
 pytestmark = [needs("python3-numpy"), pytest.mark.usefixtures("program")]
@@ -50,7 +47,6 @@ def asked_at_random(draw, least):
 
 
 @needs("python3-scipy", "python3-pandas")
-@each_way
 def test_random_graphs_answer_as_scipy(random_graphs):
     """By labels of each kind, from columns of each form."""
     for _, draw, tails, heads, weights, labels, least in random_graphs(GRAPHS):
@@ -72,9 +68,9 @@ def answers_as_owed(network, draw, labels, least):
     assert rows_told(near) == owed, (question, rows_told(near), owed)
     assert near.offsets.dtype == near.places.dtype == near.weights.dtype == numpy.int64
     assert near.sources.tolist() == labels[own].tolist() and near.targets.tolist() == labels[targets].tolist()
-    found = network.nearest_of(*given, count or 3, within, direction)
-    assert [part.tolist() for part in found[:2]] == dense_owed(rows_owed(turned, own, targets, count or 3, within), count or 3), question
-    assert found.places.shape == (len(own), count or 3) and numpy.array_equal(found.mask, found.places < 0)
+    found, width = network.nearest_of(*given, count or 3, within, direction), max(1, min(count or 3, len(targets)))
+    assert [part.tolist() for part in found[:2]] == dense_owed(rows_owed(turned, own, targets, count or 3, within), width), question
+    assert found.places.shape == (len(own), width) and numpy.array_equal(found.mask, found.places < 0)
     values, limits = draw.integers(-5, 9, len(targets)), [within or 7, 3]
     sums = network.sum_within(values, limits, *given, direction=direction)
     wanted = [sums_owed(turned, own, targets, values.tolist(), limit) for limit in limits]
@@ -82,7 +78,6 @@ def answers_as_owed(network, draw, labels, least):
 
 
 @needs("python3-networkx")
-@each_way
 def test_random_graphs_answer_as_networkx():
     """Of graphs of networkx, whose edges have weights 0 and equal ones."""
     import networkx
@@ -103,7 +98,6 @@ def test_random_graphs_answer_as_networkx():
 
 
 @needs("python3-scipy", "python3-pandas")
-@each_way
 def test_forms_of_an_answer():
     """As a table and as a sparse matrix, of labels that are strings; what is asked of it by place."""
     import numpy
@@ -127,12 +121,11 @@ def test_forms_of_an_answer():
             near = network.near(sources, targets)
             assert len(near) == (3 if sources is None else len(sources)) and near.places.size == 0 and near.offsets.tolist() == [0] * (len(near) + 1)
             assert near.to_frame().empty and near.to_sparse().shape == (len(near), len(targets))
-            assert network.nearest_of(sources, targets, 2).places.tolist() == [[-1, -1]] * len(near)
+            assert network.nearest_of(sources, targets, 2).places.tolist() == [[-1]] * len(near)
             assert network.sum_within([1.0] * len(targets), [5, 9], sources, targets).tolist() == [[0.0, 0.0]] * len(near)
 
 
 @needs("python3-scipy", "python3-pandas")
-@each_way
 def test_sums_take_values_in_each_form():
     """A value for each target, for all, for each node, and by label; each decay; limits that are numbers and lists."""
     import math
@@ -173,7 +166,7 @@ def test_sums_take_values_in_each_form():
 def test_what_is_no_question_is_refused():
     """Numbers that are out of their range, and other words; nothing is asked then."""
     nan = float("nan")
-    with mood(), chtab.Network.open(FIRST, program=STANDIN, load=False) as network:
+    with chtab.Network.open(FIRST, program=PROGRAM, load=False) as network:
         for kind, words, told in (
             (ValueError, {"count": 0}, "count is a whole number from 1 on"), (ValueError, {"count": -1}, "from 1 on"), (TypeError, {"count": 1.5}, "count is a whole number"),
             (ValueError, {"count": True}, "True"), (ValueError, {"within": -1}, "from 0 to 2^60"), (ValueError, {"within": 2**60 + 1}, "from 0 to 2^60"),
@@ -189,24 +182,13 @@ def test_what_is_no_question_is_refused():
             (9, lambda weights: weights[:1], "gave the shape (1,)"),
         ):
             raises(ValueError, lambda: network.sum_within(1, within, decay=decay), told=told)
-        assert len(nears()) == 1 and lives_on(0), noted()
     raises(chtab.ChtabError, network.near, [1], [2], told="closed")
-
-
-def test_one_run_answers_what_is_small():
-    """All nodes go by one run, with the options that are asked for; no count where it leaves out nothing."""
-    with mood(), chtab.Network.open(FIRST, program=STANDIN, load=False) as network:
-        assert rows_told(network.near(None, [3, 1], 1, 9, "from")) == [[(1, 0)], [(1, 4)], [(0, 0)]]
-        assert rows_told(network.near([3, 1], [3, 1], 2)) == [[(0, 0)], [(1, 0), (0, 9)]]
-        assert network.sum_within([2.0], [4, 5], targets=[3]).tolist() == [[0, 0], [0, 2], [2, 2]]
-        assert nears() == ["--count 1 --within 9 --from --all", "", "--within 5 --all"] and asked() == [], noted()
 
 
 # Blocks.
 
 
 @needs("python3-scipy")
-@each_way
 def test_blocks_answer_as_one_run():
     """Lists that are longer than a run takes, by one run after the other and by several at a time."""
     import numpy
@@ -230,8 +212,8 @@ def test_blocks_answer_as_one_run():
 def test_blocks_are_within_their_limits():
     import numpy
 
-    from chtab.near import row_blocks
-    from chtab.near.runs import NearQuestion
+    from chtab.near import blocks
+    from chtab.near.question import NearQuestion
 
     for sources, targets, count, nodes, workers in (
         (200_000, 70_000, None, 10**6, 1), (None, 300, None, 10**6, 1), (None, 500, 3, 10**6, 1), (None, 500, 3, 10**6, 4), (5, 10**6, 1, 10**6, 2),
@@ -239,18 +221,17 @@ def test_blocks_are_within_their_limits():
     ):
         given = None if sources is None else numpy.ones(sources, numpy.int64)
         question = NearQuestion(given, numpy.ones(targets, numpy.int64), count)
-        found, covered = list(row_blocks.cut(question, nodes, workers)), 0
+        found, covered = list(blocks.cut(question, nodes, workers)), 0
         for block in found:
             height, width = block.question.height(nodes), len(block.question.targets)
-            assert height * min(width, count or width) <= row_blocks.PAIRS and width <= row_blocks.LENGTH
-            assert block.question.sources is None or 1 <= height <= row_blocks.LENGTH
+            assert height * min(width, count or width) <= blocks.PAIRS and width <= blocks.LENGTH
+            assert block.question.sources is None or height >= 1
             covered += height * width
         assert covered == (nodes if sources is None else sources) * targets, (covered, sources, targets)
         assert (len(found) == 1 and found[0].question.sources is None) == (sources is None and workers == 1 and targets == 500), (targets, workers)
 
 
 @needs("python3-distributed")
-@each_way
 def test_a_cluster_answers_too():
     """The workers of a client of Dask make blocks; a fault of one of them is told, and the client goes on."""
     import distributed
@@ -261,131 +242,14 @@ def test_a_cluster_answers_too():
             assert rows_told(network.near([1, 2, 3, 1, 1], [3, 1, 2], workers=client)) == rows_told(network.near([1, 2, 3, 1, 1], [3, 1, 2]))
             sums = network.sum_within([1, 2, 4], [5, 9], targets=[3, 1, 2], decay=lambda weights: numpy.exp(-weights / 3.0), workers=client)
             assert numpy.allclose(sums, network.sum_within([1, 2, 4], [5, 9], targets=[3, 1, 2], decay=lambda weights: numpy.exp(-weights / 3.0)))
-        pathlib.Path("fails").write_text("#!/bin/sh\n[ \"$2\" = --count ] || exit 0\necho 'chtab: out of memory' >&2\nexit 3\n")
-        os.chmod("fails", 0o755)
-        with chtab.Network.open(FIRST, program="./fails", load=False) as network:
-            assert raises(chtab.ProgramFault, lambda: network.near([1, 2], [3, 1], 1, workers=client), told="chtab: out of memory").status == 3
+        pathlib.Path("bad.gr").write_text("p sp 2 2\na 1 2 1\n")
+        with chtab.Network.open("bad.gr", program=PROGRAM, load=False) as network:
+            assert raises(chtab.ProgramFault, lambda: network.near([1, 2], [2, 1], 1, workers=client), told="graph line 3: too few lines").status == 1
         with chtab.Network.open(FIRST, program=PROGRAM, load=False) as network:
             assert network.near([1], [3], workers=client).weights.tolist() == [9]
 
 
 # Faults.
-
-
-def test_texts_that_are_no_answer_are_refused():
-    """Each text but one is no answer to the question, and none of it is taken."""
-    import numpy
-
-    from chtab.near import rows as near_rows
-    from chtab.near.runs import NearQuestion
-
-    class Told:
-        nodes = 5
-
-        def __init__(self, *texts):
-            self.parts = texts
-
-        def texts(self, question):
-            return self.parts
-
-    def taken(question, *texts):
-        return near_rows.joined(near_rows.portions(Told(*texts), question))
-
-    question = NearQuestion(numpy.array([2, 5]), numpy.array([3, 1, 3, 4]), 3, 9)
-    right = b"n 2 3 3 4 3 4 4 7\nn 5 1 1 9\n"
-    rows = taken(question, right)
-    assert (rows.offsets.tolist(), rows.places.tolist(), rows.weights.tolist()) == ([0, 3, 4], [0, 2, 3, 1], [4, 4, 7, 9])
-    first, second = right.splitlines(keepends=True)
-    assert taken(question, first, second).places.tolist() == [0, 2, 3, 1]
-    for old, new in (
-        (b"n 2", b"n 5"), (b"n 5", b"n 2"), (second, b""), (first, b""), (right, b""), (right, right * 2), (b"n 2 3", b"n 2 2"), (b"n 2 3", b"n 2 4"),
-        (b"4 7\n", b"4 10\n"), (b" 4 7", b" 2 7"), (b" 4 7", b" 6 7"), (b" 4 7", b" 0 7"), (b" 4 7", b" 33554433 7"), (b" 4 7", b" 3 7"), (b" 4 7", b" 4 3"),
-        (b"3 4 3 4 4 7", b"4 4 3 4 3 7"), (b"n 5 1 1 9", b"n 5 4 1 6 3 7 3 8 4 9"), (b" 1 9\n", b" 1 9"), (b" 1 9\n", b" 1 9\n\n"), (b" 1 9", b" 1 -"),
-        (b" 1 9", b" 1  9"), (b" 1 9", b" 1 9 "), (b"n 5", b"t 5"), (b"n 5", b"n n"), (b"\nn 5", b"\n5 5"), (b"n 5 1 1 9", b"n 5 1 1 9n"), (b" 1 9", b" 1 9\0"),
-        (b" 1 9", b" 1 9\xff"), (b" 1 9", b" 1 " + b"9" * 20), (b" 1 9", b" 1 9999999999999999999"), (b" 1 9", b" 1 -9"), (b"n 5 1 1 9", b"n 5 1 1 9 1"),
-        (b"n 5 1 1 9", b"n 5 0 1 9"), (b"n 5 1 1 9", b"n 5"), (b"n 5 1 1 9", b"n"), (b"n 5 1 1 9", b"n 5 2 1 9"), (b"n 5 1", b"n5 1"), (b"\n", b" "), (b" ", b"\n"),
-        (b"3 4 4 7", b"3 5 4 7\n"), (b"n 5 1 1 9\n", b"n 5 1 1 9\nn 5 0\n"), (b"n 5 1 1 9", b"n 5 -1"), (b"4 7", b"4 7.0"), (b"n 2", b" n 2"), (b"n 2", b"n\t2"),
-    ):
-        assert old in right
-        raises(chtab.ProgramFault, taken, question, right.replace(old, new), told="not asked")
-    assert taken(question, b"n 2 0\nn 5 2 1 9 4 9\n").counts().tolist() == [0, 2]
-    everyone = NearQuestion(None, numpy.array([1]))
-    raises(chtab.ProgramFault, taken, everyone, b"n 1 0\nn 2 0\nn 4 0\nn 3 0\nn 5 0\n", told="not asked")
-    raises(chtab.ProgramFault, taken, everyone, b"n 1 1 1 %d\nn 2 0\nn 3 0\nn 4 0\nn 5 0\n" % (2**60 + 1), told="not asked")
-    assert taken(everyone, b"n 1 1 1 %d\nn 2 0\n" % 2**60, b"n 3 0\nn 4 0\nn 5 0\n").weights.tolist() == [2**60]
-
-
-def test_a_run_that_fails_is_told_and_gone():
-    """A run that dies, stops, is late, is cut short or writes what is no answer. Nothing of it is left behind."""
-    with temporary() as left:
-        for words, kind, told in (
-            ("dies=0", chtab.ProgramFault, "ended by signal 11"), ("stops=0", chtab.ProgramFault, "chtab: out of memory"),
-            ("hangs=0", chtab.TimedOut, "longer than 1 seconds"), ("garbles=0", chtab.ProgramFault, "not asked"),
-            ("doubles=0", chtab.ProgramFault, "not asked"), ("cuts=0", chtab.ProgramFault, "not asked"), ("slow=2", chtab.TimedOut, "longer than 1 seconds"),
-        ):
-            seconds = 1 if kind is chtab.TimedOut else PATIENCE
-            with mood(words), chtab.Network.open(FIRST, program=STANDIN, timeout=seconds, load=False) as network:
-                for call in (
-                    lambda: network.near(None, [3, 1]), lambda: network.sum_within([1], 5, [1, 2, 3], [3]), lambda: network.nearest_of([1, 2], [3]),
-                    lambda: network.near([1, 2, 3, 1], [3, 2, 1], workers=2),
-                ):
-                    raises(kind, call, told=told)
-                    assert lives_on(0) and left() == [], (words, left())
-        pathlib.Path("bad.gr").write_text("p sp 2 2\na 1 2 1\n")
-        with chtab.Network.open("bad.gr", program=PROGRAM, load=False) as network:
-            assert raises(chtab.ProgramFault, network.near, None, [1], told="chtab: graph line 3: too few lines").status == 1
-        assert left() == []
-
-
-@needs("python3-scipy")
-def test_a_program_without_the_command():
-    """It is told, and reach goes by tables."""
-    pathlib.Path("older").write_text(f"#!/bin/sh\n[ \"$1\" = near ] && {{ echo no such command >&2; exit 2; }}\nexec {PROGRAM} \"$@\"\n")
-    os.chmod("older", 0o755)
-    places = {"nodes": ["a", "b", "c"], "x": [9.5, 9.6, 9.7], "y": [47.0, 47.1, 47.2]}
-    with chtab.Network.from_arrays(SOURCES, TARGETS, WEIGHTS, program="./older", **places) as network:
-        for call in lambda: network.near(None, ["a"]), lambda: network.nearest_of(["a"], ["a"]), lambda: network.sum_within(1, 5):
-            raises(chtab.ChtabError, call, told="older has no command `near`")
-        assert network.reach(network.snap([9.5], [47.0])).tolist() == [0, 4, 9]
-
-
-def test_closing_ends_what_is_under_way():
-    """Calls of several threads by one run and by several; no run is left, and none is begun."""
-    with mood("hangs=0"):
-        network, faults = chtab.Network.open(FIRST, program=STANDIN, load=False), []
-        calls = [lambda: network.near(None, [1])] * 2 + [lambda: network.near([1, 2, 3], [1, 2], workers=2)] * 2
-        threads = [threading.Thread(target=lambda call=call: faults.append(raises(chtab.ChtabError, call, told="the network is closed"))) for call in calls]
-        for thread in threads:
-            thread.start()
-        until(lambda: len(living()) == 6, noted)
-        network.close()
-        for thread in threads:
-            thread.join(PATIENCE)
-        assert len(faults) == 4 and len(nears()) == 6 and lives_on(0), (faults, noted())
-
-
-def test_a_signal_leaves_nothing_behind():
-    """Ctrl-C and SIGTERM while runs are under way end a script, and no run and no file is left."""
-    text = "import sys; sys.path.insert(0, sys.argv[1]); import chtab\nimport signal; signal.signal(signal.SIGTERM, signal.default_int_handler)\n"
-    # A signal that comes while the system starts a run is another matter: nobody has its number yet, and it ends when it writes.
-    text += "import threading, time\nfrom chtab.engine import child\n"
-    text += "def tell():\n while len(child.BEGUN) < int(sys.argv[4]): time.sleep(0.01)\n print(flush=True)\n"
-    text += "threading.Thread(target=tell, daemon=True).start()\n"
-    text += "chtab.Network.open(sys.argv[2], program=sys.argv[3], load=False).near([1, 2, 3], [1, 2], workers=int(sys.argv[4]))\n"
-    os.mkdir("temporary")
-    for number in signal.SIGINT, signal.SIGTERM:
-        for workers in "1", "2":
-            with mood("hangs=0"):
-                words = [PYTHON, "-c", text, ROOT / "python", FIRST, STANDIN, workers]
-                child = subprocess.Popen(
-                    list(map(str, words)), stdout=subprocess.PIPE, stderr=subprocess.PIPE, env=os.environ | {"TMPDIR": os.path.abspath("temporary")}
-                )
-                before = len(nears())
-                child.stdout.readline()
-                until(lambda: len(living()) >= int(workers) or child.poll() is not None)
-                child.send_signal(number)
-                told = child.communicate(timeout=PATIENCE)[1]
-                assert b"KeyboardInterrupt" in told and lives_on(0) and os.listdir("temporary") == [], (before, told, os.listdir("temporary"))
 
 
 def owed_here(_):
@@ -397,7 +261,6 @@ def owed_there(network):
     return rows_told(network.near(None, [3, 1]))
 
 
-@each_way
 def test_forked_processes_ask_too():
     """While threads of their parent ask, and by pickle."""
     global NETWORK
@@ -425,7 +288,6 @@ def test_forked_processes_ask_too():
         assert found and all(each == wanted for each in found)
 
 
-@each_way
 def test_threads_share_a_network():
     """Calls of eight threads, while a run of `chtab ask` is kept."""
     with chtab.Network.open(FIRST, program=PROGRAM) as network:
@@ -443,7 +305,7 @@ def test_threads_share_a_network():
 
 @needs("python3-scipy", "python3-shapely")
 def test_reach_goes_by_near_rows():
-    """It is told what tables tell, by a network that keeps no run, by one that has its hierarchy saved, and by the library for C."""
+    """It is told what tables tell, by a network whose hierarchy is built, and by one that has it saved."""
     import numpy
 
     with open("saved.ch", "w") as saved:
@@ -456,18 +318,10 @@ def test_reach_goes_by_near_rows():
         nodes, added = (column[0][spots.out_nodes[0] > 0] for column in (spots.out_nodes, spots.out_weights))
         table = network.table(nodes, network.labels)
         assert numpy.array_equal(wanted[0][0], numpy.where(table >= 0, table + added[:, None], 2**62).min(axis=0))
-    with chtab.Network.open(f"{COUNTRY}.gr", saved="saved.ch", program=PROGRAM, library=make()) as network:
+    with chtab.Network.open(f"{COUNTRY}.gr", saved="saved.ch", program=PROGRAM) as network:
         for place in range(3):
             for within, owed in zip(limits, wanted[place]):
                 assert numpy.array_equal(network.reach(spots[place:place + 1], within), owed), (place, within)
         for within in -1, 2**60 + 1, float("nan"):
             raises(ValueError, network.reach, spots[:1], within, told="from 0 to 2^60")
         assert network.isochrones(spots[:1], [120_000, 300_000]) == polygons
-    with mood():
-        for more in {"load": False}, {"saved": "saved.ch", "load": False}, {"saved": "saved.ch"}:
-            with chtab.Network.open(f"{COUNTRY}.gr", program=STANDIN, **more) as network:
-                before = len(nears())
-                for place in range(3):
-                    for within, owed in zip(limits, wanted[place]):
-                        assert numpy.array_equal(network.reach(spots[place:place + 1], within), owed), (place, within)
-                assert network.isochrones(spots[:1], [120_000, 300_000]) == polygons and len(nears()) > before

@@ -12,14 +12,14 @@ import pytest
 from helpers.cases import Case
 from helpers.commands import raises
 from helpers.maps import COUNTRY
-from helpers.marks import each_way, needs
+from helpers.marks import needs
 from helpers.packages import PYTHON
 from helpers.running import PROGRAM, ROOT
 from helpers.writing import write_graph
 import chtab
 from chtab import files
 from chtab.engine.progress import Progress
-from chtab.near.accessibility import Near
+from chtab.near.found import Near
 from chtab.roads.routes import Routes
 
 pytestmark = pytest.mark.usefixtures("program")
@@ -75,9 +75,9 @@ def test_what_is_told_of_the_package():
 
     assert dir(chtab) == sorted(chtab.__all__) and all(hasattr(chtab, name) for name in chtab.__all__)
     assert {*chtab.__all__} == {"Network", "Routes", "Near", "Spots", "ChtabError", *ERRORS, "__version__"}
-    wanted = "accessibility along answers_by changed close coordinates distances frame from_arrays from_frame from_geodataframe from_networkx from_sparse graph "
-    wanted += "isochrones labels matrix near nearest nearest_nodes nearest_of nearest_targets open reach roads rounding routes scale snap sum_within table "
-    wanted += "trip_routes trip_table trips unit"
+    wanted = "accessibility along answers_by assign changed close components coordinates crossings distances flows frame from_arrays from_frame from_geodataframe "
+    wanted += "from_networkx from_sparse graph isochrones labels matrix near nearest nearest_nodes nearest_of nearest_targets nodes nodes_to_geodataframe open "
+    wanted += "reach roads rounding routes scale snap sum_within table to_geodataframe trip_routes trip_table trips unit"
     assert [name for name in dir(chtab.Network) if not name.startswith("_")] == wanted.split()
     text = pydoc.render_doc(chtab.Network)
     assert "Parameters" in text and "Raises" in text and "leave_parent" not in text, text
@@ -125,6 +125,8 @@ def public_calls():
     for kind in chtab.Network, Routes, Near, Nearest, TripRoutes, Isochrones:
         for name in filter(lambda name: name[0] != "_", dir(kind)):
             call = getattr(kind, name)
+            if (inspect.getdoc(call) or "").startswith("The former name of "):
+                continue
             if "Returns" in (inspect.getdoc(call) or "") or kind is chtab.Network:
                 yield f"{kind.__name__}.{name}", call
 
@@ -136,8 +138,8 @@ def parts_of(text):
 
 # Calls that can't fail, because what they give is there.
 NEVER_FAIL = "files.scale_comment", "Network.close", "Routes.rows", "Routes.edges", "Near.owners", "Nearest.labels", "TripRoutes.to_geojson", "Isochrones.to_geojson"
-# The most lines of a text, which is to fit on a screen.
-SCREEN = 50
+# The most lines of a text, which have at most 100 columns.
+MOST_LINES = 72
 
 
 @needs("python3-numpy", "python3-scipy", "python3-shapely")
@@ -159,12 +161,11 @@ def test_each_call_tells_what_it_takes_and_gives():
         arrays = re.findall(r"^\S.*\barray of (?!bool).*", parts.get("Parameters", "") + "\n" + parts.get("Returns", ""), re.MULTILINE)
         assert all("shape" in line or "list of" in line for line in arrays) or name.startswith("files."), (name, arrays)
         assert not name.startswith("Network.") or name == "Network.close" or re.search(r"\b(unit|metres|degrees)\b", text), name
-        assert len(text.splitlines()) <= SCREEN, name
+        assert len(text.splitlines()) <= MOST_LINES, name
     assert count > 60, count
 
 
 @needs("python3-numpy")
-@each_way
 def test_random_graphs_answer_as_dijkstra():
     """Distances, tables and routes of random graphs."""
     import numpy
@@ -192,7 +193,6 @@ def test_random_graphs_answer_as_dijkstra():
 
 
 @needs("python3-numpy", "python3-scipy")
-@each_way
 def test_roads_answer_as_scipy():
     """10,000 pairs of Liechtenstein, and a table, against scipy's own search."""
     import numpy
@@ -217,7 +217,6 @@ def test_roads_answer_as_scipy():
 
 
 @needs("python3-numpy")
-@each_way
 def test_what_is_not_a_question_is_refused():
     with chtab.Network.open(FIRST, program=PROGRAM) as network:
         for pairs, told in ([(1, 4)], "node 4 is not from 1 to 3"), ([(0, 1)], "node 0"), ([1, 2, 3], "shape (n, 2)"), ([(1.5, 2)], "whole number"):
@@ -229,7 +228,7 @@ def test_what_is_not_a_question_is_refused():
     pathlib.Path("bad.gr").write_text("p sp 1 1\n")
     fault = raises(chtab.ProgramFault, lambda: chtab.Network.open("bad.gr", program=PROGRAM), told="chtab: graph line 2: too few lines")
     assert fault.status == 1
-    raises(chtab.ProgramFault, lambda: chtab.Network.open(FIRST, program=PROGRAM, workers=0), told="error: invalid value '0'")
+    raises(ValueError, lambda: chtab.Network.open(FIRST, program=PROGRAM, workers=0), told="from 1 to 64")
     raises(FileNotFoundError, lambda: chtab.Network.open("none.gr", program=PROGRAM))
     raises(chtab.ChtabError, lambda: chtab.Network.open("bad.gr", program="no-program"), told="can't be run")
 
@@ -261,7 +260,6 @@ def test_signs_of_life():
 
 
 @needs("python3-numpy", "python3-pandas")
-@each_way
 def test_frames_and_features():
     import pandas
 
@@ -284,6 +282,8 @@ def installed(name, has_program):
     if has_program:
         (checkout / "crates" / "chtab" / "out").mkdir(parents=True)
         subprocess.run(["cp", str(PROGRAM), str(checkout / "crates" / "chtab" / "out")], check=True)
+        (checkout / "out").mkdir()
+        subprocess.run(["cp", "-r", str(ROOT / "out" / "library"), str(checkout / "out")], check=True)
     subprocess.run([PYTHON, "-m", "venv", "--system-site-packages", name], check=True)
     words = [f"{name}/bin/pip", "install", "--no-input", "--no-index", "--quiet", "--disable-pip-version-check"]
     words += ["--config-settings=--without-library=yes", f"./{checkout}/python"]

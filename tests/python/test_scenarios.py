@@ -11,7 +11,7 @@ import warnings
 import pytest
 
 from helpers.commands import raises, temporary
-from helpers.marks import each_way, needs
+from helpers.marks import needs
 from helpers.running import PROGRAM, ROOT
 from helpers.scenarios import ARCS, least_of, of_roads
 from helpers.waiting import PATIENCE
@@ -21,7 +21,6 @@ from chtab import files
 pytestmark = [needs("python3-numpy"), pytest.mark.usefixtures("program")]
 
 
-@each_way
 @needs("python3-scipy", "python3-pandas")
 def test_random_changes_answer_as_scipy():
     """Weights by row, by a dict and by a Series of all rows or of some; arcs closed by row, by mask and by pair; arcs added; shares of nodes that are
@@ -81,7 +80,6 @@ def test_random_changes_answer_as_scipy():
         network.close()
 
 
-@each_way
 def test_an_arc_is_the_one_that_is_meant():
     """A row is one of several arcs between two nodes, a pair all of them, and a triple the one with the key."""
     with of_roads() as network:
@@ -145,7 +143,6 @@ def test_added_edges_have_free_keys():
             assert [again.distances([pair])[0] for pair in ((1, 2), (2, 3), (3, 1))] == [10, 10, 10]
 
 
-@each_way
 @needs("python3-networkx")
 def test_new_weights_are_in_the_unit_of_those_that_were_given():
     """With a unit, with whole weights and with raw=True it is known what a number means; where weights were multiplied alone, new ones are refused."""
@@ -182,7 +179,6 @@ def test_new_weights_are_in_the_unit_of_those_that_were_given():
         assert other.distances([(1, 2)]).tolist() == [8] and 0.25 <= other.rounding <= 0.5
 
 
-@each_way
 @needs("python3-scipy", "python3-shapely")
 def test_labels_places_and_bends_stay():
     """A closed arc before others doesn't move their bends; a new road has its own; a folder keeps all of it."""
@@ -200,7 +196,6 @@ def test_labels_places_and_bends_stay():
         assert network.distances([("inn", "mill"), ("school", "mill")]).tolist() == [3, 3]
 
 
-@each_way
 def test_networks_of_files_change_too():
     """Their nodes are numbers, and their arcs are named by lines and pairs; where trips end and what the unit is stays."""
     path = ROOT / "examples" / "liechtenstein.gr"
@@ -233,7 +228,6 @@ def test_streets_of_a_map_are_closed_by_their_names():
             assert raises(chtab.DataFault, network.changed, None, [0, word], told="no street of the map is called").row == 1
 
 
-@each_way
 def test_the_old_network_may_close_first():
     """Neither needs the files of the other."""
     with temporary() as left:
@@ -317,7 +311,7 @@ def test_both_answer_at_once():
 
 def test_a_change_that_fails_leaves_nothing():
     """A program that fails while it builds leaves no files, and the old network answers on."""
-    with temporary() as left, of_roads(library=False) as network:
+    with temporary() as left, of_roads(workers=2) as network:
         own = left()
         program = pathlib.Path("broken")
         program.write_text(f"#!/bin/sh\n[ \"$1\" = save ] && {{ echo 'chtab: out of memory' >&2; exit 3; }}\nexec {PROGRAM} \"$@\"\n")
@@ -354,7 +348,6 @@ def test_columns_of_frames_go_by_their_index():
         raises(chtab.DataFault, network.changed, None, is_closed.iloc[:3], told="closed has the shape (3,)")
 
 
-@each_way
 @needs("python3-pandas")
 def test_rows_are_those_of_the_frame_also_where_it_was_filtered():
     """Labels from 1 on, labels with gaps, and names: columns of the frame, of parts of it and in another order change the same rows, also in a network
@@ -417,14 +410,16 @@ def test_rows_whose_labels_say_too_little_are_refused():
     path.write_text(json.dumps({name: value for name, value in json.loads(path.read_text()).items() if name in ("labels", "scale", "rounding", "graph", "unit")}))
     with chtab.Network.open("own", program=PROGRAM) as network:
         raises(chtab.DataFault, network.changed, frame["minutes"].set_axis([1, 2, 3, 4, 5]).iloc[[1]], told="nothing says which row is called 2")
-    for name, told in ("b", "b has the rows of a in another order"), ("minutes", "weights has the rows of sources in another order"):
-        columns = {"a": frame["a"], "b": frame["b"], "minutes": frame["minutes"]}
-        plain = {key: column.reset_index(drop=True) for key, column in columns.items()}
+    for name in "b", "minutes":
+        plain = {key: frame[key].reset_index(drop=True) for key in ("a", "b", "minutes")}
         plain[name] = plain[name].sort_values()
-        raises(chtab.DataFault, chtab.Network.from_arrays, *plain.values(), told=told.replace("b has the rows of a", "targets has the rows of sources"))
+        with chtab.Network.from_arrays(*plain.values(), unit="minutes", program=PROGRAM) as network:
+            ends, weights = [network.labels[column - 1].tolist() for column in network.graph[1:3]], network.graph.weights / 60_000
+            assert (*ends, weights.tolist()) == tuple(frame[key].tolist() for key in ("a", "b", "minutes"))
+        plain[name] = plain[name].set_axis([7, 8, 9, 10, 11])
+        raises(chtab.DataFault, chtab.Network.from_arrays, *plain.values(), told="`to_numpy()`")
 
 
-@each_way
 @needs("python3-pandas", "python3-networkx")
 def test_edges_of_a_graph_go_by_their_index():
     """A Series with the edges of a graph as its index, in any order and also after edges were closed, in weights, masks and sums along routes."""
@@ -453,7 +448,6 @@ def test_edges_of_a_graph_go_by_their_index():
 # Sums along routes, and the rows of arcs.
 
 
-@each_way
 @needs("python3-pandas")
 def test_sums_along_routes_are_of_the_arcs_that_routes_take():
     """A second column is summed over the arcs of least weight, of equal ones the first; routes name their rows, also after arcs were closed."""
@@ -466,7 +460,7 @@ def test_sums_along_routes_are_of_the_arcs_that_routes_take():
         assert numpy.isnan(network.along(arcs["metres"], [(1, 4)])).tolist() == [True]
         assert network.along(arcs.sort_values("toll", ascending=False)["metres"], [(1, 3)]).tolist() == [110]
         assert network.along(arcs[["metres", "toll"]].to_numpy(), [1, 2], [3, 3]).tolist() == [[110, 10], [100, 8]]
-        # Whole numbers are added up by the library where it answers, others here, and both come out the same.
+        # Whole numbers are added up by the library, others here, and both come out the same.
         for tolls in arcs["toll"], arcs["toll"].astype(numpy.uint8), arcs["toll"].astype(float), arcs["toll"] + 2**60 - 2**60:
             found = network.along(tolls, [(1, 3), (3, 1), (2, 2), (1, 4)])
             assert found.dtype == numpy.float64 and found[:3].tolist() == [10, 10, 0] and numpy.isnan(found[3])

@@ -11,7 +11,7 @@ import pytest
 
 from helpers import minutes
 from helpers.commands import raises
-from helpers.marks import each_way, needs
+from helpers.marks import needs
 from helpers.minutes import of_minutes
 from helpers.running import PROGRAM
 import chtab
@@ -22,7 +22,6 @@ pytestmark = [needs("python3-numpy"), pytest.mark.usefixtures("program")]
 # Units.
 
 
-@each_way
 def test_answers_are_in_the_unit_of_the_weights():
     """Every call takes limits and gives answers in minutes, and a limit lets through what is just as far."""
     import numpy
@@ -42,7 +41,6 @@ def test_answers_are_in_the_unit_of_the_weights():
         assert network.accessibility({"mill": 10}, 5, ["inn"], decay=lambda minutes: minutes).tolist() == [25.0]
 
 
-@each_way
 def test_units_are_known_or_told():
     """Files in milliseconds answer in hours and minutes, a scale says what no file says, and raw numbers are those of the file."""
     pathlib.Path("plain.gr").write_text("p sp 2 1\na 1 2 90000\n")
@@ -55,8 +53,8 @@ def test_units_are_known_or_told():
             found = network.distances([(1, 2)])[0]
             assert found == wanted and isinstance(found.item(), type(wanted)), (path, more, found)
     for path, more, told in (
-        ("plain.gr", {"unit": "minutes"}, "nothing tells how many of the graph's weights make one of 'minutes'"),
-        ("timed.gr", {"unit": "metres"}, "one of 'metres'"), ("timed.gr", {"unit": 60}, "unit is a name"),
+        ("plain.gr", {"unit": "minutes"}, "nothing says how many of the graph's weights make one of 'minutes'"),
+        ("timed.gr", {"unit": "metres"}, "'metres' needs `scale`"), ("timed.gr", {"unit": 60}, "unit is a name"),
     ):
         raises(chtab.DataFault, lambda: chtab.Network.open(path, program=PROGRAM, **more), told=told)
     with of_minutes(folder="own") as network:
@@ -83,7 +81,6 @@ def test_a_limit_lets_through_what_is_just_as_far():
             assert abs(fractions.Fraction(weight) * 60_000 - exact) < fractions.Fraction(1, 1_000)
 
 
-@each_way
 def test_calls_of_the_last_version_go_on():
     """A scale without a unit gives whole numbers, as before, and a warning on the caller's line; a unit, or `raw`, gives none."""
     for more, count in (({"scale": 60_000, "unit": None}, 1), ({"scale": 60_000, "unit": None, "raw": True}, 0), ({}, 0), ({"scale": 1_000}, 0)):
@@ -100,7 +97,6 @@ def test_calls_of_the_last_version_go_on():
 
 
 @needs("python3-pandas")
-@each_way
 def test_no_mean_is_over_minus_one():
     """A frame has NA where no path leads, so that means and counts are those of the paths; arrays have what is asked for."""
     import numpy
@@ -282,7 +278,6 @@ def test_maps_to_move():
 
 
 @needs("python3-scipy", "python3-pandas")
-@each_way
 def test_aggregates_are_those_of_numpy():
     """Each aggregate, by scipy's distances and numpy's own calls, for random graphs, values, limits, lists with repeated targets, and decays."""
     import numpy
@@ -368,13 +363,12 @@ def test_what_is_common_is_taken():
     raises(chtab.DataFault, lambda: chtab.Network.from_sparse(scipy.sparse.csr_matrix((2, 3)), program=PROGRAM), told="as many rows as columns")
 
 
-@each_way
 def test_errors_name_what_was_given():
     """Each error names the argument that it is about, and how it is meant."""
     with of_minutes() as network:
         for kind, call, told in (
-            (TypeError, lambda: chtab.Network("roads.gr"), 'Network.open("roads.gr")'), (TypeError, lambda: of_minutes(bothways=True), "it has 'both_ways'"),
-            (TypeError, lambda: of_minutes(worker=2), "it has 'workers'"), (TypeError, lambda: chtab.Network.from_networkx(None, weights="length"), "it has 'weight'"),
+            (TypeError, lambda: chtab.Network("roads.gr"), 'Network.open("roads.gr")'), (TypeError, lambda: of_minutes(bothways=True), "it has both_ways"),
+            (TypeError, lambda: of_minutes(worker=2), "it has workers"), (TypeError, lambda: chtab.Network.from_networkx(None, weights="length"), "it has weight"),
             (TypeError, lambda: network.table(["inn"], ["mill"], "3"), "within is a number, not '3'"),
             (TypeError, lambda: network.table(["inn"], ["mill"], True), "within is a number"), (TypeError, lambda: network.isochrones((9.5, 47.1), [3]), "as `snap` gives"),
             (TypeError, lambda: network.near(None, ["inn"], count=1.5), "count is a whole number"), (ValueError, lambda: network.table(["inn"], ["mill"], -1), "within is -1"),
@@ -382,7 +376,6 @@ def test_errors_name_what_was_given():
             (TypeError, lambda: network.near(None, ["inn"], progress="yes"), "progress is True, False or a call"),
             (TypeError, lambda: chtab.Network.open("a.gr", colour=3), "open has no argument 'colour'"),
             (ValueError, lambda: of_minutes(timeout=-1), "timeout is -1"), (TypeError, lambda: of_minutes(timeout="5"), "timeout is a number of seconds"),
-            (FileNotFoundError, lambda: of_minutes(folder="no/such"), "no/such'"),
         ):
             raises(kind, call, told=told)
 

@@ -11,8 +11,10 @@ import pytest
 
 from helpers.maps import COUNTRY
 from helpers.marks import needs
+from helpers.moods import STANDIN, mood
 from helpers.packages import PYTHON
 from helpers.running import PROGRAM, ROOT
+from helpers.waiting import until
 
 pytestmark = pytest.mark.usefixtures("program")
 VILLAGE = ROOT / "tests" / "data" / "village.osm"
@@ -200,33 +202,20 @@ def test_tables_in_blocks(lists):
     assert [int.from_bytes(cells[at:at + 8], "little", signed=True) for at in range(0, 72, 8)] == [0, -1, -1, 9, 0, 4, 5, -1, 0]
     write_list("far.ss", [1, 2, 3, 4, 5, 3155])
     fault = tool("blocks", *words, graph, "from.ss", "far.ss", "far.csv", status=1)
-    assert "targets 5 to 6: status 1" in fault and "node out of range" in fault, fault
+    assert "targets 5 to 6: a node is not from 1 to 3,154" in fault, fault
     assert not [name for name in os.listdir() if "far.csv" in name]
     assert "python3-distributed" in tool("blocks", "--scheduler", "none", *words, *lists, "o.csv", status=1, env=without("distributed"))
 
 
 def blocks_by_saved_hierarchies(graph):
-    """No more runs than are wanted at a time make all blocks; a hierarchy that is given is read, and requests have the limit."""
-    program = pathlib.Path("noting")
-    program.write_text(f'#!/bin/sh\necho "$*" >> "{os.getcwd()}/noted"\nexec "{PROGRAM}" "$@"\n')
-    program.chmod(0o755)
-    wanted = pathlib.Path("table.csv").read_text()
-
-    def noted(*words):
-        """How often the program was called to ask it, with a saved hierarchy, with a limit."""
-        pathlib.Path("noted").unlink(missing_ok=True)
-        tool("blocks", "--program", program.resolve(), "--side", "7", *words, graph, "from.ss", "to.ss", "again.csv")
-        calls = pathlib.Path("noted").read_text().splitlines()
-        return [sum(word in call.split() for call in calls) for word in ("ask", "--saved", "--within")]
-
+    """The same by a hierarchy that is given, by one that several workers build, in blocks of any size, and without the cells above a limit."""
+    wanted, lists = pathlib.Path("table.csv").read_text(), (graph, "from.ss", "to.ss", "again.csv")
     pathlib.Path("own.ch").write_text(run(PROGRAM, "save", graph))
-    for words, is_saved in ([], False), (["--saved", "own.ch"], True), (["--side", "2"], False):
-        runs, by_saved, within = noted("--processes", "2", *words)
-        assert 1 <= runs <= 2 and (by_saved, within) == (is_saved * runs, 0), (words, runs, by_saved, within)
+    for words in [], ["--saved", "own.ch"], ["--side", "2"], ["--workers", "2"]:
+        tool("blocks", "--program", PROGRAM, "--processes", "2", *words, *lists)
         assert pathlib.Path("again.csv").read_text() == wanted, words
     limit = 1_000_000
-    runs, by_saved, within = noted("--processes", "4", "--within", limit)
-    assert 1 <= runs <= 4 and (by_saved, within) == (0, 0), (runs, by_saved, within)
+    tool("blocks", "--program", PROGRAM, "--processes", "4", "--side", "7", "--within", limit, *lists)
     rows = [line.split(",") for line in wanted.splitlines()[1:]]
     cells = [[cell if int(cell) <= limit else "" for cell in row[1:]] for row in rows]
     assert [line.split(",")[1:] for line in pathlib.Path("again.csv").read_text().splitlines()[1:]] == cells
@@ -240,20 +229,18 @@ def blocks_by_saved_hierarchies(graph):
 
 @needs("python3-distributed")
 def test_a_worker_is_lost(lists):
-    """Of three workers of a local cluster one is ended in mid-run: its block is done again."""
+    """Of three workers of a local cluster one is ended while each makes a block: its block is made again."""
     import distributed
 
-    program = pathlib.Path("slow")
-    program.write_text(f'#!/bin/sh\necho $PPID >> "{os.getcwd()}/workers"\nsleep 1\nexec "{PROGRAM}" "$@"\n')
-    program.chmod(0o755)
-    with distributed.LocalCluster(n_workers=3, threads_per_worker=1, dashboard_address=None) as cluster:
-        words = ["--scheduler", cluster.scheduler_address, "--program", program.resolve(), "--side", "4"]
-        blocks = [PYTHON, ROOT / "tools" / "blocks.py", *words, *lists, "by-dask.csv"]
-        running = subprocess.Popen([str(word) for word in blocks], stdout=subprocess.PIPE, stderr=subprocess.PIPE)
-        while not pathlib.Path("workers").exists() or not pathlib.Path("workers").read_text().strip():
-            assert running.poll() is None, running.communicate()
-        os.kill(int(pathlib.Path("workers").read_text().split()[0]), 9)
-        told = running.communicate(timeout=300)
+    with mood("slow=1"), distributed.LocalCluster(n_workers=3, threads_per_worker=1, dashboard_address=None) as cluster:
+        with distributed.Client(cluster) as client:
+            numbers = list(client.run(os.getpid).values())
+            words = ["--scheduler", cluster.scheduler_address, "--program", STANDIN, "--side", "4"]
+            blocks = [PYTHON, ROOT / "tools" / "blocks.py", *words, *lists, "by-dask.csv"]
+            running = subprocess.Popen([str(word) for word in blocks], stdout=subprocess.PIPE, stderr=subprocess.PIPE)
+            until(lambda: sum(map(len, client.processing().values())) >= 3 or running.poll() is not None)
+            os.kill(numbers[0], 9)
+            told = running.communicate(timeout=300)
     assert running.returncode == 0, told
     assert pathlib.Path("by-dask.csv").read_text() == tool("to_geojson", "table", "to.ss", text=run(PROGRAM, "table", *lists))
 

@@ -112,6 +112,23 @@ def test_turns_back():
     assert sorted(map(sorted, outs)) == [[1, 4], [3, 4]]
 
 
+def test_no_turning_back_where_one_way_becomes_another():
+    """Round a forbidden turn a trip goes on over places where just two roads meet, and does not turn back there; it may do so at a dead end, and at a
+    crossing of three roads."""
+    nodes = {1: (0, 0), 2: (-1, 0), 3: (0, 1), 4: (0.2, 0), 6: (1, 0), 7: (1, 1)}
+    ways, left = [[2, 1], [1, 3], [1, 4], [4, 6], [6, 7], [7, 3]], [("way", 1, "from"), ("node", 1, "via"), ("way", 2, "to")]
+    turn = [(left, {"type": "restriction", "restriction": "no_left_turn"})]
+    around, to_four = 4 * BLOCK, round(0.2 * BLOCK)
+
+    def least(ways):
+        return searched(converted(osm(nodes | {8: (0.2, -1)}, [(way, ROAD) for way in ways], turn), turns=True)[0])[2, 3]
+
+    assert abs(least(ways) - around) < 4, "it goes on"
+    assert abs(least(ways[:3]) - (2 * BLOCK + 2 * to_four)) < 4, "a dead end"
+    assert abs(least([*ways, [4, 8]]) - (2 * BLOCK + 2 * to_four)) < 4, "a crossing"
+    assert abs(least(ways[:5]) - (4 * BLOCK + 2 * BLOCK)) < 6, "it goes on to the dead end, over several such places"
+
+
 def test_turns_not_read():
     member = ("way", 1, "from"), ("node", 1, "via"), ("way", 2, "to")
     elsewhere = "without roads that meet at the node"
@@ -221,11 +238,16 @@ def a_turn_is_longer(plain, made, world, members):
 
 def trips_of(graph):
     """The function that tells the least weight between two of the map's nodes, for trips that begin at the first node in the graph that
-    each has; infinite where no walk leads there."""
-    ahead, numbers = rows(graph), {}
+    each has, and end where trips to it end; infinite where no walk leads there."""
+    ahead, numbers, ends = rows(graph), {}, dict(graph.ends)
     for number, name in enumerate(graph.names, 1):
         numbers.setdefault(name, number)
-    return lambda start, end: reached(ahead, numbers[start], numbers[end]).get(numbers[end], math.inf)
+
+    def least(start, end):
+        goal = ends.get(numbers[end], numbers[end])
+        return reached(ahead, numbers[start], goal).get(goal, math.inf)
+
+    return least
 
 
 def country():
@@ -274,7 +296,7 @@ def a_restriction_holds(text, plain, least, turn, word):
     members = f"<member type='way' ref='{way}' role='from'/><member type='node' ref='{node}' role='via'/><member type='way' ref='{other}' role='to'/>"
     tags = f"<tag k='type' v='restriction'/><tag k='restriction' v='{word}'/>"
     made, report = converted(text.replace("</osm>", f"<relation id='1'>{members}{tags}</relation></osm>"), nodes="all", turns=True)
-    assert report.total("turns") == 0 and len(made.ends) == 1, (turn, word, report.counts["turns"])
+    assert report.total("turns") == 0 and node in {made.names[begin - 1] for begin, _ in made.ends}, (turn, word, report.counts["turns"])
     with_turns = trips_of(made)
     for (start, _, one), (_, end, more) in itertools.product(*ways_over(plain, node)):
         if start != end:

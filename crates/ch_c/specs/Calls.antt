@@ -9,6 +9,8 @@ use Rattle.ch_query.specs.declared.routes.Route.{Route}
 use Rattle.ch_text.specs.SaveText.{IsHierarchyText}
 use Rattle.ch_engine.specs.declared.fault.OpenError.{OpenError}
 use Rattle.ch_engine.specs.declared.fault.Refusal.{Refusal}
+use Rattle.ch_engine.specs.declared.flows.Flowed.{Flowed}
+use Rattle.ch_engine.specs.Flows.{AreFlowsWritten}
 use Rattle.ch_near.specs.declared.direction.Direction.{Direction}
 use Rattle.ch_near.specs.declared.direction.Direction.TheVariants.{To, From}
 use Rattle.ch_engine.specs.declared.written.End.{End}
@@ -21,6 +23,7 @@ use Rattle.ch_engine.specs.Routes.{AreRoutesWritten, IsFound}
 use Rattle.ch_engine.specs.RouteSums.{ArePairSumsWritten}
 use Rattle.ch_engine.specs.Sums.{AreSumsWritten}
 use Rattle.ch_engine.specs.Cells.{ArePairCells, AreTableCells, no_distance}
+use Rattle.ch_engine.specs.Refusals.{AreFlowLengths, IsRefusalOfFlows}
 use Rattle.ch_engine.specs.Refusals.{AreNodes, ArePairs, ArePairSumLengths, ArePlaces, AreRouteLengths, AreRowSources}
 use Rattle.ch_engine.specs.Refusals.{AreSumSources, AreTableLists, IsLikeError, IsNodePair, IsOpenError, IsRefusalOfPairs}
 use Rattle.ch_engine.specs.Refusals.{IsRefusalOfPairSums, IsRefusalOfPlaces, IsRefusalOfRoute, IsRefusalOfRoutes, IsRefusalOfRows}
@@ -278,3 +281,31 @@ ArePairSumsAnswered held sources targets values before after status =
     ⊎ ((refusal : Refusal) × (status ≡ refusal_status refusal) × (after ≡ before)
     × IsRefusalOfPairSums (nodes_of held.hierarchy) held.lines.count sources targets (length values) (length before.weights)
     (length before.sums) refusal)
+
+-- the status for what became of flows
+abbrev pub flowed_status : Flowed → ℕ
+flowed_status (Flowed.All missed) = OK
+flowed_status Flowed.TooLarge = SUM_TOO_LARGE
+flowed_status Flowed.NoMemory = NO_MEMORY
+
+-- the number of pairs without a route, which is written with the flows
+abbrev pub IsMissedTold : Flowed → ℕ → ℕ → Type 0
+IsMissedTold (Flowed.All missed) before after = after ≡ missed
+IsMissedTold Flowed.TooLarge before after = after ≡ before
+IsMissedTold Flowed.NoMemory before after = after ≡ before
+
+-- the number of pairs without a route, and the flows on all lines
+pub record FlowArrays : Type 0 where
+  pub missed : ℕ
+  pub flows : List ℕ
+
+-- the flows of pairs of nodes are written on all lines; or one is too large, or there is no memory, or they are refused, and
+-- all is as before
+abbrev pub AreFlowsAnswered : Held → List ℕ → List ℕ → List ℕ → FlowArrays → FlowArrays → ℕ → Type 0
+AreFlowsAnswered held sources targets demands before after status =
+    ((flowed : Flowed) × (status ≡ flowed_status flowed)
+    × AreFlowLengths (length sources) (length targets) (length demands) (length before.flows) held.lines.count
+    × (AreNodes (nodes_of held.hierarchy) sources × AreNodes (nodes_of held.hierarchy) targets)
+    × AreFlowsWritten held sources targets demands before.flows after.flows flowed × IsMissedTold flowed before.missed after.missed)
+    ⊎ ((refusal : Refusal) × (status ≡ refusal_status refusal) × (after ≡ before)
+    × IsRefusalOfFlows (nodes_of held.hierarchy) held.lines.count sources targets (length demands) (length before.flows) refusal)

@@ -5,11 +5,11 @@ ghost use Rattle.ch_engine.specs.NearRows.{StaysFrom};
 ghost use Rattle.ch_hierarchy.specs.Hierarchy.{nodes_of};
 ghost use Rattle.ch_engine.specs.Opened.{IsOpened, IsOpenedLike};
 ghost use Rattle.ch_engine.specs.Refusals.{IsLikeError, IsOpenError};
-ghost use Rattle.ch_c.specs.Calls.{ArePairsAnswered, ArePairSumsAnswered, AreRouteNodes, AreRoutesAnswered, IsRouteAnswered, IsRouteTold, IsSaved, IsTableAnswered};
+ghost use Rattle.ch_c.specs.Calls.{AreFlowsAnswered, ArePairsAnswered, ArePairSumsAnswered, AreRouteNodes, AreRoutesAnswered, IsRouteAnswered, IsRouteTold, IsSaved, IsTableAnswered};
 
 use crate::near::{status_of_end, status_of_sums};
-use crate::status::{NO_MEMORY, OK, TOO_SHORT, status_of};
-use ch_engine::{Engine, NO_DISTANCE, OpenError};
+use crate::status::{NO_MEMORY, OK, SUM_TOO_LARGE, TOO_SHORT, status_of};
+use ch_engine::{Engine, Flowed, NO_DISTANCE, OpenError};
 use ch_graph::InArc;
 use ch_query::Route;
 use std::alloc::Global;
@@ -202,6 +202,30 @@ pub(crate) fn write_route_sums(
             *pairs = summed.count;
             status_of_sums(summed.end)
         }
+        Err(refusal) => status_of(refusal),
+    }
+}
+
+/// Writes the flows of pairs on all lines, and the number of pairs without a walk, or nothing. Returns a status.
+pub(crate) fn write_flows(
+    alloc: Global,
+    engine: &mut Engine,
+    sources: &[u32],
+    targets: &[u32],
+    demands: &[u64],
+    missed: &mut u64,
+    flows: &mut [u64],
+) -> u32
+    ensures answered { AreFlowsAnswered engine.old sources.now targets.now demands.now (record { missed = missed.old; flows = flows.old }) (record { missed = missed.new; flows = flows.new }) result }
+    ensures same { engine.new ≡ engine.old }
+{
+    match engine.flows(alloc, sources, targets, demands, flows) {
+        Ok(Flowed::All(count)) => {
+            *missed = count;
+            OK
+        }
+        Ok(Flowed::TooLarge) => SUM_TOO_LARGE,
+        Ok(Flowed::NoMemory) => NO_MEMORY,
         Err(refusal) => status_of(refusal),
     }
 }

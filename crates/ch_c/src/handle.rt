@@ -2,13 +2,13 @@
 ghost use Rattle.std.specs.Prelude.{◌≡◌, ◌↔◌, IfSome, IsSome, MatchOption, None, Some, ⊤};
 ghost use Rattle.ch_hierarchy.specs.Hierarchy.{nodes_of};
 ghost use Rattle.ch_engine.specs.Lines.{IsOfSome};
-ghost use Rattle.ch_c.specs.Calls.{ArePairsAnswered, ArePairSumsAnswered, ArePlacesKept, AreRoutesAnswered, AreRowsAnswered, AreSumsAnswered, IsOpening, IsOpeningLike, IsRouteAnswered, IsSaved, IsSharing, IsSwept, IsTableAnswered, OfNetwork};
+ghost use Rattle.ch_c.specs.Calls.{AreFlowsAnswered, ArePairsAnswered, ArePairSumsAnswered, ArePlacesKept, AreRoutesAnswered, AreRowsAnswered, AreSumsAnswered, IsOpening, IsOpeningLike, IsRouteAnswered, IsSaved, IsSharing, IsSwept, IsTableAnswered, OfNetwork};
 ghost use Rattle.ch_c.specs.declared.status.TheConstants.{OK};
 
 pub use crate::answers::Found;
 use crate::answers::{
-    opened, opened_like, shared, write_distances, write_route, write_route_sums, write_routes,
-    write_saved, write_table,
+    opened, opened_like, shared, write_distances, write_flows, write_route, write_route_sums,
+    write_routes, write_saved, write_table,
 };
 use crate::erased::ErasedEngine;
 use crate::faults::{Fault, tell};
@@ -330,6 +330,29 @@ pub extern "C" fn chtab_route_sums(
         weights,
         sums,
     );
+    handle.put(engine);
+    status
+}
+
+/// Writes the flows of pairs: the number of pairs without a walk, and for each line of the graph the sum of the demands of
+/// the pairs whose routes take the arc on it.
+#[unsafe(no_mangle)]
+pub extern "C" fn chtab_flows(
+    alloc: Global,
+    handle: &mut Handle,
+    sources: &[u32],
+    targets: &[u32],
+    demands: &[u64],
+    missed: &mut u64,
+    flows: &mut [u64],
+) -> u32
+    ensures answered { OfNetwork handle.old.engine.network result ((missed.new ≡ missed.old) × (flows.new ≡ flows.old)) (λ held. AreFlowsAnswered held sources.now targets.now demands.now (record { missed = missed.old; flows = flows.old }) (record { missed = missed.new; flows = flows.new }) result) }
+    ensures same { handle.new.engine.network ≡ handle.old.engine.network }
+{
+    let Some(mut engine) = handle.take(alloc) else {
+        return CLOSED;
+    };
+    let status = write_flows(alloc, &mut engine, sources, targets, demands, missed, flows);
     handle.put(engine);
     status
 }

@@ -5,7 +5,7 @@
 //! - Pieces pass the gate as often as they should, and workers do pieces at the same time.
 //!
 //! The crate has only tests, so the crates below are proved once. It stands on ch_contract, ch_graph, ch_hierarchy,
-//! ch_lists, ch_near, ch_order, ch_query, ch_queue, ch_read, ch_rounds, ch_table, ch_text and ch_work.
+//! ch_lists, ch_near, ch_order, ch_query, ch_queue, ch_read, ch_table, ch_text and ch_work.
 #![tactic(auto)]
 
 #[cfg(test)]
@@ -34,3 +34,5 @@ mod reading;
 mod table;
 #[cfg(test)]
 mod work;
+#[cfg(test)]
+mod worked;

@@ -10,7 +10,7 @@ use ch_hierarchy::{Hierarchy, Side};
 use ch_query::{
     Answer, Scratch, Start, answer_all, answer_all_in, distance, ranked_spaces_alone, route, spread,
 };
-use ch_work::{Open, Plan};
+use ch_work::{MeetingGate, Open, Plan};
 use std::alloc::{AllocError, Global};
 use std::test::Fail;
 use std::thread::Threads;
@@ -130,5 +130,16 @@ fn answered_refused_in_turn(rt: HostRuntime) -> Result<(), Fail> {
             assert_eq!(rt; answer.arcs.is_some(), routes);
         }
     }
+    Ok(())
+}
+
+#[test]
+fn two_queries_are_answered_at_once(rt: HostRuntime) -> Result<(), Fail> {
+    let ring = hierarchy(&rt, rt.alloc(), RING)?;
+    assert!(rt; ring.nodes() == 5);
+    let gate = MeetingGate::new();
+    let crew = crew(&rt, rt.alloc(), &Plan::new(2, 1, 64), &gate);
+    answer_all(&crew, &ring, &[(4, 3), (2, 1)], true)?;
+    assert!(rt; gate.has_met());
     Ok(())
 }

@@ -8,7 +8,7 @@ use crate::crew::crew;
 use crate::examples::{Files, LINE, RING, hierarchy};
 use ch_hierarchy::Hierarchy;
 use ch_table::{Buckets, Table, table};
-use ch_work::{CountingGate, Gate, Open, Plan};
+use ch_work::{CountingGate, Gate, MeetingGate, Open, Plan};
 use std::alloc::{AllocError, Global};
 use std::process::Abort;
 use std::test::Fail;
@@ -99,5 +99,15 @@ fn refused_in_turn(rt: HostRuntime) -> Result<(), Fail> {
         again!(expect(&rt, alloc, &ring, workers));
     }
     assert_eq!(rt; again!(filled(alloc, &ring)), (1, 2));
+    Ok(())
+}
+
+#[test]
+fn two_pieces_of_a_table_are_made_at_once(rt: HostRuntime) -> Result<(), Fail> {
+    let ring = hierarchy(&rt, rt.alloc(), RING)?;
+    assert!(rt; ring.nodes() == 5);
+    let gate = MeetingGate::new();
+    make(&rt, rt.alloc(), &ring, &Plan::new(2, 1, 64), &gate)?;
+    assert!(rt; gate.has_met());
     Ok(())
 }

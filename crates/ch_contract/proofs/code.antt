@@ -15,8 +15,5 @@ pub mod Candidates
 pub mod ShortcutLemmas
 pub mod Touching
 pub mod Neighbours
-pub mod RoundSides
-pub mod RoundPutLists
-pub mod TiedNeighbours
 pub mod NodeLists
 pub mod NodeBounds

@@ -9,11 +9,16 @@ use Rattle.ch_contract.specs.Contraction.{Contracts}
 abbrev pub AreDifferentNodes : Network → List ℕ → Type 0
 AreDifferentNodes g nodes = All (λ v. v < g.nodes) nodes × AllPairs ◌≢◌ nodes
 
--- the nodes of this list are contracted in its order; L i are the legs after the first i steps
-pub record IsBegun (g : Network) (h : ℕ) (order : List ℕ) (L : ℕ → Legs) : Type 0 where
+-- the nodes of this list are taken in its order; L i are the legs after the first i steps, and IsStep says how a step
+-- changes them
+pub record IsBegunBy (IsStep : Legs → ℕ → Legs → Type 0) (g : Network) (order : List ℕ) (L : ℕ → Legs) : Type 0 where
   pub nodes : AreDifferentNodes g order
   pub start : SameLegs (L 0) (opening g)
-  pub step : (i : ℕ) → i < length order → Contracts g.nodes h (L i) (slice_index order i) (L (i + 1))
+  pub step : (i : ℕ) → i < length order → IsStep (L i) (slice_index order i) (L (i + 1))
+
+-- the nodes of this list are contracted in its order
+abbrev pub IsBegun : Network → ℕ → List ℕ → (ℕ → Legs) → Type 0
+IsBegun g h order L = IsBegunBy (Contracts g.nodes h) g order L
 
 -- the level of each contracted node is the number of its step
 abbrev pub AreLevels : List ℕ → List ℕ → Type 0

@@ -4,11 +4,10 @@ use Rattle.ch_graph.specs.Graph.{Network}
 use Rattle.ch_hierarchy.specs.Hierarchy.{LevelsAndLegs}
 use Rattle.ch_hierarchy.specs.Rows.{row}
 use Rattle.ch_contract.specs.declared.measure.OrderBy.{OrderBy}
-use Rattle.ch_contract.specs.declared.measure.OrderBy.TheVariants.{Difference, Depth, Rounds}
+use Rattle.ch_contract.specs.declared.measure.OrderBy.TheVariants.{Difference, Depth}
 use Rattle.ch_contract.specs.Legs.{Legs}
 use Rattle.ch_contract.specs.Contraction.{Contracts}
 use Rattle.ch_contract.specs.Order.{AreTaken, TakesFirst}
-use Rattle.ch_contract.specs.RoundOrder.{IsHierarchyByRounds}
 use Rattle.ch_contract.specs.LegRows.{AreLegsFrom, AreLegsTo}
 
 -- nodes are taken in any order: order[i] has level i + 1. Its up legs are the legs from it just before it is
@@ -33,7 +32,6 @@ IsHierarchyInTurn by g h H = (order : List ℕ) × (L : ℕ → Legs) × IsHiera
 abbrev pub IsHierarchyBy : OrderBy → Network → ℕ → LevelsAndLegs → Type 0
 IsHierarchyBy Difference g h H = IsHierarchyInTurn Difference g h H
 IsHierarchyBy Depth g h H = IsHierarchyInTurn Depth g h H
-IsHierarchyBy Rounds g h H = IsHierarchyByRounds g h H
 
 -- the contraction hierarchy by the number of shortcuts less the number of legs
 abbrev pub IsHierarchy : Network → ℕ → LevelsAndLegs → Type 0

@@ -1,4 +1,4 @@
--- The definitions of contraction: legs, orders, rounds, witnesses and shortcuts, and the laws of built hierarchies.
+-- The definitions of contraction: legs, orders, witnesses and shortcuts, and the laws of built hierarchies.
 pub use Rattle.ch_hierarchy.specs.Rows
 pub use Rattle.ch_hierarchy.specs.Hierarchy
 pub use Rattle.ch_hierarchy.specs.Paths
@@ -24,16 +24,10 @@ pub mod OneOrder
 pub mod Measures
 pub mod Keeping
 pub mod LikeLaws
-pub mod Rounds
-pub mod RoundOrder
-pub mod RoundLaws
-pub mod RoundReference
 pub mod LikeReference
-pub mod TakenOut
 pub mod HeldCosts
 pub mod KnownCosts
 pub mod LegLists
-pub mod RoundSides
 pub mod Meeting
 pub mod Rooms
 pub mod Neighbours

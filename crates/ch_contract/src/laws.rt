@@ -4,5 +4,4 @@ pub mod keeping;
 pub mod like;
 pub mod one_order;
 pub mod reference;
-pub mod rounds;
 pub mod worked;

@@ -1,6 +1,4 @@
 //! Lists of legs, one for each node.
-mod of_round;
-
 ghost use Rattle.std.specs.Prelude.{◌≡◌, ℕ, ◌+◌, ◌<◌, ◌≤◌, ◌==◌, if◌then◌else◌, [], length, All, AllPairs, IfOk, OnOk, Some, None, option_map, find, replicate, slice_index_or, slice_set};
 ghost use Rattle.ch_graph.specs.declared.limits.TheConstants.{MOST_NODES};
 ghost use Rattle.ch_hierarchy.specs.declared.leg.Leg.{Leg};

@@ -1,13 +1,13 @@
-//! Contraction of nodes (Geisberger, Sanders, Schultes and Delling 2008): when a node is contracted, alone or
-//! with the other nodes of a round, shortcuts keep the distances between the remaining nodes. The crates above
-//! build hierarchies, one node after the other or by rounds.
+//! Contraction of nodes (Geisberger, Sanders, Schultes and Delling 2008): when a node is contracted,
+//! shortcuts keep the distances between the remaining nodes. The crates above build hierarchies, one node after the
+//! other.
 //!
-//! It stands on ch_graph, ch_hierarchy, ch_lists and ch_work. These statements are proved:
+//! It stands on ch_graph, ch_hierarchy, ch_lists and smallvec. These statements are proved:
 //!
 //! - Each call of [`Remaining`] gives what its definition says, and so does the search for witnesses. This
 //!   search walks no chain past its bound.
-//! - In each order, and by rounds, the rules name only one hierarchy ([`laws::one_order`]), and it is kept for
-//!   its graph ([`laws::keeping`], [`laws::rounds`]).
+//! - In each order the rules name only one hierarchy ([`laws::one_order`]), and it is kept for its graph
+//!   ([`laws::keeping`]).
 //! - [`assemble`] makes the one hierarchy that a saved order and legs name, or returns their first fault. It is
 //!   a call of ch_hierarchy, and so are the laws on kept and saved hierarchies.
 #![tactic(auto)]
@@ -34,4 +34,3 @@ pub use percent::Percent;
 pub use remaining::{BothRows, Remaining, Removed};
 pub use room::Room;
 pub use shortcut::Shortcut;
-pub use witness_searches::WitnessSearches;

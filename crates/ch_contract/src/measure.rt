@@ -4,7 +4,7 @@ ghost use Rattle.ch_contract.specs.declared.measure.OrderBy.TheVariants as Order
 ghost use Rattle.ch_contract.specs.Contraction.{key_by};
 
 /// The order in which nodes are contracted, named after its key. The node of the least key comes first, and at
-/// equal keys the node of the least number. Only rounds differ from this. Distances are the same in each order.
+/// equal keys the node of the least number. Distances are the same in each order.
 #[derive(Clone, Copy, Debug, PartialEq, Eq)]
 pub enum OrderBy {
     /// The number of a node's shortcuts less the number of legs that touch it.
@@ -12,11 +12,6 @@ pub enum OrderBy {
     /// Twice the number of a node's shortcuts, less the number of legs that touch it, plus its depth. The depth
     /// is 0 at first. When a neighbour is contracted, it becomes at least one more than the neighbour's depth.
     Depth,
-    /// In rounds, by the key of [`OrderBy::Depth`]. A round contracts together all nodes that come before every
-    /// other node within two legs, so workers share it. At equal keys mixed numbers decide, and then the
-    /// numbers. After the opening, shortcuts are counted again only once seven tenths of the nodes are
-    /// contracted.
-    Rounds,
 }
 
 /// The number of a node's shortcuts, and the number of legs that touch it.
@@ -36,7 +31,7 @@ impl OrderBy {
         let legs = measure.legs as i64;
         match self {
             OrderBy::Difference => shortcuts - legs,
-            OrderBy::Depth | OrderBy::Rounds => 2 * shortcuts + i64::from(depth) - legs,
+            OrderBy::Depth => 2 * shortcuts + i64::from(depth) - legs,
         }
     }
 }

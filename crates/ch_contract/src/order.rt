@@ -5,7 +5,11 @@ ghost use Rattle.ch_contract.specs.Neighbours.{has_node, neighbours_in, other_no
 ghost use Rattle.ch_contract.specs.Measures.{AreDeepened};
 
 use ch_hierarchy::Leg;
+use smallvec::SmallVec;
 use std::alloc::{AllocError, Global};
+
+/// The neighbours of a node. In a road network few nodes have more than 16 of them, so most lists take no memory.
+pub type Neighbours = SmallVec<u32, 16>;
 
 /// Returns the nodes in order of number.
 pub fn all_nodes(alloc: Global, nodes: u32) -> Result<Vec<u32>, AllocError>
@@ -15,16 +19,16 @@ pub fn all_nodes(alloc: Global, nodes: u32) -> Result<Vec<u32>, AllocError>
 }
 
 /// Returns the nodes of the legs from a node and of the legs to it, each once.
-pub fn neighbours(alloc: Global, up: &[Leg], down: &[Leg]) -> Result<Vec<u32>, AllocError>
+pub fn neighbours(alloc: Global, up: &[Leg], down: &[Leg]) -> Result<Neighbours, AllocError>
     ensures { IfOk result (λ list. list.items ≡ neighbours_in up.now down.now) }
 {
-    let mut list = Vec::new(alloc);
+    let mut list = SmallVec::new(alloc);
     push_neighbours(&mut list, up, down)?;
     Ok(list)
 }
 
 /// Appends the nodes of the legs from a node and of the legs to it, each node once.
-pub fn push_neighbours(list: &mut Vec<u32>, up: &[Leg], down: &[Leg]) -> Result<(), AllocError>
+fn push_neighbours(list: &mut Neighbours, up: &[Leg], down: &[Leg]) -> Result<(), AllocError>
     ensures { OnOk result (list.new.items ≡ list.old.items ++ neighbours_in up.now down.now) }
 {
     push_nodes(list, up, &up[0..0])?;
@@ -33,7 +37,7 @@ pub fn push_neighbours(list: &mut Vec<u32>, up: &[Leg], down: &[Leg]) -> Result<
 }
 
 /// Appends the nodes of these legs that are not nodes of the other legs.
-fn push_nodes(list: &mut Vec<u32>, legs: &[Leg], others: &[Leg]) -> Result<(), AllocError>
+fn push_nodes(list: &mut Neighbours, legs: &[Leg], others: &[Leg]) -> Result<(), AllocError>
     ensures { OnOk result (list.new.items ≡ list.old.items ++ other_nodes others.now legs.now) }
 {
     list.reserve(legs.len())?;
@@ -45,7 +49,7 @@ fn push_nodes(list: &mut Vec<u32>, legs: &[Leg], others: &[Leg]) -> Result<(), A
 
 /// Appends a node if `is_there` is false.
 #[inline]
-fn push_unless(list: &mut Vec<u32>, node: u32, is_there: bool) -> Result<(), AllocError>
+fn push_unless(list: &mut Neighbours, node: u32, is_there: bool) -> Result<(), AllocError>
     ensures { OnOk result (list.new.items ≡ (if is_there then list.old.items else list.old.items ++ node ∷ [])) }
 {
     if is_there {

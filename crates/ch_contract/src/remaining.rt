@@ -6,7 +6,6 @@ pub(crate) mod judging;
 mod light;
 mod opening;
 mod shortcuts;
-mod taken_out;
 mod witnesses;
 
 ghost use Rattle.std.specs.Prelude.{◌≡◌, ◌<◌, ◌≤◌, IsTrue, IfOk};
@@ -21,11 +20,9 @@ ghost use Rattle.ch_contract.specs.Remaining.{legs_of};
 use crate::leg_lists::LegLists;
 use ch_hierarchy::Leg;
 use ch_lists::Lists;
-use ch_work::{Crew, Gate, both};
 pub use contraction::Removed;
 use std::alloc::{AllocError, Global};
 use std::marker::Model;
-use std::thread::Threads;
 
 /// The legs among the remaining nodes, which are not contracted yet. There is at most one from each node to
 /// each other node.
@@ -119,30 +116,6 @@ impl Remaining {
         let ups = self.outs.into_aside()?;
         let downs = self.ins.into_aside()?;
         Ok(BothRows { ups, downs })
-    }
-
-    /// Like `into_rows`. A second worker moves the legs from each node together, and the caller those to each node.
-    pub fn into_rows_by_both<R: Threads + Sync, G: Gate>(
-        self,
-        crew: &Crew<'_, R, G>,
-    ) -> Result<BothRows, AllocError>
-        ensures up { IfOk result (λ r. r.ups ≡ self.ups) }
-        ensures down { IfOk result (λ r. r.downs ≡ self.downs) }
-    {
-        let Remaining { outs, ins, .. } = self;
-        let (ups, downs) = both(
-            crew,
-            move || -> Result<Lists<Leg>, AllocError>
-                ensures { IfOk result (λ lists. lists ≡ outs.aside) }
-            { outs.into_aside() },
-            move || -> Result<Lists<Leg>, AllocError>
-                ensures { IfOk result (λ lists. lists ≡ ins.aside) }
-            { ins.into_aside() },
-        );
-        Ok(BothRows {
-            ups: ups?,
-            downs: downs?,
-        })
     }
 }
 

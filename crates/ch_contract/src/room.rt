@@ -23,8 +23,6 @@ pub struct Room {
     pub judged: Vec<u32>,
     /// The shortcuts of these nodes, at the same places. The lists after them are spare.
     pub lists: Vec<Vec<Shortcut>>,
-    /// Room for the shortcuts of one node of a round, which are copied from here.
-    pub passing: Vec<Shortcut>,
 }
 
 impl Room {
@@ -38,7 +36,6 @@ impl Room {
             searches: WitnessSearches::new(alloc),
             judged: Vec::new(alloc),
             lists: Vec::new(alloc),
-            passing: Vec::new(alloc),
         }
     }
 

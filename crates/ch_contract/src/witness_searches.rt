@@ -3,21 +3,15 @@ ghost use Rattle.std.specs.Prelude.{◌<◌, IfOk, OnOk};
 ghost use Rattle.ch_contract.specs.Contraction.{AreShortcuts};
 ghost use Rattle.ch_contract.specs.Measures.{IsMeasure};
 ghost use Rattle.ch_contract.specs.Remaining.{legs_of};
-ghost use Rattle.ch_contract.specs.Rounds.{AreShortcutsAmong};
-ghost use Rattle.ch_contract.specs.ShortcutLists.{legs_touching, AreTouching};
-ghost use Rattle.ch_graph.specs.declared.limits.TheConstants.{MOST_WEIGHT};
-ghost use Rattle.ch_hierarchy.specs.Rows.{row};
 
 use crate::held_cost::Word;
 use crate::hop_bound::HopBound;
 use crate::measure::Measure;
 use crate::remaining::Remaining;
-use crate::remaining::judging::Judging;
 use crate::shortcut::Shortcut;
 use crate::witness_search::WitnessSearch;
 use ch_graph::Cost;
 use std::alloc::{AllocError, Global};
-use std::marker::PhantomData;
 
 /// The searches of one worker. Each gets its room when it is first used.
 #[derive(Drop)]
@@ -63,43 +57,5 @@ impl WitnessSearches {
         }
         self.pairs.fit(alloc, remaining.nodes())?;
         remaining.measure_in(&mut self.pairs, list, v, hops)
-    }
-
-    /// Fills `list` with the shortcuts of a node of a round. The node was taken out before, and witnesses are
-    /// made of the remaining legs.
-    pub fn shortcuts(
-        &mut self,
-        alloc: Global,
-        remaining: &Remaining,
-        list: &mut Vec<Shortcut>,
-        node: u32,
-        hops: HopBound,
-    ) -> Result<(), AllocError>
-        requires node { node < remaining.now.nodes }
-        requires touching { AreTouching remaining.now.nodes MOST_WEIGHT node (row remaining.now.ups node) (row remaining.now.downs node) }
-        requires idle { AreIdle self.old }
-        ensures list { OnOk result (AreShortcutsAmong remaining.now.nodes hops.number
-            (legs_touching node (row remaining.now.ups node) (row remaining.now.downs node)) (legs_of remaining.now) node list.new.items) }
-        ensures idle { OnOk result (AreIdle self.new) }
-    {
-        let touching = remaining.touched(node);
-        if remaining.is_light() && touching.are_light() {
-            self.words.fit(alloc, remaining.nodes())?;
-            let judging = Judging {
-                remaining,
-                touching,
-                hops,
-                form: PhantomData,
-            };
-            return judging.fill(&mut self.words, list);
-        }
-        self.pairs.fit(alloc, remaining.nodes())?;
-        let judging = Judging {
-            remaining,
-            touching,
-            hops,
-            form: PhantomData,
-        };
-        judging.fill(&mut self.pairs, list)
     }
 }

@@ -3,6 +3,7 @@ mod AddingUp
 mod Filled
 mod FirstLines
 mod LegSums
+mod LineFlows
 mod LineOfPair
 mod Bounds
 mod BuiltLike

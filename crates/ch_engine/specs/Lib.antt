@@ -1,4 +1,4 @@
--- The definitions of what an engine answers: cells, lines, near rows, routes and sums, and why it refuses a call.
+-- The definitions of what an engine answers: cells, lines, near rows, routes, sums and flows, and why it refuses a call.
 pub mod Cells
 pub mod Held
 pub mod LegSums
@@ -10,3 +10,4 @@ pub mod RouteSums
 pub mod Sums
 pub mod Opened
 pub mod PathTrees
+pub mod Flows

@@ -114,6 +114,21 @@ IsRefusalOfPairSums n lines sources targets values weights sums Refusal.Lengths 
 IsRefusalOfPairSums n lines sources targets values weights sums Refusal.TooLarge = ⊥
 IsRefusalOfPairSums n lines sources targets values weights sums Refusal.NoPlaces = ⊥
 
+-- arrays of these lengths fit so many pairs, and there is a flow for each line
+abbrev pub AreFlowLengths : ℕ → ℕ → ℕ → ℕ → ℕ → Type 0
+AreFlowLengths sources targets demands flows lines = (targets ≡ sources) × (demands ≡ sources) × (flows ≡ lines)
+
+-- the reason for refusing flows in a network of n nodes and so many lines, with arrays of these lengths for demands and
+-- flows. Lengths come before nodes
+abbrev pub IsRefusalOfFlows : ℕ → ℕ → List ℕ → List ℕ → ℕ → ℕ → Refusal → Type 0
+IsRefusalOfFlows n lines sources targets demands flows Refusal.NoMemory = ⊥
+IsRefusalOfFlows n lines sources targets demands flows Refusal.NodeRange =
+    AreFlowLengths (length sources) (length targets) demands flows lines × (AreNodes n sources × AreNodes n targets → ⊥)
+IsRefusalOfFlows n lines sources targets demands flows Refusal.Lengths =
+    AreFlowLengths (length sources) (length targets) demands flows lines → ⊥
+IsRefusalOfFlows n lines sources targets demands flows Refusal.TooLarge = ⊥
+IsRefusalOfFlows n lines sources targets demands flows Refusal.NoPlaces = ⊥
+
 -- these are places: nodes, and not too many
 abbrev pub ArePlaces : ℕ → List ℕ → Type 0
 ArePlaces n places = (length places ≤ MOST_LISTED) × AreNodes n places

@@ -1,20 +1,21 @@
 //! Engines: a network that is asked in the caller's own process. An engine is used by one thread at a time.
 //!
-//! It stands on ch_contract, ch_graph, ch_hierarchy, ch_near, ch_order, ch_query, ch_read, ch_table and ch_text. It
-//! starts no thread. An [`Engine`] has a hierarchy, room for its own searches, and the places of its near rows. Other
-//! engines may share the hierarchy. These statements are proved:
+//! It stands on ch_contract, ch_flows, ch_graph, ch_hierarchy, ch_near, ch_order, ch_query, ch_read, ch_table, ch_text
+//! and thiserror. It starts no thread. An [`Engine`] has a hierarchy, room for its own searches, and the places of its
+//! near rows. Other engines may share the hierarchy. These statements are proved:
 //!
 //! - [`Engine::open`] gives a hierarchy that is right for the graph that the bytes name, or an error that is true of
 //!   the bytes.
 //! - [`Engine::open_like`] gives a hierarchy that is right for another graph, in the order of an engine's hierarchy, or an
 //!   error that is true of the bytes. With all nodes afresh it is the one that [`Engine::open`] builds.
 //! - Distances, tables, routes and near rows are those of each graph for which the hierarchy is right. Sums are those over
-//!   near rows and along routes.
+//!   near rows and along routes, and flows those of the demands of pairs along routes.
 //! - No call requires anything of its arguments. A refusal says what is wrong, and changes nothing.
 #![tactic(auto)]
 
 mod engine;
 mod fault;
+mod flows;
 mod leg_sums;
 mod lines;
 mod near;
@@ -30,6 +31,7 @@ mod written;
 
 pub use engine::Engine;
 pub use fault::{OpenError, Refusal};
+pub use flows::Flowed;
 pub use lines::NO_LINE;
 pub use words::NO_DISTANCE;
 pub use written::{End, Summed, SumsEnd, Written};

@@ -13,8 +13,10 @@ pub struct Options {
     /// The most legs of a witness.
     pub hops: HopBound,
     /// The order of contraction of a hierarchy that is saved, or that gives routes. Distances and tables
-    /// are the same in each order. The hierarchy is the same for every plan, also by rounds.
+    /// are the same in each order. The hierarchy is the same for every plan.
     pub order: OrderBy,
+    /// Whether a hierarchy that is saved is built in the order that takes the least time to find, and not in `order`.
+    pub quick: bool,
     /// The greatest distance that a table or a near row reports, if there is a limit. A cell with a
     /// greater distance is as if there were no walk. A near row leaves out targets that are farther.
     /// Answers to queries have no limit.

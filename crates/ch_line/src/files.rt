@@ -8,13 +8,16 @@ mod memory;
 
 use ch_run::Input;
 pub use memory::{MemoryFile, MemoryFiles};
+use thiserror::Error;
 
 /// Why a file wasn't opened.
-#[derive(Clone, Copy, Debug, PartialEq, Eq)]
+#[derive(Clone, Copy, Debug, PartialEq, Eq, Error)]
 pub enum OpenFault {
     /// The system refused it.
+    #[error("the file cannot be opened")]
     Refused,
     /// There was not enough memory.
+    #[error("out of memory")]
     Memory,
 }
 

@@ -1,12 +1,11 @@
 -- The state of a construction whose first nodes are given, and whose others come in any order.
-use Rattle.std.proofs.Common.{◌≡◌, ℕ, ◌<◌, ◌≤◌, true, false, List, [], ◌∷◌, ◌++◌, length, refl, sym, ◌∙◌, ap, subst, arith, inl}
-use Rattle.std.proofs.Common.{inr, Contains, Option, Some, None, take, length-set, get_or-set_same, get_or-set_other}
-use Rattle.std.specs.Prelude.{◌≢◌, filter, is_some, slice_set, ℤ}
+use Rattle.std.proofs.Common.{◌≡◌, ℕ, ◌+◌, ◌<◌, ◌≤◌, Bool, true, false, List, [], ◌∷◌, ◌++◌, length, refl, sym, ◌∙◌, ap, subst, arith, inl}
+use Rattle.std.proofs.Common.{inr, Contains, Option, Some, None, length-set, get_or-set_same, get_or-set_other}
+use Rattle.std.specs.Prelude.{◌≢◌, All, if◌then◌else◌, is_some, slice_set, ℤ}
 use Rattle.std.proofs.lemmas.Bool.{true≢false, cases_eq}
 use Rattle.std.proofs.lemmas.List.{length_push, take_all, take-append-le}
-use Rattle.std.proofs.lemmas.List.Elements.{Contains-append_left, Contains-push, Contains-push_cases}
+use Rattle.std.proofs.lemmas.List.Elements.{All-push, Contains-append_left, Contains-push, Contains-push_cases}
 use Rattle.std.proofs.lemmas.Option.{none-some}
-use Rattle.ch_graph.proofs.Lists.{contains_filter_of}
 use Rattle.ch_graph.specs.declared.limits.TheConstants.{MOST_NODES}
 use Rattle.ch_graph.specs.Graph.{Network, IsWithinLimits}
 use Rattle.ch_queue.specs.Queue.{key_of, HasNone}
@@ -15,38 +14,50 @@ use Rattle.ch_hierarchy.specs.Kept.{IsKept}
 use Rattle.ch_hierarchy.specs.Saved.{IsOrderOf}
 use Rattle.ch_hierarchy.proofs.theory.Ordered.{contains_or_not}
 use Rattle.ch_contract.specs.declared.measure.OrderBy.{OrderBy}
-use Rattle.ch_contract.specs.Legs.{Legs, AreLegsWithin, IsHopBound}
-use Rattle.ch_contract.proofs.theory.Enough.{hierarchy_with_enough}
+use Rattle.ch_contract.specs.Legs.{Legs, AreLegsWithin}
+use Rattle.ch_contract.specs.Enough.{ContractsWithin}
+use Rattle.ch_contract.proofs.theory.Enough.{hierarchy_within, pairs_within}
 use Rattle.ch_contract.proofs.theory.EnoughKept.{hierarchies_with_enough_kept}
 use Rattle.ch_contract.proofs.theory.GivenNodes.{all_others, no_other}
 use Rattle.ch_contract.proofs.theory.OrderSteps.{then_legs}
-use Rattle.ch_order.specs.Progress.{Progress, IsContraction, IsNext, AreAll}
+use Rattle.ch_order.specs.Progress.{Progress, IsContraction, IsContractionBy, IsNext, AreAll}
 use Rattle.ch_order.specs.Priorities.{IsRanked}
-use Rattle.ch_order.specs.Quick.{AreQueued, HasKey, IsRekeyed, IsHierarchyAfter}
-use Rattle.ch_order.specs.Steps.{IsAfterGiven, IsAfterSteps}
+use Rattle.ch_order.specs.Quick.{AreQueued, HasKey, IsRekeyed, IsHierarchyAfter, IsAfterAny}
+use Rattle.ch_order.specs.Steps.{IsAfterGiven, IsAfterSteps, IsAfterStepsBy}
 use Rattle.ch_order.proofs.PrioritySteps.{key_within}
 use Rattle.ch_order.proofs.StepsMade.{steps_rekeyed, steps_more, legs_within, depth_within, count_fewer, all_steps, all_levelled}
 
--- each remaining node has a key, and no contracted node has one
-pub record IsWaiting (n : ℕ) (order : List ℕ) (keys : List (Option ℤ)) : Type 0 where
-  pub size : length keys ≡ n
-  pub left : (x : ℕ) → x < n → (Contains order x → ⊥) → HasKey keys x
-  pub taken : (x : ℕ) → Contains order x → key_of keys x ≡ None
-
--- the state after some steps, of which the first are given, whatever the keys of the remaining nodes are
-pub record IsAfterAny (g : Network) (h : ℕ) (given : List ℕ) (p : Progress) : Type 0 where
-  pub order : List ℕ
-  pub L : ℕ → Legs
-  pub steps : IsAfterSteps g h order L p
-  pub from : length given ≤ length order
-  pub first : take (length given) order ≡ given
-  pub waiting : IsWaiting g.nodes order p.keys
-
 -- a hierarchy that begins with given nodes is kept
-pub after_kept : (g : Network) (h : ℕ) (given : List ℕ) (H : LevelsAndLegs) → IsWithinLimits g → IsHopBound h →
-    IsHierarchyAfter g h given H → IsKept g H
-after_kept g h given H limits hops is =
-    hierarchies_with_enough_kept g h H is.0 is.1 limits (hierarchy_with_enough g h H is.0 is.1 limits hops is.2)
+pub after_kept : (g : Network) (h : ℕ) (given : List ℕ) (H : LevelsAndLegs) → IsWithinLimits g → IsHierarchyAfter g h given H → IsKept g H
+after_kept g h given H limits is = hierarchies_with_enough_kept g h H is.0 is.1 limits (hierarchy_within g h H is.0 is.1 limits is.2)
+
+-- contractions with one bound are contractions with this or a lesser one
+pub steps_within : (g : Network) (h : ℕ) (order : List ℕ) (L : ℕ → Legs) (p : Progress) → 1 ≤ h → IsAfterSteps g h order L p →
+    IsAfterStepsBy (ContractsWithin g.nodes h) g order L p
+steps_within g h order L p most a = record {
+  begun = record { nodes = a.begun.nodes; start = a.begun.start; step = λ i lt. (h, most, omega arith, a.begun.step i lt) };
+  limits = a.limits;
+  contracted = a.contracted;
+  legs = a.legs;
+  size = a.size;
+  levels = a.levels;
+  depths = a.depths;
+  up = a.up;
+  down = a.down;
+}
+
+-- a contraction with a bound is one with this bound or a lesser one
+pub contraction_within : (n k h : ℕ) (p : Progress) (v : ℕ) (q : Progress) → 1 ≤ k → k ≤ h → IsContraction n k p v q →
+    IsContractionBy (ContractsWithin n h) p v q
+contraction_within n k h p v q most le c = record {
+  legs = (k, most, le, c.legs);
+  contracted = c.contracted;
+  levels = c.levels;
+  up = c.up;
+  down = c.down;
+  rows = c.rows;
+  depths = c.depths;
+}
 
 -- an option with a value has one
 value_of : (o : Option ℤ) → is_some o ≡ true → (p : ℤ) × (o ≡ Some p)
@@ -61,6 +72,10 @@ none_of (Some p) e = absurd (true≢false e)
 -- a queue with the same nodes has a key of each node that had one
 pub key_stays : (before after : Progress) (x : ℕ) → IsRekeyed before after → HasKey before.keys x → HasKey after.keys x
 key_stays before after x r k = value_of (key_of after.keys x) (r.same x ∙ ap is_some k.1)
+
+-- no change of keys is one
+pub rekeyed_none : (p : Progress) → IsRekeyed p p
+rekeyed_none p = record { rest = refl; size = refl; same = λ x. refl }
 
 -- one change of keys after another is one
 pub rekeyed_then : (p q r : Progress) → IsRekeyed p q → IsRekeyed q r → IsRekeyed p r
@@ -95,23 +110,18 @@ rekeyed_ranked by n h nodes p q have r = record {
   ];
 }
 
--- those of some nodes that pass the test of a key have one
-pub keys_among : (keys : List (Option ℤ)) (nodes list : List ℕ) (x : ℕ) → list ≡ filter (λ y. is_some (key_of keys y)) nodes →
-    Contains list x → HasKey keys x
-keys_among keys nodes list x e has =
-    value_of (key_of keys x) (contains_filter_of (λ y. is_some (key_of keys y)) nodes x (subst (λ l. Contains l x) e has)).1
-
 -- the first node of the queue has a key
 pub next_key : (keys : List (Option ℤ)) (v : ℕ) → IsNext keys v → HasKey keys v
 next_key keys v n = (n.priority, n.has)
 
 -- the nodes that remain are put into the queue after the given ones
-pub any_at_start : (g : Network) (h : ℕ) (given others : List ℕ) (p q : Progress) →
+pub any_at_start : (g : Network) (h : ℕ) (given others : List ℕ) (p q : Progress) → 1 ≤ h →
     IsOrderOf g.nodes (given ++ others) → IsAfterGiven g h given p → AreQueued others p q → IsAfterAny g h given q
-any_at_start g h given others p q is u r = record {
+any_at_start g h given others p q most is u r = record {
   order = given;
   L = u.L;
-  steps = subst (IsAfterSteps g h given u.L) (sym r.rest) (steps_rekeyed g h given u.L p q.keys u.after);
+  steps = subst (IsAfterStepsBy (ContractsWithin g.nodes h) g given u.L) (sym r.rest)
+      (steps_rekeyed (ContractsWithin g.nodes h) g given u.L p q.keys (steps_within g h given u.L p most u.after));
   from = omega arith;
   first = take_all (length given) given (omega arith);
   waiting = record {
@@ -124,18 +134,19 @@ any_at_start g h given others p q is u r = record {
 module _ (g : Network) (h : ℕ) (given : List ℕ) (p : Progress) (u : IsAfterAny g h given p) where
   -- the remaining legs are within the limits
   pub any_within : AreLegsWithin g.nodes p.legs
-  any_within = legs_within g h u.order u.L p u.steps
+  any_within = legs_within (ContractsWithin g.nodes h) g u.order u.L p u.steps (pairs_within g.nodes h)
 
   -- a depth is at most the number of contracted nodes
   pub any_depth : (x : ℕ) → p.depth x ≤ p.contracted
-  any_depth = depth_within g h u.order u.L p u.steps
+  any_depth = depth_within (ContractsWithin g.nodes h) g u.order u.L p u.steps
 
   -- the state stays if the queue keeps its nodes
   pub any_rekeyed : (q : Progress) → IsRekeyed p q → IsAfterAny g h given q
   any_rekeyed q r = record {
     order = u.order;
     L = u.L;
-    steps = subst (IsAfterSteps g h u.order u.L) (sym r.rest) (steps_rekeyed g h u.order u.L p q.keys u.steps);
+    steps = subst (IsAfterStepsBy (ContractsWithin g.nodes h) g u.order u.L) (sym r.rest)
+        (steps_rekeyed (ContractsWithin g.nodes h) g u.order u.L p q.keys u.steps);
     from = u.from;
     first = u.first;
     waiting = record {
@@ -156,14 +167,15 @@ module _ (g : Network) (h : ℕ) (given : List ℕ) (p : Progress) (u : IsAfterA
 
     -- while a node remains, the number of contracted nodes is less than the number of nodes
     pub any_count : p.contracted < g.nodes
-    any_count = count_fewer g h u.order u.L p u.steps v any_node left
+    any_count = count_fewer (ContractsWithin g.nodes h) g u.order u.L p u.steps v any_node left
 
     -- the node is contracted and leaves the queue
-    pub any_next : (q : Progress) → IsContraction g.nodes h p v q → q.keys ≡ slice_set p.keys v None → IsAfterAny g h given q
+    pub any_next : (q : Progress) → IsContractionBy (ContractsWithin g.nodes h) p v q → q.keys ≡ slice_set p.keys v None →
+        IsAfterAny g h given q
     any_next q s e = record {
       order = u.order ++ v ∷ [];
       L = then_legs (length u.order) u.L q.legs;
-      steps = steps_more g h u.order u.L p u.steps v any_node left q s;
+      steps = steps_more (ContractsWithin g.nodes h) g u.order u.L p u.steps v any_node left q s;
       from = let size = length_push u.order v in let le = u.from in omega arith;
       first = take-append-le (length given) u.order (v ∷ []) u.from ∙ u.first;
       waiting = record {
@@ -191,8 +203,19 @@ module _ (g : Network) (h : ℕ) (given : List ℕ) (p : Progress) (u : IsAfterA
 
     -- then it is a hierarchy that begins with the given nodes
     pub any_at_end : (H : LevelsAndLegs) → AreAll g.nodes p H → IsHierarchyAfter g h given H
-    any_at_end H all = (u.order, u.L, all_steps g h u.order u.L p u.steps whole H all, u.first)
+    any_at_end H all = (u.order, u.L, all_steps (ContractsWithin g.nodes h) g u.order u.L p u.steps whole H all, u.first)
 
     -- and it is levelled
     pub any_levelled : g.nodes ≤ MOST_NODES → (H : LevelsAndLegs) → AreAll g.nodes p H → IsLevelled H
-    any_levelled count H all = all_levelled g h u.order u.L p u.steps whole count H all
+    any_levelled count H all = all_levelled (ContractsWithin g.nodes h) g u.order u.L p u.steps whole (pairs_within g.nodes h) count H all
+
+-- nodes with keys are nodes of the graph
+pub keyed_within : (keys : List (Option ℤ)) (n : ℕ) (list : List ℕ) → length keys ≡ n → All (HasKey keys) list → All (λ x. x < n) list
+keyed_within keys n list size all k d lt = let h = all k d lt in omega (arith, size, key_within keys _ h.0 h.1)
+
+-- a list of nodes with keys grows by one at most
+pub pushed_if : (keys : List (Option ℤ)) (b : Bool) (list : List ℕ) (x k : ℕ) → (b ≡ true → HasKey keys x) →
+    All (HasKey keys) list × (length list ≤ k) →
+    All (HasKey keys) (if b then list ++ x ∷ [] else list) × (length (if b then list ++ x ∷ [] else list) ≤ k + 1)
+pushed_if keys true list x k has is = (All-push (HasKey keys) list x is.0 (has refl), omega (arith, is.1, length_push list x))
+pushed_if keys false list x k has is = (is.0, omega (arith, is.1))

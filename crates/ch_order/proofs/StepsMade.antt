@@ -10,18 +10,18 @@ use Rattle.ch_graph.specs.Graph.{Network}
 use Rattle.ch_contract.specs.declared.measure.OrderBy.{OrderBy}
 use Rattle.ch_contract.specs.Legs.{Legs, AreLegsWithin, opening}
 use Rattle.ch_contract.specs.Contraction.{Contracts, IsPriorityBy}
-use Rattle.ch_contract.specs.Order.{are_neighbours, next_depth, depth_after, AreContracted}
+use Rattle.ch_contract.specs.Order.{are_neighbours, next_depth, depth_after, AreTaken}
 use Rattle.ch_contract.specs.Like.{IsHierarchyFrom}
-use Rattle.ch_order.specs.Steps.{IsAfterGiven, IsAfterSteps}
+use Rattle.ch_order.specs.Steps.{IsAfterGiven, IsAfterSteps, IsAfterStepsBy}
 use Rattle.ch_contract.specs.LegRows.{AreLegsFrom, AreLegsTo}
 use Rattle.ch_hierarchy.specs.Hierarchy.{LevelsAndLegs, IsLevelled}
 use Rattle.ch_hierarchy.specs.Saved.{IsOrderOf}
-use Rattle.ch_contract.specs.Built.{IsHierarchyOf}
-use Rattle.ch_order.specs.Progress.{Progress, HasPriority, IsNext, IsOpen, IsContraction, IsStep, AreAll}
+use Rattle.ch_contract.specs.Built.{IsHierarchyIn}
+use Rattle.ch_order.specs.Progress.{Progress, HasPriority, IsNext, IsOpen, IsContraction, IsContractionBy, IsStep, AreAll}
 use Rattle.ch_order.specs.Priorities.{AreRefreshed, IsRanked}
-use Rattle.ch_contract.proofs.theory.Contracting.{pairs_by_needed}
+use Rattle.ch_contract.proofs.theory.Contracting.{ContractsWithPairs, pairs_by_needed}
 use Rattle.ch_contract.proofs.theory.Levelled.{within_steps, gone_steps, levelled}
-use Rattle.ch_contract.proofs.theory.Enough.{hierarchy_with_pairs}
+use Rattle.ch_contract.proofs.theory.Enough.{hierarchy_by}
 use Rattle.ch_contract.proofs.theory.OneInTurn.{one_map}
 use Rattle.ch_contract.proofs.theory.OrderSteps.{AreLeast, then_legs, next, begun_fewer, begun_more, begun_none, begun_all, least_more}
 use Rattle.ch_order.proofs.Depths.{depth_most, depth_more}
@@ -48,7 +48,7 @@ pub given_none : (g : Network) (h : ℕ) (p : Progress) → IsOpen g p → IsAft
 given_none g h p o = record {
   L = λ i. opening g;
   after = record {
-    begun = begun_none g h;
+    begun = begun_none (Contracts g.nodes h) g;
     limits = o.limits;
     contracted = o.contracted;
     legs = λ a b. sym (o.legs a b);
@@ -61,13 +61,14 @@ given_none g h p o = record {
   keys = o.keys;
 }
 
-module _ (g : Network) (h : ℕ) (order : List ℕ) (L : ℕ → Legs) (p : Progress) (u : IsAfterSteps g h order L p) where
+module _ (IsStep : Legs → ℕ → Legs → Type 0) (g : Network) (order : List ℕ) (L : ℕ → Legs) (p : Progress)
+    (u : IsAfterStepsBy IsStep g order L p) (pairs : (M : Legs) (v : ℕ) (N : Legs) → IsStep M v N → ContractsWithPairs g.nodes M v N) where
   -- no contracted node is a neighbour of any node
   none_earlier : (v x : ℕ) → Contains order x → are_neighbours (L (length order)) v x ≡ false
   none_earlier v x has =
       let n : ℕ = length order in
       let at : slice_index order has.0 ≡ x = get_or_default order has.0 0 x has.1 ∙ has.2 in
-      let gone = gone_steps g.nodes n order L (λ i lt. pairs_by_needed g.nodes h _ _ _ (u.begun.step i lt)) has.0 n has.1 (omega arith) v in
+      let gone = gone_steps g.nodes n order L (λ i lt. pairs _ _ _ (u.begun.step i lt)) has.0 n has.1 (omega arith) v in
       subst (λ z. are_neighbours (L n) v z ≡ false) at (λ i. is_some (gone.1 i) || is_some (gone.0 i))
 
   -- the remaining legs are within the limits
@@ -76,8 +77,10 @@ module _ (g : Network) (h : ℕ) (order : List ℕ) (L : ℕ → Legs) (p : Prog
       let n : ℕ = length order in
       let start = subst (AreLegsWithin g.nodes) (sym (one_map (L 0) (opening g) u.begun.start)) u.limits in
       subst (AreLegsWithin g.nodes) (one_map (L n) p.legs u.legs)
-      (within_steps g.nodes n order L start (λ i lt. pairs_by_needed g.nodes h _ _ _ (u.begun.step i lt)) n (omega arith))
+      (within_steps g.nodes n order L start (λ i lt. pairs _ _ _ (u.begun.step i lt)) n (omega arith))
 
+module _ (IsStep : Legs → ℕ → Legs → Type 0) (g : Network) (order : List ℕ) (L : ℕ → Legs) (p : Progress)
+    (u : IsAfterStepsBy IsStep g order L p) where
   -- a depth is at most the number of contracted nodes
   pub depth_within : (x : ℕ) → p.depth x ≤ p.contracted
   depth_within x =
@@ -86,20 +89,20 @@ module _ (g : Network) (h : ℕ) (order : List ℕ) (L : ℕ → Legs) (p : Prog
       let count = u.contracted in
       omega arith
 
-module _ (g : Network) (h : ℕ) (order : List ℕ) (L : ℕ → Legs) (p : Progress) (u : IsAfterSteps g h order L p) (v : ℕ)
-    (within : v < g.nodes) (left : Contains order v → ⊥) where
+module _ (IsStep : Legs → ℕ → Legs → Type 0) (g : Network) (order : List ℕ) (L : ℕ → Legs) (p : Progress)
+    (u : IsAfterStepsBy IsStep g order L p) (v : ℕ) (within : v < g.nodes) (left : Contains order v → ⊥) where
   -- the number of contracted nodes is less than the number of nodes
   pub count_fewer : p.contracted < g.nodes
-  count_fewer = omega (arith, begun_fewer g h order L u.begun v within left, u.contracted)
+  count_fewer = omega (arith, begun_fewer IsStep g order L u.begun v within left, u.contracted)
 
-  module _ (q : Progress) (s : IsContraction g.nodes h p v q) where
+  module _ (q : Progress) (s : IsContractionBy IsStep p v q) where
     -- the legs before the step
     before : p.legs ≡ L (length order)
     before = sym (one_map (L (length order)) p.legs u.legs)
 
-    -- the step is a contraction
-    pub contracts : Contracts g.nodes h (L (length order)) v q.legs
-    contracts = subst (λ (M : Legs). Contracts g.nodes h M v q.legs) before s.legs
+    -- the step is such a step
+    pub contracts : IsStep (L (length order)) v q.legs
+    contracts = subst (λ (M : Legs). IsStep M v q.legs) before s.legs
 
     -- the depths after the step
     pub deep : (x : ℕ) → q.depth x ≡ depth_after (order ++ v ∷ []) (then_legs (length order) L q.legs) (length order + 1) x
@@ -107,12 +110,12 @@ module _ (g : Network) (h : ℕ) (order : List ℕ) (L : ℕ → Legs) (p : Prog
         (subst (λ (M : Legs). (x : ℕ) → q.depth x ≡ next_depth M v p.depth x) before s.depths)
 
     -- the state after one more step
-    pub steps_more : IsAfterSteps g h (order ++ v ∷ []) (then_legs (length order) L q.legs) q
+    pub steps_more : IsAfterStepsBy IsStep g (order ++ v ∷ []) (then_legs (length order) L q.legs) q
     steps_more =
         let n : ℕ = length order in
         let count : q.contracted ≡ n + 1 = s.contracted ∙ ap (λ z. z + 1) u.contracted in
         record {
-          begun = begun_more g h order L v q.legs u.begun within left contracts;
+          begun = begun_more IsStep g order L v q.legs u.begun within left contracts;
           limits = u.limits;
           contracted = count ∙ sym (length_push order v);
           legs = λ a b. ap (λ z. then_legs n L q.legs z a b) (length_push order v) ∙ ap (λ (M : Legs). M a b) (next order L v q.legs);
@@ -127,9 +130,9 @@ module _ (g : Network) (h : ℕ) (order : List ℕ) (L : ℕ → Legs) (p : Prog
         }
 
 -- the steps do not depend on the keys
-pub steps_rekeyed : (g : Network) (h : ℕ) (order : List ℕ) (L : ℕ → Legs) (p : Progress) (keys : List (Option ℤ)) →
-    IsAfterSteps g h order L p → IsAfterSteps g h order L (record p { keys = keys })
-steps_rekeyed g h order L p keys a = record {
+pub steps_rekeyed : (IsStep : Legs → ℕ → Legs → Type 0) (g : Network) (order : List ℕ) (L : ℕ → Legs) (p : Progress)
+    (keys : List (Option ℤ)) → IsAfterStepsBy IsStep g order L p → IsAfterStepsBy IsStep g order L (record p { keys = keys })
+steps_rekeyed IsStep g order L p keys a = record {
   begun = a.begun;
   limits = a.limits;
   contracted = a.contracted;
@@ -142,19 +145,19 @@ steps_rekeyed g h order L p keys a = record {
   down = a.down;
 }
 
-module _ (g : Network) (h : ℕ) (order : List ℕ) (L : ℕ → Legs) (p : Progress) (u : IsAfterSteps g h order L p)
-    (whole : (x : ℕ) → x < g.nodes → Contains order x) where
-  -- if the steps have all nodes, all are contracted
-  pub all_contracted : AreContracted g h order L
-  all_contracted = begun_all g h order L u.begun whole
+module _ (IsStep : Legs → ℕ → Legs → Type 0) (g : Network) (order : List ℕ) (L : ℕ → Legs) (p : Progress)
+    (u : IsAfterStepsBy IsStep g order L p) (whole : (x : ℕ) → x < g.nodes → Contains order x) where
+  -- if the steps have all nodes, all are taken
+  pub all_taken_once : AreTaken IsStep g order L
+  all_taken_once = begun_all IsStep g order L u.begun whole
 
   -- the levels and the rows are then the hierarchy of the steps
-  pub all_steps : (H : LevelsAndLegs) → AreAll g.nodes p H → IsHierarchyOf g h H order L
+  pub all_steps : (H : LevelsAndLegs) → AreAll g.nodes p H → IsHierarchyIn IsStep g H order L
   all_steps H all =
-      let size = all_contracted.nodes.0 in
-      let node : (i : ℕ) → i < g.nodes → slice_index order i < g.nodes = λ i lt. all_contracted.nodes.1 i 0 (omega arith) in
+      let size = all_taken_once.nodes.0 in
+      let node : (i : ℕ) → i < g.nodes → slice_index order i < g.nodes = λ i lt. all_taken_once.nodes.1 i 0 (omega arith) in
       record {
-        contracted = all_contracted;
+        contracted = all_taken_once;
         sizes = (ap length all.level ∙ all.sizes.0, all.sizes.1, all.sizes.2);
         level = λ i lt. ap (λ l. slice_index l (slice_index order i)) all.level ∙ u.levels i (omega arith);
         up = λ i lt. subst (AreLegsFrom (L i) (slice_index order i)) (sym (all.rows (slice_index order i) (node i lt)).0)
@@ -164,8 +167,10 @@ module _ (g : Network) (h : ℕ) (order : List ℕ) (L : ℕ → Legs) (p : Prog
       }
 
   -- and that hierarchy is levelled
-  pub all_levelled : g.nodes ≤ MOST_NODES → (H : LevelsAndLegs) → AreAll g.nodes p H → IsLevelled H
-  all_levelled count H all = levelled g H order L (hierarchy_with_pairs g h H order L (all_steps H all)) count u.limits
+  pub all_levelled : ((M : Legs) (v : ℕ) (N : Legs) → IsStep M v N → ContractsWithPairs g.nodes M v N) → g.nodes ≤ MOST_NODES →
+      (H : LevelsAndLegs) → AreAll g.nodes p H → IsLevelled H
+  all_levelled pairs count H all = levelled g H order L (hierarchy_by IsStep (ContractsWithPairs g.nodes) g H order L (all_steps H all)
+      (λ i lt. pairs _ _ _)) count u.limits
 
 -- a queue in which no node has a key stays so if a key is removed
 none_removed : (keys : List (Option ℤ)) (v : ℕ) → HasNone keys → HasNone (slice_set keys v None)
@@ -183,7 +188,7 @@ pub given_more : (g : Network) (h : ℕ) (given : List ℕ) (p : Progress) (v : 
     IsAfterGiven g h (given ++ v ∷ []) q
 given_more g h given p v q u within left s keys = record {
   L = then_legs (length given) u.L q.legs;
-  after = steps_more g h given u.L p u.after v within left q s;
+  after = steps_more (Contracts g.nodes h) g given u.L p u.after v within left q s;
   keys = (ap length keys ∙ length-set p.keys v None ∙ u.keys.0, subst HasNone (sym keys) (none_removed p.keys v u.keys.1));
 }
 
@@ -194,7 +199,7 @@ steps_at_start by g h given others p q is u r = record {
   order = given;
   L = u.L;
   after = record {
-    steps = subst (IsAfterSteps g h given u.L) (sym r.rest) (steps_rekeyed g h given u.L p q.keys u.after);
+    steps = subst (IsAfterSteps g h given u.L) (sym r.rest) (steps_rekeyed (Contracts g.nodes h) g given u.L p q.keys u.after);
     from = omega arith;
     least = λ i x ge lt inside away. absurd (omega arith);
     priorities = kept_ranked by g.nodes h given u.L p.depth others p.keys q.keys u.keys.0 u.keys.1 u.after.depths
@@ -208,11 +213,11 @@ steps_at_start by g h given others p q is u r = record {
 module _ (by : OrderBy) (g : Network) (h : ℕ) (given : List ℕ) (p : Progress) (u : IsAfterSomeSteps by g h given p) where
   -- the remaining legs are within the limits
   pub steps_within : AreLegsWithin g.nodes p.legs
-  steps_within = legs_within g h u.order u.L p u.after.steps
+  steps_within = legs_within (Contracts g.nodes h) g u.order u.L p u.after.steps (pairs_by_needed g.nodes h)
 
   -- a depth is at most the number of contracted nodes
   pub steps_depth : (x : ℕ) → p.depth x ≤ p.contracted
-  steps_depth = depth_within g h u.order u.L p u.after.steps
+  steps_depth = depth_within (Contracts g.nodes h) g u.order u.L p u.after.steps
 
   module _ (v : ℕ) (f : IsNext p.keys v) where
     -- the next node is a node of the graph
@@ -225,7 +230,7 @@ module _ (by : OrderBy) (g : Network) (h : ℕ) (given : List ℕ) (p : Progress
 
     -- while a node remains, the number of contracted nodes is less than the number of nodes
     pub steps_count : p.contracted < g.nodes
-    steps_count = count_fewer g h u.order u.L p u.after.steps v steps_node left
+    steps_count = count_fewer (Contracts g.nodes h) g u.order u.L p u.after.steps v steps_node left
 
     -- one more step keeps the state after some steps
     pub steps_next : (q : Progress) → IsStep by g.nodes h p v q → IsAfterSomeSteps by g h given q
@@ -239,15 +244,15 @@ module _ (by : OrderBy) (g : Network) (h : ℕ) (given : List ℕ) (p : Progress
           order = u.order ++ v ∷ [];
           L = then_legs n u.L q.legs;
           after = record {
-            steps = steps_more g h u.order u.L p a.steps v steps_node left q c;
+            steps = steps_more (Contracts g.nodes h) g u.order u.L p a.steps v steps_node left q c;
             from = let size = length_push u.order v in let le = a.from in omega arith;
             least = least_more k by g h u.order u.L v q.legs a.least a.from (next_first k by g.nodes h u.order u.L p.keys a.priorities v f);
             priorities = kept_more k by g.nodes h u.order u.L p.keys a.priorities a.from v q.legs q.keys s.size s.taken left q.depth
-                (deep g h u.order u.L p a.steps v steps_node left q c)
+                (deep (Contracts g.nodes h) g u.order u.L p a.steps v steps_node left q c)
                 (subst (λ (M : Legs). (x : ℕ) → are_neighbours M v x ≡ true →
                 HasPriority (IsPriorityBy by g.nodes h q.legs q.depth) q.keys x) same s.anew)
                 (subst (λ (M : Legs). (x : ℕ) → x ≢ v → are_neighbours M v x ≡ false → key_of q.keys x ≡ key_of p.keys x) same s.kept)
-                (none_earlier g h u.order u.L p a.steps v);
+                (none_earlier (Contracts g.nodes h) g u.order u.L p a.steps (pairs_by_needed g.nodes h) v);
           };
           first = take-append-le k u.order (v ∷ []) a.from ∙ u.first;
         }
@@ -260,10 +265,10 @@ module _ (by : OrderBy) (g : Network) (h : ℕ) (given : List ℕ) (p : Progress
     pub steps_at_end : (H : LevelsAndLegs) → AreAll g.nodes p H → IsHierarchyFrom by g h given H
     steps_at_end H all =
         let a = u.after.steps in
-        let size = (all_contracted g h u.order u.L p a whole).nodes.0 in (
+        let size = (all_taken_once (Contracts g.nodes h) g u.order u.L p a whole).nodes.0 in (
           u.order,
           u.L,
-          all_steps g h u.order u.L p a whole H all,
+          all_steps (Contracts g.nodes h) g u.order u.L p a whole H all,
           u.first,
           λ i x ge lt inside away.
               u.after.least i x ge (omega arith) inside away,
@@ -271,4 +276,5 @@ module _ (by : OrderBy) (g : Network) (h : ℕ) (given : List ℕ) (p : Progress
 
     -- the hierarchy is levelled
     pub steps_levelled : g.nodes ≤ MOST_NODES → (H : LevelsAndLegs) → AreAll g.nodes p H → IsLevelled H
-    steps_levelled count H all = all_levelled g h u.order u.L p u.after.steps whole count H all
+    steps_levelled count H all =
+        all_levelled (Contracts g.nodes h) g u.order u.L p u.after.steps whole (pairs_by_needed g.nodes h) count H all

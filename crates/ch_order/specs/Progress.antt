@@ -41,16 +41,20 @@ pub record IsOpen (g : Network) (p : Progress) : Type 0 where
   pub depths : (x : ℕ) → p.depth x ≡ 0
   pub contracted : p.contracted ≡ 0
 
--- v is contracted: its rows are put in, and its level is the number of contracted nodes; only its neighbours get new
--- depths
-pub record IsContraction (n h : ℕ) (before : Progress) (v : ℕ) (after : Progress) : Type 0 where
-  pub legs : Contracts n h before.legs v after.legs
+-- v is taken: its rows are put in, and its level is the number of nodes taken so far; only its neighbours get new depths. IsStep
+-- says how the legs change
+pub record IsContractionBy (IsStep : Legs → ℕ → Legs → Type 0) (before : Progress) (v : ℕ) (after : Progress) : Type 0 where
+  pub legs : IsStep before.legs v after.legs
   pub contracted : after.contracted ≡ before.contracted + 1
   pub levels : after.levels ≡ slice_set before.levels v after.contracted
   pub up : AreLegsFrom before.legs v (after.up v)
   pub down : AreLegsTo before.legs v (after.down v)
   pub rows : (x : ℕ) → x ≢ v → (after.up x ≡ before.up x) × (after.down x ≡ before.down x)
   pub depths : (x : ℕ) → after.depth x ≡ next_depth before.legs v before.depth x
+
+-- v is contracted with witnesses of at most h legs
+abbrev pub IsContraction : ℕ → ℕ → Progress → ℕ → Progress → Type 0
+IsContraction n h before v after = IsContractionBy (Contracts n h) before v after
 
 -- v is contracted and leaves the queue; only its neighbours get new priorities
 pub record IsStep (by : OrderBy) (n h : ℕ) (before : Progress) (v : ℕ) (after : Progress) : Type 0 where

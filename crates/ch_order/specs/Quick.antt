@@ -1,20 +1,48 @@
 -- Orders of contraction that begin with given nodes and go on in any way, for hierarchies that are built in little time.
-use Rattle.std.specs.Prelude.{◌≡◌, ℕ, List, length, take, is_some, Option, Some, ℤ}
+use Rattle.std.specs.Prelude.{◌≡◌, ◌<◌, ◌≤◌, ℕ, List, length, take, is_some, Contains, Option, Some, None, ℤ}
 use Rattle.ch_graph.specs.Graph.{Network}
 use Rattle.ch_queue.specs.Queue.{key_of}
 use Rattle.ch_hierarchy.specs.Hierarchy.{LevelsAndLegs}
 use Rattle.ch_contract.specs.Legs.{Legs}
-use Rattle.ch_contract.specs.Built.{IsHierarchyOf}
+use Rattle.ch_contract.specs.Enough.{ContractsWithin}
+use Rattle.ch_contract.specs.Built.{IsHierarchyIn}
 use Rattle.ch_order.specs.Progress.{Progress}
+use Rattle.ch_order.specs.declared.construction.Construction.{Construction}
+use Rattle.ch_order.specs.Construction.{IsSized, IsJudging, progress_of}
+use Rattle.ch_order.specs.Steps.{IsAfterStepsBy}
 use Rattle.ch_order.specs.Priorities.{AreRefreshed}
 
--- the hierarchy of a graph whose given nodes are contracted first, as given, and then the others in any order
+-- a hierarchy of a graph whose given nodes are contracted first, as given, and then the others in any order. The witnesses of each
+-- node have at most h legs, or at most some lesser number
 abbrev pub IsHierarchyAfter : Network → ℕ → List ℕ → LevelsAndLegs → Type 0
-IsHierarchyAfter g h given H = (order : List ℕ) × (L : ℕ → Legs) × IsHierarchyOf g h H order L × (take (length given) order ≡ given)
+IsHierarchyAfter g h given H =
+    (order : List ℕ) × (L : ℕ → Legs) × IsHierarchyIn (ContractsWithin g.nodes h) g H order L × (take (length given) order ≡ given)
 
 -- the node has a key in the queue
 abbrev pub HasKey : List (Option ℤ) → ℕ → Type 0
 HasKey keys x = (p : ℤ) × (key_of keys x ≡ Some p)
+
+-- each remaining node has a key, and no contracted node has one
+pub record IsWaiting (n : ℕ) (order : List ℕ) (keys : List (Option ℤ)) : Type 0 where
+  pub size : length keys ≡ n
+  pub left : (x : ℕ) → x < n → (Contains order x → ⊥) → HasKey keys x
+  pub taken : (x : ℕ) → Contains order x → key_of keys x ≡ None
+
+-- the state after some steps, of which the first are given, whatever the keys of the remaining nodes are
+pub record IsAfterAny (g : Network) (h : ℕ) (given : List ℕ) (p : Progress) : Type 0 where
+  pub order : List ℕ
+  pub L : ℕ → Legs
+  pub steps : IsAfterStepsBy (ContractsWithin g.nodes h) g order L p
+  pub from : length given ≤ length order
+  pub first : take (length given) order ≡ given
+  pub waiting : IsWaiting g.nodes order p.keys
+
+-- the construction of a hierarchy of this graph, whose first nodes are given, is under way, and each remaining node waits
+pub record IsUnderWay (g : Network) (h : ℕ) (given : List ℕ) (c : Construction) : Type 0 where
+  pub sizes : IsSized c
+  pub nodes : c.remaining.nodes ≡ g.nodes
+  pub after : IsAfterAny g h given (progress_of c)
+  pub ready : IsJudging h c
 
 -- these nodes have keys, whatever these are, and the keys of the others stay
 abbrev pub HaveKeys : List ℕ → List (Option ℤ) → List (Option ℤ) → Type 0

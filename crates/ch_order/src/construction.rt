@@ -1,5 +1,7 @@
 //! Builds the hierarchy of a graph: its nodes are contracted one after the other.
 mod alone;
+mod chains;
+mod estimates;
 mod like;
 mod quick;
 
@@ -14,14 +16,14 @@ ghost use Rattle.ch_hierarchy.specs.Saved.{IsOrderOf};
 use crate::priority::PriorityJob;
 pub use alone::{build_alone, build_like_alone};
 use ch_contract::memory::ask_ahead;
-use ch_contract::order::{all_nodes, deepen, neighbours};
+use ch_contract::order::{Neighbours, all_nodes, deepen, neighbours};
 use ch_contract::{BothRows, HopBound, OrderBy, Remaining, Room};
 use ch_graph::Graph;
 use ch_hierarchy::Hierarchy;
 use ch_queue::KeyQueue;
 use ch_work::{Crew, Gate, Stage};
 pub use like::{OrderError, build_like};
-pub use quick::build_like_quickly;
+pub use quick::{build_like_quickly, build_quickly};
 use std::alloc::{AllocError, Global};
 use std::thread::Threads;
 
@@ -253,7 +255,7 @@ impl Construction {
         alloc: Global,
         node: u32,
         hops: HopBound,
-    ) -> Result<(Construction, Vec<u32>), AllocError>
+    ) -> Result<(Construction, Neighbours), AllocError>
         requires next { IsReadyFor hops.number self node }
         ensures sizes { IfOk result (λ r. IsSized r.0) }
         ensures taken { IfOk result (λ r. IsTaken hops.number self node r.1.items r.0) }

@@ -7,13 +7,14 @@
 //! - [`build_alone`] makes the one by depth without any thread.
 //! - [`build_like`] and [`build_like_alone`] make the hierarchy in an order like a given one: its first nodes come
 //!   as given, and the last per cent are ordered afresh by depth.
-//! - [`build_like_quickly`] makes one that begins so too, and takes less time. It is for answers that do not depend
-//!   on the order.
+//! - [`build_quickly`] makes a kept hierarchy whose order no rule names, in the least time, and [`build_like_quickly`]
+//!   one that begins like a given one. They are for answers that do not depend on the order.
 #![tactic(auto)]
 
 mod construction;
 mod priority;
 
 pub use construction::{
-    OrderError, build, build_alone, build_in_turn, build_like, build_like_alone, build_like_quickly,
+    OrderError, build, build_alone, build_in_turn, build_like, build_like_alone,
+    build_like_quickly, build_quickly,
 };

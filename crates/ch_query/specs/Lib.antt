@@ -25,3 +25,4 @@ pub mod Lowered
 pub mod Checking
 pub mod Covering
 pub mod Finding
+pub mod Ways

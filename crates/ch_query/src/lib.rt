@@ -8,6 +8,7 @@
 //!   room is a [`Scratch`], and one query leaves it clean for the next.
 //! - [`route`] is the one walk that the rules of choice name. It has the least weight, and of the walks of
 //!   that weight the fewest arcs ([`laws`]).
+//! - [`route_legs`] lists the legs of that walk as the search finds them, before they are unpacked.
 //! - [`ranked_spaces`] lists, for each node of a list, the nodes that distances lead over, and
 //!   [`ranked_spaces_alone`] does the same without threads. [`lower_by_search`] lowers the words of a row by
 //!   a search space and buckets.
@@ -34,6 +35,8 @@ pub use answer::{Answer, answer_all, answer_all_in};
 pub use checking::{check, check_alone, check_watched};
 pub use routes::Route;
 pub use routes::query::route;
+pub use routes::unpacking::PendingLeg;
+pub use routes::way::route_legs;
 pub use scratch::Scratch;
 pub use sides::spread;
 pub use start::Start;

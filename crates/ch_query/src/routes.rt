@@ -3,7 +3,8 @@
 mod descent;
 mod legs;
 pub(crate) mod query;
-mod unpacking;
+pub(crate) mod unpacking;
+pub(crate) mod way;
 
 use ch_graph::InArc;
 use std::marker::Model;

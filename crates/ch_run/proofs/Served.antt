@@ -21,7 +21,7 @@ use Rattle.ch_run.specs.Serving.{Ends, GoesOn, HasAnswered}
 use Rattle.ch_graph.specs.Graph.{Network}
 use Rattle.ch_hierarchy.specs.Hierarchy.{LevelsAndLegs}
 use Rattle.ch_job.specs.declared.options.Options.{Options}
-use Rattle.ch_run.specs.Source.{IsServing, order_built, order_for_queries}
+use Rattle.ch_run.specs.Source.{IsServing, order_built}
 use Rattle.ch_run.specs.Text.{writes_routes}
 use Rattle.ch_run.proofs.Texts.{text_in}
 use Rattle.ch_run.proofs.Answered.{ends_memory, none_ahead}
@@ -151,18 +151,13 @@ module _ (P Q : TextOf) (so : (places : PlaceList) (request : Request) (text : L
       let answers = answered_weaker no_places h.answered took.text took.answers in
       record { answered = h.answered; read = h.read; output = record { text = took.text; answers = answers; took = took.took } }
 
--- the hierarchy that answers a list of queries with their routes is built in the order of the options
-pub wanted_for_queries : (options : Options) (workers nodes : ℕ) → writes_routes options ≡ true →
-    order_for_queries options workers nodes ≡ options.order
-wanted_for_queries options workers nodes e = rw e refl
-
 -- an answer to a request by the hierarchy that serves is one by a hierarchy that serves
 pub asked_in : (options : Options) (g : Network) (h : Option LevelsAndLegs) (H : LevelsAndLegs) →
     IsServing (order_built options) options.hops.number g h H → (places : PlaceList) (request : Request) (text : List ℕ) →
     IsTextOfRequest options g H places request text →
     IsRequestText options g (IsServing (order_built options) options.hops.number g h) places request text
-asked_in options g h H is places (Query s t) text told = text_in (writes_routes options) (order_built options) (order_built options)
-    options.hops.number g h H (λ e. refl) is ((s, t) ∷ []) text told
+asked_in options g h H is places (Query s t) text told =
+    text_in (writes_routes options) (order_built options) options.hops.number g h H (λ e. is) ((s, t) ∷ []) text told
 asked_in options g h H is places (Route s t) text told =
-    text_in true (order_built options) (order_built options) options.hops.number g h H (λ e. refl) is ((s, t) ∷ []) text told
+    text_in true (order_built options) options.hops.number g h H (λ e. is) ((s, t) ∷ []) text told
 asked_in options g h H is places _ text told = told

@@ -33,13 +33,11 @@ replies_text g H limits kept true queries answers text replies is =
     (H, refl, replies_routed g H limits kept queries answers text replies is)
 
 -- the text has the routes of the wanted hierarchy, or only distances, which are the same for each hierarchy
-pub text_in : (routes : Bool) (wanted by : OrderBy) (hops : ℕ) (g : Network) (h : Option LevelsAndLegs) (H : LevelsAndLegs) →
-    (routes ≡ true → by ≡ wanted) → IsServing by hops g h H →
-    (queries : List (ℕ × ℕ)) (text : List ℕ) → IsTextBy routes g (λ K. K ≡ H) queries text →
-    IsTextBy routes g (IsServing wanted hops g h) queries text
-text_in false wanted by hops g h H same is queries text t = t
-text_in true wanted by hops g h H same is queries text t =
-    (t.0, subst (IsServing wanted hops g h) (sym t.1) (subst (λ o. IsServing o hops g h H) (same refl) is), t.2)
+pub text_in : (routes : Bool) (wanted : OrderBy) (hops : ℕ) (g : Network) (h : Option LevelsAndLegs) (H : LevelsAndLegs) →
+    (routes ≡ true → IsServing wanted hops g h H) → (queries : List (ℕ × ℕ)) (text : List ℕ) →
+    IsTextBy routes g (λ K. K ≡ H) queries text → IsTextBy routes g (IsServing wanted hops g h) queries text
+text_in false wanted hops g h H is queries text t = t
+text_in true wanted hops g h H is queries text t = (t.0, subst (IsServing wanted hops g h) (sym t.1) (is refl), t.2)
 
 -- a text that is that of the hierarchy that serves is that of the one in whose place it serves
 pub text_in_place : (routes : Bool) (wanted : OrderBy) (hops : ℕ) (g : Network) (h serving : Option LevelsAndLegs) →

@@ -17,26 +17,30 @@ input_name Which.Sources = codes "sources"
 input_name Which.Targets = codes "targets"
 input_name Which.Requests = codes "requests"
 
--- the beginning of the line of a fault of this input
+-- the first word of a fault of this input
 abbrev pub read_heading : Which → List ℕ
-read_heading Which.Graph = codes "chtab: graph "
-read_heading Which.Saved = codes "chtab: saved "
-read_heading Which.Order = codes "chtab: order "
-read_heading Which.Queries = codes "chtab: queries "
-read_heading Which.Sources = codes "chtab: sources "
-read_heading Which.Targets = codes "chtab: targets "
-read_heading Which.Requests = codes "chtab: request "
+read_heading Which.Graph = codes "graph "
+read_heading Which.Saved = codes "saved "
+read_heading Which.Order = codes "order "
+read_heading Which.Queries = codes "queries "
+read_heading Which.Sources = codes "sources "
+read_heading Which.Targets = codes "targets "
+read_heading Which.Requests = codes "request "
+
+-- the words for a fault
+abbrev pub fault_words : RunFault → List ℕ
+fault_words (RunFault.Read which fault) = read_heading which ++ read_fault_text fault
+fault_words RunFault.Cells = codes "too many cells"
+fault_words (RunFault.CellsAt line) = codes "request line " ++ decimal line ++ codes ": too many cells"
+fault_words RunFault.Memory = codes "out of memory"
+fault_words (RunFault.Device which) = codes "cannot read " ++ input_name which
+fault_words (RunFault.Write count) = codes "cannot write after " ++ decimal count ++ codes " bytes"
+fault_words (RunFault.Check fault) = codes "saved hierarchy refused: " ++ check_fault_text fault
+fault_words RunFault.Order = codes "order refused: a node occurs twice"
 
 -- the line that reports a fault, without its line feed
 abbrev pub fault_text : RunFault → List ℕ
-fault_text (RunFault.Read which fault) = read_heading which ++ read_fault_text fault
-fault_text RunFault.Cells = codes "chtab: too many cells"
-fault_text (RunFault.CellsAt line) = codes "chtab: request line " ++ decimal line ++ codes ": too many cells"
-fault_text RunFault.Memory = codes "chtab: out of memory"
-fault_text (RunFault.Device which) = codes "chtab: cannot read " ++ input_name which
-fault_text (RunFault.Write count) = codes "chtab: cannot write after " ++ decimal count ++ codes " bytes"
-fault_text (RunFault.Check fault) = codes "chtab: saved hierarchy refused: " ++ check_fault_text fault
-fault_text RunFault.Order = codes "chtab: order refused: a node occurs twice"
+fault_text fault = codes "chtab: " ++ fault_words fault
 
 -- the exit status of a fault. It is 1 if a file, a request, a saved hierarchy, an order or the size of a table was refused. It is 3 if the
 -- system refused something

@@ -1,5 +1,5 @@
 -- The definitions name one text for a hierarchy that is saved, and one text by a saved hierarchy.
-use Rattle.std.specs.Prelude.{◌≡◌, ℕ, List}
+use Rattle.std.specs.Prelude.{◌≡◌, ℕ, false, List}
 use Rattle.ch_graph.specs.Graph.{Network, IsWithinLimits}
 use Rattle.ch_graph.specs.Saved.{OrderAndLegs}
 use Rattle.ch_read.specs.Names.{NamesSaved}
@@ -31,10 +31,10 @@ SavedTablesHaveOneText graph saved sources targets = (options : Options)
     IsTabledBy options graph (SavedFile saved) sources targets text →
     IsTabledBy options graph (SavedFile saved) sources targets other → text ≡ other
 
--- two texts of the hierarchy of the same bytes are equal
+-- two texts of the hierarchy of the same bytes in the same order are equal. With `--quick` no rule names the order
 abbrev pub HierarchiesHaveOneText : (graph : Reading) → Type 0
-HierarchiesHaveOneText graph = (options : Options) (graph_bytes text other : List ℕ) → GivesOnly graph graph_bytes →
-    IsSavedBy options graph NoFile text → IsSavedBy options graph NoFile other → text ≡ other
+HierarchiesHaveOneText graph = (options : Options) (graph_bytes text other : List ℕ) → options.quick ≡ false →
+    GivesOnly graph graph_bytes → IsSavedBy options graph NoFile text → IsSavedBy options graph NoFile other → text ≡ other
 
 -- two texts of the hierarchy of the same bytes, in an order like that of the same bytes, are equal
 abbrev pub OrdersHaveOneText : (graph order : Reading) → Type 0

@@ -1,5 +1,5 @@
 -- Where the hierarchy of a run comes from, and the promises on a saved one and on an order.
-use Rattle.std.specs.Prelude.{◌≡◌, ◌⊎◌, ℕ, ◌||◌, nat_lt, if◌then◌else◌, [], ◌∷◌, Bool, true, false, List, Option, Some, None}
+use Rattle.std.specs.Prelude.{◌≡◌, ◌⊎◌, ℕ, if◌then◌else◌, [], ◌∷◌, Bool, true, false, List, Option, Some, None}
 use Rattle.std.specs.Prelude.{is_some, IfSome, Result, Err, ⊤}
 use Rattle.ch_graph.specs.Graph.{Network, IsWithinLimits}
 use Rattle.ch_graph.specs.Saved.{OrderAndLegs}
@@ -12,14 +12,14 @@ use Rattle.ch_hierarchy.specs.Hierarchy.{LevelsAndLegs}
 use Rattle.ch_hierarchy.specs.Kept.{IsKept}
 use Rattle.ch_hierarchy.specs.Saved.{NamesKept, IsFirstFault, IsOrderOf}
 use Rattle.ch_contract.specs.declared.measure.OrderBy.{OrderBy}
-use Rattle.ch_contract.specs.declared.measure.OrderBy.TheVariants.{Difference, Depth, Rounds}
+use Rattle.ch_contract.specs.declared.measure.OrderBy.TheVariants.{Depth}
 use Rattle.ch_contract.specs.Built.{IsHierarchyBy}
 use Rattle.ch_contract.specs.Like.{IsHierarchyLike}
 use Rattle.ch_text.specs.declared.device.DeviceFault.{DeviceFault}
 use Rattle.ch_run.specs.declared.fault.Which.{Which}
 use Rattle.ch_run.specs.declared.fault.RunFault.{RunFault}
 use Rattle.ch_job.specs.declared.options.Options.{Options}
-use Rattle.ch_run.specs.declared.orders.TheConstants.{ROUND_NODES}
+use Rattle.ch_order.specs.Quick.{IsHierarchyAfter}
 use Rattle.ch_job.specs.declared.source.Source.{Source}
 use Rattle.ch_job.specs.declared.source.Source.TheVariants.{Built, Saved, Like}
 use Rattle.ch_run.specs.Run.{AcceptsGraph, Reading, ReadsAfter, ReadsAll, ReadsGraph, IsOf, reading, SourceReading, NoFile}
@@ -87,25 +87,20 @@ abbrev pub IsServing : OrderBy → ℕ → Network → Option LevelsAndLegs → 
 IsServing by hops g None K = IsHierarchyBy by g hops K
 IsServing by hops g (Some H) K = K ≡ H
 
--- the order that takes the place of this one if routes are asked for by some requests alone: depth takes that of the difference
-abbrev pub order_of_requests : OrderBy → OrderBy
-order_of_requests Difference = Depth
-order_of_requests Depth = Depth
-order_of_requests Rounds = Rounds
-
--- the order in which a run builds the hierarchy that answers requests. It is the order of the options, but without routes it is depth in
--- place of the difference
+-- the order in which a run builds the hierarchy that answers requests: with routes that of the options, and without them depth
 abbrev pub order_built : Options → OrderBy
-order_built options = if writes_routes options then options.order else order_of_requests options.order
+order_built options = if writes_routes options then options.order else Depth
 
--- the order in which this many workers build a hierarchy of a graph with this many nodes, if no answer depends on the order. It is by
--- rounds if there are at least two workers and the graph is large, and otherwise by depth
-abbrev pub quick_order : ℕ → ℕ → OrderBy
-quick_order workers nodes = if nat_lt workers 2 || nat_lt nodes ROUND_NODES then Depth else Rounds
+-- a hierarchy of a graph that is built to be saved, with at most this many legs in a witness. It is that of this order. If it is built
+-- quickly, its nodes are contracted in any order, and it is right for the graph
+abbrev pub IsBuiltToSave : (quick : Bool) → OrderBy → ℕ → Network → LevelsAndLegs → Type 0
+IsBuiltToSave false by hops g H = IsHierarchyBy by g hops H
+IsBuiltToSave true by hops g H = IsHierarchyAfter g hops [] H × IsKept g H
 
--- the order in which this many workers build the hierarchy that answers a list of queries
-abbrev pub order_for_queries : Options → ℕ → ℕ → OrderBy
-order_for_queries options workers nodes = if writes_routes options then options.order else quick_order workers nodes
+-- a hierarchy that is saved with these options: the one that was loaded, if there is one, or one that is built
+abbrev pub IsToSave : Options → Network → Option LevelsAndLegs → LevelsAndLegs → Type 0
+IsToSave options g None H = IsBuiltToSave options.quick options.order options.hops.number g H
+IsToSave options g (Some K) H = H ≡ K
 
 -- the hierarchy that routes go by, with these options
 abbrev pub IsOfRoutes : Options → Network → Option LevelsAndLegs → LevelsAndLegs → Type 0

@@ -11,7 +11,7 @@ use Rattle.ch_job.specs.declared.options.Options.{Options}
 use Rattle.ch_run.specs.Ask.{IsRequestText, Serves}
 use Rattle.ch_run.specs.NearRun.{sources_among}
 use Rattle.ch_run.specs.Run.{Reading, ReadingIf, SourceReading}
-use Rattle.ch_run.specs.Source.{IsOfRoutes, IsServing, order_built}
+use Rattle.ch_run.specs.Source.{IsOfRoutes, IsServing, IsToSave, order_built}
 use Rattle.ch_run.specs.Story.{Cells, IsRefused, Loads, Reads, ReadsIf, Writes}
 use Rattle.ch_run.specs.Text.{IsNearTextFor, IsSaveTextOf, IsTextBy, writes_routes}
 
@@ -54,7 +54,7 @@ RunsNear options graph source sources targets same_source same_sources same_targ
 abbrev pub RunsSave : {T O : Type 0} → Options → (graph : Reading) → (source : SourceReading) → (same_source : Type 0) →
     (takes : O → List ℕ → Result ℕ DeviceFault → O → Type 0) → (old new : O) → Result T RunFault → Type 0
 RunsSave options graph source same_source takes old new result =
-    Loads graph source same_source result (new ≡ old) (λ g h. Writes takes old new (IsSaveTextOf (IsOfRoutes options g h)) result)
+    Loads graph source same_source result (new ≡ old) (λ g h. Writes takes old new (IsSaveTextOf (IsToSave options g h)) result)
 
 -- a run that answers requests. There may be no memory for the hierarchy that it builds
 abbrev pub RunsAsk : {T O : Type 0} → Options → (graph : Reading) → (source : SourceReading) → (requests : Reading) →

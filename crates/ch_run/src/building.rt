@@ -7,13 +7,13 @@ ghost use Rattle.ch_hierarchy.specs.Saved.{IsOrderOf};
 ghost use Rattle.ch_contract.specs.Built.{IsHierarchyBy};
 ghost use Rattle.ch_contract.specs.Like.{IsHierarchyLike};
 ghost use Rattle.ch_order.specs.declared.construction.like.OrderError.TheVariants as OrderErrorOf;
-ghost use Rattle.ch_run.specs.Source.{IsInPlaceOf};
+ghost use Rattle.ch_run.specs.Source.{IsBuiltToSave, IsInPlaceOf};
 
 use crate::plan::{Crew, Gate};
 use ch_contract::{Hierarchy, HopBound, OrderBy, Percent};
 use ch_graph::Graph;
-use ch_order::{OrderError, build_in_turn, build_like, build_like_quickly};
-use ch_rounds::build_by_rounds;
+use ch_job::Options;
+use ch_order::{OrderError, build_in_turn, build_like, build_like_quickly, build_quickly};
 use std::alloc::AllocError;
 use std::thread::Threads;
 
@@ -35,8 +35,24 @@ pub(crate) fn build_by<R: Threads + Sync, G: Gate>(
     match by {
         OrderBy::Difference => build_in_turn(crew, graph, hops, OrderBy::Difference),
         OrderBy::Depth => build_in_turn(crew, graph, hops, OrderBy::Depth),
-        OrderBy::Rounds => build_by_rounds(crew, graph, hops),
     }
+}
+
+/// Builds the hierarchy of a graph that is saved with these options.
+///
+/// # Errors
+/// `AllocError` if there is no memory. The graph is as before.
+pub(crate) fn build_to_save<R: Threads + Sync, G: Gate>(
+    crew: &Crew<'_, R, G>,
+    graph: &Graph,
+    options: &Options,
+) -> Result<Hierarchy, AllocError>
+    ensures { IfOk result (IsBuiltToSave options.now.quick options.now.order options.now.hops.number graph.now) }
+{
+    if options.quick {
+        return build_quickly(crew, graph, options.hops);
+    }
+    build_by(crew, graph, options.hops, options.order)
 }
 
 /// Builds a hierarchy of a graph in an order like a given one, where a witness has at most `hops` legs. If what the

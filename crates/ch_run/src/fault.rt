@@ -3,14 +3,14 @@
 ghost use Rattle.std.specs.Prelude.{◌≡◌, ◌≤◌, ◌++◌, Some, codes, length};
 ghost use Rattle.ch_hierarchy.specs.FaultText.{fault_text as check_fault_text};
 ghost use Rattle.ch_read.specs.Text.{kind_text};
-ghost use Rattle.ch_run.specs.Fault.{fault_text, input_name, judged, read_heading, status_of};
+ghost use Rattle.ch_run.specs.Fault.{fault_text, fault_words, input_name, judged, read_heading, status_of};
 
 use ch_contract::CheckFault;
 use ch_read::{FaultKind, ReadError, ReadFault};
 use ch_text::ShortText;
 use std::alloc::{AllocError, AllocFailed};
-use std::error::Error;
 use std::fmt;
+use thiserror::Error;
 
 /// One of a run's inputs.
 #[derive(Clone, Copy, Debug, PartialEq, Eq)]
@@ -52,19 +52,19 @@ impl Which {
         }
     }
 
-    /// Returns the beginning of the line of a fault of this input.
+    /// Returns the first word of a fault of this input, with a space.
     fn heading(self) -> &'static str
         ensures text { result.now ≡ read_heading self }
-        ensures short { length result.now ≤ 15 }
+        ensures short { length result.now ≤ 8 }
     {
         match self {
-            Which::Graph => "chtab: graph ",
-            Which::Saved => "chtab: saved ",
-            Which::Order => "chtab: order ",
-            Which::Queries => "chtab: queries ",
-            Which::Sources => "chtab: sources ",
-            Which::Targets => "chtab: targets ",
-            Which::Requests => "chtab: request ",
+            Which::Graph => "graph ",
+            Which::Saved => "saved ",
+            Which::Order => "order ",
+            Which::Queries => "queries ",
+            Which::Sources => "sources ",
+            Which::Targets => "targets ",
+            Which::Requests => "request ",
         }
     }
 }
@@ -78,11 +78,11 @@ impl fmt::Display for Which {
 }
 
 /// Why a run gave no answer, or no further one. Its `Display` is the line that the program writes to
-/// standard error.
+/// standard error, without the name of the program before it ([`fault_line`]).
 ///
 /// If the fault is not `Write`, nothing was written. A run over requests is the exception: it may have
 /// answered some of them.
-#[derive(Clone, Copy, Debug, PartialEq, Eq)]
+#[derive(Clone, Copy, Debug, PartialEq, Eq, Error)]
 pub enum RunFault {
     /// This input is refused for this fault. Requests are refused for a fault of a line, or of their
     /// end.
@@ -105,7 +105,7 @@ pub enum RunFault {
 }
 
 impl fmt::Display for RunFault {
-    ghost output = { λ fault. Some (fault_text fault) };
+    ghost output = { λ fault. Some (fault_words fault) };
 
     fn fmt<W: fmt::Write>(&self, f: &mut fmt::Formatter<W>) -> fmt::Result {
         match self {
@@ -113,18 +113,16 @@ impl fmt::Display for RunFault {
                 let heading = which.heading();
                 write!(f, "{heading}{fault}")
             }
-            RunFault::Cells => f.write_str("chtab: too many cells"),
-            RunFault::CellsAt(line) => write!(f, "chtab: request line {line}: too many cells"),
-            RunFault::Memory => f.write_str("chtab: out of memory"),
-            RunFault::Device(which) => write!(f, "chtab: cannot read {which}"),
-            RunFault::Write(count) => write!(f, "chtab: cannot write after {count} bytes"),
-            RunFault::Check(fault) => write!(f, "chtab: saved hierarchy refused: {fault}"),
-            RunFault::Order => f.write_str("chtab: order refused: a node occurs twice"),
+            RunFault::Cells => f.write_str("too many cells"),
+            RunFault::CellsAt(line) => write!(f, "request line {line}: too many cells"),
+            RunFault::Memory => f.write_str("out of memory"),
+            RunFault::Device(which) => write!(f, "cannot read {which}"),
+            RunFault::Write(count) => write!(f, "cannot write after {count} bytes"),
+            RunFault::Check(fault) => write!(f, "saved hierarchy refused: {fault}"),
+            RunFault::Order => f.write_str("order refused: a node occurs twice"),
         }
     }
 }
-
-impl Error for RunFault {}
 
 /// Returns the words for a kind of fault of a file.
 fn kind_words(kind: FaultKind) -> &'static str
@@ -161,10 +159,10 @@ fn check_word(fault: CheckFault) -> &'static str
     }
 }
 
-/// Returns the line of a fault, with its line feed. It takes no memory, so it can report a lack of
-/// memory.
-pub fn fault_line(fault: &RunFault) -> ShortText
-    ensures { result ≡ fault_text fault.now ++ codes "\n" }
+/// Returns the words of a fault, with a line feed.
+fn words_of(fault: &RunFault) -> ShortText
+    ensures text { result ≡ fault_words fault.now ++ codes "\n" }
+    ensures short { length result ≤ 64 }
 {
     let mut line = ShortText::new();
     line.prepend(b'\n');
@@ -176,28 +174,38 @@ pub fn fault_line(fault: &RunFault) -> ShortText
             line.prepend_slice(b"line ");
             line.prepend_slice(which.heading().as_bytes());
         }
-        RunFault::Cells => line.prepend_slice(b"chtab: too many cells"),
+        RunFault::Cells => line.prepend_slice(b"too many cells"),
         RunFault::CellsAt(place) => {
             line.prepend_slice(b": too many cells");
             line.prepend_number(place);
-            line.prepend_slice(b"chtab: request line ");
+            line.prepend_slice(b"request line ");
         }
-        RunFault::Memory => line.prepend_slice(b"chtab: out of memory"),
+        RunFault::Memory => line.prepend_slice(b"out of memory"),
         RunFault::Device(which) => {
             line.prepend_slice(which.name().as_bytes());
-            line.prepend_slice(b"chtab: cannot read ");
+            line.prepend_slice(b"cannot read ");
         }
         RunFault::Write(count) => {
             line.prepend_slice(b" bytes");
             line.prepend_number(count);
-            line.prepend_slice(b"chtab: cannot write after ");
+            line.prepend_slice(b"cannot write after ");
         }
         RunFault::Check(fault) => {
             line.prepend_slice(check_word(fault).as_bytes());
-            line.prepend_slice(b"chtab: saved hierarchy refused: ");
+            line.prepend_slice(b"saved hierarchy refused: ");
         }
-        RunFault::Order => line.prepend_slice(b"chtab: order refused: a node occurs twice"),
+        RunFault::Order => line.prepend_slice(b"order refused: a node occurs twice"),
     }
+    line
+}
+
+/// Returns the line of a fault, with its line feed. It takes no memory, so it can report a lack of
+/// memory.
+pub fn fault_line(fault: &RunFault) -> ShortText
+    ensures { result ≡ fault_text fault.now ++ codes "\n" }
+{
+    let mut line = words_of(fault);
+    line.prepend_slice(b"chtab: ");
     line
 }
 

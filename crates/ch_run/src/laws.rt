@@ -1,6 +1,5 @@
-//! Laws of texts, of what is read, of the stories of runs and of a constant, each the contract of a function that does nothing.
+//! Laws of texts, of what is read and of the stories of runs, each the contract of a function that does nothing.
 ghost use Rattle.ch_job.specs.Job.{source_map, sources_map};
-ghost use Rattle.ch_run.specs.declared.orders.TheConstants.{ROUND_NODES};
 ghost use Rattle.ch_run.specs.NearTextLaws.{AllNearRowsHaveOneText, NearRowsHaveOneText, SavedAllNearRowsAreThoseOfTheGraph, SavedNearRowsAreThoseOfTheGraph};
 ghost use Rattle.ch_run.specs.SavedTextLaws.{HierarchiesHaveOneText, HierarchyTextsReadBack, OrdersHaveOneText, SavedAnswersHaveOneText, SavedTablesHaveOneText, SavedTextsReadBack};
 ghost use Rattle.ch_run.specs.TextLaws.{AnswersHaveOneText, TablesHaveOneText};
@@ -105,9 +104,4 @@ pub fn ask_tells<I: Input, S: Input, J: Input, O: Output>()
         source_map S.origin source' ≡ source_map S.origin source →
         RunsAsk options (reading I.read_gives graph graph') (source_reading S.read_gives source source') (reading J.read_gives requests requests') (source' ≡ source) (requests' ≡ requests) O.write_gives output output' result →
         AskTells I.read_gives I.failed graph graph' S.read_gives S.failed source source' J.failed requests requests' O.failed O.idle output output' result }
-{}
-
-/// Proves the value of the constant that the order of a building takes from the code.
-pub fn constants()
-    ensures { ROUND_NODES ≡ 65536 }
 {}

@@ -2,6 +2,7 @@
 ghost use Rattle.std.specs.Prelude.{◌≡◌};
 
 use ch_run::{Input, MemoryInput, MemoryOutput, Output, ReadAllFault, read_all, write_all};
+use std::fmt::InlineText;
 use std::process::Abort;
 use std::test::Fail;
 
@@ -33,14 +34,8 @@ fn an_input_is_read_to_its_end_or_to_a_read_that_fails(rt: HostRuntime) -> Resul
 }
 
 /// Expects that the output takes `count` bytes of the text. Also expects its counts of failures and of
-/// writes without a byte, and whether it is closed.
-fn expect_taken(
-    rt: &impl Abort,
-    output: MemoryOutput,
-    count: usize,
-    counted: (u64, u64),
-    is_closed: bool,
-)
+/// writes without a byte.
+fn expect_taken(rt: &impl Abort, output: MemoryOutput, count: usize, counted: (u64, u64))
     requires failures { ⟦<MemoryOutput as Output>⟧.failed output ≡ 0 }
     requires zeros { ⟦<MemoryOutput as Output>⟧.idle output ≡ 0 }
 {
@@ -54,38 +49,32 @@ fn expect_taken(
     assert_eq!(rt; answer, owed);
     assert_eq!(rt; Some(output.bytes()), TEXT.get(..count));
     assert_eq!(rt; (output.failures(), output.zeros()), counted);
-    assert_eq!(rt; output.is_closed(), is_closed);
 }
 
 #[test]
 fn a_text_is_written_whole_or_up_to_a_write_that_fails(rt: HostRuntime) -> Result<(), Fail> {
     for most in PARTS {
         let output = MemoryOutput::new(rt.alloc(), 100, most)?;
-        expect_taken(&rt, output, TEXT.len(), (0, 0), false);
+        expect_taken(&rt, output, TEXT.len(), (0, 0));
         for before in 0..TEXT.len().div_ceil(most) {
             let count = before.saturating_mul(most);
             let output = MemoryOutput::new(rt.alloc(), 100, most)?;
-            expect_taken(
-                &rt,
-                output.failing_after(before as u64),
-                count,
-                (1, 0),
-                false,
-            );
-            let output = MemoryOutput::new(rt.alloc(), 100, most)?.closing();
-            expect_taken(
-                &rt,
-                output.failing_after(before as u64),
-                count,
-                (1, 0),
-                true,
-            );
-            let output = MemoryOutput::new(rt.alloc(), 100, most)?.closing();
-            expect_taken(&rt, output.idle_after(before as u64), count, (0, 1), false);
+            expect_taken(&rt, output.failing_after(before as u64), count, (1, 0));
+            let output = MemoryOutput::new(rt.alloc(), 100, most)?;
+            expect_taken(&rt, output.idle_after(before as u64), count, (0, 1));
         }
     }
     // An output that is full takes no byte.
     let output = MemoryOutput::new(rt.alloc(), 5, 3)?;
-    expect_taken(&rt, output, 5, (0, 1), false);
+    expect_taken(&rt, output, 5, (0, 1));
+    Ok(())
+}
+
+/// What a derive writes has no clause.
+#[test]
+fn a_fault_of_an_input_has_words(rt: HostRuntime) -> Result<(), Fail> {
+    let (device, memory) = (ReadAllFault::Device, ReadAllFault::Memory);
+    assert_eq!(rt; InlineText::<40>::of(device).as_str(), "a read failed");
+    assert_eq!(rt; InlineText::<40>::of(memory).as_str(), "out of memory");
     Ok(())
 }

@@ -10,6 +10,7 @@ pub const BY_HIERARCHY: Options = Options {
     routes: false,
     hops: HopBound { number: 5 },
     order: OrderBy::Difference,
+    quick: false,
     within: None,
     count: None,
     direction: Direction::To,

@@ -84,9 +84,15 @@ fn expect_passes<R: Threads + Abort + Sync>(
     Ok(())
 }
 
-/// A run with the hierarchy has four pieces for priorities and one for the query. A plain run has none.
+/// A run with routes has four pieces for priorities and one for the query. Without routes the star is contracted as chains,
+/// and no node gets a priority. A plain run has no pieces.
 #[test]
 fn a_run_goes_by_the_pieces_of_its_layers(rt: HostRuntime) -> Result<(), Fail> {
-    expect_passes(&rt, rt.alloc(), &BY_HIERARCHY, [2, 1, 1, 1, 0])?;
+    let with_routes = Options {
+        routes: true,
+        ..BY_HIERARCHY
+    };
+    expect_passes(&rt, rt.alloc(), &with_routes, [2, 1, 1, 1, 0])?;
+    expect_passes(&rt, rt.alloc(), &BY_HIERARCHY, [1, 0, 0, 0, 0])?;
     expect_passes(&rt, rt.alloc(), &PLAIN, [0; 5])
 }

@@ -1,8 +1,8 @@
 -- Calls of std that are made again if they are interrupted.
-use Rattle.std.specs.Prelude.{◌≡◌, ◌≢◌, ◌⊎◌, ◌↔◌, IsTrue, ℕ, zero, suc, ◌-◌, ◌^◌, Bool, List, Result, Ok, Err, IfErr}
+use Rattle.std.specs.Prelude.{◌≡◌, ◌≢◌, ◌⊎◌, ℕ, zero, suc, ◌-◌, ◌^◌, List, Result, Ok, Err, IfErr}
 use Rattle.std.specs.IoError.{error_kind}
 use Rattle.std.specs.declared.io.Error.{Error}
-use Rattle.std.specs.declared.io.ErrorKind.TheVariants.{BrokenPipe, Interrupted}
+use Rattle.std.specs.declared.io.ErrorKind.TheVariants.{Interrupted}
 use Rattle.ch_text.specs.declared.device.DeviceFault.{DeviceFault}
 
 -- this many calls in a row were interrupted
@@ -39,11 +39,6 @@ abbrev pub IsWriteOf : {S : Type 0} → (gives : S → List ℕ → Result ℕ E
     (new : S) → Type 0
 IsWriteOf gives old bytes result new = IsMadeUntilDone (IsOneWrite gives bytes) old result new
 
--- a write has failed because nobody reads the output any more, now or before
-abbrev pub IsClosedBy : (closed closed' : Bool) → Result ℕ Error → Type 0
-IsClosedBy closed closed' (Ok count) = closed' ≡ closed
-IsClosedBy closed closed' (Err error) = IsTrue closed' ↔ (IsTrue closed ⊎ (error_kind error ≡ BrokenPipe))
-
 -- the answer of a device for this answer of std
 abbrev pub device_answer : Result ℕ Error → Result ℕ DeviceFault
 device_answer (Ok count) = Ok count
@@ -57,10 +52,9 @@ pub record IsDeviceRead {S : Type 0} (gives : S → List ℕ → Result ℕ Erro
   pub reads : IsReadOf gives old before answer new buffer
   pub is : result ≡ device_answer answer
 
--- a write of a device is writes to its sink until one is done. Only a broken pipe closes the device
-pub record IsDeviceWrite {S : Type 0} (gives : S → List ℕ → Result ℕ Error → S → Type 0) (old : S) (closed : Bool) (bytes : List ℕ)
-    (result : Result ℕ DeviceFault) (new : S) (closed' : Bool) : Type 0 where
+-- a write of a device is writes to its sink until one is done
+pub record IsDeviceWrite {S : Type 0} (gives : S → List ℕ → Result ℕ Error → S → Type 0) (old : S) (bytes : List ℕ)
+    (result : Result ℕ DeviceFault) (new : S) : Type 0 where
   pub answer : Result ℕ Error
   pub writes : IsWriteOf gives old bytes answer new
   pub is : result ≡ device_answer answer
-  pub closes : IsClosedBy closed closed' answer

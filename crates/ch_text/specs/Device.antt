@@ -1,6 +1,6 @@
 -- The bytes that devices give and take, and the counts of their faults.
-use Rattle.std.specs.Prelude.{◌≡◌, ℕ, zero, suc, ◌+◌, ◌-◌, ◌^◌, ◌<◌, ◌++◌, ◌==◌, ◌&&◌, ◌⊎◌, if◌then◌else◌, nat_lt, Bool, true, List}
-use Rattle.std.specs.Prelude.{[], Option, Some, None, ⊤, Result, Ok, Err, IsErr, length, take, MatchResult}
+use Rattle.std.specs.Prelude.{◌≡◌, ℕ, zero, suc, ◌+◌, ◌-◌, ◌^◌, ◌<◌, ◌++◌, ◌==◌, ◌&&◌, ◌⊎◌, if◌then◌else◌, nat_lt, List}
+use Rattle.std.specs.Prelude.{[], Option, Some, None, ⊤, Result, Ok, Err, length, take, MatchResult}
 
 -- a count of 64 bits can be raised by one more
 abbrev pub CanCountOneMore : ℕ → Type 0
@@ -54,10 +54,6 @@ HasTaken (Some old) new bytes = new ≡ Some (old ++ bytes)
 abbrev pub CountsFault : {T E : Type 0} → (failed failed' idle idle' : ℕ) → Result T E → Type 0
 CountsFault failed failed' idle idle' (Ok _) = (failed' ≡ failed) × (idle' ≡ idle)
 CountsFault failed failed' idle idle' (Err _) = ((failed' ≡ failed + 1) × (idle' ≡ idle)) ⊎ ((failed' ≡ failed) × (idle' ≡ idle + 1))
-
--- an output is open or closed as it was before, or an error has closed it
-abbrev pub ClosesAtFault : {T E : Type 0} → (closed closed' : Bool) → Result T E → Type 0
-ClosesAtFault closed closed' result = (closed' ≡ closed) ⊎ (IsErr result × (closed' ≡ true))
 
 -- the turns that are left after one: none after the last
 abbrev pub turns_after : Option ℕ → Option ℕ

@@ -1,5 +1,5 @@
 -- What the calls of a device tell of its bytes, where those are known.
-use Rattle.std.specs.Prelude.{◌≡◌, ℕ, zero, suc, Bool, List, [], ◌++◌, Option, Some, None, Result, Ok, Err, take}
+use Rattle.std.specs.Prelude.{◌≡◌, ℕ, zero, suc, List, [], ◌++◌, Option, Some, None, Result, Ok, Err, take}
 use Rattle.std.proofs.Common.{refl, sym, ap, ◌∙◌}
 use Rattle.std.specs.Io.KnownBytes.{Keeps, ReadConsumes, WriteAppends}
 use Rattle.std.specs.declared.io.Error.{Error}
@@ -62,9 +62,9 @@ reader_tells {S} gives known law old buffer result new made =
 pub writer_tells : {S : Type 0} (gives : S → List ℕ → Result ℕ Error → S → Type 0) (known : S → Option (List ℕ))
     → ((old : S) (bytes : List ℕ) (answer : Result ℕ Error) (new : S) → gives old bytes answer new →
     WriteAppends (known old) (known new) answer bytes)
-    → (old : S) (closed : Bool) (bytes : List ℕ) (result : Result ℕ DeviceFault) (new : S) (closed' : Bool) →
-    IsDeviceWrite gives old closed bytes result new closed' → TakesBytes (known old) (known new) result bytes
-writer_tells gives known law old closed bytes result new closed' made =
+    → (old : S) (bytes : List ℕ) (result : Result ℕ DeviceFault) (new : S) → IsDeviceWrite gives old bytes result new →
+    TakesBytes (known old) (known new) result bytes
+writer_tells gives known law old bytes result new made =
     let done = made.writes in
     let kept = interrupted_keeps (IsOneWrite gives bytes) known (λ before error after call. law before bytes (Err error) after call)
     done.calls old done.last done.before in

@@ -1,7 +1,7 @@
 //! The devices that a run reads its files from and writes its text to.
 
-ghost use Rattle.std.specs.Prelude.{◌≡◌, ◌+◌, ◌≤◌, ℕ, Bool, List, Option, Result, Some, codes, length, vec_len, IfOk, IfErr, OnOk};
-ghost use Rattle.ch_text.specs.Device.{CanCountOneMore, ClosesAtFault, GivesBytes, TakesBytes, idle_writes, failures_in};
+ghost use Rattle.std.specs.Prelude.{◌≡◌, ◌+◌, ◌≤◌, ℕ, List, Option, Result, Some, codes, length, vec_len, IfOk, IfErr, OnOk};
+ghost use Rattle.ch_text.specs.Device.{CanCountOneMore, GivesBytes, TakesBytes, idle_writes, failures_in};
 ghost use Rattle.ch_text.specs.Moves.{GaveAll, GaveSome, Took, TookUntilFault};
 ghost use Rattle.ch_text.specs.declared.device.DeviceFault.{DeviceFault as Failure};
 
@@ -11,14 +11,14 @@ mod memory;
 pub use file::{ReadOnce, ReaderInput, WriteOnce, WriterOutput};
 pub use memory::{MemoryInput, MemoryOutput};
 use std::alloc::{AllocError, Global};
-use std::error::Error;
 use std::fmt;
+use thiserror::Error;
 
 /// The number of bytes that [`read_all`] has room for at each read.
 const ROOM: usize = 65_536;
 
 /// The fault of a read or a write that failed.
-#[derive(Clone, Copy, Debug, PartialEq, Eq)]
+#[derive(Clone, Copy, Debug, PartialEq, Eq, Error)]
 pub struct DeviceFault;
 
 impl fmt::Display for DeviceFault {
@@ -28,8 +28,6 @@ impl fmt::Display for DeviceFault {
         f.write_str("a device failed")
     }
 }
-
-impl Error for DeviceFault {}
 
 /// A source of bytes that counts its faults.
 ///
@@ -71,7 +69,6 @@ pub trait Input {
 ///
 /// What one write may do has a name, but no meaning, as for an [`Input`]. The same laws tie the writes to the
 /// bytes that were taken, if they are known (`taken`), and to the counts.
-/// An output is closed once a write has failed because nobody reads the output any more.
 pub trait Output {
     // what one write may do: the output before, the bytes, the answer, and the output after
     ghost write_gives: { Self → List ℕ → Result ℕ Failure → Self → Type 0 };
@@ -81,19 +78,16 @@ pub trait Output {
     ghost idle: { Self → ℕ };
     // the bytes that were taken, if they are known
     ghost taken: { Self → Option (List ℕ) };
-    // whether a write has failed because nobody reads the output any more
-    ghost closed: { Self → Bool };
 
     /// Writes from the front of `bytes`, and returns the number of bytes taken.
     ///
     /// An `Err` raises the count of failures by one. If the bytes are known, an `Err` has taken none.
-    /// Otherwise it may have taken some, which are not counted. Only an `Err` closes the output.
+    /// Otherwise it may have taken some, which are not counted.
     fn write(&mut self, bytes: &[u8]) -> Result<usize, DeviceFault>
         requires failures { CanCountOneMore (failed self.old) }
         requires zeros { CanCountOneMore (idle self.old) }
         ensures fits { IfOk result (λ n. n ≤ length bytes.now) }
-        ensures made { write_gives self.old bytes.now result self.new }
-        ensures closes { ClosesAtFault (closed self.old) (closed self.new) result };
+        ensures made { write_gives self.old bytes.now result self.new };
 
     /// Returns how many writes have failed.
     fn failures(&self) -> u64
@@ -103,11 +97,6 @@ pub trait Output {
     fn zeros(&self) -> u64
         ensures { result ≡ idle self.now };
 
-    /// Returns whether a write has failed because nobody reads the output any more. This happens if a
-    /// pipe leads to a program that has ended.
-    fn is_closed(&self) -> bool
-        ensures { result ≡ closed self.now };
-
     // a write puts its bytes behind the known bytes that were taken
     ghost tells: { (old : Self) → (bytes : List ℕ) → (answer : Result ℕ Failure) → (new : Self) → write_gives old bytes answer new → TakesBytes (taken old) (taken new) answer bytes };
     // a write that failed raises the count of failures by one. A write of some bytes that took none raises that of idle writes
@@ -115,11 +104,13 @@ pub trait Output {
 }
 
 /// Why an input wasn't read to its end.
-#[derive(Clone, Copy, Debug, PartialEq, Eq)]
+#[derive(Clone, Copy, Debug, PartialEq, Eq, Error)]
 pub enum ReadAllFault {
     /// A read failed.
+    #[error("a read failed")]
     Device,
     /// There was no memory for the bytes.
+    #[error("out of memory")]
     Memory,
 }
 
@@ -181,7 +172,6 @@ pub fn write_all<O: Output>(output: &mut O, bytes: &[u8]) -> Result<(), u64>
     requires zeros { CanCountOneMore (O.idle output.old) }
     ensures done { OnOk result (Took O.write_gives output.old bytes.now output.new) }
     ensures part { IfErr result (λ count. TookUntilFault O.write_gives output.old bytes.now count output.new) }
-    ensures closes { ClosesAtFault (O.closed output.old) (O.closed output.new) result }
 {
     let mut count = 0;
     while count < bytes.len() {

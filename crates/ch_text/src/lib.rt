@@ -1,12 +1,10 @@
 //! Devices, and the texts of answers.
 //!
-//! It stands on ch_graph, ch_hierarchy, ch_query and itoa. It does not know runs, threads or tables, or how a
+//! It stands on ch_graph, ch_hierarchy, ch_query, itoa and thiserror. It does not know runs, threads or tables, or how a
 //! hierarchy is built.
 //!
 //! [`Input`] and [`Output`] are devices that count their faults. They are over memory ([`MemoryInput`],
-//! [`MemoryOutput`]) or over the readers and writers of `std` ([`ReaderInput`], [`WriterOutput`]). An
-//! output also says whether it is closed: whether a write has failed because nobody reads the output any
-//! more.
+//! [`MemoryOutput`]) or over the readers and writers of `std` ([`ReaderInput`], [`WriterOutput`]).
 //!
 //! Proved:
 //!

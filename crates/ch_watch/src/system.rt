@@ -4,7 +4,7 @@ use crate::watcher::{Lines, Timer};
 use std::io::{Stderr, Write};
 use std::time::Clock;
 
-impl Timer for HostRuntime {
+impl<R: Clock + Sync> Timer for R {
     fn milliseconds(&self) -> Option<u64> {
         let time = self.monotonic().ok()?;
         u64::try_from(time.as_millis()).ok()

@@ -1,16 +1,17 @@
 -- The words of the command line, and the line that they give.
-use Rattle.std.specs.Prelude.{◌≡◌, ◌≢◌, ◌⊎◌, ℕ, pos, [], ◌∷◌, ◌++◌, Bool, List, Option, Some, None, true, false, codes}
-use Rattle.std.specs.Prelude.{String, fold, if◌then◌else◌, is_some, length, option_map, unwrap_or, ⊤}
+use Rattle.std.specs.Prelude.{◌≡◌, ◌≢◌, ◌<◌, ◌≤◌, ◌⊎◌, ℕ, pos, [], ◌∷◌, ◌++◌, Bool, List, Option, Some, None, true, false, codes}
+use Rattle.std.specs.Prelude.{String, fold, if◌then◌else◌, is_some, length, option_and_then, option_map, slice_get, unwrap_or, ⊤}
 use Rattle.std.specs.Str.Parse.{digits_value, without_leading_plus}
 use Rattle.std.specs.String.{string_bytes}
-use Rattle.clap.specs.Words.{App, IsAmong, Kinds, Row, Rule, Text, all_of, app_of, fault_of, first_of, new_app, new_rule, one_of}
-use Rattle.clap.specs.Words.{subcommand_of, with_rule, with_subcommand}
+use Rattle.clap.specs.Words.{App, IsAmong, Kinds, Row, Rule, Text, all_of, app_of, fault_of, first_of, matched_of, new_app, new_rule}
+use Rattle.clap.specs.Words.{one_of, subcommand_of, with_rule, with_subcommand}
 use Rattle.clap.specs.Simple.{on_top}
 use Rattle.clap.specs.declared.builder.ArgAction.TheVariants.{Append, Set, SetTrue}
 use Rattle.clap.specs.declared.builder.command.Command.{Command}
 use Rattle.clap.specs.declared.builder.command.Command.TheViews.{out-Command}
 use Rattle.clap.specs.declared.builder.value_parser.ValueParser.TheVariants as parser
 use Rattle.clap.specs.declared.error.kind.ErrorKind.{ErrorKind}
+use Rattle.clap.specs.declared.parser.matches.Found.{Found}
 use Rattle.clap.specs.declared.error.kind.ErrorKind.TheVariants.{DisplayHelp, DisplayVersion, OutOfMemory}
 use Rattle.ch_graph.specs.declared.limits.TheConstants.{MOST_HOPS, MOST_LISTED, MOST_WEIGHT}
 use Rattle.ch_work.specs.declared.limits.TheConstants.{MOST_WORKERS, MOST_PIECE}
@@ -71,13 +72,9 @@ routes_rule = flag_rule (codes "routes")
 abbrev pub deep_rule : Rule
 deep_rule = flag_rule (codes "deep")
 
--- `[--rounds]`
-abbrev pub rounds_rule : Rule
-rounds_rule = flag_rule (codes "rounds")
-
--- `[--deep | --rounds]`. Clap's form accepts both, and the line refuses them
-abbrev pub order_rules : List Rule
-order_rules = deep_rule ∷ rounds_rule ∷ []
+-- `[--quick]`
+abbrev pub quick_rule : Rule
+quick_rule = flag_rule (codes "quick")
 
 -- `[--within R]`
 abbrev pub within_rule : Rule
@@ -101,7 +98,7 @@ number_rules = number_rule (codes "workers") MOST_WORKERS (codes "1") ∷ number
     ∷ number_rule (codes "hops") MOST_HOPS (codes "5") ∷ []
 
 -- `[--like FILE [--fresh P]] [--workers N] [--piece K] [--hops H] [--progress]`, which each tool reads. Clap's form accepts `--like`
--- beside `--saved`, `--deep` and `--rounds`, and the line refuses them
+-- beside `--saved`, `--deep` and `--quick`, and the line refuses them
 abbrev pub shared_rules : List Rule
 shared_rules = like_rules ++ number_rules ++ progress_rule ∷ []
 
@@ -113,11 +110,11 @@ HasForm form command = (app_of command ≡ form) × ((out-Command command).has_g
 abbrev pub tool_form : Text → List Rule → List Rule → App
 tool_form name own files = fold with_rule (new_app name) (own ++ shared_rules ++ files)
 
--- `[--plain] [--routes] [--deep | --rounds] [--saved FILE]`
+-- `[--plain] [--routes] [--deep] [--saved FILE]`
 abbrev pub dist_rules : List Rule
-dist_rules = flag_rule (codes "plain") ∷ routes_rule ∷ order_rules ++ saved_rule ∷ []
+dist_rules = flag_rule (codes "plain") ∷ routes_rule ∷ deep_rule ∷ saved_rule ∷ []
 
--- `dist [--plain] [--routes] [--deep | --rounds] [--saved FILE] .. GRAPH QUERIES`
+-- `dist [--plain] [--routes] [--deep] [--saved FILE] .. GRAPH QUERIES`
 abbrev pub dist_form : App
 dist_form = tool_form (codes "dist") dist_rules (file_rule (codes "GRAPH") ∷ file_rule (codes "QUERIES") ∷ [])
 
@@ -138,19 +135,19 @@ near_rules = limit_rule (codes "count") 1 MOST_LISTED ∷ within_rule ∷ flag_r
 abbrev pub near_form : App
 near_form = tool_form (codes "near") near_rules (file_rule (codes "GRAPH") ∷ lists_rule ∷ [])
 
--- `[--deep | --rounds]`, and nothing else
+-- `[--deep | --quick]`, and nothing else. Clap's form accepts both, and the line refuses them
 abbrev pub save_rules : List Rule
-save_rules = order_rules
+save_rules = deep_rule ∷ quick_rule ∷ []
 
--- `save [--deep | --rounds] .. GRAPH`
+-- `save [--deep | --quick] .. GRAPH`
 abbrev pub save_form : App
 save_form = tool_form (codes "save") save_rules (file_rule (codes "GRAPH") ∷ [])
 
--- `[--routes] [--deep | --rounds] [--within R] [--saved FILE]`
+-- `[--routes] [--deep] [--within R] [--saved FILE]`
 abbrev pub ask_rules : List Rule
-ask_rules = routes_rule ∷ order_rules ++ within_rule ∷ saved_rule ∷ []
+ask_rules = routes_rule ∷ deep_rule ∷ within_rule ∷ saved_rule ∷ []
 
--- `ask [--routes] [--deep | --rounds] [--within R] [--saved FILE] .. GRAPH`
+-- `ask [--routes] [--deep] [--within R] [--saved FILE] .. GRAPH`
 abbrev pub ask_form : App
 ask_form = tool_form (codes "ask") ask_rules (file_rule (codes "GRAPH") ∷ [])
 
@@ -237,18 +234,22 @@ IsSourceIn given options (Source.Like order fresh hops) = (saved_in given option
 abbrev pub is_given : List Row → Text → Bool
 is_given given name = is_some (first_of name given)
 
--- neither `--like` nor `--fresh` is given. Or `--like` is, and none of `--saved`, `--deep` and `--rounds`
+-- neither `--like` nor `--fresh` is given. Or `--like` is, and none of `--saved`, `--deep` and `--quick`
 abbrev pub IsUnmixed : List Row → Type 0
 IsUnmixed given =
     ((is_given given (codes "like") ≡ false) × (is_given given (codes "fresh") ≡ false))
     ⊎ ((is_given given (codes "like") ≡ true) × (is_given given (codes "saved") ≡ false) × IsFlagIn given (codes "deep") false
-    × IsFlagIn given (codes "rounds") false)
+    × IsFlagIn given (codes "quick") false)
 
--- the order that the words choose: by the difference without a word, and otherwise the one that the only given word names
+-- the order that the words choose: by depth with `--deep`, and by the difference without it
 abbrev pub IsOrderIn : List Row → OrderBy → Type 0
-IsOrderIn given OrderBy.Difference = IsFlagIn given (codes "deep") false × IsFlagIn given (codes "rounds") false
-IsOrderIn given OrderBy.Depth = IsFlagIn given (codes "deep") true × IsFlagIn given (codes "rounds") false
-IsOrderIn given OrderBy.Rounds = IsFlagIn given (codes "deep") false × IsFlagIn given (codes "rounds") true
+IsOrderIn given OrderBy.Difference = IsFlagIn given (codes "deep") false
+IsOrderIn given OrderBy.Depth = IsFlagIn given (codes "deep") true
+
+-- whether the words choose the order that takes the least time to find: `--quick` is given, and `--deep` is not
+abbrev pub IsQuickIn : List Row → Bool → Type 0
+IsQuickIn given false = IsFlagIn given (codes "quick") false
+IsQuickIn given true = IsFlagIn given (codes "quick") true × IsFlagIn given (codes "deep") false
 
 -- the direction that the words choose: `--from` chooses the distances from the targets
 abbrev pub IsDirectionIn : List Row → Direction → Type 0
@@ -256,18 +257,19 @@ IsDirectionIn given Direction.To = IsFlagIn given (codes "from") false
 IsDirectionIn given Direction.From = IsFlagIn given (codes "from") true
 
 -- the flags, the order and the direction of the tool are as given. The other flags are off, a tool without the words of orders has no
--- order but the difference, and only near rows have another direction than that to the targets
+-- order but the difference, and only near rows have another direction than that to the targets. Only a saved hierarchy is built quickly
 abbrev pub AreFlagsIn : {F : Type 0} → List Row → Question F → Options → Type 0
 AreFlagsIn given (Question.Queries queries) options = IsFlagIn given (codes "plain") options.plain
-    × IsFlagIn given (codes "routes") options.routes × IsOrderIn given options.order × (options.direction ≡ Direction.To)
-AreFlagsIn given (Question.Table sources targets) options = (options.plain ≡ false) × (options.routes ≡ false)
-    × (options.order ≡ OrderBy.Difference) × (options.direction ≡ Direction.To)
-AreFlagsIn given (Question.Near sources targets) options = (options.plain ≡ false) × (options.routes ≡ false)
-    × (options.order ≡ OrderBy.Difference) × IsDirectionIn given options.direction
-AreFlagsIn given Question.Hierarchy options = (options.plain ≡ false) × (options.routes ≡ false) × IsOrderIn given options.order
+    × IsFlagIn given (codes "routes") options.routes × IsOrderIn given options.order × (options.quick ≡ false)
     × (options.direction ≡ Direction.To)
+AreFlagsIn given (Question.Table sources targets) options = (options.plain ≡ false) × (options.routes ≡ false)
+    × (options.order ≡ OrderBy.Difference) × (options.quick ≡ false) × (options.direction ≡ Direction.To)
+AreFlagsIn given (Question.Near sources targets) options = (options.plain ≡ false) × (options.routes ≡ false)
+    × (options.order ≡ OrderBy.Difference) × (options.quick ≡ false) × IsDirectionIn given options.direction
+AreFlagsIn given Question.Hierarchy options = (options.plain ≡ false) × (options.routes ≡ false) × IsOrderIn given options.order
+    × IsQuickIn given options.quick × (options.direction ≡ Direction.To)
 AreFlagsIn given Question.Requests options = (options.plain ≡ false) × IsFlagIn given (codes "routes") options.routes
-    × IsOrderIn given options.order × (options.direction ≡ Direction.To)
+    × IsOrderIn given options.order × (options.quick ≡ false) × (options.direction ≡ Direction.To)
 
 -- the workers and the size of pieces are as given. While a hierarchy is built, workers share a job only if it has at least 64 nodes
 pub record IsPlanIn (given : List Row) (plan : Division) : Type 0 where
@@ -334,7 +336,7 @@ AreRefusedLists name given LineFault.NoMemory = ⊤
 
 -- both orders are given
 abbrev pub HasTwoOrders : List Row → Type 0
-HasTwoOrders given = IsFlagIn given (codes "deep") true × IsFlagIn given (codes "rounds") true
+HasTwoOrders given = IsFlagIn given (codes "deep") true × IsFlagIn given (codes "quick") true
 
 -- the words name a tool, with both orders
 abbrev pub NamesTwoOrders : Option (Text × List Row) → Type 0
@@ -347,12 +349,35 @@ AreRefusedOrders given (LineFault.Help _) = ⊥
 AreRefusedOrders given (LineFault.Refused _) = HasTwoOrders given
 AreRefusedOrders given LineFault.NoMemory = ⊤
 
--- `--like` is given beside `--saved`, `--deep` or `--rounds`, or `--fresh` is given without `--like`
+-- `--like` is given beside `--saved`, `--deep` or `--quick`, or `--fresh` is given without `--like`
 abbrev pub IsMixed : List Row → Type 0
 IsMixed given =
     ((is_given given (codes "like") ≡ true) × ((is_given given (codes "saved") ≡ true) ⊎ IsFlagIn given (codes "deep") true
-    ⊎ IsFlagIn given (codes "rounds") true))
+    ⊎ IsFlagIn given (codes "quick") true))
     ⊎ ((is_given given (codes "fresh") ≡ true) × (is_given given (codes "like") ≡ false))
+
+-- why options don't go together: the first of these reasons that is true
+abbrev pub IsMixMessage : List Row → Text → Type 0
+IsMixMessage given message =
+    ((is_given given (codes "like") ≡ false) × (is_given given (codes "fresh") ≡ true)
+    × (message ≡ codes "the argument '--fresh' cannot be used without '--like'"))
+    ⊎ ((is_given given (codes "like") ≡ true) × (is_given given (codes "saved") ≡ true)
+    × (message ≡ codes "the argument '--like' cannot be used with '--saved'"))
+    ⊎ ((is_given given (codes "like") ≡ true) × (is_given given (codes "saved") ≡ false) × IsFlagIn given (codes "deep") true
+    × (message ≡ codes "the argument '--like' cannot be used with '--deep'"))
+    ⊎ ((is_given given (codes "like") ≡ true) × (is_given given (codes "saved") ≡ false) × IsFlagIn given (codes "deep") false
+    × IsFlagIn given (codes "quick") true × (message ≡ codes "the argument '--like' cannot be used with '--quick'"))
+
+-- the place among the words of the first value of an argument, if it has one
+abbrev pub place_of : Found → Text → Option ℕ
+place_of found name = option_and_then (λ a. slice_get a.indices.items 0) (matched_of found name)
+
+-- why both orders are refused, by their places among the words: the message names first the one that is given first
+abbrev pub IsOrdersMessage : (deep quick : Option ℕ) → Text → Type 0
+IsOrdersMessage (Some deep) (Some quick) message =
+    ((quick < deep) × (message ≡ codes "the argument '--quick' cannot be used with '--deep'"))
+    ⊎ ((deep ≤ quick) × (message ≡ codes "the argument '--deep' cannot be used with '--quick'"))
+IsOrdersMessage _ _ message = message ≡ codes "the argument '--deep' cannot be used with '--quick'"
 
 -- the words name a tool, with options that don't go together
 abbrev pub NamesMixed : Option (Text × List Row) → Type 0

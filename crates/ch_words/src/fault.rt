@@ -8,27 +8,21 @@ ghost use Rattle.ch_words.specs.Line.{IsRefusedFor, IsShownAs, IsToldBy, IsToldO
 
 use clap::error::ErrorKind;
 use std::alloc::{AllocError, Global};
-use std::error::Error;
 use std::fmt;
+use thiserror::Error;
 
 /// Why the words give no line.
-#[derive(Debug, Drop)]
+#[derive(Debug, Drop, Error)]
 pub enum LineFault {
     /// The words ask for help or for the version, and this is the text of it.
+    #[error("{0}")]
     Help(String),
     /// The words are refused, and this text says why.
+    #[error("{0}")]
     Refused(String),
     /// There was not enough memory.
+    #[error("chtab: out of memory")]
     NoMemory,
-}
-
-impl fmt::Display for LineFault {
-    fn fmt<W: fmt::Write>(&self, f: &mut fmt::Formatter<W>) -> fmt::Result {
-        match self {
-            LineFault::Help(text) | LineFault::Refused(text) => f.write_str(text.as_str()),
-            LineFault::NoMemory => f.write_str("chtab: out of memory"),
-        }
-    }
 }
 
 impl From<AllocError> for LineFault {
@@ -40,8 +34,6 @@ impl From<AllocError> for LineFault {
         LineFault::NoMemory
     }
 }
-
-impl Error for LineFault {}
 
 /// Returns the program's exit status if no line is read. It is 0 for help and for the version, 2 for words that
 /// are refused, and 3 for a lack of memory.

@@ -24,8 +24,8 @@ const REQUESTS: &str = "Requests, one a line:\n  \
     t K L [R]  a table: K lines `s V` follow with the sources, and then L with the targets\n  \
     p L K      places: L lines `s V` follow. Each later `n` has the K nearest, or all if K is 0\n  \
     n S [R]    the places nearest to node S, with their distances\n\
-    R leaves out distances above R. A route follows the saved hierarchy, or the one that is built: by rounds \
-    with --rounds, else in depth order, unless --routes is given without --deep.\n\n\
+    R leaves out distances above R. A route follows the saved hierarchy, or the one that is built: in \
+    depth order, unless --routes is given without --deep.\n\n\
     Example: chtab ask --saved roads.ch roads.gr <requests.txt";
 
 /// Adds an argument, if the command was made.
@@ -159,7 +159,7 @@ fn save_command<'a>(alloc: Global) -> Result<Command<'a>, AllocError>
         "Write the hierarchy of a graph, for --saved of the other tools",
         "Examples:\n  \
         chtab save --deep roads.gr >roads.ch\n  \
-        chtab save --rounds --workers 4 roads.gr >roads.ch\n  \
+        chtab save --quick --workers 4 roads.gr >roads.ch\n  \
         chtab save --like roads.ch roads-at-noon.gr >roads-at-noon.ch",
     );
     with_graph(alloc, command, &save_options())

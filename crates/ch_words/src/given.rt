@@ -7,7 +7,7 @@ ghost use Rattle.clap.specs.declared.error.kind.ErrorKind.TheVariants.{ArgumentC
 ghost use Rattle.ch_graph.specs.declared.limits.TheConstants.{MOST_WEIGHT};
 ghost use Rattle.ch_work.specs.Plan.{IsWithinLimits};
 ghost use Rattle.ch_job.specs.Job.{AreAllowed, IsCount};
-ghost use Rattle.ch_words.specs.Line.{AreFilesIn, AreFlagsIn, AreRefusedLists, AreRefusedOrders, IsAllowed, IsDirectionIn, IsFlagIn, IsGivenBy, IsMixed, IsOrderIn, IsPlanIn, IsRefusedMix, IsSourceIn, IsToldOf, IsUnmixed, fresh_in, is_given, name_of, number_in};
+ghost use Rattle.ch_words.specs.Line.{AreFilesIn, AreFlagsIn, AreRefusedLists, AreRefusedOrders, IsAllowed, IsDirectionIn, IsFlagIn, IsGivenBy, IsMixMessage, IsMixed, IsOrderIn, IsOrdersMessage, IsQuickIn, IsPlanIn, IsRefusedMix, IsSourceIn, IsToldOf, IsUnmixed, fresh_in, is_given, name_of, number_in, place_of};
 
 use crate::fault::{LineFault, fault_of};
 use crate::form::{near_command, tool_command};
@@ -181,37 +181,56 @@ fn flag_of(matches: &ArgMatches<'_>, name: &str) -> bool
     matches.get_flag(name)
 }
 
-/// Returns the order that the words choose for a tool that reads them.
+/// Returns the order that the words choose for a tool that writes routes.
+fn order_of(matches: &ArgMatches<'_>) -> OrderBy
+    ensures { IsOrderIn (rows_of (found_of matches.now)) result }
+{
+    if flag_of(matches, "deep") {
+        OrderBy::Depth
+    } else {
+        OrderBy::Difference
+    }
+}
+
+/// Returns the order that the words choose for a hierarchy that is saved, and whether they choose the one that takes the
+/// least time to find in its place.
 ///
 /// # Errors
 /// `Refused` if both orders are given; `NoMemory`.
-fn order_of(
+fn saved_order_of(
     alloc: Global,
     question: &Question<String>,
     matches: &ArgMatches<'_>,
-) -> Result<OrderBy, LineFault>
-    ensures given { IfOk result (IsOrderIn (rows_of (found_of matches.now))) }
+) -> Result<(OrderBy, bool), LineFault>
+    ensures order { IfOk result (λ (order, quick). IsOrderIn (rows_of (found_of matches.now)) order) }
+    ensures quick { IfOk result (λ (order, quick). IsQuickIn (rows_of (found_of matches.now)) quick) }
     ensures refused { IfErr result (AreRefusedOrders (rows_of (found_of matches.now))) }
 {
-    match (flag_of(matches, "deep"), flag_of(matches, "rounds")) {
-        (false, false) => Ok(OrderBy::Difference),
-        (true, false) => Ok(OrderBy::Depth),
-        (false, true) => Ok(OrderBy::Rounds),
+    match (flag_of(matches, "deep"), flag_of(matches, "quick")) {
+        (false, false) => Ok((OrderBy::Difference, false)),
+        (false, true) => Ok((OrderBy::Difference, true)),
+        (true, false) => Ok((OrderBy::Depth, false)),
         (true, true) => Err(two_orders(alloc, question, matches)),
     }
 }
 
-/// Returns the fault for both orders. Like clap, it names first the one that is given first.
+/// Returns the fault for both orders.
 fn two_orders(alloc: Global, question: &Question<String>, matches: &ArgMatches<'_>) -> LineFault
     ensures { IsToldOf ArgumentConflict result }
 {
-    let message = match (matches.index_of("deep"), matches.index_of("rounds")) {
-        (Some(deep), Some(rounds)) if rounds < deep => {
-            "the argument '--rounds' cannot be used with '--deep'"
+    conflict(alloc, question, orders_message(matches))
+}
+
+/// Returns why both orders are refused. Like clap, the message names first the one that is given first.
+fn orders_message(matches: &ArgMatches<'_>) -> &'static str
+    ensures { IsOrdersMessage (place_of (found_of matches.now) (codes "deep")) (place_of (found_of matches.now) (codes "quick")) result.now }
+{
+    match (matches.index_of("deep"), matches.index_of("quick")) {
+        (Some(deep), Some(quick)) if quick < deep => {
+            "the argument '--quick' cannot be used with '--deep'"
         }
-        _ => "the argument '--deep' cannot be used with '--rounds'",
-    };
-    conflict(alloc, question, message)
+        _ => "the argument '--deep' cannot be used with '--quick'",
+    }
 }
 
 /// Returns the fault for arguments that don't go together, as this message says.
@@ -243,10 +262,11 @@ fn has_value(matches: &ArgMatches<'_>, name: &str) -> bool
 }
 
 /// Returns why an order is mixed with other options, if it is: `--like` goes with neither `--saved` nor `--deep` nor
-/// `--rounds`, and `--fresh` needs `--like`.
+/// `--quick`, and `--fresh` needs `--like`.
 fn mix_of(matches: &ArgMatches<'_>) -> Option<&'static str>
     ensures none { IsNone result → IsUnmixed (rows_of (found_of matches.now)) }
     ensures some { IfSome result (λ _. IsMixed (rows_of (found_of matches.now))) }
+    ensures message { IfSome result (λ message. IsMixMessage (rows_of (found_of matches.now)) message.now) }
 {
     if !has_value(matches, "like") {
         if has_value(matches, "fresh") {
@@ -260,8 +280,8 @@ fn mix_of(matches: &ArgMatches<'_>) -> Option<&'static str>
     if flag_of(matches, "deep") {
         return Some("the argument '--like' cannot be used with '--deep'");
     }
-    if flag_of(matches, "rounds") {
-        return Some("the argument '--like' cannot be used with '--rounds'");
+    if flag_of(matches, "quick") {
+        return Some("the argument '--like' cannot be used with '--quick'");
     }
     None
 }
@@ -303,25 +323,30 @@ fn options_of(
     ensures count { IfOk result (λ options. options.count ≡ number_in (rows_of (found_of matches.now)) (codes "count")) }
     ensures refused { IfErr result (AreRefusedOrders (rows_of (found_of matches.now))) }
 {
-    let (plain, routes, order, direction) = match question {
+    let ((order, quick), plain, routes, direction) = match question {
         Question::Queries(_) => (
+            (order_of(matches), false),
             flag_of(matches, "plain"),
             flag_of(matches, "routes"),
-            order_of(alloc, question, matches)?,
             Direction::To,
         ),
-        Question::Table { .. } => (false, false, OrderBy::Difference, Direction::To),
-        Question::Near { .. } => (false, false, OrderBy::Difference, direction_of(matches)),
+        Question::Table { .. } => ((OrderBy::Difference, false), false, false, Direction::To),
+        Question::Near { .. } => (
+            (OrderBy::Difference, false),
+            false,
+            false,
+            direction_of(matches),
+        ),
         Question::Hierarchy => (
+            saved_order_of(alloc, question, matches)?,
             false,
             false,
-            order_of(alloc, question, matches)?,
             Direction::To,
         ),
         Question::Requests => (
+            (order_of(matches), false),
             false,
             flag_of(matches, "routes"),
-            order_of(alloc, question, matches)?,
             Direction::To,
         ),
     };
@@ -332,6 +357,7 @@ fn options_of(
             number: number_of(matches, "hops", MOST_HOPS)?,
         },
         order,
+        quick,
         within: limit_given(matches, "within", MOST_WEIGHT)?,
         count: count_given(matches)?,
         direction,

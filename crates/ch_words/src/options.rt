@@ -66,20 +66,12 @@ const DEEP_FOR_ROUTES: Row = Row {
         routes, another may be written",
 };
 
-/// Build the hierarchy [by rounds](#orders), which workers share. Cannot be combined with `--deep`.
-const ROUNDS: Row = Row {
-    name: "rounds",
+/// Build the hierarchy in an [order](#orders) that takes the least time to find. Cannot be combined with `--deep`.
+const QUICK: Row = Row {
+    name: "quick",
     value: Value::Nothing,
-    help: "Build the hierarchy by rounds, which several workers share (--workers). Of equally good routes, another \
-        may be written. Cannot be combined with --deep",
-};
-
-/// `--rounds` for a hierarchy that gives the routes of a list of queries.
-const ROUNDS_FOR_ROUTES: Row = Row {
-    name: "rounds",
-    value: Value::Nothing,
-    help: "With --routes, build the hierarchy by rounds, which several workers share (--workers). Of equally good \
-        routes, another may be written. Cannot be combined with --deep",
+    help: "Build the hierarchy in an order that takes the least time to find. Of equally good routes, another may be \
+        written. Cannot be combined with --deep",
 };
 
 /// Answer without a hierarchy, by rounds of relaxation over all arcs (Bellman 1958, Ford 1956). Writes no routes; all
@@ -140,7 +132,7 @@ const ALL: Row = Row {
     help: "Take each node of the graph as a source, in order, in place of SOURCES",
 };
 
-/// Read the hierarchy from FILE and check it, in place of building one. `--deep`, `--rounds` and `--hops` then have no
+/// Read the hierarchy from FILE and check it, in place of building one. `--deep`, `--quick` and `--hops` then have no
 /// effect.
 const SAVED: Row = Row {
     name: "saved",
@@ -151,13 +143,13 @@ const SAVED: Row = Row {
 };
 
 /// Build the hierarchy in an order [like that of FILE](#orders), which takes half to two thirds of the time. Cannot be
-/// combined with `--saved`, `--deep` or `--rounds`.
+/// combined with `--saved`, `--deep` or `--quick`.
 const LIKE: Row = Row {
     name: "like",
     value: Value::File,
     help: "Build the hierarchy in an order like that of FILE, which takes half to two thirds of the time. FILE is a \
         saved hierarchy of a graph with as many nodes and any arcs, or only its lines `p` and `o`. Cannot be \
-        combined with --saved, --deep or --rounds [default: none]",
+        combined with --saved, --deep or --quick [default: none]",
 };
 
 /// With `--like` alone: order the last P per cent of the nodes afresh, in depth order.
@@ -215,10 +207,10 @@ const PROGRESS: Row = Row {
 };
 
 /// Returns the options of `dist` that not all tools have.
-pub(crate) fn dist_options() -> [Row; 5]
+pub(crate) fn dist_options() -> [Row; 4]
     ensures { rules_of result ≡ dist_rules }
 {
-    [PLAIN, ROUTES, DEEP_FOR_ROUTES, ROUNDS_FOR_ROUTES, SAVED]
+    [PLAIN, ROUTES, DEEP_FOR_ROUTES, SAVED]
 }
 
 /// Returns the options of `table` that not all tools have.
@@ -239,14 +231,14 @@ pub(crate) fn near_options() -> [Row; 5]
 pub(crate) fn save_options() -> [Row; 2]
     ensures { rules_of result ≡ save_rules }
 {
-    [DEEP, ROUNDS]
+    [DEEP, QUICK]
 }
 
 /// Returns the options of `ask` that not all tools have.
-pub(crate) fn ask_options() -> [Row; 5]
+pub(crate) fn ask_options() -> [Row; 4]
     ensures { rules_of result ≡ ask_rules }
 {
-    [ROUTES, DEEP_FOR_ROUTES, ROUNDS, WITHIN, SAVED]
+    [ROUTES, DEEP_FOR_ROUTES, WITHIN, SAVED]
 }
 
 /// Returns the options of all tools.

@@ -12,7 +12,7 @@ use std::alloc::Global;
 /// Reads the words after the program's name: `dist [OPTION].. GRAPH QUERIES`,
 /// `table [OPTION].. GRAPH SOURCES TARGETS`, `near [OPTION].. GRAPH SOURCES TARGETS`,
 /// `near [OPTION].. --all GRAPH TARGETS`, `save [OPTION].. GRAPH` or `ask [OPTION].. GRAPH`, with the options of
-/// that tool. `--deep` and `--rounds` don't go together, nor does `--like` go with these or with `--saved`, and
+/// that tool. `--deep` and `--quick` don't go together, nor does `--like` go with these or with `--saved`, and
 /// `--fresh` needs `--like`.
 ///
 /// # Errors

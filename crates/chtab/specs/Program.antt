@@ -1,12 +1,11 @@
 -- How the program answers its words, and how it ends.
-use Rattle.std.specs.Prelude.{◌≡◌, ◌⊎◌, ℕ, ◌++◌, Bool, List, Result, Ok, Err, IfErr, IsTrue, OnOk, codes}
+use Rattle.std.specs.Prelude.{◌≡◌, ◌⊎◌, ℕ, ◌++◌, List, Result, Ok, Err, IfErr, OnOk, codes}
 use Rattle.std.specs.String.{string_bytes}
 use Rattle.ch_run.specs.declared.fault.RunFault.{RunFault}
 use Rattle.ch_text.specs.Device.{CanCountOneMore}
 use Rattle.ch_text.specs.Moves.{Took, TookUntilFault}
 use Rattle.ch_text.specs.declared.device.DeviceFault.{DeviceFault}
 use Rattle.ch_run.specs.Fault.{status_of, fault_text as run_fault_text}
-use Rattle.ch_run.specs.Run.{IsWrite}
 use Rattle.ch_words.specs.declared.line.Line.{Line}
 use Rattle.ch_line.specs.declared.files.OpenFault.{OpenFault}
 use Rattle.ch_line.specs.Line.{IsRunOf}
@@ -79,17 +78,8 @@ IsTold takes text old new = (written : Result Unit ℕ) × IsWritten takes text 
 abbrev pub EndsIn : {E : Type 0} → (takes : E → List ℕ → Result ℕ DeviceFault → E → Type 0) → ProgramFault → E → E → ℕ → Type 0
 EndsIn takes fault old new status = IsTold takes (fault_text fault) old new × (status ≡ exit_status_of fault)
 
--- a write failed, and the reader of the output has gone away
-abbrev pub IsUnheard : Bool → ProgramFault → Type 0
-IsUnheard closed (ProgramFault.Line fault) = ⊥
-IsUnheard closed (ProgramFault.Run fault) = IsTrue closed × IsWrite fault
-
--- the end of the program with this answer. Without a fault the status is 0, and the errors are unchanged.
--- If a write failed and the reader of the output has gone away, the status is 141, and the errors are unchanged.
--- Any other fault is reported, and has its own status
-abbrev pub IsEnd : {E : Type 0} → (takes : E → List ℕ → Result ℕ DeviceFault → E → Type 0) → Bool → Result Unit ProgramFault → E → E → ℕ →
-    Type 0
-IsEnd takes closed (Ok done) old new status = (status ≡ 0) × (new ≡ old)
-IsEnd takes closed (Err fault) old new status =
-    (IsUnheard closed fault × (status ≡ 141) × (new ≡ old))
-    ⊎ ((IsUnheard closed fault → ⊥) × EndsIn takes fault old new status)
+-- the end of the program with this answer. Without a fault the status is 0, and the errors are unchanged. A fault is reported, and has its
+-- own status
+abbrev pub IsEnd : {E : Type 0} → (takes : E → List ℕ → Result ℕ DeviceFault → E → Type 0) → Result Unit ProgramFault → E → E → ℕ → Type 0
+IsEnd takes (Ok done) old new status = (status ≡ 0) × (new ≡ old)
+IsEnd takes (Err fault) old new status = EndsIn takes fault old new status

@@ -1,6 +1,6 @@
 //! `chtab`: exact least distances on directed graphs, from files to text.
 //!
-//! It stands on ch_graph, ch_job, ch_line, ch_run, ch_text, ch_watch, ch_words and ch_work.
+//! It stands on ch_graph, ch_job, ch_line, ch_run, ch_text, ch_watch, ch_words, ch_work and thiserror.
 #![tactic(auto)]
 
 mod numbers;

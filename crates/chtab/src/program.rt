@@ -1,10 +1,10 @@
 //! The program over any files, requests and outputs. It takes words, and gives a text, the line of a
 //! fault, and an exit status.
 
-ghost use Rattle.std.specs.Prelude.{◌≡◌, ◌↔◌, IfErr, IfOk, IsTrue, MatchResult, Result, map};
+ghost use Rattle.std.specs.Prelude.{◌≡◌, IfErr, IfOk, MatchResult, Result, map};
 ghost use Rattle.std.specs.String.{string_bytes};
 ghost use Rattle.ch_words.specs.Line.{IsAllowed, IsFaultOf, IsReadFrom, line_status_of};
-ghost use Rattle.chtab.specs.Program.{AnswersFault, CanCountWrites, EndsIn, IsAnswer, IsEnd, IsTold, IsUnheard, answer_of, line_fault_text};
+ghost use Rattle.chtab.specs.Program.{AnswersFault, CanCountWrites, EndsIn, IsAnswer, IsEnd, IsTold, answer_of, line_fault_text};
 ghost use Rattle.chtab.specs.declared.program.ProgramFault.{ProgramFault as FaultOf};
 
 use ch_line::{Files, run_line};
@@ -13,10 +13,7 @@ use ch_watch::Watch;
 use ch_words::{Line, LineFault, line_status, read_words};
 use std::alloc::{AllocError, Global};
 use std::thread::Threads;
-
-/// The exit status if the reader of the output has gone away. Shells give the same status to a program
-/// that the signal of a closed pipe has ended.
-pub const CLOSED_PIPE: u8 = 141;
+use thiserror::Error;
 
 /// The threads and the memory that the program runs on.
 #[derive(Drop)]
@@ -26,9 +23,11 @@ pub struct System<'r, R> {
 }
 
 /// Why the program ends with no answer.
-#[derive(Debug, Drop)]
+#[derive(Debug, Drop, Error)]
 pub enum ProgramFault {
+    #[error("{0}")]
     Line(LineFault),
+    #[error("chtab: {0}")]
     Run(RunFault),
 }
 
@@ -38,12 +37,10 @@ pub enum ProgramFault {
 /// - 0 if all is done;
 /// - 1 if a file or a request is refused;
 /// - 2 if the words are refused;
-/// - 3 if the system refuses memory, a file or a write;
-/// - [`CLOSED_PIPE`] if a write fails and the reader of the output has gone away.
+/// - 3 if the system refuses memory, a file or a write.
 ///
-/// It writes the text of an answer or of help to `output`, and the line of a fault to `errors`. With
-/// [`CLOSED_PIPE`] it writes no line. It reads the requests only if the words ask for answers to them.
-/// It tells the gate whether the words ask for progress.
+/// It writes the text of an answer or of help to `output`, and the line of a fault to `errors`. It reads the
+/// requests only if the words ask for answers to them. It tells the gate whether the words ask for progress.
 pub fn run<R: Threads + Sync, F: Files, J: Input, O: Output, E: Output, G: Watch>(
     system: &System<'_, R>,
     files: &mut F,
@@ -60,10 +57,10 @@ pub fn run<R: Threads + Sync, F: Files, J: Input, O: Output, E: Output, G: Watch
         (λ list. IsAnswer F.opens F.closes F.Input.read_gives F.Input.origin J.read_gives J.failed O.write_gives O.failed O.idle
         (map string_bytes list.items) files.old files.new requests.old requests.new output.old output.new answer)
         (λ fault. (files.new ≡ files.old) × (requests.new ≡ requests.old) × AnswersFault O.write_gives fault output.old output.new answer)
-        × IsEnd E.write_gives (O.closed output.new) answer errors.old errors.new result }
+        × IsEnd E.write_gives answer errors.old errors.new result }
 {
     let answer = answer_to(system, files, requests, output, words, gate);
-    end(errors, &answer, output.is_closed())
+    end(errors, &answer)
 }
 
 /// Runs the line that the words give, or answers their fault, or why there are no words.
@@ -140,24 +137,15 @@ fn answer_fault<O: Output>(output: &mut O, fault: LineFault) -> Result<(), Progr
     }
 }
 
-/// Reports the fault of an answer, if it has one, and returns the exit status. A fault is not reported
-/// if [`is_unheard`] says so.
-fn end<E: Output>(errors: &mut E, answer: &Result<(), ProgramFault>, is_closed: bool) -> u8
+/// Reports the fault of an answer, if it has one, and returns the exit status.
+fn end<E: Output>(errors: &mut E, answer: &Result<(), ProgramFault>) -> u8
     requires errors { CanCountWrites E.failed E.idle errors.old }
-    ensures { IsEnd E.write_gives is_closed answer.now errors.old errors.new result }
+    ensures { IsEnd E.write_gives answer.now errors.old errors.new result }
 {
     match answer {
         Ok(()) => 0,
-        Err(fault) if is_unheard(fault, is_closed) => CLOSED_PIPE,
         Err(fault) => tell_fault(errors, fault),
     }
-}
-
-/// Returns whether a write failed and the reader of the output has gone away.
-fn is_unheard(fault: &ProgramFault, is_closed: bool) -> bool
-    ensures { IsTrue result ↔ IsUnheard is_closed fault.now }
-{
-    is_closed && matches!(fault, ProgramFault::Run(RunFault::Write(_)))
 }
 
 /// Reports a fault, and returns the exit status.

@@ -184,7 +184,7 @@ where
         (map string_bytes list.items) files.old files.new requests.old requests.new output.old output.new answer)
         (λ fault. (files.new ≡ files.old) × (requests.new ≡ requests.old)
         × AnswersFault ⟦<WriterOutput<O> as Output>⟧.write_gives fault output.old output.new answer)
-        × IsEnd ⟦<WriterOutput<E> as Output>⟧.write_gives (⟦<WriterOutput<O> as Output>⟧.closed output.new) answer errors.old errors.new result }
+        × IsEnd ⟦<WriterOutput<E> as Output>⟧.write_gives answer errors.old errors.new result }
 {
     let watcher = Watcher::new(rt, terminal, rt.alloc(), terminal.is_terminal());
     let system = System {

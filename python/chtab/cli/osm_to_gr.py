@@ -31,17 +31,26 @@ from collections.abc import Sequence
 
 from chtab import cli, files
 from chtab.maps import converting, profiles
+from chtab.maps.ways import CLASSES
 
 UNITS = {"time": "milliseconds", "metres": "metres"}
 
 
 def part_of(word: str) -> str | int:
-    """`all`, `largest` or a rank."""
-    if word in ("all", "largest"):
+    """`all`, `large`, `largest` or a rank."""
+    if word in ("all", "large", "largest"):
         return word
     if not word.isdecimal() or not int(word):
-        raise argparse.ArgumentTypeError(f"{word!r} is neither all nor largest nor a number from 1 on")
+        raise argparse.ArgumentTypeError(f"{word!r} is none of all, large, largest, and no number from 1 on")
     return int(word)
+
+
+def classes_of(word: str) -> tuple[str, ...]:
+    """Some classes of ways, in their order."""
+    found = word.split(",")
+    if not set(found) <= set(CLASSES):
+        raise argparse.ArgumentTypeError(f"{word!r} is none of {', '.join(CLASSES)}, nor some of them with commas between them")
+    return tuple(name for name in CLASSES if name in found)
 
 
 def words_of(arguments: Sequence[str]) -> argparse.Namespace:
@@ -55,8 +64,12 @@ def words_of(arguments: Sequence[str]) -> argparse.Namespace:
         help="crossings: nodes are where ways meet or end, and an arc is a stretch of way between two of them; all: each bend is a node too (crossings)",
     )
     parser.add_argument(
-        "--part", type=part_of, default="largest", metavar="{largest,all,N}",
-        help="keep the largest strongly connected component, or all of them, or the N-th by size (largest)",
+        "--part", type=part_of, default="largest", metavar="{largest,large,all,N}",
+        help="keep the largest strongly connected component; or each large one, so that an island is one; or all of them; or the N-th by size (largest)",
+    )
+    parser.add_argument(
+        "--exclude", type=classes_of, default=(), metavar="CLASSES",
+        help="leave out the ways of some classes, for requests that exclude them: toll, motorway and ferry, with commas between them",
     )
     parser.add_argument("--no-ferries", action="store_false", dest="ferries", help="leave ferries out")
     parser.add_argument("--bends", action="store_true", help="write OUT.bends, to draw roads with their bends")

@@ -16,7 +16,6 @@ from __future__ import annotations
 
 import argparse
 import logging
-import math
 import os
 import sys
 from collections.abc import Callable, Sequence
@@ -35,6 +34,10 @@ if TYPE_CHECKING:
 TURN = 0.0005
 # The most of a size that may be asked for.
 MOST = 100_000
+# The classes of ways that clients may exclude.
+CLASSES = "toll", "motorway", "ferry"
+# The forms of lines of the log.
+LOG_FORMS = "plain", "combined", "json"
 # What the sizes of requests bound that have osrm-routed's names, as the arguments have them.
 SIZES = {"max_viaroute_size": "route", "max_table_size": "table", "max_trip_size": "trip", "max_matching_size": "match", "max_nearest_size": "nearest"}
 
@@ -50,11 +53,16 @@ def number_of(low: int, high: int, what: str) -> Callable[[str], int]:
 
 
 def network_in(word: str) -> tuple[str, str]:
-    """A network and what clients call it: (name, the start of the names of its files)."""
+    """A network and what clients call it: (name, the start of the names of its files). Behind a slash the name has the classes of ways that the network
+    is without, in one order."""
     name, mark, out = word.partition("=")
-    if not (mark and out and name.isascii() and name.replace("-", "").replace("_", "").isalnum()):
+    profile, slash, excluded = name.partition("/")
+    if not (mark and out and profile.isascii() and profile.replace("-", "").replace("_", "").isalnum()):
         raise argparse.ArgumentTypeError(f"{word!r} is no NAME=OUT, as car=roads")
-    return name, out
+    classes = excluded.split(",") if slash else []
+    if not set(classes) <= set(CLASSES):
+        raise argparse.ArgumentTypeError(f"{word!r} is no NAME/CLASSES=OUT, as car/toll=roads-without-toll; the classes are {', '.join(CLASSES)}")
+    return "/".join([profile, *([",".join(known for known in CLASSES if known in classes)] if classes else [])]), out
 
 
 def parser_of() -> cli.Parser:
@@ -76,7 +84,7 @@ def parser_of() -> cli.Parser:
     parser.add_argument(
         "--network", action="append", default=[], type=network_in, metavar="NAME=OUT",
         help="serve the network OUT to clients of OSRM's interface that ask for the profile NAME; it may be given several times. OUT.ch is its saved "
-             "hierarchy, if it exists. The first one is that of the page",
+             "hierarchy, if it exists. The first one is that of the page. NAME/CLASSES, as car/toll, is the network for those that exclude these classes",
     )
     add_listening(parser)
     add_engines(parser)
@@ -99,19 +107,22 @@ def add_listening(parser: argparse.ArgumentParser) -> None:
     )
     parser.add_argument("--log", metavar="FILE", help="write a line for each request to the end of FILE; '-' is standard output")
     parser.add_argument(
+        "--log-form", choices=LOG_FORMS, default="plain",
+        help="the lines of the log: plain, with the reason of each refusal; combined, as Apache and nginx write them; or json, an object a line (plain)",
+    )
+    parser.add_argument(
         "--proxy", metavar="ADDRESS", help="the address of your proxy, such as 127.0.0.1; its header X-Forwarded-For names the client that asks"
     )
 
 
 def add_engines(parser: argparse.ArgumentParser) -> None:
     """The options of what answers."""
-    engines = parser.add_mutually_exclusive_group()
-    engines.add_argument(
+    parser.add_argument(
         "--library", nargs="?", const="", metavar="FILE",
-        help="answer by the library for C in each process (FILE, or libchtab.so.1 beside the program), or end with the reason why it can't; "
-             "without this and --pipe it is taken if it is there, each network has a saved hierarchy (--saved, or OUT.ch of --network) and W is 1",
+        help="the library for C that answers in each process (libchtab.so.1 beside the program)",
     )
-    engines.add_argument("--pipe", action="store_true", help="answer by a run of the program beside each process, which can be ended at any time")
+    # Runs of the program answered in version 1.1, if this was given.
+    parser.add_argument("--pipe", action="store_true", help=argparse.SUPPRESS)
 
 
 def add_limits(parser: argparse.ArgumentParser) -> None:
@@ -152,20 +163,6 @@ def named(words: argparse.Namespace) -> list[Named]:
     return [Named(name, out, f"{out}.ch" if os.path.exists(f"{out}.ch") else None) for name, out in words.network]
 
 
-def chosen(words: argparse.Namespace, networks: Sequence[Named]) -> bool | str:
-    """Whether the library answers, or its file; without words about it, whether it fits."""
-    from chtab.engine import choosing
-
-    if words.library is not None:
-        # The library would build one, but no time limit ends that.
-        for each in networks:
-            if each.saved is None:
-                lacks = f"{each.out}.ch" if each.name else "--saved"
-                raise ChtabError(f"--library needs a saved hierarchy, the file of `chtab save`: {lacks} is missing")
-        return words.library or True
-    return not words.pipe and all(choosing.fits(words.program, each.saved, words.workers) for each in networks)
-
-
 def sizes_of(words: argparse.Namespace) -> answering.Limits:
     """The limits of OSRM's interface. Where the size of tables is chosen, each table of that size may be asked for, with distances too."""
     from chtab.server.osrm import answering
@@ -186,6 +183,7 @@ def choices_of(words: argparse.Namespace) -> Choices:
         title=words.title or "", places=tuple(files.read_places(words.places)) if words.places else (), tiles=words.tiles,
         limits=Limits(waiting=words.waiting, sending=words.sending, idle=words.idle, ending=words.ending, grace=words.grace), osrm=sizes_of(words),
         caps=caps_of(words.max_connections, words.max_connections_of_address), allowed=tuple(words.cors), profiles=tuple(words.profile), proxy=words.proxy,
+        log_form=words.log_form,
     )
 
 
@@ -211,7 +209,7 @@ def main(words: Sequence[str]) -> None:
     more = {"program": found.program, "workers": found.workers, "timeout": found.timeout, "load": found.processes == 1}
     # A port that is taken is reported before the time that reading takes.
     port = port_at(found.host, found.port, found.takeover)
-    with Networks(networks, library=chosen(found, networks), **more) as served:
+    with Networks(networks, library=found.library or None, **more) as served:
         status = serve_all(found, served, choices, port)
     if status:
         sys.exit(status)
@@ -220,17 +218,18 @@ def main(words: Sequence[str]) -> None:
 def serve_all(words: argparse.Namespace, networks: Networks, choices: Choices, port: Port) -> int:
     """Serves networks by one process or several, until a signal ends it; the status of the process."""
     import asyncio
+    import gc
 
     from chtab.server.metrics import Metrics
     from chtab.server.ports import notify
-    from chtab.server.service import Service
+    from chtab.server.service import Material, Service
     from chtab.server.serving import Family, serve
 
-    metrics = Metrics(words.processes)
+    metrics, material = Metrics(words.processes), Material(networks, choices)
 
     def service(row: int) -> Service:
         networks.load()
-        return Service(networks, choices, metrics, row)
+        return Service(networks, choices, metrics, row, material)
 
     def tell() -> None:
         print(port.address, flush=True)
@@ -238,9 +237,10 @@ def serve_all(words: argparse.Namespace, networks: Networks, choices: Choices, p
 
     if words.processes == 1:
         return asyncio.run(serve(service(0), port, tell))
-    # What is read before processes are forked is in memory once.
-    for each in networks:
-        each.network.snap(0, 0, math.inf)
+    # What is made before processes are forked is in memory once, as long as nobody writes there: not even the collector of garbage, on what stays.
+    networks.open_once()
+    gc.collect()
+    gc.freeze()
     return Family(words.processes, service, metrics, port, networks.told).run(tell)
 
 

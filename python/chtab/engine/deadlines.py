@@ -1,19 +1,14 @@
-"""The deadlines of answers. The `timeout` of a network covers a whole call, however many questions it asks."""
+"""The deadlines of answers. The `timeout` of a network covers a whole call, however many questions
+of the library it asks, and is checked between them."""
 from __future__ import annotations
 
 import contextlib
-import functools
 import math
 import threading
 import time
-from collections.abc import Callable, Iterator
-from typing import Concatenate, ParamSpec, TypeVar
+from collections.abc import Iterator
 
 from chtab.errors import TimedOut
-
-Given = ParamSpec("Given")
-Found = TypeVar("Found")
-Asker = TypeVar("Asker")
 
 
 class Deadline:
@@ -23,12 +18,15 @@ class Deadline:
         self.seconds = math.inf if seconds is None else seconds
         self.until = time.monotonic() + self.seconds
 
-    def milliseconds(self) -> float | None:
-        """The milliseconds that are left, None if there is no limit. If none are left, raises `TimedOut`."""
-        left = self.until - time.monotonic()
-        if left <= 0:
-            raise TimedOut(f"chtab took longer than {self.seconds:g} seconds, and was ended")
-        return None if math.isinf(left) else 1000 * left
+    @property
+    def is_open(self) -> bool:
+        """Whether there is no limit."""
+        return math.isinf(self.until)
+
+    def check(self) -> None:
+        """Raises `TimedOut` if the time is over."""
+        if time.monotonic() >= self.until:
+            raise TimedOut(f"the answer took longer than {self.seconds:g} seconds")
 
 
 class OfThread(threading.local):
@@ -41,16 +39,27 @@ CALL = OfThread()
 
 
 def current(seconds: float | None) -> Deadline:
-    """The deadline of the call that this thread is making; outside of a call, a new one that starts now."""
+    """The deadline of the call that this thread is making; outside of a call, a new one from
+    now."""
     return CALL.deadline or Deadline(seconds)
 
 
 @contextlib.contextmanager
-def taken(deadline: Deadline | None) -> Iterator[None]:
+def of_call(seconds: float | None) -> Iterator[Deadline]:
+    """Gives a call of so many seconds its deadline, unless it is a part of another call."""
+    if CALL.deadline is not None:
+        yield CALL.deadline
+        return
+    with taken(Deadline(seconds)) as deadline:
+        yield deadline
+
+
+@contextlib.contextmanager
+def taken(deadline: Deadline) -> Iterator[Deadline]:
     """Gives this thread the deadline of another thread's call, for which it works."""
     before, CALL.deadline = CALL.deadline, deadline
     try:
-        yield
+        yield deadline
     finally:
         CALL.deadline = before
 
@@ -64,18 +73,3 @@ def uncounted() -> Iterator[None]:
     finally:
         if deadline is not None:
             deadline.until += time.monotonic() - begun
-
-
-def whole(call: Callable[Concatenate[Asker, Given], Found]) -> Callable[Concatenate[Asker, Given], Found]:
-    """Decorates a call of a network, so that its deadline runs from its start. Calls that it makes in turn share this deadline."""
-    @functools.wraps(call)
-    def timed(self: Asker, *given: Given.args, **named: Given.kwargs) -> Found:
-        if CALL.deadline is not None:
-            return call(self, *given, **named)
-        CALL.deadline = Deadline(self._opened.setting.timeout)  # type: ignore[attr-defined]
-        try:
-            return call(self, *given, **named)
-        finally:
-            CALL.deadline = None
-
-    return timed

@@ -1,83 +1,81 @@
-"""Asks the library for C, in this process: a handle for each thread answers distances, routes and tables, and further ones answer near rows."""
+"""Answers by the library for C, in this process: each thread has a handle on the one network in
+memory."""
 from __future__ import annotations
 
 import contextlib
-import ctypes
-import functools
 import os
+import tempfile
 import threading
 import weakref
 from collections.abc import Callable, Iterator, Sequence
-from typing import TYPE_CHECKING, Any, TypeVar, cast
+from typing import TYPE_CHECKING, Any
 
 import numpy
 
 from chtab import files
-from chtab.engine import deadlines, forks, library
+from chtab.engine import deadlines, forks, library, parts, running
 from chtab.engine.interruptible import LONG, interruptible
-from chtab.engine.walks import Walks
-from chtab.errors import ChtabError, ProgramFault, unasked
+from chtab.engine.walks import Paths
+from chtab.errors import ChtabError, mismatch
 
 if TYPE_CHECKING:
     from numpy.typing import NDArray
-    from chtab.engine import asking
-    from chtab.engine.walks import ArcIndex
+    from chtab.engine.opening import Setting
+    from chtab.engine.progress import Asked
     from chtab.typing import Integers
 
-# The most that one call of the library answers: distances, and targets of a table. Hardly any call then takes more than a second, and the deadline
-# is checked between calls.
-TOGETHER, WIDTH = 1 << 13, 1 << 13
-# The most routes that one call gives, and how many nodes of routes have room at first.
-ROUTES, ROOM = 1 << 11, 1 << 16
+# The most that one call of the library answers: distances, routes, and sources and targets of a
+# table. Hardly any call then takes more than a second. With a time limit a table has smaller
+# blocks.
+PAIRS, ROUTES, SIDE, SHORT = 1 << 13, 1 << 11, 1 << 12, 1 << 10
+# How many cells of a table are worth a further thread, which searches from each target once more.
+WORTH = 1 << 20
+# The most pairs whose flows one call gives. Each call takes steps for all legs of the network, which
+# that many pairs hide.
+FLOWS = 1 << 16
+# How many nodes of routes have room at first.
+ROOM = 1 << 16
 # In a network of fewer nodes than this so many searches take as long as one in a large network.
 SMALL, SEARCHES = 1 << 16, 1 << 4
 # No places: keeping these frees the places that a handle has.
 NO_PLACES = numpy.zeros(0, numpy.uint32)
 
 
-Question = TypeVar("Question", bound=Callable[..., Any])
-Value = TypeVar("Value")
-
-
-def timed(question: Question) -> Question:
-    """Decorates a question with the time limit of the setting, which runs from when the network is open. It is checked before each call of the
-    library, and after the last one, because a single call may answer the question."""
-    @functools.wraps(question)
-    def ask(self: InProcess, *words: Any) -> Any:
-        self.handle()
-        deadline = self.of_thread.deadline = deadlines.current(self.setting.timeout)
-        found = question(self, *words)
-        deadline.milliseconds()
-        return found
-
-    return cast(Question, ask)
+def contents_of(path: str) -> bytes:
+    """The bytes of a file."""
+    with open(path, "rb") as file:
+        return file.read()
 
 
 class OfThread(threading.local):
-    """What belongs to a thread: its handle, and the deadline of its question."""
+    """What belongs to a thread: its handle."""
 
     handle: library.Handle | None = None
-    deadline = deadlines.Deadline(None)
-
-
-def files_of(setting: asking.Setting) -> list[str]:
-    """The files that the library opens: the graph, and the saved hierarchy if there is one."""
-    return [path for path in (setting.graph, setting.saved) if path is not None]
 
 
 class InProcess:
-    """Answers as `asking.Engine` does, by the library. Several threads and forked processes may share it.
+    """Answers questions about nodes, which count from 1, of any number of threads and forked
+    processes.
 
-    The first question of a thread makes a handle for it. All handles share one network in memory, which the first handle opens. That handle belongs
-    to the first thread that asks, and after the end of this thread to the next new one.
+    The first question of a thread makes a handle for it. All handles share one network in memory,
+    which the first handle opens. That handle belongs to the first thread that asks, and after the
+    end of this thread to the next new one. Large questions are answered by up to `setting.workers`
+    threads.
 
-    The first question of a forked process opens the network anew, and leaves the handles of its parent alone.
+    The first question of a forked process opens the network anew, and leaves the handles of its
+    parent alone.
+
+    Parameters
+    ----------
+    setting : opening.Setting
+        The files, and how they are answered from.
     """
 
-    def __init__(self, setting: asking.Setting, calls: ctypes.CDLL, arcs: Callable[[], ArcIndex]) -> None:
-        for path in files_of(setting):
+    def __init__(self, setting: Setting) -> None:
+        for path in setting.files():
             open(path, "rb").close()
-        self.setting, self.calls, self.arcs, self.stamps = setting, calls, arcs, setting.stamps()
+        self.setting, self.stamps = setting, setting.stamps()
+        self.calls = library.loaded(setting.library)
         self.nodes, self.is_closed, self.room = files.count_nodes(setting.graph), False, ROOM
         self.leave_parent()
         forks.follow(self)
@@ -99,35 +97,51 @@ class InProcess:
 
     def first_handle(self) -> library.Handle:
         """The first handle, which opens the network."""
-        if self.owner != os.getpid():
-            self.leave_parent()
+        self.see_that_open()
         with self.lock:
             if self.is_closed:
                 raise ChtabError(library.GONE)
             if self.first is None:
                 with deadlines.uncounted():
-                    self.first = self.opened()
-                self.handles.add(self.first)
-                self.begun += 1
+                    self.begin_with(self.opened())
+            assert self.first is not None
             return self.first
+
+    def see_that_open(self) -> None:
+        """Refuses a network that is closed. A forked process leaves its parent here, too."""
+        if self.is_closed:
+            raise ChtabError(library.GONE)
+        if self.owner != os.getpid():
+            self.leave_parent()
 
     def opened(self) -> library.Handle:
         """Opens the first handle."""
-        contents = []
-        for path in files_of(self.setting):
-            with open(path, "rb") as file:
-                contents.append(file.read())
+        setting = self.setting
+        graph = contents_of(setting.graph)
+        saved = self.built() if setting.saved is None else contents_of(setting.saved)
         # Checked after reading, so that what was read is what was there at first.
         self.stamps.see_that_same()
         handle = library.Handle(self.calls)
-        interruptible(LONG, handle.open, *contents)
+        interruptible(LONG, handle.open, graph, saved)
         if handle.nodes() != self.nodes:
-            raise unasked()
+            raise mismatch()
         return handle
 
+    def built(self) -> bytes | None:
+        """The hierarchy of a network that has none saved, where several workers of the program
+        build it; None where the library builds it, which starts no threads."""
+        setting = self.setting
+        if setting.workers == 1:
+            return None
+        with tempfile.TemporaryDirectory(prefix="chtab-") as folder:
+            path, words = os.path.join(folder, "built.ch"), ["--quick", "--workers", str(setting.workers)]
+            running.save(setting.program, setting.graph, path, words, None)
+            return contents_of(path)
+
     def opened_like(self, graph: bytes, fresh: int) -> library.Handle:
-        """A handle in the network of another graph with as many nodes, whose hierarchy is built in the order of this one's: only the last `fresh`
-        per cent of the nodes are ordered afresh. This network goes on answering meanwhile."""
+        """A handle in the network of another graph with as many nodes, whose hierarchy is built in
+        the order of this one's: only the last `fresh` per cent of the nodes are ordered afresh.
+        This network goes on answering meanwhile."""
         giver, handle = self.first_handle().share(), library.Handle(self.calls)
         # The giver is closed when the call ends, also where the wait for it is broken off.
         interruptible(LONG, handle.open_like, graph, giver, fresh)
@@ -142,15 +156,13 @@ class InProcess:
 
     def handle(self) -> library.Handle:
         """The handle of the current thread."""
-        if self.is_closed:
-            raise ChtabError(library.GONE)
-        if self.owner != os.getpid():
-            self.leave_parent()
+        self.see_that_open()
         if self.of_thread.handle is None:
             self.of_thread.handle = self.handle_of_new_thread()
         return self.of_thread.handle
 
     def handle_of_new_thread(self) -> library.Handle:
+        """The first handle, if no living thread has it, and otherwise a further one."""
         with self.lock:
             first = self.first_handle()
             if self.asker is None or not self.asker.is_alive():
@@ -159,7 +171,8 @@ class InProcess:
         return self.another(first)
 
     def another(self, first: library.Handle) -> library.Handle:
-        """Makes a further handle. This waits for a call that uses the first one, and holds no lock meanwhile."""
+        """Makes a further handle. This waits for a call that uses the first one, and holds no lock
+        meanwhile."""
         made = first.share()
         with self.lock:
             if self.is_closed:
@@ -168,10 +181,12 @@ class InProcess:
         return made
 
     @contextlib.contextmanager
-    def near_handle(self) -> Iterator[library.Handle]:
-        """Lends a handle to one question on near rows, and frees its places afterwards."""
+    def lent_handle(self) -> Iterator[library.Handle]:
+        """Lends a handle to one question of a thread that is not the caller's, or on near rows, and
+        frees its places afterwards."""
         handle = self.spare_handle()
-        # A process that is forked meanwhile has a list of its own, so that this handle stays with its parent.
+        # A process that is forked meanwhile has a list of its own, and this handle stays with its
+        # parent.
         spare = self.spare
         yield handle
         # A network that was closed meanwhile has answered this question.
@@ -180,10 +195,8 @@ class InProcess:
             spare.append(handle)
 
     def spare_handle(self) -> library.Handle:
-        if self.is_closed:
-            raise ChtabError(library.GONE)
-        if self.owner != os.getpid():
-            self.leave_parent()
+        """A handle that no question uses."""
+        self.see_that_open()
         with self.lock:
             first = self.first_handle()
             if self.spare:
@@ -201,7 +214,8 @@ class InProcess:
             return list(self.handles)
 
     def close(self) -> None:
-        """Closes all handles, each once the call that uses it has ended. A question of another thread fails if it needs further calls."""
+        """Closes all handles, each once the call that uses it has ended. A question of another
+        thread fails if it needs further calls."""
         self.is_closed = True
         if self.owner != os.getpid():
             self.leave_parent()
@@ -218,97 +232,155 @@ class InProcess:
 
     # Questions.
 
-    def call(self, searches: int, call: Callable[..., Value], *words: Any) -> Value:
-        """Returns the value of a call that makes that many searches, if there is time left for it."""
-        self.of_thread.deadline.milliseconds()
-        return interruptible(searches if self.nodes >= SMALL else searches // SEARCHES, call, *words)
+    def in_parts(
+        self,
+        count: int,
+        most: int,
+        call: Callable[[library.Handle, slice], Any],
+        name: str,
+        things: str,
+        progress: Asked = None,
+        searches: int = 1,
+    ) -> None:
+        """Calls for all parts of `count` items, each of so many searches and at most `most` items.
+        `name` and `things` are what progress says is done."""
+        # Loading is not counted, and comes before the time is.
+        own, caller, timeout = self.handle(), threading.current_thread(), self.setting.timeout
+        scale = 1 if self.nodes >= SMALL else SEARCHES
+        if progress is None and count <= (most if timeout is None else min(most, parts.FIRST)):
+            deadline = deadlines.current(timeout)
+            if count:
+                interruptible(count * searches // scale, call, own, slice(0, count))
+            return deadline.check()
+
+        def work(some: Iterator[slice]) -> None:
+            if threading.current_thread() is caller:
+                for part in some:
+                    interruptible((part.stop - part.start) * searches // scale, call, own, part)
+                return
+            with self.lent_handle() as handle:
+                for part in some:
+                    call(handle, part)
+
+        parts.make(count, most, self.setting.workers, work, name, things, progress, timeout)
+
+    def columns(self, pairs: Integers) -> tuple[library.Nodes, library.Nodes]:
+        """The sources and targets of pairs of nodes, an array (n, 2), as the library takes them."""
+        sources, targets = library.nodes_of(pairs, self.nodes).T.copy()
+        return sources, targets
 
     def few_distances(self, sources: Sequence[int], targets: Sequence[int]) -> list[int] | None:
-        """The distances of at most `library.FEW` pairs of nodes from 1 to `nodes`, given as two lists; None if this needs arrays."""
-        return self.handle().few_distances([node - 1 for node in sources], [node - 1 for node in targets])
+        """The distances of at most `library.FEW` pairs of nodes from 1 to `nodes`, given as two
+        lists; None if this needs arrays."""
+        own = self.handle()
+        return own.few_distances([node - 1 for node in sources], [node - 1 for node in targets])
 
-    @timed
-    def distances(self, pairs: Integers) -> Integers:
-        """The distances of pairs of nodes, an array (n, 2): int64 (n,), -1 where there is no walk."""
-        sources, targets = library.nodes_of(pairs, self.nodes).T.copy()
-        parts = [slice(start, start + TOGETHER) for start in range(0, len(sources), TOGETHER)]
-        found = [self.call(len(sources[part]), self.handle().distances, sources[part], targets[part]) for part in parts]
-        return found[0] if len(found) == 1 else numpy.concatenate([numpy.zeros(0, numpy.int64), *found])
+    def distances(self, pairs: Integers, progress: Asked = None) -> Integers:
+        """The distances of pairs of nodes, an array (n, 2): int64 (n,), -1 where there is no
+        walk."""
+        sources, targets = self.columns(pairs)
+        found = numpy.empty(len(sources), numpy.int64)
 
-    @timed
-    def cells(self, sources: Integers, targets: Integers, within: int | None = None) -> Integers:
-        """The distances from each node of one column to each of another, int64 (k, l), -1 where there is no walk, or none of at most `within`."""
+        def ask(handle: library.Handle, part: slice) -> None:
+            found[part] = handle.distances(sources[part], targets[part])
+
+        self.in_parts(len(sources), PAIRS, ask, "distances", "pairs", progress)
+        return found
+
+    def table(
+        self,
+        sources: Integers,
+        targets: Integers,
+        within: int | None = None,
+        progress: Asked = None,
+    ) -> Integers:
+        """The distances from each node of one column to each of another, int64 (k, l), -1 where
+        there is no walk, or none of at most `within`."""
         rows, columns = (library.nodes_of(nodes, self.nodes) for nodes in (sources, targets))
-        table, limit = numpy.empty((len(rows), len(columns)), numpy.int64), library.NO_LIMIT if within is None else within
-        for start in range(0, len(columns) if len(rows) else 0, WIDTH):
-            some = columns[start:start + WIDTH]
-            table[:, start:start + WIDTH] = self.call(len(rows) + len(some), self.handle().table, rows, some, limit)
-        return table
+        found = numpy.empty((len(rows), len(columns)), numpy.int64)
+        limit = library.NO_LIMIT if within is None else within
+        side = SIDE if self.setting.timeout is None else SHORT
+        height, width = self.height_of(len(rows), len(columns), side), max(
+            1, min(len(columns), side)
+        )
+        across = -(-len(columns) // width)
 
-    def routes(self, pairs: Sequence[Sequence[int]]) -> list[files.Answer]:
-        """The routes of pairs of nodes, as a list of `files.Answer`."""
-        found = self.walks(numpy.array(pairs, numpy.int64).reshape(-1, 2))
-        firsts, heads, weights = found.firsts.tolist(), found.heads.tolist(), found.arc_weights.tolist()
-        return [
-            files.Answer(source, target, None, None, None) if weight < 0
-            else files.Answer(source, target, weight, [source, *heads[first:last]], weights[first:last])
-            for (source, target), weight, first, last in zip(pairs, found.weights.tolist(), firsts, firsts[1:])
-        ]
+        def ask(handle: library.Handle, part: slice) -> None:
+            for block in range(part.start, part.stop):
+                row, column = block // across * height, block % across * width
+                some = slice(row, row + height), slice(column, column + width)
+                found[some] = handle.table(rows[some[0]], columns[some[1]], limit)
 
-    @timed
-    def walks(self, pairs: Integers) -> Walks:
-        """The same, of pairs in an array (n, 2), as `walks.Walks`."""
-        return self.walks_of(*self.found(pairs, library.Handle.routes))
+        count = -(-len(rows) // height) * across
+        self.in_parts(count, 1, ask, "table", "blocks", progress, height + width)
+        return found
 
-    @timed
-    def lines(self, pairs: Integers) -> tuple[Integers, Integers, Integers]:
-        """The weights of the routes of pairs, -1 where there is no walk, how many arcs each has, and the lines of all arcs in the graph, from 0
-        on."""
-        weights, counts, _, lines = self.found(pairs, library.Handle.routes_with_lines)
-        return weights, numpy.maximum(counts - 1, 0), lines[lines != library.NO_LINE].astype(numpy.int64)
+    def height_of(self, rows: int, columns: int, side: int) -> int:
+        """How many rows of a table are made together, so that several threads have a part of it."""
+        shares = max(1, min(self.setting.workers, rows * columns // WORTH))
+        return max(1, min(side, -(-rows // shares)))
 
-    @timed
-    def sums(self, pairs: Integers, values: NDArray[numpy.uint64]) -> tuple[Integers, NDArray[numpy.uint64]]:
-        """The weights of the routes of pairs, -1 where there is no walk, and the sums of the values of their arcs, 0 where there is no walk. `values`
-        has one for each arc of the graph. Raises a `ValueError` if a sum is 2^64 or more."""
-        sources, targets = library.nodes_of(pairs, self.nodes).T.copy()
-        weights, sums = numpy.empty(len(sources), numpy.int64), numpy.empty(len(sources), numpy.uint64)
-        for start in range(0, len(sources), ROUTES):
-            some = slice(start, start + ROUTES)
-            weights[some], sums[some] = self.call(len(sources[some]), self.handle().route_sums, sources[some], targets[some], values)
+    def paths(self, pairs: Integers, progress: Asked = None) -> Paths:
+        """The routes of pairs of nodes, an array (n, 2)."""
+        sources, targets = self.columns(pairs)
+        made: list[tuple[int, Any]] = []
+
+        def ask(handle: library.Handle, part: slice) -> None:
+            start = part.start
+            while start < part.stop:
+                some = sources[start:part.stop], targets[start:part.stop]
+                weights, ends, _, lines = handle.routes_with_lines(*some, self.room)
+                if not len(weights):
+                    self.make_room()
+                made.append(
+                    (start, (weights, numpy.diff(ends, prepend=0), lines[lines != library.NO_LINE]))
+                )
+                start += len(weights)
+
+        self.in_parts(len(sources), ROUTES, ask, "routes", "pairs", progress)
+        nothing: Any = (0, tuple(numpy.zeros((3, 0), numpy.int64)))
+        columns: Any = zip(
+            *(each for _, each in sorted([nothing, *made], key=lambda each: each[0]))
+        )
+        weights, counts, lines = (numpy.concatenate(column) for column in columns)
+        return Paths(weights, numpy.maximum(counts - 1, 0), lines.astype(numpy.int64))
+
+    def sums(
+        self, pairs: Integers, values: NDArray[numpy.uint64],
+    ) -> tuple[Integers, NDArray[numpy.uint64]]:
+        """The weights of the routes of pairs, -1 where there is no walk, and the sums of the values
+        of their arcs, 0 where there is no walk. `values` has one for each arc of the graph. Raises
+        a `ValueError` if a sum is 2^64 or more."""
+        sources, targets = self.columns(pairs)
+        weights, sums = numpy.empty(len(sources), numpy.int64), numpy.empty(
+            len(sources), numpy.uint64
+        )
+
+        def ask(handle: library.Handle, part: slice) -> None:
+            weights[part], sums[part] = handle.route_sums(sources[part], targets[part], values)
+
+        self.in_parts(len(sources), ROUTES, ask, "routes", "pairs")
         return weights, sums
 
-    def found(self, pairs: Integers, call: Callable[..., Any]) -> list[NDArray[Any]]:
-        """Calls for the routes of pairs: returns their weights, how many nodes each route has, and columns with an item for each node."""
-        sources, targets = library.nodes_of(pairs, self.nodes).T.copy()
-        found, start = [], 0
-        while start < len(sources):
-            some = slice(start, start + ROUTES)
-            weights, ends, *columns = self.call(len(sources[some]), call, self.handle(), sources[some], targets[some], self.room)
-            if not len(weights):
-                if self.room >= max(self.nodes, ROOM):
-                    raise unasked()
-                self.room = 2 * self.room
-            found.append((weights, numpy.diff(ends, prepend=0), *columns))
-            start += len(weights)
-        parts: Any = zip(*found) if found else numpy.zeros((4, 1, 0), numpy.int64)
-        return [numpy.concatenate(column) for column in parts]
+    def flows(
+        self, pairs: Integers, demands: NDArray[numpy.uint64], lines: int, progress: Asked = None,
+    ) -> tuple[int, NDArray[numpy.uint64]]:
+        """How many pairs have no walk, and for each of the `lines` of the graph the sum of the demands of
+        the pairs whose routes take it. The sum of all demands is below 2^63."""
+        sources, targets = self.columns(pairs)
+        flows, missed, lock = numpy.zeros(lines, numpy.uint64), [0], threading.Lock()
 
-    def walks_of(self, weights: Integers, counts: Integers, nodes: NDArray[Any], *_: object) -> Walks:
-        """The walks over these nodes, which count from 0; `counts` has how many belong to each walk."""
-        lasts = numpy.cumsum(counts)
-        is_tail, is_head = numpy.ones((2, len(nodes)), bool)
-        is_tail[lasts[counts > 0] - 1] = is_head[(lasts - counts)[counts > 0]] = False
-        tails, heads = nodes[is_tail].astype(numpy.int64) + 1, nodes[is_head].astype(numpy.int64) + 1
-        arcs = self.arcs()
-        places = arcs.found(tails, heads)
-        if places is None:
-            raise self.changed()
-        walks = Walks(weights, numpy.append(0, numpy.cumsum(numpy.maximum(counts - 1, 0))), tails, heads, arcs.weights[places])
-        if (walks.sums(walks.arc_weights)[weights >= 0] != weights[weights >= 0]).any():
-            raise self.changed()
-        return walks
+        def ask(handle: library.Handle, part: slice) -> None:
+            without, more = handle.flows(sources[part], targets[part], demands[part], lines)
+            with lock:
+                missed[0] += without
+                numpy.add(flows, more, out=flows)
 
-    def changed(self) -> ProgramFault:
-        """The fault of a graph file whose arcs differ from those that the library opened."""
-        return ProgramFault(f"{self.setting.graph} has changed since it was opened", 1)
+        self.in_parts(len(sources), FLOWS, ask, "flows", "pairs", progress)
+        return missed[0], flows
+
+    def make_room(self) -> None:
+        """Makes twice as much room for the nodes of routes."""
+        if self.room >= max(self.nodes, ROOM):
+            raise mismatch()
+        self.room = 2 * self.room

@@ -83,6 +83,7 @@ CALLS = {
     "chtab_route": (HANDLE, ctypes.c_uint32, ctypes.c_uint32, ctypes.POINTER(Found), *ARRAY),
     "chtab_routes": (HANDLE, *ARRAY, *ARRAY, ctypes.POINTER(ctypes.c_uint64), *ARRAY, *ARRAY, *ARRAY, *ARRAY),
     "chtab_route_sums": (HANDLE, *ARRAY, *ARRAY, *ARRAY, ctypes.POINTER(ctypes.c_uint64), *ARRAY, *ARRAY),
+    "chtab_flows": (HANDLE, *ARRAY, *ARRAY, *ARRAY, ctypes.POINTER(ctypes.c_uint64), *ARRAY),
     "chtab_near_places": (HANDLE, ctypes.c_uint32, *ARRAY, ctypes.c_uint64, ctypes.c_uint32),
     "chtab_near_sweep": (HANDLE,),
     "chtab_near_rows": (HANDLE, *ARRAY, ctypes.POINTER(ctypes.c_uint64), *ARRAY, *ARRAY, *ARRAY),
@@ -98,9 +99,12 @@ def beside(program: str) -> str | None:
     """
     folder = os.path.dirname(os.path.realpath(program))
     places = [folder] if os.path.basename(folder) != "chtab" else [folder, os.path.dirname(folder)]
-    made = os.path.join(folder, "out", "library", "lib", NAME)
     found = [path for path in (os.path.join(place, NAME) for place in places) if os.path.isfile(path)]
-    return (found + [made] * is_up_to_date(made, folder) + [None])[0]
+    # The program is that of a checkout itself, or what it builds.
+    own = os.path.join("crates", "chtab", "out")
+    checkout = folder.removesuffix(os.sep + own) if folder.endswith(own) else folder
+    made = os.path.join(checkout, "out", "library", "lib", NAME)
+    return (found + [made] * is_up_to_date(made, checkout) + [None])[0]
 
 
 def is_up_to_date(made: str, checkout: str) -> bool:
@@ -236,16 +240,16 @@ class Handle:
             see_that_done(self.calls.chtab_nodes(self.at, ctypes.byref(count)))
         return count.value
 
-    def save(self) -> bytes:
-        """The hierarchy, the bytes that `chtab save` writes for it."""
-        size, text = ctypes.c_uint64(), numpy.empty(0, numpy.uint8)
+    def save(self, room: int = 0) -> bytes:
+        """The hierarchy, the bytes that `chtab save` writes for it. They are made once if they fit into a room of so many bytes, and otherwise twice."""
+        size, text = ctypes.c_uint64(), numpy.empty(room, numpy.uint8)
         with self.lock:
             status = self.write_text(size, text)
             if status == TOO_SHORT:
                 text = numpy.empty(size.value, numpy.uint8)
                 status = self.write_text(size, text)
         see_that_done(status)
-        return text.tobytes()
+        return text[:size.value].tobytes()
 
     def write_text(self, size: ctypes.c_uint64, text: NDArray[numpy.uint8]) -> int:
         return self.calls.chtab_save(self.at, ctypes.byref(size), address(text, numpy.uint8, True), len(text))
@@ -348,6 +352,21 @@ class Handle:
             status = self.calls.chtab_route_sums(self.at, *given)
         see_that_done(status)
         return weights, sums
+
+    def flows(self, sources: Nodes, targets: Nodes, demands: Unsigned, lines: int) -> tuple[int, Unsigned]:
+        """The number of pairs without a walk, of the sources and the targets beside them, columns of uint32, nodes from 0 on; and the flow on each of
+        the `lines` of the graph's file, uint64: the sum of the demands of the pairs whose routes take its arc. Raises a `ValueError` if a flow is more
+        than 2^63."""
+        missed, flows = ctypes.c_uint64(), numpy.empty(lines, numpy.uint64)
+        given: list[Any] = []
+        columns: list[tuple[NDArray[Any], type]] = [(sources, numpy.uint32), (targets, numpy.uint32), (demands, numpy.uint64)]
+        for array, kind in columns:
+            given += [address(array, kind), len(array)]
+        given += [ctypes.byref(missed), address(flows, numpy.uint64, True), len(flows)]
+        with self.lock:
+            status = self.calls.chtab_flows(self.at, *given)
+        see_that_done(status)
+        return missed.value, flows
 
     def keep_places(self, places: Nodes, limit: int = NO_LIMIT, count: int = ALL, is_from: bool = False) -> None:
         """Searches from places, a column of uint32, nodes from 0 on, and keeps the result in place of an earlier one: for rows of at most `count`

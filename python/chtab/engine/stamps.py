@@ -1,4 +1,5 @@
-"""Stamps of the files of a network, which must not change while it is open: in another graph at this path, nodes would have other numbers."""
+"""Stamps of the files of a network, which must not change while it is open: in another graph at
+this path, nodes would have other numbers."""
 from __future__ import annotations
 
 import os
@@ -23,14 +24,17 @@ class Stamps:
     def __init__(self, *paths: str | None) -> None:
         self.by_path = {path: stamp_of(path) for path in paths if path is not None}
 
-    def see_that_same(self) -> None:
-        """Raises a `ProgramFault` if one of the files was written anew."""
+    def see_that_same(self, is_elsewhere: bool = False) -> None:
+        """Raises a `ProgramFault` if one of the files was written anew. On another machine a file
+        may have other numbers, but not another size or time."""
         for path, stamp in self.by_path.items():
-            if stamp_of(path) != stamp:
+            now = stamp_of(path)
+            if now[2:] != stamp[2:] or now != stamp and not is_elsewhere:
                 raise ProgramFault(f"{path} has changed since it was opened", 1)
 
 
 def stamp_of(path: str) -> Stamp:
-    """The stamp of the file at a path: its device, its number, its size, and the time of its last change in nanoseconds."""
+    """The stamp of the file at a path: its device, its number, its size, and the time of its last
+    change in nanoseconds."""
     found = os.stat(path)
     return found.st_dev, found.st_ino, found.st_size, found.st_mtime_ns

@@ -14,7 +14,7 @@
 | text of `dist` | distances and routes | `read_answers` | |
 | `.json` | the owner's labels of the nodes of a network | `read_labels` | `write_labels` |
 | text of `near` | the targets near each source | `read_near` | |
-| text of `table` | a row for each source | `read_rows`, `read_row_texts` | `write_csv`, `write_csv_of_texts`, `write_npy_of_texts` |
+| text of `table` | a row for each source | `read_rows` | `write_csv` |
 
 Nodes are numbered from 1, and arcs from 0, in their order. Columns of numbers are `array.array`s, which numpy takes without a copy. Readers take a
 path, an open file or lines, and writers a path or an open file. A `FileFault` names the file.
@@ -22,7 +22,7 @@ path, an open file or lines, and writers a path or an open file. A `FileFault` n
 from chtab.errors import FileFault
 from chtab.files.forms import whole
 from chtab.files.graphs import (
-    UNITS, Coordinates, Graph, count_arcs, count_nodes, read_bends, read_coordinates, read_graph, read_unit, scale_comment, write_bends,
+    UNITS, Coordinates, Graph, count_arcs, count_nodes, read_bends, read_coordinates, read_graph, read_turns, read_unit, scale_comment, write_bends,
     write_coordinate_columns, write_coordinates, write_graph, write_graph_columns,
 )
 from chtab.files.labelling import Labelling, read_labels, write_labels
@@ -31,14 +31,14 @@ from chtab.files.lists import (
 )
 from chtab.files.streets import SIDES, Street, Streets, read_streets, write_streets
 from chtab.files.texts import (
-    Answer, read_answers, read_near, read_routes, read_row_texts, read_rows, write_csv, write_csv_of_texts, write_npy_of_texts,
+    Answer, read_answers, read_near, read_routes, read_rows, write_csv,
 )
 from chtab.files.way_numbers import read_ways, write_ways
 
 __all__ = [
     "SIDES", "UNITS", "Answer", "Coordinates", "FileFault", "Graph", "Labelling", "Place", "Street", "Streets", "count_arcs", "count_nodes",
     "read_answers", "read_bends", "read_coordinates", "read_graph", "read_labels", "read_list", "read_names", "read_near", "read_places", "read_queries",
-    "read_routes", "read_row_texts", "read_rows", "read_streets", "read_unit", "read_ways", "scale_comment", "whole", "write_bends", "write_coordinate_columns",
-    "write_coordinates", "write_csv", "write_csv_of_texts", "write_graph", "write_graph_columns", "write_labels", "write_list", "write_list_column",
-    "write_names", "write_npy_of_texts", "write_queries", "write_streets", "write_ways",
+    "read_routes", "read_rows", "read_streets", "read_turns", "read_unit", "read_ways", "scale_comment", "whole", "write_bends", "write_coordinate_columns",
+    "write_coordinates", "write_csv", "write_graph", "write_graph_columns", "write_labels", "write_list", "write_list_column",
+    "write_names", "write_queries", "write_streets", "write_ways",
 ]

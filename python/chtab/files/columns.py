@@ -1,7 +1,8 @@
-"""Columns as callers give them: arrays, lists, and columns of frames. A refused value raises a `DataFault`, which names its row.
+"""Columns as callers give them: arrays, lists, and columns of frames. A refused value raises a
+`DataFault`, which names its row.
 
-Nothing is guessed. Missing and masked values are refused, and so are columns of several kinds: numpy alone would turn the label 1 beside the label
-"a" into the label "1".
+Nothing is guessed. Missing and masked values are refused, and so are columns of several kinds:
+numpy alone would turn the label 1 beside the label "a" into the label "1".
 """
 from __future__ import annotations
 
@@ -19,15 +20,16 @@ if TYPE_CHECKING:
     from numpy.typing import ArrayLike, NDArray
     from chtab.typing import Column, Floats, LabelArray, Marks
 
-# The whole numbers of 64 bits, and the most bits of a label, because Python itself does not write integers of many thousand digits.
+# The whole numbers of 64 bits, and the most bits of a label, because Python itself does not write
+# integers of many thousand digits.
 LEAST, GREATEST = -(2**63), 2**63 - 1
 MOST_BITS = 4_096
-# Up to this number each whole number is a float of its own.
-EXACT = 2**53
+# Up to this number each whole number is a float that is no other one's: 2^53 + 1 becomes 2^53.
+EXACT = 2**53 - 1
 INTEGERS, STRINGS, TUPLES = "integers", "strings", "tuples"
 
 
-def told(value: object) -> str:
+def quoted(value: object) -> str:
     """A value as text for a message, shortened."""
     bits = value.bit_length() if isinstance(value, int) else 0
     return f"an integer of {bits:,} bits" if bits > MOST_BITS else reprlib.repr(value)
@@ -46,7 +48,8 @@ def first_of(marks: ArrayLike) -> int | None:
 
 
 def array_of(name: str, column: Column) -> NDArray[Any]:
-    """The array of a column. A list becomes an array of objects, so that numpy converts no value of it."""
+    """The array of a column. A list becomes an array of objects, so that numpy converts no value of
+    it."""
     if isinstance(column, numpy.ma.MaskedArray):
         see_that_there(name, numpy.ma.getmaskarray(column), "is masked")
         column = column.data
@@ -84,7 +87,12 @@ def see_that_long(names: Sequence[str], columns: Sequence[Sized]) -> None:
     for name, count in zip(names, map(len, columns)):
         if count != rows:
             short, row = (name, count) if count < rows else (names[0], rows)
-            raise DataFault(f"{names[0]} has {rows:,} rows and {name} has {count:,}: row {row} of {short} is missing", short, row)
+            raise DataFault(
+                f"{names[0]} has {rows:,} rows and {name} has {count:,}: row {row} of {short} is "
+                "missing",
+                short,
+                row,
+            )
 
 
 # Labels.
@@ -96,11 +104,20 @@ def is_integer(kind: type) -> bool:
 
 def kind_of(kind: type) -> str | None:
     """The kind of labels that values of a type are; None if they are no labels."""
-    return STRINGS if issubclass(kind, str) else TUPLES if issubclass(kind, tuple) else INTEGERS if is_integer(kind) else None
+    return (
+        STRINGS
+        if issubclass(kind, str)
+        else TUPLES
+        if issubclass(kind, tuple)
+        else INTEGERS
+        if is_integer(kind)
+        else None
+    )
 
 
 def are_whole(column: NDArray[Any]) -> Marks:
-    """Which numbers of a column of floats are whole, and small enough that each whole number has its own float."""
+    """Which numbers of a column of floats are whole, and small enough that each whole number has
+    its own float."""
     return (column == numpy.floor(column)) & (abs(column) <= EXACT)
 
 
@@ -110,12 +127,14 @@ def labels_in(name: str, column: Column) -> LabelArray:
     Returns
     -------
     array of int64 or object
-        Integers, as objects if one of them has more than 64 bits; or objects of `str`, or of `tuple`.
+        Integers, as objects if one of them has more than 64 bits; or objects of `str`, or of
+        `tuple`.
 
     Raises
     ------
     DataFault
-        A value is no label, such as 1.5 or NaN, or there are several kinds of labels. The message names the first such value.
+        A value is no label, such as 1.5 or NaN, or there are several kinds of labels. The message
+        names the first such value.
     """
     array = array_of(name, column)
     if array.size == 0:
@@ -144,7 +163,8 @@ def labels_in(name: str, column: Column) -> LabelArray:
 
 
 def column_labels_in(name: str, column: Column) -> LabelArray:
-    """The labels of a single column, which may be tuples: a list of tuples is one column here, not several."""
+    """The labels of a single column, which may be tuples: a list of tuples is one column here, not
+    several."""
     if isinstance(column, list | tuple) and isinstance(next(iter(column), None), tuple):
         return tuples_in(name, column)
     labels = labels_in(name, column)
@@ -153,42 +173,74 @@ def column_labels_in(name: str, column: Column) -> LabelArray:
 
 
 def tuples_in(name: str, column: Iterable[Any]) -> LabelArray:
-    """The labels of a column of tuples, objects. The parts of each are integers, strings or floats."""
+    """The labels of a column of tuples, objects. The parts of each are integers, strings or
+    floats."""
     values = list(column)
     see_that_labels(name, values)
     for row, value in enumerate(values):
-        if not all(is_number(type(part)) or isinstance(part, str) for part in value) or any(part != part for part in value):
-            raise refused(name, row, f"{told(value)} is no label; the parts of a tuple are integers, floats and strings")
-    return objects_of([tuple(part.item() if isinstance(part, numpy.generic) else part for part in value) for value in values])
+        if not all(is_number(type(part)) or isinstance(part, str) for part in value) or any(
+            part != part for part in value
+        ):
+            raise refused(
+                name,
+                row,
+                f"{quoted(value)} is no label; the parts of a tuple are integers, floats and "
+                "strings",
+            )
+    return objects_of(
+        [
+            tuple(part.item() if isinstance(part, numpy.generic) else part for part in value)
+            for value in values
+        ]
+    )
 
 
 def whole_as_integer(value: Any) -> Any:
-    """A whole float as an integer, and any other value unchanged. Ids become floats in pandas if a column ever lacked some of them."""
+    """A whole float as an integer, and any other value unchanged. Ids become floats in pandas if a
+    column ever lacked some of them."""
     is_float = isinstance(value, float | numpy.floating)
     return int(value) if is_float and float(value).is_integer() and abs(value) <= EXACT else value
 
 
 def no_label(name: str, array: NDArray[Any]) -> DataFault:
-    """The fault of an array that has no labels, about its first NaN, its first value that is not whole, or its first value."""
+    """The fault of an array that has no labels, about its first NaN, its first value that is not
+    whole, or its first value."""
     place = None
     if array.dtype.kind == "f":
         place = first_of(numpy.isnan(array))
         place = first_of(~are_whole(array)) if place is None else place
     value = array.reshape(-1)[place or 0]
-    return refused(name, row_of(array, place or 0), f"{told(value)} is no label; a label is an integer, a string or a tuple")
+    return refused(
+        name,
+        row_of(array, place or 0),
+        f"{quoted(value)} is no label; a label is an integer, a string or a tuple",
+    )
 
 
 def see_that_labels(name: str, values: Sequence[object], width: int = 1) -> set[type]:
-    """The types of a list of labels, `width` of which are in a row. Refuses the first value that is no label, or of another kind."""
+    """The types of a list of labels, `width` of which are in a row. Refuses the first value that is
+    no label, or of another kind."""
     types = set(map(type, values))
     kinds = set(map(kind_of, types))
     if len(kinds) < 2 and None not in kinds:
         return types
     first = kind_of(type(values[0]))
-    place = 0 if first is None else next(place for place, value in enumerate(values) if kind_of(type(value)) != first)
+    place = (
+        0
+        if first is None
+        else next(place for place, value in enumerate(values) if kind_of(type(value)) != first)
+    )
     if kind_of(type(values[place])) is None:
-        raise refused(name, place // width, f"{told(values[place])} is no label; a label is an integer, a string or a tuple")
-    raise refused(name, place // width, f"the label {told(values[place])} is not one of {first}, as those before it")
+        raise refused(
+            name,
+            place // width,
+            f"{quoted(values[place])} is no label; a label is an integer, a string or a tuple",
+        )
+    raise refused(
+        name,
+        place // width,
+        f"the label {quoted(values[place])} is not one of {first}, as those before it",
+    )
 
 
 def objects_like(array: NDArray[Any], values: Iterable[object]) -> LabelArray:
@@ -208,14 +260,21 @@ def objects_of(values: Sequence[Any]) -> LabelArray:
 
 
 def integers_like(name: str, array: NDArray[Any], values: Iterable[Any]) -> LabelArray:
-    """Integers in the shape of an array, as int64 if all of them fit. Refuses integers of too many bits."""
+    """Integers in the shape of an array, as int64 if all of them fit. Refuses integers of too many
+    bits."""
     # Converted to Python's integers, because numpy would convert numbers past 2^63 to others.
     values = list(map(int, values))
     with contextlib.suppress(OverflowError):
         return numpy.array(values, numpy.int64).reshape(array.shape)
-    place = next((place for place, value in enumerate(values) if value.bit_length() > MOST_BITS), None)
+    place = next(
+        (place for place, value in enumerate(values) if value.bit_length() > MOST_BITS), None
+    )
     if place is not None:
-        raise refused(name, row_of(array, place), f"{told(values[place])} is no label; one has at most {MOST_BITS:,} bits")
+        raise refused(
+            name,
+            row_of(array, place),
+            f"{quoted(values[place])} is no label; one has at most {MOST_BITS:,} bits",
+        )
     return objects_like(array, values)
 
 
@@ -223,12 +282,20 @@ def integers_like(name: str, array: NDArray[Any], values: Iterable[Any]) -> Labe
 
 
 def durations_in(name: str, column: Column) -> Any:
-    """The milliseconds of a column of durations, as `numpy.longdouble`; None for any other column."""
+    """The milliseconds of a column of durations, as `numpy.longdouble`; None for any other
+    column."""
     array = array_of(name, column)
-    if array.dtype == object and array.ndim == 1 and array.size and isinstance(array[0], datetime.timedelta | numpy.timedelta64):
+    if (
+        array.dtype == object
+        and array.ndim == 1
+        and array.size
+        and isinstance(array[0], datetime.timedelta | numpy.timedelta64)
+    ):
         for row, value in enumerate(array.tolist()):
-            if not isinstance(value, datetime.timedelta | numpy.timedelta64 | int) or isinstance(value, bool):
-                raise refused(name, row, f"{told(value)} is no duration, as those before it")
+            if not isinstance(value, datetime.timedelta | numpy.timedelta64 | int) or isinstance(
+                value, bool
+            ):
+                raise refused(name, row, f"{quoted(value)} is no duration, as those before it")
         array = numpy.array([numpy.timedelta64(value) for value in array], "timedelta64[ns]")
     if array.dtype.kind != "m":
         return None
@@ -238,20 +305,24 @@ def durations_in(name: str, column: Column) -> Any:
 
 
 def numbers_in(name: str, column: Column, with_booleans: bool = False) -> NDArray[Any]:
-    """The numbers of a column: int64 or `numpy.longdouble`. `with_booleans` takes True and False as 1 and 0.
+    """The numbers of a column: int64 or `numpy.longdouble`. `with_booleans` takes True and False as
+    1 and 0.
 
-    On most machines a `longdouble` holds each whole number of 64 bits, and the product of a float and a thousand.
+    On most machines a `longdouble` holds each whole number of 64 bits, and the product of a float
+    and a thousand.
     """
     array = array_of(name, column)
     see_that_flat(name, array)
-    if with_booleans and (array.dtype == bool or array.dtype == object and {*map(type, array)} <= {bool, numpy.bool_}):
+    if with_booleans and (
+        array.dtype == bool or array.dtype == object and {*map(type, array)} <= {bool, numpy.bool_}
+    ):
         return array.astype(numpy.int64)
     if array.size == 0:
         return array.astype(numpy.int64)
     if array.dtype.kind == "O":
         return numbers_of_objects(name, array.tolist())
     if array.dtype.kind not in "iuf":
-        raise refused(name, 0, f"{told(array[0])} is neither an integer nor a float")
+        raise refused(name, 0, f"{quoted(array[0])} is neither an integer nor a float")
     if array.dtype.kind == "f":
         return array.astype(numpy.longdouble)
     place = first_of(array > numpy.uint64(GREATEST)) if array.dtype.kind == "u" else None
@@ -265,15 +336,32 @@ def numbers_of_objects(name: str, values: Sequence[Any]) -> NDArray[Any]:
     kinds = set(map(type, values))
     if not all(map(is_number, kinds)):
         place = next(place for place, value in enumerate(values) if not is_number(type(value)))
-        raise refused(name, place, "there is none" if values[place] is None else f"{told(values[place])} is neither an integer nor a float")
+        raise refused(
+            name,
+            place,
+            "there is none"
+            if values[place] is None
+            else f"{quoted(values[place])} is neither an integer nor a float",
+        )
     if kinds == {float}:
         return numpy.array(values).astype(numpy.longdouble)
     if all(map(is_integer, kinds)):
         with contextlib.suppress(OverflowError):
             return numpy.array([*map(int, values)], numpy.int64)
-    large = next((place for place, value in enumerate(values) if is_integer(type(value)) and not LEAST <= int(value) <= GREATEST), None)
+    large = next(
+        (
+            place
+            for place, value in enumerate(values)
+            if is_integer(type(value)) and not LEAST <= int(value) <= GREATEST
+        ),
+        None,
+    )
     if large is not None:
-        raise refused(name, large, f"{told(values[large])} is {'too large' if values[large] > 0 else 'below 0'}")
+        raise refused(
+            name,
+            large,
+            f"{quoted(values[large])} is {'too large' if values[large] > 0 else 'below 0'}",
+        )
     return numpy.array([*map(numpy.longdouble, values)], numpy.longdouble)
 
 
@@ -282,8 +370,9 @@ def is_number(kind: type) -> bool:
 
 
 def degrees_in(name: str, column: Column, most: int) -> Floats:
-    """The degrees of a column, from -`most` to `most`, float64."""
-    degrees = numbers_in(name, column).astype(float)
+    """The degrees of a column, or of a single number, from -`most` to `most`, float64."""
+    values: Any = [column] if numpy.ndim(column) == 0 else column
+    degrees = numbers_in(name, values).astype(float)
     place = first_of(~(abs(degrees) <= most))
     if place is not None:
         raise refused(name, place, f"{degrees[place]:.12g} is not from -{most} to {most} degrees")

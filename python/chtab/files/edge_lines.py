@@ -7,7 +7,7 @@ from typing import TYPE_CHECKING, Any, TypeAlias
 import numpy
 
 from chtab.errors import DataFault
-from chtab.files.columns import refused, told
+from chtab.files.columns import refused, quoted
 
 if TYPE_CHECKING:
     from chtab.files.node_labels import Labels
@@ -42,7 +42,7 @@ def line_in(name: str, row: int, line: Any) -> Line | None:
     try:
         places = numpy.array(list(getattr(line, "coords", line)), float)[:, :2]
     except (TypeError, ValueError, IndexError):
-        raise refused(name, row, f"{told(line)} is no line of longitudes and latitudes") from None
+        raise refused(name, row, f"{quoted(line)} is no line of longitudes and latitudes") from None
     if len(places) < 2 or not (abs(places) <= (180, 90)).all():
         raise refused(name, row, "a line has two points or more, of longitudes from -180 to 180 and latitudes from -90 to 90 degrees")
     return places
@@ -57,7 +57,7 @@ def ends_of(lines: Sequence[Line | None], tails: Integers, heads: Integers, labe
     lacking = numpy.flatnonzero(numpy.isnan(places[:, 0]))
     if len(lacking):
         label = labels.values[lacking[:1]].tolist()[0]
-        raise DataFault(f"no line leads to the node {told(label)}, so that it has no place: give `nodes`, `x` and `y`", "geometry")
+        raise DataFault(f"no line leads to the node {quoted(label)}, so that it has no place: give `nodes`, `x` and `y`", "geometry")
     return places[:, 0], places[:, 1]
 
 

@@ -9,20 +9,32 @@ from collections.abc import Iterable, Mapping, Sequence
 from typing import TYPE_CHECKING, Any, NamedTuple
 
 from chtab.errors import FileFault
-from chtab.files.forms import ROWS_AT_ONCE, columns, comments_of, name_of, write_columns, write_comments, write_rows, writing
+from chtab.files.forms import (
+    ROWS_AT_ONCE,
+    columns,
+    comments_of,
+    name_of,
+    write_columns,
+    write_comments,
+    write_rows,
+    writing,
+)
 
 if TYPE_CHECKING:
     from chtab.typing import Path, Point, Source, Target
 
-# The units of weights that a comment of a graph may name, each with the unit for people and how many of the first make one of it.
+# The units of weights that a comment of a graph may name, each with the unit for people and how
+# many of the first make one of it.
 UNITS = {"milliseconds": ("min", 60_000), "metres": ("km", 1_000)}
-# Comments about nodes where turns are restricted (docs/MAPS.md): the node where trips to a node end, and copies of a node.
+# Comments about nodes where turns are restricted (docs/MAPS.md): the node where trips to a node
+# end, and copies of a node.
 END = re.compile(r"Trips to node (\d+) end at node (\d+)\.")
 COPY = re.compile(r"Node (\d+) is node (\d+), as some turns come to it\.")
 
 
 class Graph(NamedTuple):
-    """A graph: arc k leads from `tails[k]` to `heads[k]` and has the weight `weights[k]`; columns of 64-bit numbers."""
+    """A graph: arc k leads from `tails[k]` to `heads[k]` and has the weight `weights[k]`; columns
+    of 64-bit numbers."""
 
     nodes: int
     tails: array.array[int]
@@ -31,36 +43,61 @@ class Graph(NamedTuple):
     # `milliseconds` or `metres` if a comment says `Weights are ..`, and otherwise empty.
     unit: str
 
+    def __eq__(self, other: object) -> bool:
+        return isinstance(other, Graph) and are_equal(self, other)
+
 
 class Coordinates(NamedTuple):
-    """The places of nodes: node k is at `longitudes[k - 1]`, `latitudes[k - 1]`, in degrees; NaN if the file has no line for it."""
+    """The places of nodes: node k is at `longitudes[k - 1]`, `latitudes[k - 1]`, in degrees; NaN if
+    the file has no line for it."""
 
     longitudes: array.array[float]
     latitudes: array.array[float]
     comments: list[str]
 
+    def __eq__(self, other: object) -> bool:
+        return isinstance(other, Coordinates) and are_equal(self, other)
+
     def of(self, node: int) -> Point:
         """Longitude and latitude of a node."""
         if 1 <= node <= len(self.longitudes) and not math.isnan(self.longitudes[node - 1]):
-            return self.longitudes[node - 1], self.latitudes[node - 1]
+            return float(self.longitudes[node - 1]), float(self.latitudes[node - 1])
         raise FileFault(f"the coordinate file has no node {node}")
 
     def ends(self) -> dict[int, int]:
-        """The nodes where trips end whose target is a node with restricted turns: {target: node}. All other trips end at their target."""
-        return {int(found[1]): int(found[2]) for found in map(END.fullmatch, self.comments) if found}
+        """The nodes where trips end whose target is a node with restricted turns: {target: node}.
+        All other trips end at their target."""
+        return {
+            int(found[1]): int(found[2]) for found in map(END.fullmatch, self.comments) if found
+        }
 
     def copies(self) -> dict[int, int]:
-        """The copies of nodes with restricted turns, those where trips end among them: {copy: node}."""
-        found = {int(found[1]): int(found[2]) for found in map(COPY.fullmatch, self.comments) if found}
+        """The copies of nodes with restricted turns, those where trips end among them: {copy:
+        node}."""
+        found = {
+            int(found[1]): int(found[2]) for found in map(COPY.fullmatch, self.comments) if found
+        }
         return found | {end: node for node, end in self.ends().items()}
 
     def turns(self) -> list[str]:
         """The comments from which `ends` and `copies` are read."""
-        return [comment for comment in self.comments if END.fullmatch(comment) or COPY.fullmatch(comment)]
+        return [
+            comment
+            for comment in self.comments
+            if END.fullmatch(comment) or COPY.fullmatch(comment)
+        ]
 
     def known(self) -> list[int]:
         """The nodes that have a place, in order."""
         return [node for node, x in enumerate(self.longitudes, 1) if not math.isnan(x)]
+
+
+def are_equal(one: tuple[Any, ...], other: tuple[Any, ...]) -> bool:
+    """Whether the parts of two tuples are equal, among which there may be arrays of any kind."""
+    return all(
+        list(part) == list(its) if hasattr(part, "tolist") else part == its
+        for part, its in zip(one, other)
+    )
 
 
 def read_graph(source: Source) -> Graph:
@@ -91,7 +128,9 @@ def read_graph(source: Source) -> Graph:
     if problem[:2] != [b"p", b"sp"] or len(problem) != 4 or not problem[2].isdigit():
         raise FileFault(f"{name_of(source)}: not a graph, whose problem line is `p sp N M`")
     nodes = int(problem[2])
-    if len(tails) and not (1 <= min(min(tails), min(heads)) and max(max(tails), max(heads)) <= nodes):
+    if len(tails) and not (
+        1 <= min(min(tails), min(heads)) and max(max(tails), max(heads)) <= nodes
+    ):
         raise FileFault(f"{name_of(source)}: an arc has a node that is not from 1 to {nodes}")
     return Graph(nodes, tails, heads, weights, unit_of(lines))
 
@@ -120,7 +159,11 @@ def read_unit(path: Path) -> str:
 
 def unit_of(lines: Iterable[bytes]) -> str:
     """The unit that comments among some lines name; empty if none does."""
-    told = [comment.split()[-1].strip(".") for comment in comments_of(lines) if comment.startswith("Weights are ")]
+    told = [
+        comment.split()[-1].strip(".")
+        for comment in comments_of(lines)
+        if comment.startswith("Weights are ")
+    ]
     return told[0] if told and told[0] in UNITS else ""
 
 
@@ -171,12 +214,23 @@ def counts_in(path: Path) -> tuple[int, int]:
     with open(path, "rb") as file:
         for line in file:
             words = line.split()
-            if words[:2] == [b"p", b"sp"] and len(words) == 4 and words[2].isdigit() and words[3].isdigit():
+            if (
+                words[:2] == [b"p", b"sp"]
+                and len(words) == 4
+                and words[2].isdigit()
+                and words[3].isdigit()
+            ):
                 return int(words[2]), int(words[3])
     raise FileFault(f"{path}: not a graph, whose problem line is `p sp N M`")
 
 
-def write_graph(target: Target, nodes: int, arcs: Sequence[tuple[int, int, float]], comments: Iterable[str] = (), scale: float | None = None) -> None:
+def write_graph(
+    target: Target,
+    nodes: int,
+    arcs: Sequence[tuple[int, int, float]],
+    comments: Iterable[str] = (),
+    scale: float | None = None,
+) -> None:
     """Writes a graph (`.gr`).
 
     Parameters
@@ -190,7 +244,8 @@ def write_graph(target: Target, nodes: int, arcs: Sequence[tuple[int, int, float
     comments : list of str
         The first lines, such as `Weights are milliseconds.`, which names the unit.
     scale : number, optional
-        Weights are multiplied by this and rounded to whole numbers, and a comment says so: 1000 makes milliseconds of seconds.
+        Weights are multiplied by this and rounded to whole numbers, and a comment says so: 1000
+        makes milliseconds of seconds.
 
     Raises
     ------
@@ -199,7 +254,10 @@ def write_graph(target: Target, nodes: int, arcs: Sequence[tuple[int, int, float
     """
     if scale is not None:
         comments = [*comments, scale_comment(scale)]
-        arcs = [(tail, head, scaled(place, weight, scale)) for place, (tail, head, weight) in enumerate(arcs)]
+        arcs = [
+            (tail, head, scaled(place, weight, scale))
+            for place, (tail, head, weight) in enumerate(arcs)
+        ]
     see_that_whole(arcs)
     with writing(target) as file:
         write_comments(file, comments)
@@ -223,7 +281,9 @@ def scale_comment(scale: float) -> str:
     return f"Weights were multiplied by {scale} and rounded to whole numbers."
 
 
-def write_graph_columns(target: Target, nodes: int, columns_of_arcs: Sequence[Any], comments: Iterable[str] = ()) -> None:
+def write_graph_columns(
+    target: Target, nodes: int, columns_of_arcs: Sequence[Any], comments: Iterable[str] = ()
+) -> None:
     """Writes the same graph as `write_graph`, from columns. Nothing is checked.
 
     Parameters
@@ -277,6 +337,33 @@ def read_coordinates(source: Source) -> Coordinates:
     return Coordinates(longitudes, latitudes, comments_of(lines))
 
 
+def read_turns(path: Path) -> Coordinates:
+    """Reads what a file of places (`.co`) says about nodes where turns are restricted, without its
+    places.
+
+    Parameters
+    ----------
+    path : str or path
+        The file (`.co`).
+
+    Returns
+    -------
+    Coordinates
+        No places, and the comments before the first of them, with `ends` and `copies`.
+
+    Raises
+    ------
+    OSError
+        The file can't be read.
+    """
+    with open(path, "rb") as file:
+        return Coordinates(
+            array.array("d"),
+            array.array("d"),
+            comments_of(itertools.takewhile(lambda line: line[:1] != b"v", file)),
+        )
+
+
 def scaled(place: int, weight: float, scale: float) -> int:
     """A weight times a scale, rounded."""
     try:
@@ -295,7 +382,10 @@ def see_that_whole(arcs: Sequence[tuple[int, int, float]]) -> None:
         for place, arc in enumerate(some, start):
             for value in arc:
                 if not is_whole(value):
-                    raise FileFault(f"arcs[{place}]: {value} is not a whole number; `scale` multiplies weights and rounds them")
+                    raise FileFault(
+                        f"arcs[{place}]: {value} is not a whole number; `scale` multiplies weights "
+                        "and rounds them"
+                    )
 
 
 def is_whole(value: Any) -> bool:
@@ -306,7 +396,10 @@ def is_whole(value: Any) -> bool:
 
 
 def write_coordinates(
-    target: Target, places: Sequence[Point], comments: Iterable[str] = (), ends: Iterable[tuple[int, int]] = (),
+    target: Target,
+    places: Sequence[Point],
+    comments: Iterable[str] = (),
+    ends: Iterable[tuple[int, int]] = (),
     copies: Iterable[tuple[int, int]] = (),
 ) -> None:
     """Writes the nodes' places (`.co`).
@@ -332,12 +425,21 @@ def write_coordinates(
     with writing(target) as file:
         write_comments(file, comments)
         write_comments(file, (f"Trips to node {node} end at node {end}." for node, end in ends))
-        write_comments(file, (f"Node {copy} is node {node}, as some turns come to it." for copy, node in copies))
+        write_comments(
+            file,
+            (f"Node {copy} is node {node}, as some turns come to it." for copy, node in copies),
+        )
         file.write(f"p aux sp co {len(places)}\n")
-        write_rows(file, "v %d %d %d\n", ((node, round(x * 1e6), round(y * 1e6)) for node, (x, y) in enumerate(places, 1)))
+        write_rows(
+            file,
+            "v %d %d %d\n",
+            ((node, round(x * 1e6), round(y * 1e6)) for node, (x, y) in enumerate(places, 1)),
+        )
 
 
-def write_coordinate_columns(target: Target, columns_of_places: Sequence[Any], comments: Iterable[str] = ()) -> None:
+def write_coordinate_columns(
+    target: Target, columns_of_places: Sequence[Any], comments: Iterable[str] = ()
+) -> None:
     """Writes the nodes' places (`.co`) from columns.
 
     Parameters
@@ -358,7 +460,9 @@ def write_coordinate_columns(target: Target, columns_of_places: Sequence[Any], c
     with writing(target) as file:
         write_comments(file, comments)
         file.write(f"p aux sp co {count}\n")
-        write_columns(file, "v %d %d %d\n", [array.array("q", range(1, count + 1)), *columns_of_places])
+        write_columns(
+            file, "v %d %d %d\n", [array.array("q", range(1, count + 1)), *columns_of_places]
+        )
 
 
 def read_bends(source: Source) -> dict[int, list[Point]]:
@@ -372,7 +476,8 @@ def read_bends(source: Source) -> dict[int, list[Point]]:
     Returns
     -------
     dict of int to list of (float, float)
-        The longitudes and latitudes in degrees of the arcs that have such points; arcs are numbered by their order in the graph, from 0.
+        The longitudes and latitudes in degrees of the arcs that have such points; arcs are numbered
+        by their order in the graph, from 0.
 
     Raises
     ------
@@ -386,8 +491,11 @@ def read_bends(source: Source) -> dict[int, list[Point]]:
     return bends
 
 
-def write_bends(target: Target, bends: Mapping[int, Sequence[Point]], comments: Iterable[str] = ()) -> None:
-    """Writes the points of arcs between their ends (`.bends`): a line `b ARC X Y` for each, where ARC is numbered from 1.
+def write_bends(
+    target: Target, bends: Mapping[int, Sequence[Point]], comments: Iterable[str] = ()
+) -> None:
+    """Writes the points of arcs between their ends (`.bends`): a line `b ARC X Y` for each, where
+    ARC is numbered from 1.
 
     Parameters
     ----------
@@ -407,4 +515,6 @@ def write_bends(target: Target, bends: Mapping[int, Sequence[Point]], comments: 
         write_comments(file, comments)
         file.write(f"p aux sp bends {sum(map(len, bends.values()))}\n")
         points = ((arc + 1, *place) for arc, places in sorted(bends.items()) for place in places)
-        write_rows(file, "b %d %d %d\n", ((arc, round(x * 1e6), round(y * 1e6)) for arc, x, y in points))
+        write_rows(
+            file, "b %d %d %d\n", ((arc, round(x * 1e6), round(y * 1e6)) for arc, x, y in points)
+        )

@@ -1,7 +1,7 @@
 """Units of weights: the whole numbers of a graph, or numbers in the unit of a caller.
 
-A weight w of the graph is w / factor in the caller's unit, as a float. A limit of the caller admits each answer that is at most the limit, when both
-are compared as these floats.
+A weight w of the graph is w / factor in the caller's unit, as a float. A limit of the caller admits
+each answer that is at most the limit, when both are compared as these floats.
 """
 from __future__ import annotations
 
@@ -21,7 +21,8 @@ if TYPE_CHECKING:
     import pandas
     from chtab.typing import Integers, Weights
 
-# The largest weight of a graph, and therefore the largest limit; and the number up to which each whole number is a float.
+# The largest weight of a graph, and therefore the largest limit; and the number up to which each
+# whole number is a float.
 MOST, EXACT = 2**60, 2**53
 # A limit, as callers give it.
 Limit = float | datetime.timedelta | numpy.timedelta64 | None
@@ -31,7 +32,8 @@ LENGTHS = {"metres": 1, "kilometres": 1_000}
 # The units that a comment of a graph may name, with the units in which callers may want answers.
 TIME, LENGTH = "milliseconds", "metres"
 BASES = {TIME: TIMES, LENGTH: LENGTHS}
-# How many of a graph's weights make a metre of a caller's lengths, which are rounded to millimetres.
+# How many of a graph's weights make a metre of a caller's lengths, which are rounded to
+# millimetres.
 FINE = 1_000
 
 
@@ -43,6 +45,10 @@ class Asked:
     scale: float | None = None
     raw: bool = False
 
+    def __post_init__(self) -> None:
+        if not isinstance(self.raw, bool | numpy.bool_):
+            raise TypeError(f"raw is True or False, not {self.raw!r}")
+
 
 @dataclass(frozen=True)
 class Measure:
@@ -53,7 +59,8 @@ class Measure:
     unit : str
         The name of the unit; empty if it isn't known.
     factor : int or float
-        How many of the graph's weights make one of the unit. With 1 answers are whole numbers, and otherwise floats.
+        How many of the graph's weights make one of the unit. With 1 answers are whole numbers, and
+        otherwise floats.
     """
 
     unit: str = ""
@@ -67,15 +74,19 @@ class Measure:
     # Limits.
 
     def limit(self, name: str, given: Limit) -> int | None:
-        """The largest weight of the graph whose answer is at most a limit; None for no limit."""
-        if given is None:
+        """The largest weight of the graph whose answer is at most a limit; None for no limit, which
+        infinity is too."""
+        if given is None or isinstance(given, float | numpy.floating) and given == numpy.inf:
             return None
         if self.is_whole:
             return whole_limit(name, self.number(name, given))
         value = float(self.number(name, given))
         most = MOST / self.factor
         if not 0 <= value <= most:
-            raise ValueError(f"{name} is {given!r}: a limit is from 0 to {most:g}{' ' * bool(self.unit)}{self.unit}")
+            raise ValueError(
+                f"{name} is {given!r}: a limit is from 0 to "
+                f"{most:g}{' ' * bool(self.unit)}{self.unit}"
+            )
         weight = math.floor(Fraction(value) * Fraction(self.factor))
         while weight < EXACT and (weight + 1) / self.factor <= value:
             weight += 1
@@ -87,24 +98,35 @@ class Measure:
         """A limit as a number of this unit."""
         if isinstance(given, datetime.timedelta | numpy.timedelta64):
             if self.unit not in TIMES:
-                raise TypeError(f"{name} is a duration, and the network's unit is {self.unit or 'not known'}: {', '.join(TIMES)} are units of time")
+                raise TypeError(
+                    f"{name} is a duration, and the network's unit is {self.unit or 'not known'}: "
+                    f"{', '.join(TIMES)} are units of time"
+                )
             return Fraction(microseconds(given), 1_000 * TIMES[self.unit])
-        if isinstance(given, bool | numpy.bool_) or not isinstance(given, numbers.Real | decimal.Decimal | numpy.integer | numpy.floating):
+        if isinstance(given, bool | numpy.bool_) or not isinstance(
+            given, numbers.Real | decimal.Decimal | numpy.integer | numpy.floating
+        ):
             raise TypeError(f"{name} is a number, not {given!r}")
         return given
 
     # Answers.
 
-    def told(self, weights: Integers, missing: float | None = None) -> Weights:
-        """The answers of weights, an array of int64 with -1 where there is no walk. They have `missing` there, by default -1 if answers are whole,
-        and otherwise NaN.
+    def in_unit(self, weights: Integers, missing: float | None = None) -> Weights:
+        """The answers of weights, an array of int64 with -1 where there is no walk. They have
+        `missing` there, by default -1 if answers are whole, and otherwise NaN.
         """
         if missing is None and self.is_whole:
             return weights
         is_missing = weights < 0
-        if self.is_whole and isinstance(missing, int | numpy.integer) and not isinstance(missing, bool):
+        if (
+            self.is_whole
+            and isinstance(missing, int | numpy.integer)
+            and not isinstance(missing, bool)
+        ):
             return numpy.where(is_missing, numpy.int64(missing), weights)
-        return numpy.where(is_missing, numpy.nan if missing is None else float(missing), weights / self.factor)
+        return numpy.where(
+            is_missing, numpy.nan if missing is None else float(missing), weights / self.factor
+        )
 
     def one(self, weight: float | None) -> float | None:
         """The answer of one weight; None for None."""
@@ -112,15 +134,21 @@ class Measure:
 
     def listed(self, weights: list[Any] | None) -> list[Any] | None:
         """The answers of a list of weights; None for None."""
-        return weights if weights is None or self.is_whole else [weight / self.factor for weight in weights]
+        return (
+            weights
+            if weights is None or self.is_whole
+            else [weight / self.factor for weight in weights]
+        )
 
     def series(self, weights: Integers) -> pandas.Series:
         """The answers as a column of pandas, `Int64` or float64, with NA where there is no walk."""
         import pandas
 
         if not self.is_whole:
-            return pandas.Series(self.told(weights))
-        return pandas.Series(pandas.arrays.IntegerArray(numpy.array(weights, numpy.int64), weights < 0))
+            return pandas.Series(self.in_unit(weights))
+        return pandas.Series(
+            pandas.arrays.IntegerArray(numpy.array(weights, numpy.int64), weights < 0)
+        )
 
 
 def microseconds(duration: Any) -> Fraction:
@@ -130,11 +158,16 @@ def microseconds(duration: Any) -> Fraction:
             raise ValueError("a duration is missing")
         return Fraction(int(duration.astype("timedelta64[ns]").astype(numpy.int64)), 1_000)
     nanoseconds = getattr(duration, "value", None)
-    return Fraction(nanoseconds, 1_000) if nanoseconds is not None else Fraction(duration // datetime.timedelta(microseconds=1))
+    return (
+        Fraction(nanoseconds, 1_000)
+        if nanoseconds is not None
+        else Fraction(duration // datetime.timedelta(microseconds=1))
+    )
 
 
 def whole_limit(name: str, limit: Any) -> int:
-    """The largest whole number up to a limit, which admits the same weights. numpy compares it exactly, unlike most other numbers."""
+    """The largest whole number up to a limit, which admits the same weights. numpy compares it
+    exactly, unlike most other numbers."""
     if not 0 <= limit <= MOST:
         raise ValueError(f"{name} is {limit!r}: a limit is from 0 to 2^60")
     # `math.floor` would make a float of a number of numpy first.
@@ -152,21 +185,38 @@ def unit_in(unit: Any) -> str | None:
 
 
 def scale_of(unit: str | None, scale: float | None) -> float | None:
-    """The factor for weights in a unit: the given scale, or the one that makes whole milliseconds or millimetres; None if nothing is known."""
+    """The factor for weights in a unit: the given scale, or the one that makes whole milliseconds
+    or millimetres; None if nothing is known."""
     if scale is not None or unit is None:
         return scale
     return TIMES[unit] if unit in TIMES else FINE * LENGTHS[unit] if unit in LENGTHS else None
 
 
 def base_of(unit: str | None, scale: float | None) -> str:
-    """The unit of a graph's weights, if weights in a unit were multiplied by a scale: a name of `BASES`, or empty."""
-    return next((base for base, units in BASES.items() if scale is not None and unit in units and units[unit] == scale), "")
+    """The unit of a graph's weights, if weights in a unit were multiplied by a scale: a name of
+    `BASES`, or empty."""
+    return next(
+        (
+            base
+            for base, units in BASES.items()
+            if scale is not None and unit in units and units[unit] == scale
+        ),
+        "",
+    )
 
 
-def asked_for(unit: str | None, scale: float | None, base: str, own_unit: str | None = None, own_scale: float | None = None) -> Measure:
-    """The measure for a caller's unit, on a graph whose comments name `base`, or which was made of weights in `own_unit` times `own_scale`.
+def asked_for(
+    unit: str | None,
+    scale: float | None,
+    base: str,
+    own_unit: str | None = None,
+    own_scale: float | None = None,
+) -> Measure:
+    """The measure for a caller's unit, on a graph whose comments name `base`, or which was made of
+    weights in `own_unit` times `own_scale`.
 
-    The default unit is that of the caller who made the graph, and otherwise the graph's own. With `scale`, that many of the graph's weights make one.
+    The default unit is that of the caller who made the graph, and otherwise the graph's own. With
+    `scale`, that many of the graph's weights make one.
 
     Raises
     ------
@@ -183,4 +233,23 @@ def asked_for(unit: str | None, scale: float | None, base: str, own_unit: str | 
     for units in BASES.values():
         if own_scale is not None and own_unit is not None and {unit, own_unit} <= set(units):
             return Measure(unit, own_scale * units[unit] / units[own_unit])
-    raise DataFault(f"nothing tells how many of the graph's weights make one of {unit!r}: give `scale`, or a graph with `c Weights are {TIME}.`", "unit")
+    if base:
+        raise DataFault(
+            f"the graph's weights are {base}, so that a unit is one of {', '.join(BASES[base])}; "
+            f"{unit!r} needs `scale`",
+            "unit",
+        )
+    text = (
+        f"nothing says how many of the graph's weights make one of {unit!r}: give `scale`, or a "
+        f"graph with `c Weights are {TIME}.` or `c Weights are {LENGTH}.`"
+    )
+    raise DataFault(text, "unit")
+
+
+def unknown(unit: str) -> DataFault:
+    """The fault of a unit that is not known and has no scale."""
+    return DataFault(
+        f"{unit!r} is not one of {', '.join([*TIMES, *LENGTHS])}: any other unit needs `scale`, "
+        "such as scale=1 for whole weights",
+        "unit",
+    )

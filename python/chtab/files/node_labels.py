@@ -1,4 +1,5 @@
-"""The labels of the nodes of a network. The program numbers nodes from 1 on; callers may have their own labels."""
+"""The labels of the nodes of a network. The program numbers nodes from 1 on; callers may have their
+own labels."""
 from __future__ import annotations
 
 import collections
@@ -10,7 +11,7 @@ import numpy
 
 from chtab.errors import DataFault
 from chtab.files import columns
-from chtab.files.columns import GREATEST, INTEGERS, LEAST, TUPLES, row_of, told
+from chtab.files.columns import GREATEST, INTEGERS, LEAST, TUPLES, row_of, quoted
 
 if TYPE_CHECKING:
     from numpy.typing import NDArray
@@ -20,10 +21,11 @@ if TYPE_CHECKING:
 Label: TypeAlias = int | str
 
 
-def fixed(values: LabelArray) -> LabelArray:
-    """An array that can't be written to."""
-    values.flags.writeable = False
-    return values
+def fixed(column: Any) -> Any:
+    """The values of a column in an array that can't be written to."""
+    found = numpy.asarray(column)
+    found.flags.writeable = False
+    return found
 
 
 class Numbers:
@@ -41,21 +43,32 @@ class Numbers:
         return self.known
 
     def nodes_of(self, name: str, given: Any) -> Integers:
-        """The nodes of an array of numbers, of any shape. Numbers out of range are refused; whole floats are taken."""
+        """The nodes of an array of numbers, of any shape. Numbers out of range are refused; whole
+        floats are taken."""
         if isinstance(given, numpy.ma.MaskedArray):
             given = columns.array_of(name, given)
         column = numpy.asarray(given)
-        if column.size and not (column.dtype.kind in "iu" or column.dtype.kind == "f" and is_whole(column)):
-            raise ValueError("a node is a whole number")
-        outside = column[(column < 1) | (column > self.count)]
-        if outside.size:
-            raise ValueError(f"node {outside.flat[0]:.17g} is not from 1 to {self.count:,}")
+        if column.size and not (
+            column.dtype.kind in "iu" or column.dtype.kind == "f" and is_whole(column)
+        ):
+            raise no_number(name, column, given)
+        outside = columns.first_of((column < 1) | (column > self.count))
+        if outside is not None:
+            row = row_of(column, outside)
+            raise columns.refused(
+                name, row, f"node {column.flat[outside]:.17g} is not from 1 to {self.count:,}"
+            )
         return column.astype(numpy.int64)
 
     def few(self, labels: Iterable[Any]) -> list[int] | None:
-        """The nodes of a short list of labels, as a list; None if one of them needs a closer look."""
+        """The nodes of a short list of labels, as a list; None if one of them needs a closer
+        look."""
         labels = [int(label) if type(label) is numpy.int64 else label for label in labels]
-        return labels if all(type(label) is int and 0 < label <= self.count for label in labels) else None
+        return (
+            labels
+            if all(type(label) is int and 0 < label <= self.count for label in labels)
+            else None
+        )
 
     def of(self, nodes: Integers) -> LabelArray:
         """The labels of an array of nodes."""
@@ -77,11 +90,36 @@ def is_whole(column: NDArray[Any]) -> bool:
     return bool(numpy.isfinite(column).all() and (column == numpy.floor(column)).all())
 
 
-class Labels:
-    """The labels of a caller: node k has `values[k - 1]`, int64, or objects that are all `int`, all `str` or all tuples. No two are equal.
+def no_number(name: str, column: NDArray[Any], given: Any) -> DataFault:
+    """The fault of the first value that is no number of a node."""
+    values = (
+        column
+        if column.dtype != object and not isinstance(given, list | tuple)
+        else numpy.array(given, object)
+    )
+    place = columns.first_of([not is_node(value) for value in values.reshape(-1).tolist()]) or 0
+    return columns.refused(
+        name,
+        row_of(values, place),
+        f"{quoted(values.reshape(-1).tolist()[place])} is no node: a node is a whole number",
+    )
 
-    The index of the labels is made when it is first needed, and twice if two threads need it at a time. A lock would be held for ever in a process
-    that is forked while a thread holds it.
+
+def is_node(value: object) -> bool:
+    """Whether a value is a whole number."""
+    return (
+        columns.is_integer(type(value))
+        or isinstance(value, float | numpy.floating)
+        and float(value).is_integer()
+    )
+
+
+class Labels:
+    """The labels of a caller: node k has `values[k - 1]`, int64, or objects that are all `int`, all
+    `str` or all tuples. No two are equal.
+
+    The index of the labels is made when it is first needed, and twice if two threads need it at a
+    time. A lock would be held for ever in a process that is forked while a thread holds it.
     """
 
     def __init__(self, values: LabelArray) -> None:
@@ -107,19 +145,28 @@ class Labels:
         return self.by_label
 
     def nodes_of(self, name: str, given: Any) -> Integers:
-        """The nodes of labels, an array of int64 in the shape of the argument. Raises a `DataFault` if no node has a label."""
-        labels = self.tuples_of(name, given) if self.kind == TUPLES else columns.labels_in(name, given)
+        """The nodes of labels, an array of int64 in the shape of the argument. Raises a `DataFault`
+        if no node has a label."""
+        labels = (
+            self.tuples_of(name, given) if self.kind == TUPLES else columns.labels_in(name, given)
+        )
         nodes = self.found(labels)
         place = columns.first_of(nodes == 0)
         if place is not None:
             row, label = row_of(labels, place), labels.reshape(-1)[place:place + 1].tolist()[0]
-            raise DataFault(f"{name}[{row}]: no node has the label {told(label)}; labels are {self.kind}", name, row)
+            raise DataFault(
+                f"{name}[{row}]: no node has the label {quoted(label)}; labels are {self.kind}",
+                name,
+                row,
+            )
         return nodes
 
     def tuples_of(self, name: str, given: Any) -> LabelArray:
         """Tuples in the shape of the argument: a column of labels, or rows of them."""
         items = list(given)
-        if all(isinstance(item, tuple) and not (item and isinstance(item[0], tuple)) for item in items):
+        if all(
+            isinstance(item, tuple) and not (item and isinstance(item[0], tuple)) for item in items
+        ):
             return columns.tuples_in(name, items)
         rows = [columns.tuples_in(name, row) for row in items]
         if len({len(row) for row in rows}) != 1:
@@ -138,16 +185,21 @@ class Labels:
         return numpy.where(values[place] == labels, nodes[place], 0)
 
     def few(self, labels: Iterable[Any]) -> list[int] | None:
-        """The nodes of a short list of labels, as a list; None if one of them needs a closer look."""
+        """The nodes of a short list of labels, as a list; None if one of them needs a closer
+        look."""
         labels = [int(label) if type(label) is numpy.int64 else label for label in labels]
         if self.values.dtype == object:
-            found = [self.numbers.get(label, 0) if type(label) in (int, str) else 0 for label in labels]
+            found = [
+                self.numbers.get(label, 0) if type(label) in (int, str) else 0 for label in labels
+            ]
             return None if 0 in found else found
         if not all(type(label) is int and LEAST <= label <= GREATEST for label in labels):
             return None
         values, nodes = self.sorted
         places = values.searchsorted(labels).tolist()
-        is_there = all(place < len(values) and values[place] == label for place, label in zip(places, labels))
+        is_there = all(
+            place < len(values) and values[place] == label for place, label in zip(places, labels)
+        )
         return [int(nodes[place]) for place in places] if is_there else None
 
     def of(self, nodes: Integers) -> LabelArray:
@@ -158,7 +210,11 @@ class Labels:
         """An index of pandas with a caller's labels. Tuples make one column, not several."""
         import pandas
 
-        return pandas.Index(columns.objects_of(list(given)), name=name, tupleize_cols=False) if self.kind == TUPLES else pandas.Index(given, name=name)
+        return (
+            pandas.Index(columns.objects_of(list(given)), name=name, tupleize_cols=False)
+            if self.kind == TUPLES
+            else pandas.Index(given, name=name)
+        )
 
     def listed(self, nodes: list[int]) -> list[Label]:
         """The labels of a list of nodes, as a list."""
@@ -179,15 +235,29 @@ def doubled(name: str, labels: Sequence[Label]) -> DataFault:
     known: dict[Label, int] = {}
     for row, label in enumerate(labels):
         if known.setdefault(label, row) != row:
-            return columns.refused(name, row, f"the label {told(label)} is in row {known[label]} already")
+            return columns.refused(
+                name, row, f"the label {quoted(label)} is in row {known[label]} already"
+            )
     raise AssertionError("no label is repeated")
 
 
-def labels_of_ends(names: Sequence[str], sources: LabelArray, targets: LabelArray) -> tuple[Labels, Integers]:
-    """The labels in either of two columns, in ascending order, and the nodes of both columns, int64 (2, m)."""
-    kinds = [columns.kind_of(type(values[:1].tolist()[0])) for values in (sources, targets) if len(values)]
+def labels_of_ends(
+    names: Sequence[str], sources: LabelArray, targets: LabelArray
+) -> tuple[Labels, Integers]:
+    """The labels in either of two columns, in ascending order, and the nodes of both columns, int64
+    (2, m)."""
+    kinds = [
+        columns.kind_of(type(values[:1].tolist()[0]))
+        for values in (sources, targets)
+        if len(values)
+    ]
     if len(set(kinds)) > 1:
-        raise columns.refused(names[1], 0, f"the label {told(targets[:1].tolist()[0])} is not one of {kinds[0]}, as those of {names[0]}")
+        raise columns.refused(
+            names[1],
+            0,
+            f"the label {quoted(targets[:1].tolist()[0])} is not one of {kinds[0]}, as those of "
+            f"{names[0]}",
+        )
     if sources.dtype == targets.dtype == numpy.int64:
         values, places = numpy.unique(numpy.concatenate([sources, targets]), return_inverse=True)
     else:
@@ -196,14 +266,17 @@ def labels_of_ends(names: Sequence[str], sources: LabelArray, targets: LabelArra
 
 
 def ordered(labels: Sequence[Label]) -> tuple[LabelArray, Integers]:
-    """The different labels of a list in ascending order, as an array of objects, and the place of each item of the list among them."""
+    """The different labels of a list in ascending order, as an array of objects, and the place of
+    each item of the list among them."""
     numbers: dict[Label, int] = collections.defaultdict(itertools.count().__next__)
     found = numpy.fromiter(map(numbers.__getitem__, labels), numpy.int64, len(labels))
     known = list(numbers)
     try:
         order = numpy.array(sorted(range(len(known)), key=known.__getitem__), numpy.int64)
     except TypeError:
-        raise DataFault("labels have no order, because their parts are of several kinds: give `nodes`", "nodes") from None
+        raise DataFault(
+            "labels have no order, because their parts are of several kinds: give `nodes`", "nodes"
+        ) from None
     places = numpy.empty(len(known), numpy.int64)
     places[order] = numpy.arange(len(known))
     return columns.objects_like(places, known)[order], places[found]

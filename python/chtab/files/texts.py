@@ -1,11 +1,10 @@
-"""The texts that the program writes: distances, routes, tables and near rows; and tables as CSV and as arrays of numpy."""
+"""The texts that the program writes: distances, routes, tables and near rows; and tables as CSV and
+as arrays of numpy."""
 from __future__ import annotations
 
 import array
 import csv
 import itertools
-import struct
-import sys
 from collections.abc import Iterable, Iterator
 from typing import TYPE_CHECKING, Any, NamedTuple
 
@@ -17,8 +16,8 @@ if TYPE_CHECKING:
 
 
 class Answer(NamedTuple):
-    """The answer of `dist` to a query. `weight` is None if there is no walk. `nodes` of the route and `weights` of its arcs are None if there is no
-    walk, or if the text has only distances."""
+    """The answer of `dist` to a query. `weight` is None if there is no walk. `nodes` of the route
+    and `weights` of its arcs are None if there is no walk, or if the text has only distances."""
 
     source: Any
     target: Any
@@ -134,9 +133,15 @@ def read_rows(source: Source, width: int) -> Iterator[tuple[int, list[int | None
         first = next(file, "")
         is_csv = first.startswith("source,")
         for line in file if is_csv else itertools.chain([first], file):
-            words = ["t", *(cell or "-" for cell in line.strip("\n").split(","))] if is_csv else line.split()
+            words = (
+                ["t", *(cell or "-" for cell in line.strip("\n").split(","))]
+                if is_csv
+                else line.split()
+            )
             if words[:1] != ["t"] or len(words) != 2 + width:
-                raise FileFault(f"not a row of `chtab table` with {width} targets: {line.strip()[:60]}")
+                raise FileFault(
+                    f"not a row of `chtab table` with {width} targets: {line.strip()[:60]}"
+                )
             yield int(words[1]), [number_of(cell) for cell in words[2:]]
 
 
@@ -162,14 +167,21 @@ def read_near(source: Source) -> Iterator[tuple[int, list[tuple[int, int]]]]:
     with reading(source) as file:
         for count, line in enumerate(file, 1):
             words = line.split()
-            if words[:1] != ["n"] or len(words) < 3 or not all(map(str.isdigit, words[1:])) or len(words) != 3 + 2 * int(words[2]):
+            if (
+                words[:1] != ["n"]
+                or len(words) < 3
+                or not all(map(str.isdigit, words[1:]))
+                or len(words) != 3 + 2 * int(words[2])
+            ):
                 raise FileFault(f"not a row of `chtab near`: {line.strip()[:60]}")
             yield int(words[1]), list(zip(map(int, words[3::2]), map(int, words[4::2])))
     if not count:
         raise FileFault("the text is empty: there is no row of `chtab near`")
 
 
-def write_csv(target: Target, targets: Iterable[object], rows: Iterable[tuple[object, Iterable[object]]]) -> None:
+def write_csv(
+    target: Target, targets: Iterable[object], rows: Iterable[tuple[object, Iterable[object]]]
+) -> None:
     """Writes a table as CSV: a row for each source, a column for each target.
 
     Parameters
@@ -189,84 +201,6 @@ def write_csv(target: Target, targets: Iterable[object], rows: Iterable[tuple[ob
     with writing(target) as file:
         lines = csv.writer(file, lineterminator="\n")
         lines.writerow(["source", *targets])
-        lines.writerows([source, *("" if cell is None else cell for cell in cells)] for source, cells in rows)
-
-
-def read_row_texts(source: Source, width: int) -> Iterator[tuple[bytes, bytes]]:
-    """Reads the rows of a text of `chtab table` as texts, which is much faster than reading their numbers.
-
-    Parameters
-    ----------
-    source : path, open file or lines
-        The file to read.
-    width : int
-        The number of targets.
-
-    Yields
-    ------
-    (bytes, bytes)
-        The next source and its cells, separated by blanks.
-
-    Raises
-    ------
-    FileFault
-        A line is no row with this many targets.
-    """
-    with reading(source, "rb") as file:
-        for line in file:
-            words = line.rstrip(b"\n").split(b" ", 2)
-            if words[0] != b"t" or line.count(b" ") != 1 + width:
-                raise FileFault(f"not a row of `chtab table` with {width} targets: {line[:60]}")
-            yield words[1], words[2]
-
-
-def write_csv_of_texts(target: Target, targets: Iterable[int], rows: Iterable[bytes]) -> None:
-    """Writes what `write_csv` writes, from rows of text.
-
-    Parameters
-    ----------
-    target : path or open file
-        The file to write.
-    targets : list of int
-        The targets.
-    rows : list of bytes
-        The source and the cells, separated by blanks, and `-` for none.
-
-    Raises
-    ------
-    OSError
-        The file can't be written.
-    """
-    with writing(target, "wb") as file:
-        file.write(",".join(["source", *map(str, targets)]).encode() + b"\n")
-        file.writelines(row.replace(b" ", b",").replace(b"-", b"") + b"\n" for row in rows)
-
-
-def write_npy_of_texts(target: Target, height: int, width: int, rows: Iterable[bytes]) -> None:
-    """Writes a matrix of 64-bit numbers as numpy reads it, with -1 for no distance, from such rows of text.
-
-    The form is numpy's version 1.0, whose header is padded with blanks to a multiple of 64 bytes.
-
-    Parameters
-    ----------
-    target : path or open file
-        The file to write.
-    height, width : int
-        How many rows and columns there are.
-    rows : list of bytes
-        As `write_csv_of_texts` takes them.
-
-    Raises
-    ------
-    OSError
-        The file can't be written.
-    """
-    head = f"{{'descr': '<i8', 'fortran_order': False, 'shape': ({height}, {width}), }}"
-    head += " " * (-(len(head) + 11) % 64) + "\n"
-    with writing(target, "wb") as file:
-        file.write(b"\x93NUMPY\x01\x00" + struct.pack("<H", len(head)) + head.encode())
-        for row in rows:
-            numbers = array.array("q", map(int, row.replace(b"-", b"-1").split()[1:]))
-            if sys.byteorder == "big":
-                numbers.byteswap()
-            file.write(numbers.tobytes())
+        lines.writerows(
+            [source, *("" if cell is None else cell for cell in cells)] for source, cells in rows
+        )

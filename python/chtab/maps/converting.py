@@ -12,7 +12,7 @@ from typing import TYPE_CHECKING, NamedTuple
 from chtab import files
 from chtab.engine.progress import Progress
 from chtab.errors import FileFault
-from chtab.maps import arcs, parts, profiles, reading, restrictions, turns
+from chtab.maps import arcs, parts, profiles, reading, restrictions, turning_back, turns
 from chtab.maps.report import Report
 from chtab.maps.ways import Survey
 
@@ -38,6 +38,7 @@ class Choices(NamedTuple):
     bends: bool = False
     names: bool = False
     driving_side: str = "right"
+    exclude: tuple[str, ...] = ()
 
 
 class Numbered(NamedTuple):
@@ -71,7 +72,7 @@ def convert(path: str, choices: Choices, is_told: bool = False, is_logged: bool 
     """Converts a map (`-` is standard input). Returns the network, and the report of what was left out, with its objects if `is_logged`. An empty map
     is a fault. `is_told` reports progress on standard error."""
     profile, report = profiles.profile(choices.profile), Report(is_logged)
-    survey = Survey(profile, report, choices.ferries, choices.names)
+    survey = Survey(profile, report, choices.ferries, choices.names, choices.exclude)
     reading.read_map(path, survey, is_told)
     survey.note_ways_that_come_twice()
     restricting = restrictions.read_all(survey.relations, profile, report) if choices.turns else []
@@ -83,19 +84,19 @@ def convert(path: str, choices: Choices, is_told: bool = False, is_logged: bool 
         raise FileFault(f"{name_of(path)}: the map has no road for {profile.people}")
     forbidden = restrictions.forbidden_turns(restricting, made, nodes, report)
     if forbidden:
-        made = turns.split(made, forbidden)
+        made = turns.split(made, turning_back.without_turning_back(made, forbidden))
     return numbered(made, kept_of(made, choices.part, report), survey.streets, choices.driving_side), report
 
 
 def kept_of(made: arcs.Network, wanted: str | int, report: Report) -> bytearray:
-    """Whether each node is kept, by the wanted component: `all`, `largest` or a rank, from 1 on. The others are noted."""
+    """Whether each node is kept, by the wanted component: `all`, `large`, `largest` or a rank, from 1 on. The others are noted."""
     if wanted == "all":
         return bytearray([True]) * len(made.names)
     part, ranked = parts.ranked(made)
-    rank = 1 if wanted == "largest" else int(wanted)
-    if rank > len(ranked):
-        raise FileFault(f"there is no part {rank}: the roads have {len(ranked)}")
-    others, kept = ranked[:rank - 1] + ranked[rank:], parts.kept_nodes(made, part, ranked[rank - 1][0])
+    first, last = (0, parts.large(ranked)) if wanted == "large" else (0, 1) if wanted == "largest" else (int(wanted) - 1, int(wanted))
+    if last > len(ranked):
+        raise FileFault(f"there is no part {last}: the roads have {len(ranked)}")
+    others, kept = ranked[:first] + ranked[last:], parts.kept_nodes(made, part, {component for component, _ in ranked[first:last]})
     if others:
         words = f"of {len(made.names) - len(made.ends):,}, in {len(others):,} parts of {others[0][1]:,} nodes and fewer"
         report.note("parts", words, count=sum(size for _, size in others))
@@ -128,6 +129,7 @@ def name_of(path: str) -> str:
 def comments_of(path: str, choices: Choices) -> list[str]:
     """The comments of a graph's files: the map, and the choices."""
     more = ", turns as the map restricts them" * choices.turns + ", no ferries" * (not choices.ferries)
+    more += "".join(f", without {name}" for name in choices.exclude)
     people = profiles.profile(choices.profile).people
     return [f"Roads for {people}, from {name_of(path)}: nodes {choices.nodes}, part {choices.part}{more}.", *SOURCE]
 

@@ -13,6 +13,7 @@ KINDS = {
     "closed": "ways closed by their tags",
     "by time": "ways whose direction changes with the time",
     "ferries": "ferries left out",
+    "excluded": "ways of the classes that --exclude names",
     "deleted": "ways that are deleted",
     "twice": "objects whose number came before",
     "short": "ways of fewer than two nodes",

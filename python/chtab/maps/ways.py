@@ -6,7 +6,7 @@ import collections
 import itertools
 import math
 import operator
-from collections.abc import Iterator, Mapping, Sequence
+from collections.abc import Collection, Iterator, Mapping, Sequence
 from typing import TYPE_CHECKING, Any, NamedTuple
 
 from chtab.maps import speeds, tags
@@ -20,6 +20,9 @@ if TYPE_CHECKING:
 
 # A way can only be a road or a ferry if it has one of these keys.
 ROAD_KEYS = ("highway", "route")
+# The classes of ways that may be left out, as OSRM calls them.
+CLASSES = "toll", "motorway", "ferry"
+MOTORWAYS = "motorway", "motorway_link"
 # The place of a node that the map doesn't have.
 NOWHERE = (math.nan, math.nan)
 
@@ -89,7 +92,16 @@ def duration_of(way: tags.Tags, notes: tags.Notes) -> int:
     return seconds or 0
 
 
-def judged(way: tags.Tags, profile: Profile, with_ferries: bool = True) -> Verdict:
+def class_of(way: tags.Tags, profile: Profile, classes: Collection[str]) -> str | None:
+    """The tag by which a way is of one of some classes; None if it is of none of them."""
+    if "toll" in classes and "yes" in tags.words_of(way.get("toll", "")):
+        return f"toll={way['toll']}"
+    if "motorway" in classes and way.get("highway") in MOTORWAYS:
+        return f"highway={way['highway']}"
+    return "route=ferry" if "ferry" in classes and is_ferry(way, profile) else None
+
+
+def judged(way: tags.Tags, profile: Profile, with_ferries: bool = True, excluded: Collection[str] = ()) -> Verdict:
     """The verdict on a way with these tags. Nothing is noted about ways that are neither a road nor a ferry of any kind."""
     notes: tags.Notes = []
     on_ferry = is_ferry(way, profile)
@@ -100,6 +112,9 @@ def judged(way: tags.Tags, profile: Profile, with_ferries: bool = True) -> Verdi
     reason = reason_against(way, profile, notes)
     if reason:
         return Verdict(None, (*notes, reason))
+    left_out = class_of(way, profile, excluded)
+    if left_out:
+        return Verdict(None, (*notes, ("excluded", left_out)))
     direction = tags.direction_of(way, profile.oneway, notes)
     if direction is tags.BY_TIME:
         return Verdict(None, (*notes, ("by time", "")))
@@ -113,8 +128,10 @@ def judged(way: tags.Tags, profile: Profile, with_ferries: bool = True) -> Verdi
 class Survey:
     """What is kept of a map: the roads with the places of their nodes, barriers, and the relations that restrict turns."""
 
-    def __init__(self, profile: Profile, report: Report, with_ferries: bool = True, with_names: bool = False) -> None:
-        self.profile, self.report, self.with_ferries = profile, report, with_ferries
+    def __init__(
+        self, profile: Profile, report: Report, with_ferries: bool = True, with_names: bool = False, excluded: Collection[str] = (),
+    ) -> None:
+        self.profile, self.report, self.with_ferries, self.excluded = profile, report, with_ferries, excluded
         # The streets of roads, if they are wanted.
         self.streets = Streets() if with_names else None
         self.roads: list[Road] = []
@@ -122,7 +139,7 @@ class Survey:
         self.relations: list[Relation] = []
         # Nodes that may be on no road, but whose barriers are noted too.
         self.lone_nodes: set[int] = set()
-        self.keys = profile.keys()
+        self.keys = {*profile.keys(), "toll"} if "toll" in excluded else profile.keys()
         self.barrier_keys = {"barrier", *profile.access.tags}
         self.verdicts: dict[Any, Verdict] = {}
 
@@ -130,7 +147,7 @@ class Survey:
         """The verdict on a way with these tags, which is kept for other ways with the same relevant tags."""
         asked = frozenset(item for item in way.items() if item[0] in self.keys)
         if asked not in self.verdicts:
-            self.verdicts[asked] = judged(dict(asked), self.profile, self.with_ferries)
+            self.verdicts[asked] = judged(dict(asked), self.profile, self.with_ferries, self.excluded)
         return self.verdicts[asked]
 
     def rule_by(self, verdict: Verdict, number: int) -> Rule | None:

@@ -2,11 +2,11 @@
 
 | module | what it holds |
 |---|---|
-| `accessibility` | the calls of a network on nearness, and what they give |
+| `questions` | what callers ask, as nodes, spots and numbers |
+| `question` | a question between nodes, and its rows by a handle of the library |
+| `spots` | a question between spots, and its rows by tables of trips |
+| `blocks` | near rows of any size, in blocks: threads, or a cluster |
 | `rows` | near rows in compressed form |
-| `text` | the text of `chtab near` in arrays |
-| `runs` | runs of `chtab near` |
-| `by_library` | near rows by the library for C |
-| `row_blocks` | near rows of any size, in blocks |
-| `sums` | sums of values over near rows |
+| `found` | answers as callers get them |
+| `sums` | sums and other aggregates of values over near rows |
 """

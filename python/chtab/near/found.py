@@ -1,4 +1,5 @@
-"""Answers on nearness: the targets near each source in compressed form, and the nearest of them in columns."""
+"""Answers on nearness: the targets near each source in compressed form, and the nearest of them in
+columns."""
 from __future__ import annotations
 
 import operator
@@ -7,7 +8,7 @@ from typing import TYPE_CHECKING, Any, NamedTuple
 import numpy
 from numpy.typing import NDArray
 
-from chtab.engine.answers import NO_WALK
+from chtab.engine.walks import NO_WALK
 from chtab.files import geojson
 from chtab.files.showing import OnMap, table_text
 
@@ -22,8 +23,8 @@ if TYPE_CHECKING:
 class Near:
     """The targets near each source, in compressed form.
 
-    The targets of source k are the items `offsets[k]` to `offsets[k + 1] - 1` of the two other columns, the nearest first. Equally near ones are in
-    the order of the list of targets.
+    The targets of source k are the items `offsets[k]` to `offsets[k + 1] - 1` of the two other
+    columns, the nearest first. Equally near ones are in the order of the list of targets.
 
     Attributes
     ----------
@@ -43,7 +44,9 @@ class Near:
     (array([2, 3]), array([4, 0]))
     """
 
-    def __init__(self, rows: Rows, sources: NDArray, targets: NDArray, weights: NDArray | None = None) -> None:
+    def __init__(
+        self, rows: Rows, sources: NDArray, targets: NDArray, weights: NDArray | None = None
+    ) -> None:
         self.offsets, self.places = rows.offsets, rows.places
         self.weights = rows.weights if weights is None else weights
         self.sources, self.targets = sources, targets
@@ -52,7 +55,8 @@ class Near:
         return len(self.sources)
 
     def __getitem__(self, source: int) -> tuple[NDArray[numpy.int64], NDArray]:
-        """The positions and the weights of the targets of the source at a position, counted from 0."""
+        """The positions and the weights of the targets of the source at a position, counted from
+        0."""
         source = range(len(self))[operator.index(source)]
         some = slice(self.offsets[source], self.offsets[source + 1])
         return self.places[some], self.weights[some]
@@ -61,8 +65,12 @@ class Near:
         return f"<{len(self.places):,} targets near {len(self):,} sources>"
 
     def _repr_html_(self) -> str:
-        first = zip(self.sources[self.owners()[:SHOWN]], self.targets[self.places[:SHOWN]], self.weights)
-        return table_text(repr(self), [dict(zip(("source", "target", "weight"), row)) for row in first])
+        first = zip(
+            self.sources[self.owners()[:SHOWN]], self.targets[self.places[:SHOWN]], self.weights
+        )
+        return table_text(
+            repr(self), [dict(zip(("source", "target", "weight"), row)) for row in first]
+        )
 
     def owners(self) -> NDArray[numpy.int64]:
         """Returns the place of the source of each target.
@@ -89,7 +97,12 @@ class Near:
         """
         import pandas
 
-        columns = {"source": self.sources[self.owners()], "target": self.targets[self.places], "place": self.places, "weight": self.weights}
+        columns = {
+            "source": self.sources[self.owners()],
+            "target": self.targets[self.places],
+            "place": self.places,
+            "weight": self.weights,
+        }
         return pandas.DataFrame(columns)
 
     def to_sparse(self) -> scipy.sparse.csr_matrix:
@@ -98,7 +111,8 @@ class Near:
         Returns
         -------
         scipy.sparse.csr_matrix of int64 or float64, shape (n, l)
-            A row for each source and a column for each target. A weight 0 is stored too; where nothing is stored, the target is not near.
+            A row for each source and a column for each target. A weight 0 is stored too; where
+            nothing is stored, the target is not near.
 
         Raises
         ------
@@ -126,10 +140,12 @@ class Columns(NamedTuple):
 
 
 class Nearest(OnMap, Columns):
-    """The nearest targets of each source, in columns from the nearest on: arrays of the shape (n, count).
+    """The nearest targets of each source, in columns from the nearest on: arrays of the shape (n,
+    count).
 
-    `places` are places in the list of targets, int64, and `weights` the weights of the paths, int64 or float64 in the network's `unit`. Where there
-    is no further target, a place is -1, a weight is -1 or NaN, and `mask` is True, as in masked arrays of numpy.
+    `places` are places in the list of targets, int64, and `weights` the weights of the paths, int64
+    or float64 in the network's `unit`. Where there is no further target, a place is -1, a weight is
+    -1 or NaN, and `mask` is True, as in masked arrays of numpy.
     """
 
     shown_by = "weight"
@@ -137,16 +153,29 @@ class Nearest(OnMap, Columns):
     sources: NDArray
     targets: NDArray
     layers: Layers
+    # The places of sources in degrees (n, 2), if these are spots, and else None.
+    at: NDArray | None
 
     @classmethod
-    def of(cls, places: NDArray[numpy.int64], weights: NDArray, sources: NDArray, targets: NDArray, layers: Layers) -> Nearest:
+    def of(
+        cls,
+        places: NDArray[numpy.int64],
+        weights: NDArray,
+        sources: NDArray,
+        targets: NDArray,
+        layers: Layers,
+        at: NDArray | None = None,
+    ) -> Nearest:
         """The columns, with the labels of the question."""
         found = cls(places, weights, places == NO_WALK)
-        found.sources, found.targets, found.layers = sources, targets, layers
+        found.sources, found.targets, found.layers, found.at = sources, targets, layers, at
         return found
 
     def __repr__(self) -> str:
-        return f"<the nearest {self.places.shape[1]:,} of {len(self.targets):,} targets of {len(self.sources):,} sources>"
+        return (
+            f"<the nearest {self.places.shape[1]:,} of {len(self.targets):,} targets of "
+            f"{len(self.sources):,} sources>"
+        )
 
     def labels(self, place: int) -> NDArray:
         """Returns the labels of the targets at a rank, None where there is no target.
@@ -162,7 +191,10 @@ class Nearest(OnMap, Columns):
         """
         found: NDArray = numpy.full(len(self.sources), None, numpy.object_)
         is_there = ~self.mask[:, place]
-        for row, label in zip(numpy.flatnonzero(is_there).tolist(), self.targets[self.places[is_there, place]].tolist()):
+        for row, label in zip(
+            numpy.flatnonzero(is_there).tolist(),
+            self.targets[self.places[is_there, place]].tolist(),
+        ):
             found[row] = label
         return found
 
@@ -172,7 +204,8 @@ class Nearest(OnMap, Columns):
         Returns
         -------
         pandas.DataFrame
-            A row for each source and rank: source, rank (from 1 on), target, place and weight, the last three NA where there is no further target.
+            A row for each source and rank: source, rank (from 1 on), target, place and weight, the
+            last three NA where there is no further target.
 
         Raises
         ------
@@ -182,11 +215,18 @@ class Nearest(OnMap, Columns):
         import pandas
 
         rows, count = self.places.shape
-        owners, ranks = numpy.repeat(numpy.arange(rows), count), numpy.tile(numpy.arange(1, count + 1), rows)
+        owners, ranks = numpy.repeat(numpy.arange(rows), count), numpy.tile(
+            numpy.arange(1, count + 1), rows
+        )
         places, mask = self.places.reshape(-1), self.mask.reshape(-1)
         targets = numpy.full(len(places), None, object)
         targets[~mask] = self.targets[places[~mask]]
-        columns = {"source": self.sources[owners], "rank": ranks, "target": targets, "place": masked(places, mask)}
+        columns = {
+            "source": self.sources[owners],
+            "rank": ranks,
+            "target": targets,
+            "place": masked(places, mask),
+        }
         frame = pandas.DataFrame({**columns, "weight": masked(self.weights.reshape(-1), mask)})
         return frame.astype({"target": "Int64"}) if self.targets.dtype == numpy.int64 else frame
 
@@ -196,8 +236,8 @@ class Nearest(OnMap, Columns):
         Returns
         -------
         dict
-            A collection of GeoJSON with a point for each source: `source`, and `target` and `weight` of its nearest target, null where there is
-            none.
+            A collection of GeoJSON with a point for each source: `source`, and `target` and
+            `weight` of its nearest target, null where there is none.
 
         Raises
         ------
@@ -208,20 +248,38 @@ class Nearest(OnMap, Columns):
 
     def _shown(self, count: int) -> list:
         sources = self.sources[:count].tolist()
-        nodes = self.layers.labels.nodes_of("sources", sources).tolist()
-        values = zip(sources, nodes, self.labels(0), self.weights[:, 0].tolist(), self.mask[:, 0].tolist())
+        if self.at is not None:
+            at = [(x, y) for x, y in self.at[:count].tolist()]
+        else:
+            at = [
+                self.layers.coordinates.of(node)
+                for node in self.layers.labels.nodes_of("sources", sources).tolist()
+            ]
+        values = zip(
+            sources, at, self.labels(0), self.weights[:, 0].tolist(), self.mask[:, 0].tolist()
+        )
         return [
-            geojson.feature(self.layers.coordinates.of(node), {"source": source, "target": target, "weight": None if is_masked else weight}, "Point")
-            for source, node, target, weight, is_masked in values
+            geojson.feature(
+                place,
+                {"source": source, "target": target, "weight": None if is_masked else weight},
+                "Point",
+            )
+            for source, place, target, weight, is_masked in values
         ]
 
     def _repr_html_(self) -> str:
         rows = zip(self.sources[:SHOWN].tolist(), self.labels(0), self.weights[:, 0].tolist())
-        return table_text(repr(self), [dict(zip(("source", "target", "weight"), row)) for row in rows])
+        return table_text(
+            repr(self), [dict(zip(("source", "target", "weight"), row)) for row in rows]
+        )
 
 
 def masked(values: NDArray, mask: NDArray[numpy.bool_]) -> Any:
     """A column of pandas, NA where the mask is True; whole numbers become `Int64`."""
     import pandas
 
-    return pandas.arrays.IntegerArray(values.copy(), mask.copy()) if values.dtype == numpy.int64 else numpy.where(mask, numpy.nan, values)
+    return (
+        pandas.arrays.IntegerArray(values.copy(), mask.copy())
+        if values.dtype == numpy.int64
+        else numpy.where(mask, numpy.nan, values)
+    )

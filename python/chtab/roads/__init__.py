@@ -1,10 +1,14 @@
-"""Places, and the roads between nodes: spots on roads, trips between them, routes as lines, and what is reached.
+"""Arcs, places, and the roads between nodes: spots on roads, trips between them, routes, and what is
+reached.
 
 | module | what it holds |
 |---|---|
-| `between_places` | the calls of a network that take places or spots |
 | `layers` | the files of a network, each read when it is first needed |
-| `scenarios` | the same network with other weights, closed roads and new ones |
+| `from_arcs` | the arcs of a network of a caller's arrays, frames and matrices |
+| `scenarios` | the arcs of the same network with other weights, closed roads and new ones |
+| `arc_names`, `row_labels` | the arcs that names and labels of rows stand for |
+| `pairs` | pairs of nodes as callers name them, and sums along their routes |
+| `exporting` | a network as frames of geopandas, and the parts that it falls into |
 | `snapping` | the roads of a graph, and places that are taken to them |
 | `nearest` | the nodes nearest to places |
 | `lines` | lines on the earth in flat arrays |

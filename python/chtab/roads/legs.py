@@ -11,9 +11,8 @@ from typing import TYPE_CHECKING, Any, NamedTuple
 
 import numpy
 
-from chtab.engine.answers import NO_WALK
-from chtab.engine.walks import Walks, ranges
-from chtab.errors import unasked
+from chtab.engine.walks import NO_WALK, Walks, ranges
+from chtab.errors import mismatch
 from chtab.roads.snapping import NANOMETRE, NONE, Roads, Spots
 
 if TYPE_CHECKING:
@@ -47,12 +46,14 @@ def totals(added: Integers, is_there: Marks, between: Integers, along: Integers)
 
 
 class Trace(NamedTuple):
-    """The line of a leg: its places in degrees (n, 2), rounded to millionths and without repeated ones, and the weight and the metres up to each
-    place. A leg goes along the first road, over its arcs and along the last road, or along a single road."""
+    """The line of a leg: its places in degrees (n, 2), rounded to millionths and without repeated ones, the weight and the metres up to each place, and
+    the node there, 0 at a bend. A leg goes along the first road, over its arcs and along the last road, or along a single road. The node of its
+    first place is the one behind it, and that of its last place the one ahead, unless a bend comes before."""
 
     places: Floats
     weights: Integers
     metres: Floats
+    nodes: Integers
 
 
 class Traces(NamedTuple):
@@ -61,18 +62,19 @@ class Traces(NamedTuple):
     places: Floats
     weights: Integers
     metres: Floats
+    nodes: Integers
     firsts: Integers
 
     def of(self, leg: int) -> Trace:
         """The trace of one of them."""
         own = slice(*self.firsts[leg:leg + 2])
-        return Trace(self.places[own], self.weights[own], self.metres[own])
+        return Trace(self.places[own], self.weights[own], self.metres[own], self.nodes[own])
 
     def chosen(self, which: Integers) -> Traces:
         """Some of them, by an array of their numbers."""
         counts = numpy.diff(self.firsts)[which]
         own = ranges(self.firsts[which], counts)
-        return Traces(self.places[own], self.weights[own], self.metres[own], numpy.append(0, numpy.cumsum(counts)))
+        return Traces(self.places[own], self.weights[own], self.metres[own], self.nodes[own], numpy.append(0, numpy.cumsum(counts)))
 
 
 class Pieces(NamedTuple):
@@ -147,7 +149,7 @@ class Legs:
     def traces(self, which: Sequence[int]) -> Traces:
         """The lines of some legs, each of which has a way."""
         if not len(which):
-            return Traces(numpy.zeros((0, 2)), numpy.zeros(0, numpy.int64), numpy.zeros(0), numpy.zeros(1, numpy.int64))
+            return Traces(numpy.zeros((0, 2)), numpy.zeros(0, numpy.int64), numpy.zeros(0), *numpy.zeros((2, 1), numpy.int64))
         numbers = numpy.asarray(which)
         return traced(self.roads, self.pieces(numbers), self.weights[numbers])
 
@@ -170,7 +172,30 @@ def traced(roads: Roads, pieces: Pieces, totals: Integers) -> Traces:
     is_kept[:-1] = (places[1:] != places[:-1]).any(axis=1)
     is_kept[cuts[1:] - 1] = True
     kept_before = numpy.append(0, numpy.cumsum(is_kept))
-    return Traces(places[is_kept], weights[is_kept], metres[is_kept], kept_before[cuts])
+    nodes = nodes_of_places(roads, pieces, counts, cuts)
+    return Traces(places[is_kept], weights[is_kept], metres[is_kept], nodes[is_kept], kept_before[cuts])
+
+
+def nodes_of_places(roads: Roads, pieces: Pieces, counts: Integers, cuts: Integers) -> Integers:
+    """The nodes of the places of some pieces, each of which has so many, 0 at bends; legs are cut at `cuts`."""
+    found, lasts = numpy.zeros(int(counts.sum()), numpy.int64), numpy.cumsum(counts)
+    before = numpy.append(0, pieces.heads[:-1])[:len(counts)]
+    with_places = counts > 0
+    found[(lasts - counts)[with_places]], found[lasts[with_places] - 1] = before[with_places], pieces.heads[with_places]
+    begins, ends = pieces.firsts[:-1], pieces.firsts[1:] - 1
+    is_forward = pieces.starts <= pieces.ends
+    found[cuts[:-1]] = beside(roads, pieces.roads[begins], pieces.starts[begins], is_forward[begins])
+    found[cuts[1:] - 1] = beside(roads, pieces.roads[ends], pieces.ends[ends], ~is_forward[ends])
+    return found
+
+
+def beside(roads: Roads, numbers: Integers, parts: Floats, is_below: Marks) -> Integers:
+    """The nodes next to parts of roads, at the first place of the road where `is_below`, and else at its last one; 0 where a bend comes before."""
+    lines = roads.lines
+    first, last = lines.parts[lines.firsts[numbers] + 1], lines.parts[lines.firsts[numbers + 1] - 2]
+    low = numpy.where((parts < first) | (lines.firsts[numbers + 1] - lines.firsts[numbers] == 2), roads.firsts[numbers], 0)
+    high = numpy.where((parts > last) | (lines.firsts[numbers + 1] - lines.firsts[numbers] == 2), roads.lasts[numbers], 0)
+    return numpy.where(is_below, low, high)
 
 
 def sums_before(column: Any, firsts: Integers) -> Any:
@@ -180,12 +205,18 @@ def sums_before(column: Any, firsts: Integers) -> Any:
     return sums - numpy.repeat(sums[firsts[:-1]], numpy.diff(firsts))
 
 
-def best_ways(trips: Trips, starts: Spots, ends: Spots) -> tuple[Integers, Integers]:
-    """The least weights of the ways from spot k to spot k, `FAR` where there is none, and which way has it."""
+def weights_of_ways(trips: Trips, starts: Spots, ends: Spots) -> Integers:
+    """The weights of all ways from spot k to spot k (n, m + 1), `FAR` where there is none. Those by nodes are in the order of the nodes out of the
+    first spot's road, and for each of these in that of the nodes into the last one's; the last is along a single road."""
     pairs, added = ways_between(starts, ends)
     is_there = (pairs > 0).all(axis=2)
-    between = trips.queries.small_tables(starts.out_nodes, ends.in_nodes, pairs[is_there])
-    weights = totals(added, is_there, between, trips.roads.along(starts, ends))
+    between = trips.engine.distances(pairs[is_there])
+    return totals(added, is_there, between, trips.roads.along(starts, ends))
+
+
+def best_ways(trips: Trips, starts: Spots, ends: Spots) -> tuple[Integers, Integers]:
+    """The least weights of the ways from spot k to spot k, `FAR` where there is none, and which way has it."""
+    weights = weights_of_ways(trips, starts, ends)
     return weights.min(axis=1, initial=FAR), weights.argmin(axis=1)
 
 
@@ -222,10 +253,10 @@ def node_weights(trips: Trips, outs: Integers, ins: Integers, within: int | None
     """The weights from each node of one column to each of another, `NOWHERE` if there is no way, or if one of them is missing."""
     is_out, is_in = outs > 0, ins > 0
     if is_out.all() and is_in.all():
-        found = trips.queries.table(outs, ins, within)
+        found = trips.engine.table(outs, ins, within)
     else:
         found = numpy.full((len(outs), len(ins)), -1)
-        found[numpy.ix_(is_out, is_in)] = trips.queries.table(outs[is_out], ins[is_in], within)
+        found[numpy.ix_(is_out, is_in)] = trips.engine.table(outs[is_out], ins[is_in], within)
     found[found < 0] = NOWHERE
     return found
 
@@ -288,7 +319,7 @@ class Between(NamedTuple):
     def see_that_right(self, between: Integers, best: Integers) -> None:
         """Raises a `ProgramFault` if a walk of this weight does not make its way as heavy as it is."""
         if (between + self.out_weights + self.in_weights != best)[self.is_walk].any():
-            raise unasked()
+            raise mismatch()
 
 
 def between_nodes(starts: Spots, rows: Integers, ends: Spots, columns: Integers, best: Integers, ways: Integers) -> Between:
@@ -308,11 +339,11 @@ def walked(trips: Trips, starts: Spots, ends: Spots, best: Integers, ways: Integ
     counts, arcs = numpy.zeros(len(best), numpy.int64), numpy.zeros(0, numpy.int64)
     between = numpy.zeros(len(best), numpy.int64)
     if over.is_walk.any():
-        between[over.is_walk], counts[over.is_walk], arcs = trips.queries.lines(over.pairs[over.is_walk], trips.roads.arcs_of)
+        between[over.is_walk], counts[over.is_walk], arcs = trips.engine.paths(over.pairs[over.is_walk])
     over.see_that_right(between, best)
     found = Walked(over.is_walk, over.leaves, over.arrives, over.pairs[:, 0], over.out_weights, over.in_weights, counts, arcs)
     if (found.sums(trips.roads.weights[arcs]) != between)[over.is_walk].any():
-        raise unasked()
+        raise mismatch()
     return found
 
 
@@ -331,11 +362,11 @@ def metres_by(trips: Trips, starts: Spots, rows: Integers, ends: Spots, columns:
     """How long these ways from some of the spots `starts` to as many of `ends` are."""
     over = between_nodes(starts, rows, ends, columns, best, ways)
     if over.is_walk.all():
-        between, lengths = trips.queries.sums(over.pairs, trips.roads.nanometres, trips.roads.arcs_of)
+        between, lengths = trips.engine.sums(over.pairs, trips.roads.nanometres)
     else:
         between, lengths = numpy.zeros(len(best), numpy.int64), numpy.zeros(len(best), numpy.uint64)
         if over.is_walk.any():
-            between[over.is_walk], lengths[over.is_walk] = trips.queries.sums(over.pairs[over.is_walk], trips.roads.nanometres, trips.roads.arcs_of)
+            between[over.is_walk], lengths[over.is_walk] = trips.engine.sums(over.pairs[over.is_walk], trips.roads.nanometres)
     over.see_that_right(between, best)
     return metres_of(trips.roads, starts, rows, ends, columns, over, lengths * NANOMETRE)
 

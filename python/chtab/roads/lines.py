@@ -4,6 +4,7 @@ Distances are compared in Mercator's projection. It keeps angles, so that the ne
 """
 from __future__ import annotations
 
+import math
 from collections.abc import Callable, Sequence
 from typing import TYPE_CHECKING, Any, NamedTuple
 
@@ -19,8 +20,6 @@ if TYPE_CHECKING:
 
 # The latitudes up to which the projection is used; at the poles it is infinite.
 STEEPEST = 89.9
-# A place is on a line if it is at most this far from it in the plane, which is 6 mm at the equator.
-ON_LINE = 1e-9
 # Pieces of lines whose middles are nearest to a place, among which its nearest step is looked for first.
 NEIGHBOURS = 16
 
@@ -58,6 +57,15 @@ def tidied(lines: Sequence[Floats]) -> list[tuple[list[Point], float]]:
     rounded = list(zip(*places.round(6).T.tolist()))
     cuts = numpy.searchsorted(owner, numpy.arange(len(lines) + 1)).tolist()
     return [(rounded[start:end], each) for start, end, each in zip(cuts, cuts[1:], metres)]
+
+
+class OnLine(NamedTuple):
+    """A point of a line: the line, the part of it where the point is, from 0 to 1, and its longitude and latitude."""
+
+    line: int
+    part: float
+    longitude: float
+    latitude: float
 
 
 class Stretches(NamedTuple):
@@ -153,6 +161,19 @@ class Lines:
         lines = numpy.searchsorted(self.firsts, steps, "right") - 1
         return lines, self.parts[steps] + shares * (self.parts[steps + 1] - self.parts[steps]), *degrees(*at.T)
 
+    def nearest_few(self, longitudes: Floats, latitudes: Floats) -> list[OnLine]:
+        """The same for a few places, one by one, without arrays of a few items."""
+        if self.pieces is None:
+            self.pieces = Pieces(self)
+        found = self.pieces.nearest_few(mercator(longitudes, latitudes))
+        steps = [step for step, _, _ in found]
+        lines = numpy.searchsorted(self.firsts, steps, "right").tolist()
+        before, after = self.parts.take(steps).tolist(), self.parts.take([step + 1 for step in steps]).tolist()
+        return [
+            OnLine(line - 1, low + share * (high - low), math.degrees(x), math.degrees(math.atan(math.sinh(y))))
+            for line, low, high, (_, share, (x, y)) in zip(lines, before, after, found)
+        ]
+
     def nearest_some(self, longitude: float, latitude: float, most: int) -> tuple[Integers, Floats, Floats, Floats]:
         """The nearest points of the nearest lines to one place, at most `most` of them, the nearest first."""
         if self.pieces is None:
@@ -169,23 +190,22 @@ class Lines:
         steps, shares, at = self.pieces.nearest_fitting(mercator([longitude], [latitude]), fits)
         return steps, shares, degrees(*at.T)
 
-    def are_on(self, lines: Integers, longitudes: Floats, latitudes: Floats) -> Marks:
-        """Whether each place is on its line, as the points that `nearest` finds are."""
-        if self.pieces is None:
-            self.pieces = Pieces(self)
-        counts = self.firsts[lines + 1] - self.firsts[lines] - 1
-        owner = numpy.repeat(numpy.arange(len(lines)), counts)
-        _, squares = self.pieces.feet(ranges(self.firsts[lines], counts), mercator(longitudes, latitudes)[owner])
-        least = numpy.full(len(lines), numpy.inf)
-        numpy.fmin.at(least, owner, squares)
-        return least <= ON_LINE**2
-
     def bearings(self, steps: Integers) -> Floats:
         """The directions in which steps lead, in degrees clockwise from north."""
         if self.pieces is None:
             self.pieces = Pieces(self)
         rows = self.pieces.rows.take(steps, axis=0)
         return numpy.degrees(numpy.arctan2(rows[:, 2], rows[:, 3])) % 360
+
+
+def foot(x: float, y: float, step: int, row: Sequence[float]) -> tuple[float, int, float, tuple[float, float]]:
+    """The nearest point of a step, by its row, to a point of the plane: the square of the distance, the step, how far along it the point is, from 0 to 1,
+    and the point."""
+    a, b, east, north, square = row
+    u, v = x - a, y - b
+    share = min(max((east * u + north * v) / square, 0.0), 1.0)
+    u, v = u - east * share, v - north * share
+    return u * u + v * v, step, share, (a + east * share, b + north * share)
 
 
 class Pieces:
@@ -225,6 +245,30 @@ class Pieces:
             steps[left], shares[left], unsure = self.nearest_among(places[left], count)
             left = left[unsure]
         return steps, shares, self.at(steps, shares)
+
+    def nearest_few(self, places: Floats) -> list[tuple[int, float, Point]]:
+        """The same for a few points, as (step, position, point)."""
+        count = min(NEIGHBOURS, len(self.steps))
+        distances, near = (column.reshape(len(places), count) for column in self.tree.query(places, count))
+        farthest, found = distances[:, -1].tolist(), []
+        for place, pieces, most in zip(places.tolist(), near, farthest):
+            apart, step, share, point = self.nearest_of(place, pieces)
+            number = count
+            while number < len(self.steps) and self.is_unsure(apart, most):
+                number = min(4 * number, len(self.steps))
+                distances, pieces = self.tree.query(place, number)
+                (apart, step, share, point), most = self.nearest_of(place, pieces), float(distances[-1])
+            found.append((step, share, point))
+        return found
+
+    def nearest_of(self, place: Sequence[float], pieces: Integers) -> tuple[float, int, float, Point]:
+        """The nearest point to a place among those of some pieces: the square of the distance, the step, the position along it, and the point."""
+        steps = self.steps.take(pieces)
+        return min(foot(place[0], place[1], *each) for each in zip(steps.tolist(), self.rows.take(steps, axis=0).tolist()))
+
+    def is_unsure(self, apart: float, farthest: float) -> bool:
+        """Whether a piece whose middle is at least so far away may have a point that is as near as the nearest one known, by the square of its distance."""
+        return math.sqrt(apart) * (1 + 1e-9) + self.reach + 1e-12 >= farthest
 
     def nearest_among(self, places: Floats, count: int) -> tuple[Integers, Floats, Integers]:
         """The nearest steps to places among the so many pieces whose middles are nearest, how far along they are nearest, and the numbers of places

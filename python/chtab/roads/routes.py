@@ -2,25 +2,30 @@
 from __future__ import annotations
 
 import collections.abc
+import functools
 from typing import TYPE_CHECKING, Any, NamedTuple
 
-from chtab.files import Answer, geojson
-from chtab.files import showing
+import numpy
+
+from chtab.errors import ProgramFault
+from chtab.files import Answer, geojson, showing
 
 if TYPE_CHECKING:
     import geopandas
-    import numpy
     import pandas
     from numpy.typing import NDArray
 
+    from chtab.engine.walks import Paths
     from chtab.roads.layers import Layers
+    from chtab.typing import Integers
 
 
 class Routes(showing.OnMap, collections.abc.Sequence):
     """Routes in the order of the pairs.
 
-    Each is a `files.Answer` with `source`, `target`, `weight`, `nodes` and `weights`, the last three None where no path leads. Nodes are called
-    as the network calls them, and weights are in its `unit`. GeoPandas takes routes as they are: `GeoDataFrame.from_features(routes)`.
+    Each is a `files.Answer` with `source`, `target`, `weight`, `nodes` and `weights`, the last
+    three None where no path leads. Nodes are called as the network calls them, and weights are in
+    its `unit`. GeoPandas takes routes as they are: `GeoDataFrame.from_features(routes)`.
 
     Examples
     --------
@@ -32,44 +37,70 @@ class Routes(showing.OnMap, collections.abc.Sequence):
     # What colours a map.
     shown_by = "weight"
 
-    def __init__(self, answers: list[Answer], layers: Layers) -> None:
-        # The answers with the numbers of nodes and the weights of the graph, and the files of the network.
-        self.numbered, self.layers = answers, layers
+    def __init__(self, pairs: Integers, paths: Paths, layers: Layers) -> None:
+        # The pairs of nodes by their numbers, their paths, and the files of the network.
+        self.pairs, self.paths, self.layers = pairs, paths, layers
+        self.heads, self.arc_weights = (
+            numpy.asarray(column)[paths.arcs]
+            for column in (layers.graph.heads, layers.graph.weights)
+        )
+        self.firsts = numpy.append(0, numpy.cumsum(paths.counts))
+        sums = numpy.diff(numpy.append(0, numpy.cumsum(self.arc_weights))[self.firsts])
+        if (sums != paths.weights)[paths.weights >= 0].any():
+            raise ProgramFault(f"{layers.path} has changed since it was opened", 1)
 
     def __getitem__(self, place: Any) -> Any:
-        some = self.numbered[place]
-        return [self.labelled(each) for each in some] if isinstance(place, slice) else self.labelled(some)
+        return self.answers[place]
 
-    def labelled(self, answer: Answer) -> Answer:
-        """The answer with the labels of its nodes and with weights in the network's unit."""
-        listed, measure = self.layers.labels.listed, self.layers.measure
-        source, target = listed([answer.source, answer.target])
-        nodes = answer.nodes and listed(answer.nodes)
-        return Answer(source, target, measure.one(answer.weight), nodes, measure.listed(answer.weights))
+    @functools.cached_property
+    def answers(self) -> list[Answer]:
+        """The routes with the labels of their nodes and with weights in the network's unit."""
+        labels, measure = self.layers.labels, self.layers.measure
+        sources, targets = (labels.of(column).tolist() for column in self.pairs.T)
+        heads = labels.of(self.heads).tolist()
+        weights = measure.in_unit(self.arc_weights).tolist()
+        found = zip(
+            sources,
+            targets,
+            self.paths.weights.tolist(),
+            self.firsts.tolist(),
+            self.firsts[1:].tolist(),
+        )
+        return [
+            Answer(source, target, None, None, None)
+            if weight < 0
+            else Answer(
+                source,
+                target,
+                measure.one(weight),
+                [source, *heads[first:last]],
+                weights[first:last],
+            )
+            for source, target, weight, first, last in found
+        ]
 
     def __len__(self) -> int:
-        return len(self.numbered)
+        return len(self.pairs)
 
     def __repr__(self) -> str:
         return f"<{len(self):,} routes on {self.layers.path}>"
 
     def rows(self) -> list[NDArray[numpy.int64] | None]:
-        """Returns the arcs of the routes, as rows of the columns or frame that the network was made of.
+        """Returns the arcs of the routes, as rows of the columns or frame that the network was made
+        of.
 
         Returns
         -------
         list of array of int64
-            For each pair the rows of the arcs in the order of its route, from 0 on, as `frame.iloc` counts them and `graph.edges` of networkx has
-            them; of files the lines of the graph. None where no path leads.
+            For each pair the rows of the arcs in the order of its route, from 0 on, as `frame.iloc`
+            counts them and `graph.edges` of networkx has them; of files the lines of the graph.
+            None where no path leads.
         """
-        import numpy
-
-        answers = [each for each in self.numbered if each.nodes]
-        tails, heads = ([node for each in answers for node in (each.nodes or [])[part]] for part in (slice(-1), slice(1, None)))
-        lines = self.layers.arcs.of(numpy.array(tails, numpy.int64), numpy.array(heads, numpy.int64))
-        cuts = numpy.cumsum([len(each.weights or ()) for each in answers])[:-1]
-        found = iter(numpy.split(self.layers.rows[lines], cuts) if answers else [])
-        return [next(found) if each.nodes else None for each in self.numbered]
+        found = numpy.split(self.layers.rows_of(self.paths.arcs), self.firsts[1:-1])
+        return [
+            rows if weight >= 0 else None
+            for rows, weight in zip(found, self.paths.weights.tolist())
+        ]
 
     def edges(self) -> list[list[tuple] | None]:
         """Returns the arcs of the routes by their nodes, as networkx and osmnx name edges.
@@ -77,8 +108,9 @@ class Routes(showing.OnMap, collections.abc.Sequence):
         Returns
         -------
         list of list of tuple
-            For each pair its edges in the order of the route: (source, target, key) where the network was made of a graph whose edges have keys, and
-            else (source, target). None where no path leads.
+            For each pair its edges in the order of the route: (source, target, key) where the
+            network was made of a graph whose edges have keys, and else (source, target). None where
+            no path leads.
         """
         labelling = self.layers.labelling
         keys = None if labelling is None else labelling.keys
@@ -88,36 +120,67 @@ class Routes(showing.OnMap, collections.abc.Sequence):
                 found.append(None)
                 continue
             ends = zip(answer.nodes, answer.nodes[1:])
-            found.append([(*pair, keys[row]) for pair, row in zip(ends, rows.tolist())] if keys else list(ends))
+            found.append(
+                [(*pair, keys[row]) for pair, row in zip(ends, rows.tolist())]
+                if keys
+                else list(ends)
+            )
         return found
 
-    def to_frame(self) -> pandas.DataFrame:
+    def to_frame(self, metres: bool = False) -> pandas.DataFrame:
         """Returns the routes as a frame.
+
+        Parameters
+        ----------
+        metres : bool
+            Whether the frame has a column of the metres along each route.
 
         Returns
         -------
         pandas.DataFrame
-            A row for each pair, called by its place, `query`: source, target, weight (NA where no path leads), how many arcs (NA), and the list
-            of nodes (empty).
+            A row for each pair, called by its place, `query`: source, target, weight (NA where no
+            path leads), how many arcs (NA), the metres (NaN) if they are wanted, and the list of
+            nodes (empty).
 
         Raises
         ------
         ImportError
             pandas is not installed.
+        ChtabError
+            Metres are wanted, and the network has no places of nodes.
         """
-        import numpy
         import pandas
 
         rows = [(each.source, each.target, each.nodes or []) for each in self]
-        weights = numpy.array([-1 if each.weight is None else each.weight for each in self.numbered], numpy.int64)
-        arcs = numpy.array([-1 if each.weights is None else len(each.weights) for each in self.numbered], numpy.int64)
+        is_missing = self.paths.weights < 0
         frame = pandas.DataFrame(rows, columns=["source", "target", "nodes"])
-        frame.insert(2, "weight", self.layers.measure.series(weights))
-        frame.insert(3, "arcs", pandas.Series(pandas.arrays.IntegerArray(arcs, arcs < 0)))
+        frame.insert(2, "weight", self.layers.measure.series(self.paths.weights))
+        counts = pandas.arrays.IntegerArray(self.paths.counts.copy(), is_missing)
+        frame.insert(3, "arcs", pandas.Series(counts))
+        if metres:
+            along = numpy.where(is_missing, numpy.nan, self.lengths())
+            frame.insert(4, "metres", along)
         return frame.rename_axis("query")
 
+    def lengths(self) -> NDArray[numpy.float64]:
+        """Returns the metres along each route, 0 where no path leads.
+
+        Returns
+        -------
+        array of float64, shape (n,)
+            The metres along roads, with their bends if the network knows them.
+
+        Raises
+        ------
+        ChtabError
+            The network has no places of nodes.
+        """
+        of_arcs = self.layers.roads.nanometres[self.paths.arcs].astype(numpy.int64)
+        return numpy.diff(numpy.append(0, numpy.cumsum(of_arcs))[self.firsts]) * 1e-9
+
     def to_geojson(self, names: dict | None = None) -> dict:
-        """Returns the routes as lines on a map, which follow the bends of roads if the network knows them.
+        """Returns the routes as lines on a map, which follow the bends of roads if the network
+        knows them.
 
         Parameters
         ----------
@@ -127,18 +190,24 @@ class Routes(showing.OnMap, collections.abc.Sequence):
         Returns
         -------
         dict
-            A collection of GeoJSON with a feature for each pair, in their order: `query` (its place), `source`, `target`, `weight` and `arcs`,
-            with `from` and `to` as other names of both ends. Where no path leads the geometry, the weight and the arcs are null.
+            A collection of GeoJSON with a feature for each pair, in their order: `query` (its
+            place), `source`, `target`, `weight` and `arcs`, with `from` and `to` as other names of
+            both ends. Where no path leads the geometry, the weight and the arcs are null.
 
         Raises
         ------
         ChtabError
             The network has no places of nodes.
         """
-        lines = iter(self.layers.lines_of([each for each in self.numbered if each.nodes]))
+        is_there = self.paths.weights >= 0
+        lines = iter(
+            self.layers.lines_of(
+                self.pairs[is_there, 0], self.paths.counts[is_there], self.paths.arcs
+            )
+        )
         return geojson.collection(
-            geojson.query_feature(place, self.labelled(each), next(lines) if each.nodes else None, names or {})
-            for place, each in enumerate(self.numbered)
+            geojson.query_feature(place, each, next(lines) if each.nodes else None, names or {})
+            for place, each in enumerate(self)
         )
 
     def to_geodataframe(self) -> geopandas.GeoDataFrame:
@@ -147,7 +216,8 @@ class Routes(showing.OnMap, collections.abc.Sequence):
         Returns
         -------
         geopandas.GeoDataFrame
-            A row for each pair, as `to_frame` has it, with its line in degrees (EPSG:4326), or None where no path leads.
+            A row for each pair, as `to_frame` has it, with its line in degrees (EPSG:4326), or None
+            where no path leads.
 
         Raises
         ------
@@ -160,8 +230,8 @@ class Routes(showing.OnMap, collections.abc.Sequence):
 
 
 class Trip(NamedTuple):
-    """A route between two spots. `weight`, `metres` and the `line` of (longitude, latitude), rounded to millionths of a degree, are None if no path
-    leads; `nodes` are the nodes along it."""
+    """A route between two spots. `weight`, `metres` and the `line` of (longitude, latitude),
+    rounded to millionths of a degree, are None if no path leads; `nodes` are the nodes along it."""
 
     weight: float | None
     metres: float | None
@@ -179,7 +249,8 @@ class Trip(NamedTuple):
         Returns
         -------
         dict
-            A feature of GeoJSON with these properties, the weight and the metres; its line is None where there is no way.
+            A feature of GeoJSON with these properties, the weight and the metres; its line is None
+            where there is no way.
         """
         return geojson.feature(self.line, self.properties(properties))
 
@@ -189,13 +260,21 @@ class Trip(NamedTuple):
 
     def properties(self, more: dict | None) -> dict[str, Any]:
         """The properties of the feature."""
-        return {**(more or {}), "weight": self.weight, "metres": self.metres and round(self.metres, 1)}
+        return {
+            **(more or {}),
+            "weight": self.weight,
+            "metres": self.metres and round(self.metres, 1),
+        }
 
 
 class TripRoutes(showing.OnMap, list):
-    """Trips in the order of their spots: a list of `Trip`, which makes frames, GeoJSON and pictures."""
+    """Trips in the order of their spots: a list of `Trip`, which makes frames, GeoJSON and
+    pictures."""
 
     shown_by = "weight"
+
+    def __repr__(self) -> str:
+        return f"<{len(self):,} trips>"
 
     def to_geojson(self) -> dict:
         """Returns the trips as lines on a map.
@@ -203,10 +282,12 @@ class TripRoutes(showing.OnMap, list):
         Returns
         -------
         dict
-            A collection of GeoJSON with a feature for each trip, in their order: `query` (its place), `weight` and `metres`. Where there is no
-            way the geometry and both are null.
+            A collection of GeoJSON with a feature for each trip, in their order: `query` (its
+            place), `weight` and `metres`. Where there is no way the geometry and both are null.
         """
-        return geojson.collection(each.to_geojson({"query": place}) for place, each in enumerate(self))
+        return geojson.collection(
+            each.to_geojson({"query": place}) for place, each in enumerate(self)
+        )
 
     def to_frame(self) -> pandas.DataFrame:
         """Returns the trips as a frame.
@@ -214,7 +295,8 @@ class TripRoutes(showing.OnMap, list):
         Returns
         -------
         pandas.DataFrame
-            A row for each trip, called by its place, `query`: weight and metres (NaN where there is no way), and the list of nodes.
+            A row for each trip, called by its place, `query`: weight and metres (NaN where there is
+            no way), and the list of nodes.
 
         Raises
         ------
@@ -223,7 +305,11 @@ class TripRoutes(showing.OnMap, list):
         """
         import pandas
 
-        return pandas.DataFrame([each._replace(line=None) for each in self], columns=Trip._fields).drop(columns="line").rename_axis("query")
+        return (
+            pandas.DataFrame([each._replace(line=None) for each in self], columns=Trip._fields)
+            .drop(columns="line")
+            .rename_axis("query")
+        )
 
     def to_geodataframe(self) -> geopandas.GeoDataFrame:
         """Returns the trips as a GeoDataFrame.
@@ -231,7 +317,8 @@ class TripRoutes(showing.OnMap, list):
         Returns
         -------
         geopandas.GeoDataFrame
-            A row for each trip, as `to_frame` has it, with its line in degrees (EPSG:4326), or None where there is no way.
+            A row for each trip, as `to_frame` has it, with its line in degrees (EPSG:4326), or None
+            where there is no way.
 
         Raises
         ------

@@ -1,28 +1,23 @@
-"""The same network under other conditions: other weights, closed roads, new ones."""
+"""The arcs of a network under other conditions: other weights, closed roads, new ones."""
 from __future__ import annotations
 
-import functools
 import itertools
-import os
-from collections.abc import Iterable, Mapping
-from typing import TYPE_CHECKING, Any, NamedTuple, Self
+from collections.abc import Mapping
+from typing import TYPE_CHECKING, Any, NamedTuple
 
 import numpy
-from numpy.typing import ArrayLike
 
 from chtab import files
-from chtab.engine import making, opening
+from chtab.engine import making
 from chtab.errors import DataFault
 from chtab.files import arc_columns, columns, edge_lines, measures
-from chtab.files.columns import told
+from chtab.files.columns import quoted
 from chtab.files.frames import column_of
 from chtab.roads.arc_names import ArcNames
-from chtab.roads.from_arcs import FromArcs, known_to_be_closed, see_that_network
 from chtab.roads.snapping import Spots
 
 if TYPE_CHECKING:
     from numpy.typing import NDArray
-    import pandas
     from chtab.roads.layers import Layers
     from chtab.typing import Integers, Marks, Point
 
@@ -30,102 +25,47 @@ if TYPE_CHECKING:
 NO_FRACTION = ", as the weights of this network are"
 
 
-class Scenarios(FromArcs):
-    """The call of a `Network` that makes another network from it. It uses `_layers`, its files, `_measure`, its unit, and `_opened`, its opening."""
+def arcs_of(
+    layers: Layers, measure: measures.Measure, weights: Any, closed: Any, added: Any
+) -> arc_columns.Arcs:
+    """The arcs of a network with other weights, and without closed or with added arcs;
+    `Network.changed` explains each."""
+    weighing = weighing_of(layers, measure, weights is not None or added is not None)
+    given = Given.of(layers)
+    changed, rounding = given.reweighted(weights, weighing)
+    kept = ~given.marked(closed)
+    return changed.arcs(kept, given.added(added, weighing), rounding)
 
-    if TYPE_CHECKING:
-        nodes: int
-        _layers: Layers
-        _measure: measures.Measure
-        _opened: opening.Opening
 
-    def changed(
-        self, weights: ArrayLike | Mapping | pandas.Series | None = None, closed: Iterable | ArrayLike | None = None,
-        added: Iterable | pandas.DataFrame | None = None, *, folder: str | os.PathLike | None = None, fresh: int = 5,
-    ) -> Self:
-        """Makes a network with the same nodes, labels, places and bends, and other arcs. This one goes on answering as it did.
-
-        Names of arcs are:
-
-        - a row of the columns or of the frame that the network was made of, from 0 on, or of files the arc's place in the graph;
-        - `(source, target)`, all arcs from one node to another; `(source, target, key)`, the edge of a graph of networkx or osmnx with this key;
-          `(node,)`, all arcs to and from a node;
-        - spots of `snap`: at each place the road, in both directions, or the crossing if it is less than a metre away;
-        - `"way/23456"`, a way of OpenStreetMap, or the name or the number of a street of a map that was imported with `--names`.
-
-        A row that leads both ways is both arcs, also by the key of its edge. Where turns are restricted, a node is all nodes of its crossing. A
-        Series, or an Index as `closed`, goes by its labels in any order: those of the frame's index, or else names. In a list, an array or a dict a
-        number is a row, and is refused if the frame calls another row so: `frame.index[[7]]` is row 7.
-
-        Parameters
-        ----------
-        weights : array, Series or dict, optional
-            New weights in the network's `unit`, or with `raw=True` those of the graph: one for each row, or of some arcs by their names, of which
-            the last one of an arc counts. A row whose arcs are closed stays closed, and as a name in a dict it is refused.
-        closed : list of arcs, spots, Index, or array or Series of bool, optional
-            The arcs that are no longer there, or for each row whether it is closed. Nodes stay.
-        added : list of (source, target, weight) or pandas.DataFrame, optional
-            Further arcs between nodes of the network, with the columns source, target and weight, and optionally geometry. Each leads one way, from
-            all roads that lead to its source. Their rows follow those of the network, and edges have the keys of networkx.
-        folder : str or path, optional
-            As `Network.from_arrays` takes it.
-        fresh : int
-            How many per cent of the nodes are ordered afresh, from 0 to 100. More of them make building slower, and answers faster if the weights
-            differ much. The answers themselves are the same.
-
-        Returns
-        -------
-        Network
-            The changed network. It is built in the order of this one, in three fifths of the time of a new network. Only if the program answers, and
-            this network was opened without a saved hierarchy, it is built anew.
-
-        Raises
-        ------
-        DataFault
-            A name stands for nothing, a node has no such label, or a weight is refused: the text names it, and nothing was written. Or the network
-            was made with `scale`, and neither with a unit nor with `raw=True`, so that new weights may be either.
-        FileExistsError, ProgramFault, ChtabError, OSError
-            As `Network.from_arrays` raises them, or the network is closed.
-
-        Examples
-        --------
-        >>> without_bridge = network.changed(closed=[("inn", "mill"), ("mill", "inn")])      # doctest: +SKIP
-        >>> without_road = network.changed(closed=network.snap(9.52, 47.14))                 # doctest: +SKIP
-        >>> at_eight = network.changed(weights=frame["minutes at 8:00"])                     # doctest: +SKIP
-        >>> with_tunnel = network.changed(added=[("farm", "school", 2.5)])                   # doctest: +SKIP
-        """
-        see_that_network(self)
-        with known_to_be_closed(self):
-            arcs = self._arcs_of(weights, closed, added)
-        setting, opened = self._opened.setting, self._opened
-        running = opening.Running(
-            setting.program, setting.workers, setting.timeout, True, False, setting.runs, opened.library, opened.asked, like=self, fresh=fresh,
+def weighing_of(layers: Layers, measure: measures.Measure, has_weights: bool) -> Weighing:
+    """How new weights become those of the graph."""
+    made = layers.labelling
+    own = None if made is None else made.scale
+    if (
+        has_weights
+        and made is not None
+        and made.unit is None
+        and own not in (None, 1)
+        and layers.asked == measures.Asked()
+    ):
+        text = (
+            f"the network was made with scale={own:g} and without a unit, so that new weights may "
+            "be yours, or the graph's whole numbers"
         )
-        return self._made(arcs, folder, running)
-
-    def _arcs_of(self, weights: Any, closed: Any, added: Any) -> arc_columns.Arcs:
-        """The arcs of the changed network."""
-        weighing = self._weighing(weights is not None or added is not None)
-        given = Given.of(self._layers)
-        changed, rounding = given.reweighted(weights, weighing)
-        kept = ~given.marked(closed)
-        return changed.arcs(kept, given.added(added, weighing), rounding)
-
-    def _weighing(self, has_weights: bool) -> Weighing:
-        """How new weights become those of the graph."""
-        made, measure = self._layers.labelling, self._measure
-        own = None if made is None else made.scale
-        if has_weights and made is not None and made.unit is None and own not in (None, 1) and self._layers.asked == measures.Asked():
-            text = f"the network was made with scale={own:g} and without a unit, so that new weights may be yours, or the graph's whole numbers"
-            raise DataFault(f"{text}: make it with unit='seconds' or another unit, or with raw=True for whole numbers", "weights")
-        is_rounded = own == 1 or made is not None and made.unit is not None
-        whole = 1 if is_rounded and not self._layers.asked.raw else None
-        return Weighing(measure, whole if measure.is_whole else measure.factor, arc_columns.MOST_WEIGHT // self.nodes)
+        raise DataFault(
+            f"{text}: make it with unit='seconds' or another unit, or with raw=True for whole "
+            "numbers",
+            "weights",
+        )
+    is_rounded = own == 1 or made is not None and made.unit is not None
+    whole = 1 if is_rounded and not layers.asked.raw else None
+    most = arc_columns.MOST_WEIGHT // files.count_nodes(layers.path)
+    return Weighing(measure, whole if measure.is_whole else measure.factor, most)
 
 
 class Weighing(NamedTuple):
-    """How new weights become those of a graph: the network's unit, the factor for weights in it, None for whole numbers alone, and the most that a
-    weight may be."""
+    """How new weights become those of a graph: the network's unit, the factor for weights in it,
+    None for whole numbers alone, and the most that a weight may be."""
 
     measure: measures.Measure
     scale: float | None
@@ -133,7 +73,9 @@ class Weighing(NamedTuple):
 
     def whole(self, name: str, given: Any) -> tuple[Integers, float]:
         """The weights of the graph, and the largest rounding of one."""
-        return arc_columns.whole_weights(name, self.numbers(name, given), self.scale, self.most, NO_FRACTION)
+        return arc_columns.whole_weights(
+            name, self.numbers(name, given), self.scale, self.most, NO_FRACTION
+        )
 
     def numbers(self, name: str, given: Any) -> NDArray[Any]:
         """Weights as numbers in the network's unit, to which durations are converted."""
@@ -141,13 +83,17 @@ class Weighing(NamedTuple):
         if durations is None:
             return columns.numbers_in(name, given)
         if self.measure.unit not in measures.TIMES:
-            raise DataFault(f"{name} has durations, and the network's unit is {self.measure.unit or 'not known'}", name)
+            raise DataFault(
+                f"{name} has durations, and the network's unit is "
+                f"{self.measure.unit or 'not known'}",
+                name,
+            )
         return durations / measures.TIMES[self.measure.unit]
 
 
 class New(NamedTuple):
-    """Added arcs: their ends and weights, the row of each among those that are added, and their number; the lines of arcs or None, the keys of rows,
-    and the largest rounding of a weight."""
+    """Added arcs: their ends and weights, the row of each among those that are added, and their
+    number; the lines of arcs or None, the keys of rows, and the largest rounding of a weight."""
 
     tails: Integers
     heads: Integers
@@ -176,7 +122,9 @@ class Given(NamedTuple):
     def of(cls, layers: Layers) -> Given:
         """The arcs of the files of a network."""
         graph = layers.graph
-        tails, heads, weights = (numpy.array(column, numpy.int64) for column in (graph.tails, graph.heads, graph.weights))
+        tails, heads, weights = (
+            numpy.array(column, numpy.int64) for column in (graph.tails, graph.heads, graph.weights)
+        )
         return cls(layers, ArcNames(layers), tails, heads, weights, layers.rows)
 
     @property
@@ -187,14 +135,22 @@ class Given(NamedTuple):
     # What is closed.
 
     def marked(self, closed: Any) -> Marks:
-        """Marks the arcs that are closed, by a list of names or by a column that says so of each row."""
+        """Marks the arcs that are closed, by a list of names or by a column that says so of each
+        row."""
         is_closed = numpy.zeros(len(self.rows), bool)
         if closed is None:
             return is_closed
-        if isinstance(closed, str):
-            raise DataFault(f"closed is a list: [{closed!r}] is one way or street", "closed")
-        if isinstance(closed, tuple) and len(closed) in (1, 2, 3) and not any(isinstance(part, tuple | list | Spots) for part in closed):
-            raise DataFault(f"closed is a list: [{closed!r}] is one arc, and {[*closed]!r} are rows", "closed")
+        if isinstance(closed, str) or not hasattr(closed, "__iter__"):
+            what = "one way or street" if isinstance(closed, str) else "one row"
+            raise DataFault(f"closed is a list: [{closed!r}] is {what}", "closed")
+        if (
+            isinstance(closed, tuple)
+            and len(closed) in (1, 2, 3)
+            and not any(isinstance(part, tuple | list | Spots) for part in closed)
+        ):
+            raise DataFault(
+                f"closed is a list: [{closed!r}] is one arc, and {[*closed]!r} are rows", "closed"
+            )
         column = mask_in(closed)
         if column is None:
             is_closed[self.names.of("closed", closed).items] = True
@@ -202,7 +158,10 @@ class Given(NamedTuple):
         if not hasattr(closed, "iloc") or column.ndim != 1:
             self.see_that_rows("closed", column)
             return column[self.rows]
-        if len(column) < self.names.row_labels.covered and self.names.rows_of_index("closed", closed.index) is not None:
+        if (
+            len(column) < self.names.row_labels.covered
+            and self.names.rows_of_index("closed", closed.index) is not None
+        ):
             self.see_that_rows("closed", column)
         found = self.names.of_index("closed", closed.index)
         self.see_that_once("closed", closed.index)
@@ -212,16 +171,23 @@ class Given(NamedTuple):
     def see_that_rows(self, name: str, column: NDArray[Any]) -> None:
         """Refuses a column that has not one value for each row."""
         if column.ndim != 1 or len(column) != self.row_count:
-            raise DataFault(f"{name} has the shape {column.shape}, and there are {self.row_count:,} rows of arcs", name)
+            raise DataFault(
+                f"{name} has the shape {column.shape}, and there are {self.row_count:,} rows of "
+                "arcs",
+                name,
+            )
 
     def see_that_once(self, name: str, index: Any) -> None:
-        """Refuses an index that has a label twice, unless it is that of the frame, where its place says which row is meant."""
+        """Refuses an index that has a label twice, unless it is that of the frame, where its place
+        says which row is meant."""
         if index.is_unique:
             return
         rows = self.names.rows_of_index(name, index)
         if rows is None or len(numpy.unique(rows.items)) < len(rows.items):
             place = int(index.duplicated().argmax())
-            raise columns.refused(name, place, f"the label {told(index[place])} is in the index already")
+            raise columns.refused(
+                name, place, f"the label {quoted(index[place])} is in the index already"
+            )
 
     # What is weighed anew.
 
@@ -229,12 +195,16 @@ class Given(NamedTuple):
         """These arcs with other weights, and the largest rounding of a weight."""
         if weights is None:
             return self, 0.0
-        whole, rounding = weighing.whole("weights", list(weights.values()) if isinstance(weights, Mapping) else weights)
+        whole, rounding = weighing.whole(
+            "weights", list(weights.values()) if isinstance(weights, Mapping) else weights
+        )
         if isinstance(weights, Mapping):
             found = self.names.of_list("weights", list(weights))
             closed = columns.first_of(found.counts(len(weights)) == 0)
             if closed is not None:
-                raise columns.refused("weights", closed, f"{told(list(weights)[closed])} has no arc that is open")
+                raise columns.refused(
+                    "weights", closed, f"{quoted(list(weights)[closed])} has no arc that is open"
+                )
         elif hasattr(weights, "iloc"):
             found = self.names.of_index("weights", weights.index)
             self.see_that_once("weights", weights.index)
@@ -249,30 +219,48 @@ class Given(NamedTuple):
     # What is added.
 
     def added(self, given: Any, weighing: Weighing) -> New:
-        """The arcs that are added to these. Where turns are restricted, all that arrive may go on by an added arc."""
+        """The arcs that are added to these. Where turns are restricted, all that arrive may go on
+        by an added arc."""
         if given is None:
             return New(NOTHING, NOTHING, NOTHING, NOTHING, 0, None, [], 0.0)
         sources, targets, weights, lines = columns_of_added(given)
         own = self.layers.labels
-        tails, heads = (self.layers.crossings[own.nodes_of(f"added {name}", ends)] for name, ends in (("source", sources), ("target", targets)))
+        tails, heads = (
+            self.layers.crossings[own.nodes_of(f"added {name}", ends)]
+            for name, ends in (("source", sources), ("target", targets))
+        )
         whole, rounding = weighing.whole("added weight", weights)
-        columns.see_that_long(("added source", "added target", "added weight"), (tails, heads, whole))
+        columns.see_that_long(
+            ("added source", "added target", "added weight"), (tails, heads, whole)
+        )
         found = edge_lines.lines_in("added geometry", lines, len(whole))
         keys = self.free_keys(tails, heads)
-        # Arcs leave a node of restricted turns for those that start there, and the node where trips to it end, to which each other arc leads.
+        # Arcs leave a node of restricted turns for those that start there, and the node where trips
+        # to it end, to which each other arc leads.
         ends = self.layers.ends[tails]
         rows = numpy.append(numpy.arange(len(tails)), numpy.flatnonzero(ends))
         starts = numpy.append(tails, ends[ends > 0])
-        return New(starts, heads[rows], whole[rows], rows, len(tails), found and [found[row] for row in rows.tolist()], keys, rounding)
+        return New(
+            starts,
+            heads[rows],
+            whole[rows],
+            rows,
+            len(tails),
+            found and [found[row] for row in rows.tolist()],
+            keys,
+            rounding,
+        )
 
     def free_keys(self, tails: Integers, heads: Integers) -> list[int]:
-        """A key for each new edge, as networkx gives it: the number of edges between its nodes, or the first one from there on that is free. None if
-        edges have no keys."""
+        """A key for each new edge, as networkx gives it: the number of edges between its nodes, or
+        the first one from there on that is free. None if edges have no keys."""
         if self.names.keys is None:
             return []
         found = self.names.by_ends.of_each(self.names.key_of(tails, heads))
         taken: dict[tuple[int, int], set[Any]] = {}
-        for place, key in zip(found.places.tolist(), self.names.keys[self.rows[found.items]].tolist()):
+        for place, key in zip(
+            found.places.tolist(), self.names.keys[self.rows[found.items]].tolist()
+        ):
             taken.setdefault((int(tails[place]), int(heads[place])), set()).add(key)
         keys = []
         for ends in zip(tails.tolist(), heads.tolist()):
@@ -286,7 +274,11 @@ class Given(NamedTuple):
     def arcs(self, kept: Marks, new: New, rounding: float) -> arc_columns.Arcs:
         """The kept arcs, followed by the new ones."""
         layers, labelling = self.layers, self.layers.labelling
-        scale, unit, before = (None, None, 0.0) if labelling is None else (labelling.scale, labelling.unit, labelling.rounding)
+        scale, unit, before = (
+            (None, None, 0.0)
+            if labelling is None
+            else (labelling.scale, labelling.unit, labelling.rounding)
+        )
         keys = None if self.names.keys is None else [*self.names.keys.tolist(), *new.keys]
         streets, ways = layers.streets, layers.ways
         if streets is not None:
@@ -295,14 +287,36 @@ class Given(NamedTuple):
         if ways is not None:
             ways = numpy.append(ways[kept], numpy.zeros(len(new.tails), numpy.int64))
         tails, heads, weights = (
-            numpy.append(column[kept], more) for column, more in ((self.tails, new.tails), (self.heads, new.heads), (self.weights, new.weights))
+            numpy.append(column[kept], more)
+            for column, more in (
+                (self.tails, new.tails),
+                (self.heads, new.heads),
+                (self.weights, new.weights),
+            )
         )
         no_way: list[int] = []
-        of_rows = None if labelling is None or labelling.ways is None else [*labelling.ways, *[no_way] * new.added]
+        of_rows = (
+            None
+            if labelling is None or labelling.ways is None
+            else [*labelling.ways, *[no_way] * new.added]
+        )
         return arc_columns.Arcs(
-            layers.labels, tails, heads, weights, scale, max(before, rounding, new.rounding), unit, None, self.bends(kept, new),
-            self.row_count + new.added, self.rows_of(kept, new), keys, of_rows, layers.graph.unit,
-            making.Beside(layers, streets, None if ways is None else ways.tolist()), layers.row_labels.labels,
+            layers.labels,
+            tails,
+            heads,
+            weights,
+            scale,
+            max(before, rounding, new.rounding),
+            unit,
+            None,
+            self.bends(kept, new),
+            self.row_count + new.added,
+            self.rows_of(kept, new),
+            keys,
+            of_rows,
+            layers.graph.unit,
+            making.Beside(layers, streets, None if ways is None else ways.tolist()),
+            layers.row_labels.labels,
         )
 
     def rows_of(self, kept: Marks, new: New) -> Integers | None:
@@ -314,9 +328,10 @@ class Given(NamedTuple):
 
     def bends(self, kept: Marks, new: New) -> dict[int, list[Point]]:
         """The bends of the kept arcs, by their new numbers, and those of the new arcs."""
-        path, numbers = self.layers.paths["bends"], numpy.cumsum(kept) - 1
-        found = {} if path is None else self.layers.read_file("bends", functools.partial(files.read_bends, path))
-        bends = {int(numbers[arc]): points for arc, points in found.items() if arc < len(kept) and kept[arc]}
+        numbers = numpy.cumsum(kept) - 1
+        bends = {
+            int(numbers[arc]): points for arc, points in self.layers.bends.items() if kept[arc]
+        }
         if new.lines is None:
             return bends
         coordinates = self.layers.coordinates
@@ -330,7 +345,12 @@ def mask_in(closed: Any) -> NDArray[Any] | None:
     if not hasattr(closed, "__array__") or hasattr(closed, "get_level_values"):
         return None
     column = numpy.asarray(closed)
-    if column.dtype == object and column.ndim == 1 and len(column) and {*map(type, column)} <= {bool, numpy.bool_}:
+    if (
+        column.dtype == object
+        and column.ndim == 1
+        and len(column)
+        and {*map(type, column)} <= {bool, numpy.bool_}
+    ):
         column = column.astype(bool)
     return column if column.dtype == bool else None
 
@@ -338,10 +358,14 @@ def mask_in(closed: Any) -> NDArray[Any] | None:
 def columns_of_added(given: Any) -> tuple[Any, Any, Any, Any]:
     """The sources, targets, weights and lines of added arcs; None for no lines."""
     if hasattr(given, "columns"):
-        sources, targets, weights = (column_of(given, name) for name in ("source", "target", "weight"))
+        sources, targets, weights = (
+            column_of(given, name) for name in ("source", "target", "weight")
+        )
         return sources, targets, weights, given["geometry"] if "geometry" in given.columns else None
     rows = [tuple(row) for row in given]
     if any(len(row) not in (3, 4) for row in rows):
-        raise DataFault("added has rows of (source, target, weight), or of these and a line", "added")
+        raise DataFault(
+            "added has rows of (source, target, weight), or of these and a line", "added"
+        )
     sources, targets, weights = ([row[axis] for row in rows] for axis in range(3))
     return sources, targets, weights, [row[3] if len(row) == 4 else None for row in rows]

@@ -6,7 +6,9 @@ turns are open to it.
 """
 from __future__ import annotations
 
-import itertools
+import hashlib
+import math
+import numbers
 from collections.abc import Iterator, Mapping, Sequence
 from dataclasses import dataclass, replace
 from typing import TYPE_CHECKING, Any, NamedTuple
@@ -14,12 +16,17 @@ from typing import TYPE_CHECKING, Any, NamedTuple
 import numpy
 
 from chtab.engine.walks import ranges
-from chtab.errors import ChtabError, TooFar
+from chtab.errors import ChtabError, DataFault, TooFar
+from chtab.files import row_index
+from chtab.files.columns import degrees_in, see_that_long, quoted
+from chtab.files.showing import SHOWN, table_text
+from chtab.roads import sphere
 from chtab.roads.lines import Lines, metres_between
 
 if TYPE_CHECKING:
     from numpy.typing import NDArray
     from chtab import files
+    from chtab.roads.lines import OnLine
     from chtab.typing import Column, Floats, Integers, Marks, Point
 
 # No arc leads along a road in this direction, or no trip leaves or arrives by this end.
@@ -28,21 +35,42 @@ NONE = -1
 FORWARD, BACKWARD = 1, 2
 # A place that is less than this many metres from an end of its road is at the end.
 AT_END = 1.0
+# Spots of two networks that are at most this many metres apart are at the same point.
+SAME = 0.01
 # The least part of a road between its end and a spot that is not at the end.
 INSIDE = 1e-9
+# Up to so many places are taken to roads one by one: to call numpy takes longer.
+FEW = 3
 # Metres in a nanometre.
 NANOMETRE = 1e-9
 
 
 def places_in(longitudes: Column, latitudes: Column) -> list[Floats]:
-    """Two columns of degrees. Raises a ValueError if a number is no degree, such as NaN."""
-    columns = [numpy.asarray(part, float).reshape(-1) for part in (longitudes, latitudes)]
-    if len(columns[0]) != len(columns[1]):
-        raise ValueError(f"there are {len(columns[0])} longitudes and {len(columns[1])} latitudes")
-    for name, column, most in ("longitude", columns[0], 180), ("latitude", columns[1], 90):
-        for place in numpy.flatnonzero(~(abs(column) <= most))[:1]:
-            raise ValueError(f"the {name} of place {place} is {column[place]:g}, not from -{most} to {most} degrees")
-    return columns
+    """Two columns of degrees that go together. Raises a `DataFault` if a value is no degree, such as NaN."""
+    names = "longitudes", "latitudes"
+    columns = row_index.matched(names, (longitudes, latitudes))
+    found = [degrees_in(name, column, most) for name, column, most in zip(names, columns, (180, 90))]
+    see_that_long(names, found)
+    return found
+
+
+def metres_in(max_metres: float | None) -> float:
+    """The largest distance of a place from its road or node: a number from 0 on, or None for any distance."""
+    if max_metres is None:
+        return math.inf
+    if isinstance(max_metres, bool) or not isinstance(max_metres, numbers.Real):
+        raise TypeError(f"max_metres is a number of metres, or None for any distance, not {max_metres!r}")
+    if not max_metres >= 0:
+        raise ValueError(f"max_metres is {max_metres!r}: it is a number from 0 on, or None for any distance")
+    return float(max_metres)
+
+
+def see_that_near(longitudes: Floats, latitudes: Floats, metres: Floats, max_metres: float, what: str) -> None:
+    """Raises a `TooFar` with the places that are farther than `max_metres` from each road, or node."""
+    far = numpy.flatnonzero(~(metres <= max_metres)).tolist()
+    if far:
+        text = far_text(longitudes[far[0]], latitudes[far[0]], metres[far[0]], what, max_metres)
+        raise TooFar(text, {place: float(metres[place]) for place in far})
 
 
 def length_text(metres: float) -> str:
@@ -52,13 +80,22 @@ def length_text(metres: float) -> str:
     return f"{metres / 1000:.1f}".removesuffix(".0") + " km" if metres < 99_950 else f"{metres / 1000:,.0f} km"
 
 
-def far_text(longitude: float, latitude: float, metres: float, what: str, most: float | None) -> str:
+def far_text(longitude: float, latitude: float, metres: float, what: str, most: float) -> str:
     """The message about a place that is too far from each road, or node."""
-    return f"{longitude:.6f} {latitude:.6f} is {length_text(metres)} from the nearest {what}, more than {length_text(most or 0)}; " \
+    return f"{longitude:.6f} {latitude:.6f} is {length_text(metres)} from the nearest {what}, more than {length_text(most)}; " \
         "longitude comes first, then latitude"
 
 
-@dataclass(frozen=True)
+class Origin(NamedTuple):
+    """Where spots were found: digests of the network's roads and of the places of its nodes, and how far a place may be from its road. Without the
+    last two spots are not found anew in another network."""
+
+    roads: bytes
+    nodes: bytes = b""
+    max_metres: float = math.inf
+
+
+@dataclass(frozen=True, eq=False, repr=False)
 class Spots:
     """Places on roads, in arrays with an item for each place.
 
@@ -79,6 +116,25 @@ class Spots:
     in_nodes: Integers
     in_weights: Integers
     sides: Integers
+    # The places that were taken to roads, in degrees (n, 2), and where.
+    places: Floats
+    origin: Origin
+
+    def __post_init__(self) -> None:
+        for column in self.columns().values():
+            column.flags.writeable = False
+
+    def __repr__(self) -> str:
+        return f"<{len(self):,} spots on roads>"
+
+    def _repr_html_(self) -> str:
+        names = "longitudes", "latitudes", "metres", "roads", "parts"
+        rows = zip(*(getattr(self, name)[:SHOWN].tolist() for name in names))
+        return table_text(repr(self), [dict(zip(names, row)) for row in rows])
+
+    def columns(self) -> dict[str, NDArray[Any]]:
+        """The arrays by their names."""
+        return {name: column for name, column in vars(self).items() if isinstance(column, numpy.ndarray)}
 
     def __len__(self) -> int:
         return len(self.roads)
@@ -89,23 +145,37 @@ class Spots:
             which = [range(len(self))[which]]
         elif isinstance(which, list):
             which = numpy.asarray(which, None if which else numpy.int64)
-        return Spots(*(column[which] for column in vars(self).values()))
+        return replace(self, **{name: column[which] for name, column in self.columns().items()})
 
     def __iter__(self) -> Iterator[Spots]:
         """One spot after the other."""
         return (self[place] for place in range(len(self)))
 
+    @staticmethod
+    def joined(parts: Sequence[Spots]) -> Spots:
+        """Joins spots of one network, one after the other."""
+        columns = [part.columns() for part in parts]
+        return replace(parts[0], **{name: numpy.concatenate([each[name] for each in columns]) for name in columns[0]})
+
 
 def one_sided(spots: Spots, sides: Integers) -> Spots:
     """The same spots, which trips leave and reach only in some directions of their roads."""
-    half = spots.out_nodes.shape[1] // 2
     # Who drives forward comes from `first` and goes to `last`.
     backward, forward = ((sides & side == 0)[:, None] for side in (BACKWARD, FORWARD))
-    closed = numpy.repeat(numpy.hstack([backward, forward]), half, axis=1)
-    shut = numpy.repeat(numpy.hstack([forward, backward]), half, axis=1)
+    # A road may have more nodes into it than out of it.
+    closed = numpy.repeat(numpy.hstack([backward, forward]), spots.out_nodes.shape[1] // 2, axis=1)
+    shut = numpy.repeat(numpy.hstack([forward, backward]), spots.in_nodes.shape[1] // 2, axis=1)
     out_nodes, out_weights = (numpy.where(closed, NONE, column) for column in (spots.out_nodes, spots.out_weights))
     in_nodes, in_weights = (numpy.where(shut, NONE, column) for column in (spots.in_nodes, spots.in_weights))
     return replace(spots, out_nodes=out_nodes, out_weights=out_weights, in_nodes=in_nodes, in_weights=in_weights, sides=sides)
+
+
+def digest_of(*columns: NDArray[Any]) -> bytes:
+    """A digest of some columns."""
+    made = hashlib.blake2b(digest_size=16)
+    for column in columns:
+        made.update(numpy.ascontiguousarray(column).data)
+    return made.digest()
 
 
 class Ways(NamedTuple):
@@ -168,9 +238,7 @@ class Roads:
         known = numpy.column_stack([coordinates.longitudes, coordinates.latitudes])
         self.places = numpy.full((graph.nodes, 2), numpy.nan)
         self.places[:len(known)] = known[:graph.nodes]
-        self.ordered: tuple[Integers, Integers] | None = None
         self.pieces: tuple[Integers, Floats, Floats] | None = None
-        self.least_pace: float | None = None
         self.lengths: NDArray[numpy.uint64] | None = None
         crossing = numpy.arange(graph.nodes + 1)
         for copy, node in coordinates.copies().items():
@@ -179,6 +247,11 @@ class Roads:
         self.road_of, self.is_back = numpy.full(len(self.tails), NONE), crossing[self.tails] > crossing[self.heads]
         self.find_roads(crossing[self.tails], crossing[self.heads], {} if bends is None else bends)
         self.find_ways()
+        own = self.tails, self.heads, self.weights, self.firsts, self.lasts, self.places, self.forward, self.backward, self.road_of, self.is_back
+        for column in own:
+            column.flags.writeable = False
+        lines = self.lines.places, self.lines.firsts, *self.ways[:2]
+        self.origin = Origin(digest_of(*own, *lines), digest_of(self.places))
 
     def find_roads(self, tails: Integers, heads: Integers, bends: Mapping[int, Sequence[Point]]) -> None:
         """Finds the roads by the crossings at both ends of arcs: first those without bends, then the others."""
@@ -222,6 +295,7 @@ class Roads:
         roads, is_back, weights = self.road_of[kept], self.is_back[kept], self.weights[kept]
         out = ways_of(roads, (~is_back).astype(int), self.heads[kept], weights, len(self))
         self.ways = both_ways(out, ways_of(roads, is_back.astype(int), self.tails[kept], weights, len(self)))
+        self.is_last = self.ways.is_last.tolist()
         least = numpy.full((2, len(self)), numpy.iinfo(numpy.int64).max)
         numpy.minimum.at(least, (is_back.astype(int), roads), weights)
         least[least == numpy.iinfo(numpy.int64).max] = NONE
@@ -240,22 +314,85 @@ class Roads:
 
     # From places to roads.
 
-    def find(self, longitudes: Column, latitudes: Column, max_metres: float = 1_000.0) -> Spots:
+    def find(self, longitudes: Column, latitudes: Column, max_metres: float | None = 1_000.0) -> Spots:
         """Takes places to roads. Raises a `TooFar` with the places that are farther than `max_metres` from each road."""
+        most = metres_in(max_metres)
         longitudes, latitudes = places_in(longitudes, latitudes)
         spots = self.find_any(longitudes, latitudes)
-        far = numpy.flatnonzero(~(spots.metres <= max_metres)).tolist()
-        if far:
-            text = far_text(longitudes[far[0]], latitudes[far[0]], spots.metres[far[0]], "road", max_metres)
-            raise TooFar(text, {place: float(spots.metres[place]) for place in far})
-        return spots
+        see_that_near(longitudes, latitudes, spots.metres, most, "road")
+        return replace(spots, origin=self.origin._replace(max_metres=most))
+
+    def own(self, name: str, spots: Any) -> Spots:
+        """Spots of this network. Those of another network whose nodes have the same places, such as a scenario, are found anew here: they may be on
+        another road, if theirs is closed.
+
+        Raises
+        ------
+        TypeError
+            These are no spots.
+        DataFault
+            They are of another network, or may use their roads in one direction alone.
+        TooFar
+            Each road is now farther from a place than it may be.
+        """
+        if not isinstance(spots, Spots):
+            raise TypeError(f"{name} are Spots, as `snap` gives them, not {quoted(spots)}")
+        if spots.origin.roads == self.origin.roads:
+            return spots
+        if spots.origin.nodes != self.origin.nodes or not (spots.sides == FORWARD | BACKWARD).all():
+            raise DataFault(f"{name} are spots of another network: `snap` of this one gives its own", name)
+        longitudes, latitudes = spots.places.T
+        return self.find(longitudes, latitudes, spots.origin.max_metres)
 
     def find_any(self, longitudes: Column, latitudes: Column) -> Spots:
         """Does the same for places at any distance from roads."""
         if not len(self):
             raise ChtabError("the graph has no road between two places")
         x, y = numpy.asarray(longitudes, float), numpy.asarray(latitudes, float)
+        if 0 < len(x) <= FEW:
+            return self.few_spots(x.tolist(), y.tolist(), self.lines.nearest_few(x, y))
         return self.spots_at(x, y, *self.lines.nearest(x, y))
+
+    def few_spots(self, longitudes: Sequence[float], latitudes: Sequence[float], found: Sequence[OnLine]) -> Spots:
+        """The spots of a few places at these points of roads, as `spots_at` makes them of many."""
+        roads = [each.line for each in found]
+        lengths, ways, outs = self.lines.metres.take(roads).tolist(), self.ways, self.ways.outs
+        all_nodes, all_weights = ways.nodes.take(roads, axis=0).tolist(), ways.weights.take(roads, axis=0).tolist()
+        parts, metres = [], []
+        for place, (nodes, weights) in enumerate(zip(all_nodes, all_weights)):
+            _, part, x, y = found[place]
+            metres.append(sphere.metres_from(longitudes[place], latitudes[place], x, y))
+            before, behind = part * lengths[place], (1 - part) * lengths[place]
+            part = 0.0 if before < AT_END and before <= behind else 1.0 if behind < AT_END and behind < before else part
+            parts.append(part)
+            if part in (0.0, 1.0):
+                self.stay_at_node(nodes, weights, roads[place], part == 0)
+            else:
+                shares = (1 - part if is_last else part for is_last in self.is_last)
+                weights[:] = [NONE if node == NONE else round(share * weight) for node, weight, share in zip(nodes, weights, shares)]
+        nodes, weights = numpy.array(all_nodes), numpy.array(all_weights)
+        return Spots(
+            numpy.array([each.longitude for each in found]), numpy.array([each.latitude for each in found]), numpy.array(metres), numpy.array(roads),
+            numpy.array(parts), nodes[:, :outs], weights[:, :outs], nodes[:, outs:], weights[:, outs:], numpy.full(len(roads), FORWARD | BACKWARD),
+            numpy.column_stack([longitudes, latitudes]), self.origin,
+        )
+
+    def stay_at_node(self, nodes: list[int], weights: list[int], road: int, is_first: bool) -> None:
+        """Gives a spot at an end of its road this node alone, at the weight 0."""
+        begin, outs, width = int((self.firsts if is_first else self.lasts)[road]), self.ways.outs, len(nodes)
+        nodes[:] = weights[:] = [NONE] * width
+        for column, node in (0 if is_first else outs // 2, begin), (outs + (0 if is_first else (width - outs) // 2), self.ends.get(begin, begin)):
+            nodes[column], weights[column] = node, 0
+
+    def at_nodes(self, starts: Integers, ends: Integers, side: int) -> Spots:
+        """Spots at nodes, where trips start at the ones and end at the others. They are on no road, and by their side, 0 or 1, on none together."""
+        count = len(starts)
+        nothing, numbers = numpy.zeros((count, 1), numpy.int64), -2 - 2 * numpy.arange(count) - side
+        places, sides = self.places[starts - 1], numpy.full(count, FORWARD | BACKWARD)
+        x, y = places.T.copy()
+        return Spots(
+            x, y, numpy.zeros(count), numbers, numpy.zeros(count), starts[:, None], nothing, ends[:, None], nothing.copy(), sides, places, self.origin,
+        )
 
     def find_some(self, longitude: float, latitude: float, most: int) -> Spots:
         """Takes one place to each of its nearest roads, at most `most` of them, the nearest first."""
@@ -266,13 +403,15 @@ class Roads:
 
     def spots_at(self, longitudes: Column, latitudes: Column, roads: Integers, parts: Floats, xs: Floats, ys: Floats) -> Spots:
         """The spots of places at these parts of roads."""
-        metres = metres_between(longitudes, latitudes, xs, ys)
         lengths = self.lines.metres[roads]
-        parts = numpy.where(parts * lengths < AT_END, 0.0, parts)
-        return self.spots(xs, ys, metres, roads, numpy.where((1 - parts) * lengths < AT_END, 1.0, parts))
+        # On a road of less than two metres the nearer end counts.
+        before, behind = parts * lengths, (1 - parts) * lengths
+        parts = numpy.where((before < AT_END) & (before <= behind), 0.0, numpy.where((behind < AT_END) & (behind < before), 1.0, parts))
+        return self.spots(numpy.column_stack([longitudes, latitudes]), xs, ys, roads, parts)
 
-    def spots(self, longitudes: Floats, latitudes: Floats, metres: Floats, roads: Integers, parts: Floats) -> Spots:
-        """Makes spots, with the ways out of them and into them, and rounds the weights of these."""
+    def spots(self, places: Floats, longitudes: Floats, latitudes: Floats, roads: Integers, parts: Floats) -> Spots:
+        """Makes the spots of places, with the ways out of them and into them, and rounds the weights of these."""
+        metres = metres_between(places[:, 0], places[:, 1], longitudes, latitudes)
         ways, outs = self.ways, self.ways.outs
         nodes, weights = ways.nodes.take(roads, axis=0), ways.weights.take(roads, axis=0)
         column = parts[:, None]
@@ -283,7 +422,8 @@ class Roads:
             self.stay_at_nodes(nodes, weights, at_node, roads[at_node], parts[at_node] == 0)
         sides = numpy.full(len(roads), FORWARD | BACKWARD)
         return Spots(
-            longitudes, latitudes, metres, roads, parts, nodes[:, :outs], weights[:, :outs], nodes[:, outs:], weights[:, outs:], sides,
+            longitudes, latitudes, metres, roads, parts, nodes[:, :outs], weights[:, :outs], nodes[:, outs:], weights[:, outs:], sides, places,
+            self.origin,
         )
 
     def stay_at_nodes(self, nodes: Integers, weights: Integers, at_node: Integers, roads: Integers, is_first: Marks) -> None:
@@ -295,16 +435,20 @@ class Roads:
             column = first + numpy.where(is_first, 0, width // 2)
             nodes[at_node, column], weights[at_node, column] = there, 0
 
-    def find_facing(self, longitude: float, latitude: float, bearing: float, within: float) -> Spots:
+    def find_facing(self, longitude: float, latitude: float, bearing: float, within: float, but: Sequence[int] = ()) -> Spots:
         """Takes one place to the nearest point at which a road leads in a direction, in degrees clockwise from north, or at most `within` degrees off
-        it. Trips leave the spot and arrive at it in that direction alone. If no road leads that way, there are no spots."""
-        steps, share, at = self.lines.nearest_facing(longitude, latitude, lambda steps: self.facing(steps, bearing, within) > 0)
+        it, on any road but some. Trips leave the spot and arrive at it in that direction alone. If no road leads that way, there are no spots."""
+        def fits(steps: Integers) -> Marks:
+            found = self.facing(steps, bearing, within) > 0
+            return found & ~numpy.isin(numpy.searchsorted(self.lines.firsts, steps, "right") - 1, but) if but else found
+
+        steps, share, at = self.lines.nearest_facing(longitude, latitude, fits)
         roads = numpy.searchsorted(self.lines.firsts, steps, "right") - 1
         before, after = self.lines.parts[steps], self.lines.parts[steps + 1]
         # A spot at an end of its road would be left by any other road.
         parts = (before + share * (after - before)).clip(INSIDE, 1 - INSIDE)
-        metres = metres_between(numpy.full(len(steps), longitude), numpy.full(len(steps), latitude), *at)
-        return one_sided(self.spots(*at, metres, roads, parts), self.facing(steps, bearing, within))
+        places = numpy.column_stack([numpy.full(len(steps), longitude), numpy.full(len(steps), latitude)])
+        return one_sided(self.spots(places, *at, roads, parts), self.facing(steps, bearing, within))
 
     def facing(self, steps: Integers, bearing: float, within: float) -> Integers:
         """For each step of a line, the open directions along its road that lead in a direction."""
@@ -334,12 +478,15 @@ class Roads:
 
     # Spots and arcs on roads.
 
-    def are_here(self, spots: Spots) -> Marks:
-        """Whether each spot is on its road. A spot of another network may have the number of a road that is elsewhere, or doesn't exist here."""
-        is_here = (spots.roads >= 0) & (spots.roads < len(self))
-        some = numpy.flatnonzero(is_here)
-        is_here[some] = self.lines.are_on(spots.roads[some], spots.longitudes[some], spots.latitudes[some])
-        return is_here
+    def same_points(self, spots: Spots) -> tuple[Spots, Marks]:
+        """Spots of this network at the same points of roads as others, and which of them there are. A spot of another network has none, and in a
+        scenario a spot has none if its road is closed there."""
+        if spots.origin.roads == self.origin.roads:
+            return spots, numpy.ones(len(spots), bool)
+        if spots.origin.nodes != self.origin.nodes or not len(self):
+            return spots, numpy.zeros(len(spots), bool)
+        found = replace(self.find_any(*spots.places.T), sides=spots.sides)
+        return found, metres_between(found.longitudes, found.latitudes, spots.longitudes, spots.latitudes) <= SAME
 
     def sides_of(self, arcs: Integers) -> Integers:
         """The directions in which arcs lead along their roads, `FORWARD` or `BACKWARD`."""
@@ -351,41 +498,19 @@ class Roads:
         """The places of a road from one part of it to another, in degrees (n, 2)."""
         return self.lines.stretch(road, start, end)
 
-    def lines_of(self, routes: Sequence[files.Answer]) -> list[Floats]:
-        """The places along some routes, given by their nodes and the weights of their arcs, in degrees: a list of (n, 2). Places may be repeated."""
-        if not routes:
-            return []
-        nodes = numpy.fromiter(itertools.chain.from_iterable(each.nodes or () for each in routes), numpy.int64)
-        weights = numpy.fromiter(itertools.chain.from_iterable(each.weights or () for each in routes), numpy.int64)
-        lasts = numpy.cumsum([len(each.nodes or ()) for each in routes]) - 1
-        is_tail, is_head = numpy.ones((2, len(nodes)), bool)
-        is_tail[lasts] = is_head[0] = is_head[lasts[:-1] + 1] = False
-        arcs = self.arcs_of(nodes[is_tail], nodes[is_head], weights)
-        arcs_before = numpy.concatenate([[0], lasts - numpy.arange(len(routes))])
-        is_along = self.road_of[arcs] != NONE
-        roads = self.road_of[arcs[is_along]]
+    def lines_of(self, starts: Integers, counts: Integers, arcs: Integers) -> list[Floats]:
+        """The places along some routes, in degrees: a list of (n, 2). Route k begins at the node `starts[k]` and has `counts[k]` of the arcs. Places may
+        be repeated."""
+        is_along, cuts = self.road_of[arcs] != NONE, numpy.append(0, numpy.cumsum(counts))
+        roads, sizes = self.road_of[arcs[is_along]], numpy.zeros(len(arcs) + 1, numpy.int64)
         places = self.lines.joined(roads, self.is_back[arcs[is_along]])
-        counts = numpy.zeros(len(arcs) + 1, numpy.int64)
-        counts[1:][is_along] = self.lines.firsts[roads + 1] - self.lines.firsts[roads]
-        cuts = numpy.cumsum(counts)[arcs_before]
-        ends = self.places[nodes[lasts] - 1]
-        starts = self.places[nodes[numpy.append(0, lasts[:-1] + 1)] - 1]
+        sizes[1:][is_along] = self.lines.firsts[roads + 1] - self.lines.firsts[roads]
+        firsts, stops = numpy.cumsum(sizes)[cuts], starts.copy()
+        stops[counts > 0] = self.heads[arcs[cuts[1:][counts > 0] - 1]]
+        begins, ends = self.places[starts - 1], self.places[stops - 1]
         return [
-            numpy.concatenate([starts[each:each + 1], places[cuts[each]:cuts[each + 1]], ends[each:each + 1]]) for each in range(len(routes))
+            numpy.concatenate([begins[each:each + 1], places[firsts[each]:firsts[each + 1]], ends[each:each + 1]]) for each in range(len(starts))
         ]
-
-    def arcs_of(self, tails: Integers, heads: Integers, weights: Integers) -> Integers:
-        """The arcs between nodes with these weights, the first of several. The arcs of a route have the least weights between their ends."""
-        if self.ordered is None:
-            keys = self.tails << 32 | self.heads
-            order = numpy.lexsort([self.weights, keys])
-            self.ordered = keys[order], order
-        keys, order = self.ordered
-        found = numpy.searchsorted(keys, tails << 32 | heads)
-        arcs = order[numpy.minimum(found, len(order) - 1)] if len(order) else found
-        if (self.tails[arcs] != tails).any() or (self.heads[arcs] != heads).any() or (self.weights[arcs] != weights).any():
-            raise ChtabError("a route has an arc that the graph doesn't have: the file of the graph was changed")
-        return arcs
 
     def segments(self) -> tuple[Integers, Floats, Floats]:
         """The straight pieces of all arcs along roads: their arcs, both ends in degrees (n, 4), and the parts of the arc at both ends (n, 2)."""
@@ -401,27 +526,3 @@ class Roads:
             ends, parts = numpy.where(is_back, ends[:, [2, 3, 0, 1]], ends), numpy.where(is_back, 1 - parts[:, ::-1], parts)
             self.pieces = numpy.repeat(arcs, counts), ends, parts
         return self.pieces
-
-    # What can be reached.
-
-    def pace(self) -> float:
-        """The least weight of an arc for each metre of the straight line between its ends; 0 if a node of an arc has no place."""
-        if self.least_pace is None:
-            tails, heads = self.places[self.tails - 1], self.places[self.heads - 1]
-            metres = metres_between(*tails.T, *heads.T)
-            with numpy.errstate(divide="ignore", invalid="ignore"):
-                paces = numpy.where(metres > 0, self.weights / metres, numpy.inf)
-            self.least_pace = 0.0 if numpy.isnan(metres).any() else float(paces.min(initial=numpy.inf))
-        return self.least_pace
-
-    def nodes_near(self, starts: Integers, limits: Integers) -> Integers:
-        """All nodes that are reached from a node of `starts` within its limit, and some others: those within the straight line that the least pace
-        allows."""
-        pace = self.pace()
-        is_near = numpy.zeros(len(self.places), bool)
-        for start, limit in zip(starts, limits):
-            if limit >= 0:
-                metres = metres_between(*self.places.T, *numpy.broadcast_to(self.places[start - 1], self.places.shape).T)
-                # The margin keeps nodes that are exactly at the limit in spite of rounding.
-                is_near |= ~(metres * pace > limit * (1 + 1e-9) + pace)
-        return numpy.flatnonzero(is_near) + 1

@@ -31,6 +31,12 @@ def metres(chord: float) -> float:
     return 2 * RADIUS * math.asin(min(1.0, chord / 2))
 
 
+def metres_from(longitude: float, latitude: float, other: float, other_latitude: float) -> float:
+    """The metres between two places."""
+    (a, b, c), (u, v, w) = point(longitude, latitude), point(other, other_latitude)
+    return metres(math.sqrt((a - u) * (a - u) + (b - v) * (b - v) + (c - w) * (c - w)))
+
+
 def metres_of(chords: Floats) -> Floats:
     """The same for an array of straight distances."""
     import numpy

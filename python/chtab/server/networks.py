@@ -10,14 +10,17 @@ from collections.abc import Iterator, Sequence
 from typing import IO, TYPE_CHECKING, Any, NamedTuple, Self
 
 from chtab import files
+from chtab.engine.in_process import InProcess
 from chtab.errors import ChtabError
 from chtab.network import Network
 from chtab.server.osrm.answering import numbers_in
 
 if TYPE_CHECKING:
-    from chtab.engine.asking import Engine
     from chtab.engine.in_process import InProcess
+    from chtab.engine.library import Handle
 
+# The files that each network has, and what they are for.
+NEEDED = {"gr": "the graph, as osm_to_gr.py writes it", "co": "the coordinates of the graph's nodes, to take places to roads"}
 # The optional files of a network, besides its graph and its coordinates.
 OPTIONAL = "bends", "names", "nodes"
 
@@ -62,7 +65,10 @@ class Served:
     """A network with the streets of its arcs, `files.Streets` or None, and the map's numbers of its nodes, or None."""
 
     def __init__(self, named: Named, kept: Kept, **running: Any) -> None:
-        paths = {suffix: kept.path(f"{named.out}.{suffix}") for suffix in ("gr", "co")}
+        for suffix, what in NEEDED.items():
+            if not os.path.exists(f"{named.out}.{suffix}"):
+                raise ChtabError(f"{named.out}.{suffix} is missing: a service needs {what}")
+        paths = {suffix: kept.path(f"{named.out}.{suffix}") for suffix in NEEDED}
         paths |= {suffix: kept.path(f"{named.out}.{suffix}") for suffix in OPTIONAL if os.path.exists(f"{named.out}.{suffix}")}
         saved = None if named.saved is None else kept.path(named.saved)
         self.name, self.title = named.name, named.out.rpartition("/")[2]
@@ -71,9 +77,24 @@ class Served:
         self.streets = files.read_streets(paths["names"], arcs) if "names" in paths else None
         self.numbers = numbers_in(paths["nodes"], self.network.nodes) if "nodes" in paths else None
 
+        # The handle of the library that the first process opens, and the forked ones take.
+        self.opened: Handle | None = None
+
     @property
-    def engine(self) -> Engine | InProcess:
+    def engine(self) -> InProcess:
         return self.network._engine
+
+    def open_once(self) -> None:
+        """Opens the network before processes are forked: they then have it in memory together."""
+        self.opened = self.engine.first_handle()
+
+    def load(self) -> None:
+        """Starts the engine if it is not there. A forked process takes what the first one has opened."""
+        engine = self.engine
+        if self.opened is not None and not engine.living():
+            engine.begin_with(self.opened)
+        else:
+            engine.load()
 
 
 class Networks:
@@ -106,7 +127,12 @@ class Networks:
     def load(self) -> None:
         """Starts the engines that are not there."""
         for each in self.served:
-            each.engine.load()
+            each.load()
+
+    def open_once(self) -> None:
+        """Opens networks before processes are forked, as far as these can share them."""
+        for each in self.served:
+            each.open_once()
 
     def are_ready(self) -> bool:
         """Whether each network has a living engine."""

@@ -9,7 +9,7 @@ from collections.abc import Mapping
 from typing import Any
 
 from aiohttp import hdrs, web
-from aiohttp.http import SERVER_SOFTWARE, HttpVersion10, HttpVersion11
+from aiohttp.http import HttpVersion10, HttpVersion11
 
 CONTENT_TYPE = "application/json; charset=utf-8"
 
@@ -61,7 +61,7 @@ class JsonAnswer(web.StreamResponse):
             connection = "Connection: close\r\n"
         more = lines_of(self.headers) if self.headers else ""
         head = f"HTTP/{version.major}.{version.minor} 200 OK\r\nContent-Type: {CONTENT_TYPE}\r\n{self.lines}{more}Content-Length: {len(self.text)}\r\n" \
-            f"Date: {date_at(int(time.time()))}\r\nServer: {SERVER_SOFTWARE}\r\n{connection}\r\n"
+            f"Date: {date_at(int(time.time()))}\r\n{connection}\r\n"
         self.bytes = head.encode() if request.method == hdrs.METH_HEAD else head.encode() + self.text
         self.writer = request.writer
         return self.writer

@@ -26,7 +26,7 @@ from chtab.server import web_policy
 from chtab.server.connections import Caps, client_of, is_gone
 from chtab.server.faults import fault_of
 from chtab.server.metrics import Metrics
-from chtab.server.osrm import answering, url
+from chtab.server.osrm import answering, options, url
 from chtab.server.osrm.options import Refusal
 from chtab.server.queue import Asked, Turns
 from chtab.server.requests import Limits, Refused, bytes_in, fields_of, number_in, place_in, places_in
@@ -60,7 +60,7 @@ PROBE = numpy.array([[1, 1]])
 class Choices:
     """The operator's choices: the title of the page, places with names, the address of a layer of map tiles or None, the limits of requests in JSON
     and of OSRM's interface, how many connections are allowed, the origins whose pages may ask too, the names that clients of OSRM's interface may
-    give the network, empty for any name, and the address of the proxy or None."""
+    give the network, empty for any name, the address of the proxy or None, and the form of the lines of the log."""
 
     title: str = ""
     places: tuple[Place, ...] = ()
@@ -71,22 +71,17 @@ class Choices:
     allowed: tuple[str, ...] = ()
     profiles: tuple[str, ...] = ()
     proxy: str | None = None
+    log_form: str = "plain"
 
 
-class Service:
-    """The answers to requests, by `networks` that it keeps and doesn't close. `row` counts what this process answers, among those of `metrics`."""
+class Material:
+    """What the answers of a service are made of. It is made once, before processes are forked, which then share its memory."""
 
-    def __init__(self, networks: Networks, choices: Choices = Choices(), metrics: Metrics | None = None, row: int = 0) -> None:
-        first = networks.first
-        self.networks, self.network, self.choices, self.limits = networks, first.network, choices, choices.limits
-        self.title, self.caps, self.proxy = choices.title or first.title, choices.caps, choices.proxy
-        self.metrics = metrics or Metrics()
-        self.row = self.metrics.of_processes[row]
-        # How many runs were started by an earlier process at this place.
-        self.begun_before = self.row.of("begun")
-        self.tiles = Tiles(self.network.roads, self.network.unit == "milliseconds")
+    def __init__(self, networks: Networks, choices: Choices) -> None:
+        first = networks.first.network
+        self.tiles = Tiles(first.roads, first.unit == "milliseconds")
         self.osrm = [
-            answering.Answers(each.network, (each.name,) if each.name else choices.profiles, choices.osrm, each.streets, each.numbers) for each in networks
+            answering.Answers(each.network, (each.name.partition("/")[0],) if each.name else choices.profiles, choices.osrm, each.streets, each.numbers) for each in networks
         ]
         self.by_name = {each.name: answers for each, answers in zip(networks, self.osrm) if each.name}
         # The index of roads is made now, and what simplifies lines is loaded, and not while the first client waits.
@@ -94,6 +89,23 @@ class Service:
             each.network.roads.find_any([0.0], [0.0])
         with contextlib.suppress(ImportError):
             importlib.import_module("shapely.geometry")
+
+
+class Service:
+    """The answers to requests, by `networks` that it keeps and doesn't close, and by their `material`. `row` counts what this process answers, among
+    those of `metrics`."""
+
+    def __init__(
+        self, networks: Networks, choices: Choices = Choices(), metrics: Metrics | None = None, row: int = 0, material: Material | None = None,
+    ) -> None:
+        first, material = networks.first, material or Material(networks, choices)
+        self.networks, self.network, self.choices, self.limits = networks, first.network, choices, choices.limits
+        self.title, self.caps, self.proxy = choices.title or first.title, choices.caps, choices.proxy
+        self.metrics = metrics or Metrics()
+        self.row = self.metrics.of_processes[row]
+        # How many runs were started by an earlier process at this place.
+        self.begun_before = self.row.of("begun")
+        self.tiles, self.osrm, self.by_name = material.tiles, material.osrm, material.by_name
         self.turns = Turns(self.limits.at_once, self.limits.waiting, self.limits.together)
         self.headers, self.longest_address = web_policy.headers(choices.tiles), choices.osrm.address
         self.lines = lines_of(dict([*self.headers.items(), web_policy.CACHING]))
@@ -110,6 +122,7 @@ class Service:
         app = web.Application(client_max_size=self.limits.body, middlewares=[around])
         app.add_routes([
             web.get(web_policy.OSRM, self.answer_osrm),
+            web.post(web_policy.OSRM, self.answer_osrm),
             web.get("/", self.page),
             web.static("/page", PAGE),
             web.static("/leaflet", LEAFLET, follow_symlinks=True),
@@ -204,13 +217,16 @@ class Service:
 
     async def answer_osrm(self, request: web.Request) -> JsonAnswer:
         """Answers a request of OSRM's interface."""
-        return self.json_of(await self.answer(request, self.asked(request.raw_path)))
+        if request.method in READING:
+            return self.json_of(await self.answer(request, self.asked(request.raw_path, self.longest_address)))
+        target = url.posted(request.raw_path, await self.body_of(request))
+        return self.json_of(await self.answer(request, self.asked(target, len(target))))
 
-    def asked(self, target: str) -> Asked:
+    def asked(self, target: str, longest: int) -> Asked:
         """What a request of OSRM's interface asks. Routes, and the nearest roads, are answered together with those that wait beside them. What the
         library in this process answers may be answered in the loop."""
-        words = url.words_of(target, self.longest_address)
-        answers = self.answers_for(words.profile)
+        words = url.words_of(target, longest)
+        answers = self.answers_for(words.profile, options.excluded_in(words.query) if "exclu" in words.query or "%" in words.query else ())
         question = answers.question(words)
         is_quick = answers.network.answers_by == "library"
         if question.service == "route":
@@ -222,12 +238,18 @@ class Service:
             return Asked(answers.tables, question, False, 1, is_quick, question.own.size)
         return alone(getattr(answers, question.service), question)
 
-    def answers_for(self, profile: str) -> Answers:
-        """The answers of the network that a profile names. If there is only one network, its answers check the name."""
+    def answers_for(self, profile: str, excluded: tuple[str, ...]) -> Answers:
+        """The answers of the network that a profile names, without the ways of the classes that are excluded. If there is only one network, its answers
+        check the name."""
+        if excluded:
+            name = f"{profile}/{','.join(excluded)}"
+            if name not in self.by_name:
+                raise Refusal("InvalidValue", f"exclude: there is no network without {' and '.join(excluded)}")
+            return self.by_name[name]
         if len(self.osrm) == 1:
             return self.osrm[0]
         if profile not in self.by_name:
-            raise Refusal("InvalidValue", f"the profiles are {', '.join(self.by_name)}")
+            raise Refusal("InvalidValue", f"the profiles are {', '.join(name for name in self.by_name if '/' not in name)}")
         return self.by_name[profile]
 
     async def page(self, request: web.Request) -> web.FileResponse:
@@ -242,7 +264,7 @@ class Service:
     def try_engines(self) -> None:
         """Starts the engines that are not there, and asks each a question. Raises a `ChtabError` if one fails."""
         for each in self.networks:
-            each.engine.load()
+            each.load()
             if each.network.nodes and each.engine.distances(PROBE).tolist() != [0]:
                 raise ChtabError("the engine says that a node is not at itself")
 
@@ -321,7 +343,7 @@ class Service:
         near = numpy.array([place not in far for place in range(len(owners))])
         rows, columns = numpy.split(near, [len(sources)])
         weights = numpy.full((len(sources), len(targets)), -1)
-        weights[numpy.ix_(rows, columns)] = self.network.trip_table(spots[:len(sources)][rows], spots[len(sources):][columns], within)
+        weights[numpy.ix_(rows, columns)] = self.network.trip_table(spots[:len(sources)][rows], spots[len(sources):][columns], within=within)
         cells = [[None if weight < 0 else weight for weight in row] if is_near else None for row, is_near in zip(weights.tolist(), rows)]
         faults = [
             {"list": owners[place][0], "index": owners[place][1], "metres": round(float(spots.metres[place]), 1), "error": text}

@@ -49,7 +49,7 @@ class Serving:
 
     def __init__(self, service: Service, port: Port) -> None:
         self.service, self.port = service, port
-        self.recorder = Recorder(service.row, service.proxy)
+        self.recorder = Recorder(service.row, service.proxy, service.choices.log_form)
         self.connections = Connections(service.limits.idle, service.caps, self.recorder, service.proxy)
         self.loop, self.ended = asyncio.get_running_loop(), asyncio.Event()
         self.is_succeeded, self.status = False, 0

@@ -10,6 +10,8 @@ from aiohttp import web
 
 from chtab.errors import ChtabError
 
+# What the header Server says: no version, which would tell what else is known of it.
+SOFTWARE = "chtab"
 # An address with a scheme or a server, and the server of an address that a policy can name.
 ABSOLUTE = re.compile(r"[a-z][a-z0-9+.-]*:|//", re.IGNORECASE)
 SERVER = re.compile(r"(https?://[a-z0-9.-]+(?::[0-9]+)?)/", re.IGNORECASE)
@@ -51,6 +53,7 @@ def headers(tiles: str | None) -> dict[str, str]:
         "X-Content-Type-Options": "nosniff",
         # Servers of map tiles refuse requests without the name of the site.
         "Referrer-Policy": "no-referrer" if tiles is None else "strict-origin",
+        "Server": SOFTWARE,
     }
 
 

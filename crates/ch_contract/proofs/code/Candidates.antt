@@ -25,7 +25,7 @@ use Rattle.std.proofs.lemmas.Option.{same_Some}
 use Rattle.ch_graph.specs.declared.limits.TheConstants.{MOST_NODES, MOST_WEIGHT, MOST_HOPS}
 use Rattle.ch_contract.specs.declared.held_cost.TheConstants.{MOST_CHAIN_ARCS, NEVER_ARCS}
 use Rattle.ch_contract.specs.declared.shortcut.Shortcut.{Shortcut}
-use Rattle.ch_contract.specs.Rounds.{IsShortcutAmong}
+use Rattle.ch_contract.specs.ShortcutLists.{IsShortcutAmong}
 use Rattle.ch_contract.specs.ShortcutLists.{AreShortcutsBefore, EndsBefore}
 use Rattle.ch_contract.proofs.code.ShortcutLemmas.{before_raise}
 use Rattle.ch_contract.proofs.code.KnownRounds.{wanted_small, chain_small}

@@ -13,7 +13,7 @@ use Rattle.ch_contract.specs.LegRows.{row_leg, AreLegsFrom, AreLegsTo}
 use Rattle.ch_contract.specs.KnownCosts.{AreLegsUpTo}
 use Rattle.ch_contract.specs.Enough.{IsPairThrough}
 use Rattle.ch_contract.specs.Contraction.{AreShortcuts}
-use Rattle.ch_contract.specs.Rounds.{AreShortcutsAmong}
+use Rattle.ch_contract.specs.ShortcutLists.{AreShortcutsAmong}
 use Rattle.ch_contract.specs.ShortcutLists.{legs_touching, AreTouching}
 use Rattle.ch_contract.proofs.theory.Contracting.{pair_of_shortcut}
 
@@ -80,18 +80,3 @@ module _ (L : Legs) (v : ℕ) (up down : List Leg) (from : AreLegsFrom L v up) (
   pub own_shortcuts : (n h : ℕ) (list : List Shortcut) → AreShortcutsAmong n h (legs_touching v up down) L v list →
       AreShortcuts n h L v list
   own_shortcuts n h list are = among_own n h L v list (among_same n h (legs_touching v up down) L L v list touching_from touching_to are)
-
--- rows of legs within a lower limit touch v within this limit
-pub lighter_touching : (n limit most v : ℕ) (up down : List Leg) → AreTouching n most v up down → All (λ l. l.cost.weight ≤ limit) up →
-    All (λ l. l.cost.weight ≤ limit) down → AreTouching n limit v up down
-lighter_touching n limit most v up down are above below = record {
-  from = are.from;
-  to = are.to;
-  within = are.within;
-  light = λ u w l e. at u w l (u == v) (w == v) e;
-}
-  where
-    at : (u w : ℕ) (l : Label) (a b : Bool) → cond a (row_leg up w) (cond b (row_leg down u) None) ≡ Some l → l.cost.weight ≤ limit
-    at u w l true b f = All-contains (λ (k : Leg). k.cost.weight ≤ limit) up (leg_at w l) above (row_member up w l f)
-    at u w l false true f = All-contains (λ (k : Leg). k.cost.weight ≤ limit) down (leg_at u l) below (row_member down u l f)
-    at u w l false false f = absurd (none-some l f)

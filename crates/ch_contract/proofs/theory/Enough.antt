@@ -8,8 +8,8 @@ use Rattle.ch_graph.proofs.CostOrder.{IsAtMost_or_IsBelow, IsBelow-IsAtMost}
 use Rattle.ch_hierarchy.specs.Hierarchy.{LevelsAndLegs}
 use Rattle.ch_contract.specs.declared.shortcut.Shortcut.{Shortcut}
 use Rattle.ch_contract.specs.Legs.{Label, Legs, HasWitness, IsHopBound, AreLegsWithin, opening}
-use Rattle.ch_contract.specs.Contraction.{AreShortcuts, Contracts}
-use Rattle.ch_contract.specs.Enough.{AreEnough, ContractsWithEnough}
+use Rattle.ch_contract.specs.Contraction.{IsShortcut, AreShortcuts, Contracts}
+use Rattle.ch_contract.specs.Enough.{AreEnough, ContractsWithEnough, ContractsWithin}
 use Rattle.ch_contract.specs.Order.{AreTaken, AreContracted}
 use Rattle.ch_contract.specs.Built.{IsHierarchyIn, IsHierarchyOf}
 use Rattle.ch_contract.proofs.theory.OpeningLegs.{opening_within}
@@ -64,12 +64,6 @@ hierarchy_by IsStep IsOther g H order L p f = record {
   down = p.down;
 }
 
--- a hierarchy of contracted nodes is one of nodes that are contracted with sums of two legs
-pub hierarchy_with_pairs : (g : Network) (h : ℕ) (H : LevelsAndLegs) (order : List ℕ) (L : ℕ → Legs) → IsHierarchyOf g h H order L →
-    IsHierarchyIn (ContractsWithPairs g.nodes) g H order L
-hierarchy_with_pairs g h H order L p =
-    hierarchy_by (Contracts g.nodes h) (ContractsWithPairs g.nodes) g H order L p (λ i lt. pairs_by_needed g.nodes h _ _ _)
-
 -- for a graph within the limits, the legs before each contraction are within the limits
 contracted_limits : (g : Network) (h : ℕ) (order : List ℕ) (L : ℕ → Legs) → IsWithinLimits g → AreContracted g h order L → (i : ℕ) →
     i ≤ g.nodes → AreLegsWithin g.nodes (L i)
@@ -93,3 +87,55 @@ pub hierarchy_with_enough : (g : Network) (h : ℕ) (H : LevelsAndLegs) (order :
     IsHierarchyOf g h H order L → IsHierarchyIn (ContractsWithEnough g.nodes h) g H order L
 hierarchy_with_enough g h H order L limits hops p = hierarchy_by (Contracts g.nodes h) (ContractsWithEnough g.nodes h) g H order L p
     (λ i lt c. enough_at g h order L limits hops p.contracted i lt)
+
+-- a witness of at most k legs is one of at most h legs
+longer_witness : (L : Legs) (v u w : ℕ) (c : Cost) (k h : ℕ) → k ≤ h → HasWitness L v u w c k → HasWitness L v u w c h
+longer_witness L v u w c k h le found = (
+  found.0,
+  record {
+    chain = found.1.chain;
+    hops = (found.1.hops.0, omega (arith, found.1.hops.1));
+    away = found.1.away;
+    cheap =
+        found.1.cheap;
+  },
+)
+
+-- what is a shortcut for a greater bound is one for a lesser bound
+needed_by_fewer : (n k h : ℕ) (L : Legs) (v : ℕ) (s : Shortcut) → k ≤ h → IsShortcut n h L v s → IsShortcut n k L v s
+needed_by_fewer n k h L v s le is = record {
+  apart = is.apart;
+  legs = is.legs;
+  weight = is.weight;
+  arcs = is.arcs;
+  needed = λ found. is.needed (longer_witness L v s.from s.to s.cost k h le found);
+}
+
+-- the shortcuts for a lesser bound are enough for a greater one
+pub fewer_are_enough : (n k h : ℕ) (L : Legs) (v : ℕ) (list : List Shortcut) → 1 ≤ k → k ≤ h → AreLegsWithin n L →
+    AreShortcuts n k L v list → AreEnough n h L v list
+fewer_are_enough n k h L v list most le limits are =
+    let own = needed_are_enough n k L v list most limits are in
+    record {
+      pairs = own.pairs;
+      no_dearer = own.no_dearer;
+      needed = λ s is. are.whole s (needed_by_fewer n k h L v s le is);
+    }
+
+-- contraction with a lesser bound puts in sums of two legs
+pub pairs_within : (n h : ℕ) (L : Legs) (v : ℕ) (M : Legs) → ContractsWithin n h L v M → ContractsWithPairs n L v M
+pairs_within n h L v M c = pairs_by_needed n c.0 L v M c.3
+
+-- contraction with a lesser bound is contraction with enough shortcuts
+pub enough_within : (n h : ℕ) (L : Legs) (v : ℕ) (M : Legs) → AreLegsWithin n L → ContractsWithin n h L v M →
+    ContractsWithEnough n h L v M
+enough_within n h L v M limits c = (c.3.0, fewer_are_enough n c.0 h L v c.3.0 c.1 c.2 limits c.3.1, c.3.2)
+
+-- for a graph within the limits, a hierarchy of nodes that are contracted with lesser bounds is one with enough shortcuts
+pub hierarchy_within : (g : Network) (h : ℕ) (H : LevelsAndLegs) (order : List ℕ) (L : ℕ → Legs) → IsWithinLimits g →
+    IsHierarchyIn (ContractsWithin g.nodes h) g H order L → IsHierarchyIn (ContractsWithEnough g.nodes h) g H order L
+hierarchy_within g h H order L limits p =
+    let start = subst (AreLegsWithin g.nodes) (sym (one_map (L 0) (opening g) p.contracted.start)) (opening_within g limits) in
+    let within = within_steps g.nodes g.nodes order L start (λ i lt. pairs_within g.nodes h _ _ _ (p.contracted.step i lt)) in
+    hierarchy_by (ContractsWithin g.nodes h) (ContractsWithEnough g.nodes h) g H order L p
+    (λ i lt c. enough_within g.nodes h _ _ _ (within i (omega arith)) c)

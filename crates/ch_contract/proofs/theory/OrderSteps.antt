@@ -9,10 +9,9 @@ use Rattle.std.proofs.lemmas.List.Elements.{All-push}
 use Rattle.ch_graph.specs.Graph.{Network}
 use Rattle.ch_contract.specs.declared.measure.OrderBy.{OrderBy}
 use Rattle.ch_contract.specs.Legs.{Legs, opening}
-use Rattle.ch_contract.specs.Contraction.{Contracts}
-use Rattle.ch_contract.specs.Order.{are_neighbours, IsLastTouch, IsContractedBefore, AreContracted}
+use Rattle.ch_contract.specs.Order.{are_neighbours, IsLastTouch, IsContractedBefore, AreTaken}
 use Rattle.ch_contract.specs.Like.{IsPriorityFrom}
-use Rattle.ch_contract.specs.Begun.{IsBegun}
+use Rattle.ch_contract.specs.Begun.{IsBegunBy}
 use Rattle.ch_hierarchy.proofs.theory.Ordered.{distinct_most, whole_least, pairs_push}
 use Rattle.ch_contract.proofs.theory.OneInTurn.{Agree, from_along}
 
@@ -108,50 +107,50 @@ module _ (order : List ℕ) (L : ℕ → Legs) (v : ℕ) (M : Legs) where
   pub next : legs_more (length order + 1) ≡ M
   next = then_next (length order) L M (length order + 1) (omega arith)
 
-module _ (g : Network) (h : ℕ) (order : List ℕ) (L : ℕ → Legs) (b : IsBegun g h order L) (v : ℕ) (within : v < g.nodes)
-    (left : Contains order v → ⊥) where
-  -- after one more remaining node is contracted, the contracted nodes differ
+module _ (IsStep : Legs → ℕ → Legs → Type 0) (g : Network) (order : List ℕ) (L : ℕ → Legs) (b : IsBegunBy IsStep g order L) (v : ℕ)
+    (within : v < g.nodes) (left : Contains order v → ⊥) where
+  -- after one more remaining node is taken, the taken nodes differ
   pub nodes_more : All (λ x. x < g.nodes) (more order L v (L 0)) × AllPairs ◌≢◌ (more order L v (L 0))
   nodes_more = (All-push (λ x. x < g.nodes) order v b.nodes.0 within, pairs_push order v b.nodes.1 left)
 
-  -- the number of contracted nodes is less than the number of nodes
+  -- the number of taken nodes is less than the number of nodes
   pub begun_fewer : length order < g.nodes
   begun_fewer = omega (arith, begun_most g (order ++ v ∷ []) nodes_more.0 nodes_more.1, length_push order v)
 
-module _ (g : Network) (h : ℕ) (order : List ℕ) (L : ℕ → Legs) (v : ℕ) (M : Legs) (b : IsBegun g h order L) (within : v < g.nodes)
-    (left : Contains order v → ⊥) (step : Contracts g.nodes h (L (length order)) v M) where
-  -- the step is a contraction
-  step_here : Contracts g.nodes h (legs_more order L v M (length order)) (slice_index (more order L v M) (length order))
+module _ (IsStep : Legs → ℕ → Legs → Type 0) (g : Network) (order : List ℕ) (L : ℕ → Legs) (v : ℕ) (M : Legs)
+    (b : IsBegunBy IsStep g order L) (within : v < g.nodes) (left : Contains order v → ⊥) (step : IsStep (L (length order)) v M) where
+  -- the step is such a step
+  step_here : IsStep (legs_more order L v M (length order)) (slice_index (more order L v M) (length order))
       (legs_more order L v M (length order + 1))
   step_here =
-      let two = subst (λ (N : Legs). Contracts g.nodes h N v M) (sym (now order L v M)) step in
-      let three = subst (λ x. Contracts g.nodes h (legs_more order L v M (length order)) x M) (sym (here order L v M)) two in
-      subst (λ (N : Legs). Contracts g.nodes h (legs_more order L v M (length order))
+      let two = subst (λ (N : Legs). IsStep N v M) (sym (now order L v M)) step in
+      let three = subst (λ x. IsStep (legs_more order L v M (length order)) x M) (sym (here order L v M)) two in
+      subst (λ (N : Legs). IsStep (legs_more order L v M (length order))
       (slice_index (more order L v M) (length order)) N) (sym (next order L v M)) three
 
-  -- earlier steps are contractions
+  -- earlier steps are such steps
   step_before : (k : ℕ) → k < length order →
-      Contracts g.nodes h (legs_more order L v M k) (slice_index (more order L v M) k) (legs_more order L v M (k + 1))
+      IsStep (legs_more order L v M k) (slice_index (more order L v M) k) (legs_more order L v M (k + 1))
   step_before k lt =
-      let one = subst (λ (N : Legs). Contracts g.nodes h N (slice_index order k) (L (k + 1)))
+      let one = subst (λ (N : Legs). IsStep N (slice_index order k) (L (k + 1)))
       ((agree order L v M).legs k (omega arith)) (b.step k lt) in
-      let two = subst (λ x. Contracts g.nodes h (legs_more order L v M k) x (L (k + 1))) (before order L v M k lt) one in
-      subst (λ (N : Legs). Contracts g.nodes h (legs_more order L v M k) (slice_index (more order L v M) k) N)
+      let two = subst (λ x. IsStep (legs_more order L v M k) x (L (k + 1))) (before order L v M k lt) one in
+      subst (λ (N : Legs). IsStep (legs_more order L v M k) (slice_index (more order L v M) k) N)
       ((agree order L v M).legs (k + 1) (omega arith)) two
 
-  -- all steps are contractions
+  -- all steps are such steps
   step_more : (k : ℕ) → k < length (more order L v M) →
-      Contracts g.nodes h (legs_more order L v M k) (slice_index (more order L v M) k) (legs_more order L v M (k + 1))
+      IsStep (legs_more order L v M k) (slice_index (more order L v M) k) (legs_more order L v M (k + 1))
   step_more k lt = elim (cases_eq k (length order)) [
-    | inl e ↦ subst (λ z. Contracts g.nodes h (legs_more order L v M z) (slice_index (more order L v M) z)
+    | inl e ↦ subst (λ z. IsStep (legs_more order L v M z) (slice_index (more order L v M) z)
         (legs_more order L v M (z + 1))) (sym e) step_here
     | inr ne ↦ let size = length_push order v in step_before k (omega arith)
   ]
 
-  -- the nodes of the longer order are contracted in order
-  pub begun_more : IsBegun g h (order ++ v ∷ []) (then_legs (length order) L M)
+  -- the nodes of the longer order are taken in order
+  pub begun_more : IsBegunBy IsStep g (order ++ v ∷ []) (then_legs (length order) L M)
   begun_more = record {
-    nodes = nodes_more g h order L b v within left;
+    nodes = nodes_more IsStep g order L b v within left;
     start = λ x y. ap (λ (N : Legs). N x y) (then_before (length order) L M 0 (omega arith)) ∙ b.start x y;
     step = step_more;
   }
@@ -205,18 +204,18 @@ module _ (k : ℕ) (by : OrderBy) (g : Network) (h : ℕ) (order : List ℕ) (L 
         least_before i x ge below inside (λ has. away (subst (λ l. Contains l x) (sym part) has))
   ]
 
--- no node is contracted in an empty list
-pub begun_none : (g : Network) (h : ℕ) → IsBegun g h [] (λ i. opening g)
-begun_none g h = record {
+-- no node is taken in an empty list
+pub begun_none : (IsStep : Legs → ℕ → Legs → Type 0) (g : Network) → IsBegunBy IsStep g [] (λ i. opening g)
+begun_none IsStep g = record {
   nodes = (λ k d lt. absurd (omega arith), λ i j d lt inside. absurd (omega arith));
   start = λ x y. refl;
   step = λ i lt. absurd (omega arith);
 }
 
--- a list of contracted nodes that has all nodes is an order of contraction
-pub begun_all : (g : Network) (h : ℕ) (order : List ℕ) (L : ℕ → Legs) → IsBegun g h order L → ((x : ℕ) → x < g.nodes → Contains order x) →
-    AreContracted g h order L
-begun_all g h order L b each =
+-- a list of taken nodes that has all nodes is an order in which all are taken
+pub begun_all : (IsStep : Legs → ℕ → Legs → Type 0) (g : Network) (order : List ℕ) (L : ℕ → Legs) → IsBegunBy IsStep g order L →
+    ((x : ℕ) → x < g.nodes → Contains order x) → AreTaken IsStep g order L
+begun_all IsStep g order L b each =
     let size : length order ≡ g.nodes = omega (arith, whole_least order g.nodes each, begun_most g order b.nodes.0 b.nodes.1) in
     record {
       nodes = (size, b.nodes.0, b.nodes.1);

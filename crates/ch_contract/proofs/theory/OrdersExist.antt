@@ -15,7 +15,7 @@ use Rattle.ch_hierarchy.specs.Hierarchy.{LevelsAndLegs}
 use Rattle.ch_hierarchy.specs.Saved.{IsOrderOf}
 use Rattle.ch_hierarchy.proofs.theory.Ordered.{contains_or_not}
 use Rattle.ch_contract.specs.declared.measure.OrderBy.{OrderBy}
-use Rattle.ch_contract.specs.declared.measure.OrderBy.TheVariants.{Difference, Depth, Rounds}
+use Rattle.ch_contract.specs.declared.measure.OrderBy.TheVariants.{Difference, Depth}
 use Rattle.ch_contract.specs.Legs.{Legs, AreLegsWithin, opening, turned_legs}
 use Rattle.ch_contract.specs.LegRows.{AreLegsFrom}
 use Rattle.ch_contract.specs.Laws.{LeadsWithin}
@@ -30,7 +30,6 @@ use Rattle.ch_contract.proofs.theory.ReferenceSearch.{some_of}
 use Rattle.ch_contract.proofs.theory.Contracting.{pairs_by_needed}
 use Rattle.ch_contract.proofs.theory.GivenNodes.{order_nodes}
 use Rattle.ch_contract.proofs.theory.GivenOrders.{in_turn_from}
-use Rattle.ch_contract.proofs.theory.RoundsExist.{hierarchies_by_rounds_exist}
 use Rattle.ch_contract.proofs.theory.Levelled.{within_steps, turned_within}
 use Rattle.ch_contract.proofs.theory.Listing.{table, row_of}
 use Rattle.ch_contract.proofs.theory.OneInTurn.{one_map, not_before, taken_at}
@@ -126,11 +125,11 @@ module _ (g : Network) (h : ℕ) (limits : IsWithinLimits g) where
       (M : Legs) × IsBegun g h (order ++ v ∷ []) (then_legs (length order) L M)
   begun_next order L b v lt left =
       let made = contraction_exists g.nodes h (L (length order)) v (within order L b (length order) (omega arith)) in
-      (made.0, begun_more g h order L v made.0 b lt left made.1)
+      (made.0, begun_more (Contracts g.nodes h) g order L v made.0 b lt left made.1)
 
   -- the given nodes can be contracted
   given_begun : (given : List ℕ) → AreDifferentNodes g given → (i : ℕ) → i ≤ length given → (L : ℕ → Legs) × IsBegun g h (take i given) L
-  given_begun given nodes zero le = ((λ i. opening g), begun_none g h)
+  given_begun given nodes zero le = ((λ i. opening g), begun_none (Contracts g.nodes h) g)
   given_begun given nodes (suc i) le =
       let rest = given_begun given nodes i (omega arith) in
       let lt : i < length given = omega arith in
@@ -195,7 +194,7 @@ module _ (g : Network) (h : ℕ) (limits : IsWithinLimits g) where
               let more = next order L u some.0 some.1 in
               orders_from fuel (order ++ some.0 ∷ []) more.0 more.1 (omega (arith, length_push order some.0))
           | inr none ↦
-              let all = begun_all g h order L u.begun (λ x lt. has order x (none x lt)) in
+              let all = begun_all (Contracts g.nodes h) g order L u.begun (λ x lt. has order x (none x lt)) in
               let size = all.nodes.0 in
               (order, L, all, u.first, λ i x ge lt inside away. u.least i x ge (omega arith) inside away)
         ]
@@ -311,4 +310,3 @@ in_turn_exists by g h limits =
 pub hierarchies_exist : GraphsHaveHierarchies
 hierarchies_exist Difference g h limits hops = in_turn_exists Difference g h limits
 hierarchies_exist Depth g h limits hops = in_turn_exists Depth g h limits
-hierarchies_exist Rounds g h limits hops = hierarchies_by_rounds_exist g h limits hops

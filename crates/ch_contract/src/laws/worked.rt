@@ -2,7 +2,6 @@
 ghost use Rattle.std.specs.Prelude.{◌≡◌, [], ◌∷◌, pos, negsuc, map, length, Some, None, true, false};
 ghost use Rattle.ch_contract.specs.Legs.{opening};
 ghost use Rattle.ch_contract.specs.Reference.{has_witness, shortcuts_of, priority_of, order_of, order_by, hierarchy_of, hierarchy_by, meet_of};
-ghost use Rattle.ch_contract.specs.RoundReference.{rounds_of, hierarchy_by_rounds};
 ghost use Rattle.ch_contract.specs.LikeReference.{order_like, hierarchy_like};
 ghost use Rattle.ch_contract.specs.declared.measure.OrderBy.TheVariants.{Depth};
 ghost use Rattle.ch_contract.specs.Examples as examples;
@@ -48,19 +47,6 @@ pub fn orders_by_depth()
     ensures fewer_arcs { order_by Depth examples.fewer_arcs 5 ≡ (negsuc 1, 0) ∷ (negsuc 1, 2) ∷ (pos 0, 1) ∷ (pos 1, 4) ∷ (pos 2, 3) ∷ [] }
 {}
 
-/// Rounds, where each node follows its key when it is contracted.
-pub fn orders_by_rounds()
-    ensures line { rounds_of examples.line 5 ≡ ((negsuc 0, 0) ∷ []) ∷ ((negsuc 0, 2) ∷ []) ∷ ((pos 3, 1) ∷ []) ∷ [] }
-    ensures star { rounds_of examples.star 5 ≡ ((negsuc 1, 2) ∷ []) ∷ ((negsuc 1, 1) ∷ []) ∷ ((negsuc 1, 3) ∷ []) ∷ ((pos 1, 0) ∷ []) ∷ [] }
-    ensures diamond { rounds_of examples.diamond 5 ≡ ((negsuc 1, 0) ∷ []) ∷ ((negsuc 1, 3) ∷ []) ∷ ((pos 1, 1) ∷ (pos 1, 2) ∷ []) ∷ [] }
-    ensures triangle { rounds_of examples.triangle 5 ≡ ((negsuc 1, 0) ∷ []) ∷ ((pos 0, 2) ∷ []) ∷ ((pos 2, 1) ∷ []) ∷ [] }
-    ensures loop_and_tail { rounds_of examples.loop_and_tail 5 ≡ ((negsuc 0, 3) ∷ []) ∷ ((pos 0, 0) ∷ []) ∷ ((pos 1, 1) ∷ []) ∷ ((pos 2, 2) ∷ []) ∷ [] }
-    ensures detour { rounds_of examples.detour 5 ≡ ((negsuc 1, 0) ∷ []) ∷ ((negsuc 1, 2) ∷ []) ∷ ((pos 1, 1) ∷ (pos 2, 4) ∷ []) ∷ ((pos 2, 3) ∷ []) ∷ [] }
-    ensures ring { rounds_of examples.ring 5 ≡ ((pos 0, 0) ∷ []) ∷ ((pos 0, 2) ∷ []) ∷ ((pos 1, 4) ∷ []) ∷ ((pos 2, 1) ∷ []) ∷ ((pos 3, 3) ∷ []) ∷ [] }
-    ensures fewer_arcs { rounds_of examples.fewer_arcs 5 ≡ ((negsuc 1, 0) ∷ []) ∷ ((negsuc 1, 2) ∷ []) ∷ ((pos 2, 1) ∷ (pos 3, 4) ∷ []) ∷ ((pos 2, 3) ∷ []) ∷ [] }
-    ensures street { rounds_of examples.street 5 ≡ ((negsuc 0, 0) ∷ (negsuc 0, 6) ∷ []) ∷ ((pos 0, 2) ∷ []) ∷ ((pos 0, 4) ∷ []) ∷ ((pos 1, 3) ∷ []) ∷ ((pos 1, 5) ∷ []) ∷ ((pos 3, 1) ∷ []) ∷ [] }
-{}
-
 /// Orders like given ones, where this per cent of the nodes are ordered afresh.
 pub fn orders_like()
     ensures none { order_like examples.ring 5 (3 ∷ 1 ∷ 4 ∷ 2 ∷ 0 ∷ []) 0 ≡ 3 ∷ 1 ∷ 4 ∷ 2 ∷ 0 ∷ [] }
@@ -81,25 +67,6 @@ pub fn hierarchies_like()
       level = 1 ∷ 2 ∷ 4 ∷ 3 ∷ 5 ∷ [];
       up = (leg 2 1 1 ∷ []) ∷ (leg 3 1 1 ∷ []) ∷ (leg_through 4 5 2 2 ∷ []) ∷ (leg 5 1 1 ∷ []) ∷ [] ∷ [];
       down = (leg 5 1 1 ∷ []) ∷ (leg_through 1 5 2 2 ∷ []) ∷ (leg_through 2 5 3 3 ∷ []) ∷ (leg 3 1 1 ∷ []) ∷ [] ∷ [];
-    } }
-{}
-
-/// Hierarchies by rounds.
-pub fn hierarchies_by_rounds()
-    ensures diamond { hierarchy_by_rounds examples.diamond 5 ≡ record {
-      level = 1 ∷ 3 ∷ 4 ∷ 2 ∷ [];
-      up = (leg 2 1 1 ∷ leg 3 1 1 ∷ []) ∷ [] ∷ [] ∷ [] ∷ [];
-      down = [] ∷ [] ∷ [] ∷ (leg 2 1 1 ∷ leg 3 1 1 ∷ []) ∷ [];
-    } }
-    ensures ring { hierarchy_by_rounds examples.ring 5 ≡ record {
-      level = 1 ∷ 4 ∷ 2 ∷ 5 ∷ 3 ∷ [];
-      up = (leg 2 1 1 ∷ []) ∷ (leg_through 3 4 2 2 ∷ []) ∷ (leg 4 1 1 ∷ []) ∷ [] ∷ (leg_through 1 2 2 2 ∷ []) ∷ [];
-      down = (leg 5 1 1 ∷ []) ∷ (leg_through 5 4 3 3 ∷ []) ∷ (leg 2 1 1 ∷ []) ∷ [] ∷ (leg 4 1 1 ∷ []) ∷ [];
-    } }
-    ensures street { hierarchy_by_rounds examples.street 5 ≡ record {
-      level = 1 ∷ 7 ∷ 3 ∷ 5 ∷ 4 ∷ 6 ∷ 2 ∷ [];
-      up = (leg 2 1 1 ∷ []) ∷ [] ∷ (leg 4 1 1 ∷ []) ∷ (leg_through 5 6 2 2 ∷ []) ∷ (leg 6 1 1 ∷ []) ∷ [] ∷ [] ∷ [];
-      down = [] ∷ [] ∷ (leg 2 1 1 ∷ []) ∷ (leg_through 3 2 2 2 ∷ []) ∷ (leg 4 1 1 ∷ []) ∷ (leg_through 4 2 4 4 ∷ []) ∷ (leg 6 1 1 ∷ []) ∷ [];
     } }
 {}
 

@@ -11,15 +11,16 @@ use crate::remaining::Remaining;
 use crate::remaining::light::are_light;
 use crate::shortcut::Shortcut;
 use ch_hierarchy::Leg;
+use smallvec::SmallVec;
 use std::alloc::AllocError;
 
 /// The legs of a contracted node, each list in order of the other node.
 #[derive(Debug, Drop)]
 pub struct Removed {
     /// The legs from the node.
-    pub up: Vec<Leg>,
+    pub up: SmallVec<Leg, 4>,
     /// The legs to the node.
-    pub down: Vec<Leg>,
+    pub down: SmallVec<Leg, 4>,
 }
 
 impl Remaining {
@@ -48,8 +49,8 @@ impl Remaining {
         ensures up { IfOk result (λ r. AreLegsFrom (legs_of self.now) v r.up.items) }
         ensures down { IfOk result (λ r. AreLegsTo (legs_of self.now) v r.down.items) }
     {
-        let up = Vec::from_slice(self.alloc, self.out_legs(v))?;
-        let down = Vec::from_slice(self.alloc, self.in_legs(v))?;
+        let up = SmallVec::from_slice(self.alloc, self.out_legs(v))?;
+        let down = SmallVec::from_slice(self.alloc, self.in_legs(v))?;
         Ok(Removed { up, down })
     }
 

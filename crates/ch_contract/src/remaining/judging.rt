@@ -1,6 +1,5 @@
 //! The search for the shortcuts of one node.
-ghost use Rattle.std.specs.Prelude.{◌≤◌, All, IsTrue};
-ghost use Rattle.ch_contract.specs.declared.held_cost.TheConstants.{MOST_LIGHT};
+ghost use Rattle.std.specs.Prelude.{◌≤◌};
 ghost use Rattle.ch_contract.specs.ShortcutLists.{AreTouching};
 ghost use Rattle.ch_contract.specs.KnownCosts.{AreLegsUpTo};
 ghost use Rattle.ch_contract.specs.Remaining.{legs_of};
@@ -9,7 +8,6 @@ use crate::held_cost::HeldCost;
 use crate::hop_bound::HopBound;
 use crate::remaining::Remaining;
 use crate::remaining::candidates::{candidate_cost, most_cost};
-use crate::remaining::light::are_light_legs;
 use crate::shortcut::Shortcut;
 use crate::witness_search::{Wanted, WitnessSearch};
 use ch_hierarchy::Leg;
@@ -24,20 +22,10 @@ pub(crate) struct Touching<'a> {
     pub(crate) down: &'a [Leg],
 }
 
-impl Touching<'_> {
-    /// Returns whether all these legs are light enough for searches over words.
-    pub(crate) fn are_light(&self) -> bool
-        ensures up { IsTrue result → All (λ l. l.cost.weight ≤ MOST_LIGHT) self.now.up.now }
-        ensures down { IsTrue result → All (λ l. l.cost.weight ≤ MOST_LIGHT) self.now.down.now }
-    {
-        are_light_legs(self.up) && are_light_legs(self.down)
-    }
-}
-
 /// The legs and the bound of a search for the shortcuts of one node.
 ///
-/// The legs that touch the node may have been set aside. Witnesses consist of remaining legs, and have at most `hops`
-/// legs. All these legs are light enough for searches that hold costs in the form `K`.
+/// Witnesses consist of remaining legs, and have at most `hops` legs. All these legs are light enough for searches that
+/// hold costs in the form `K`.
 #[derive(Drop)]
 pub(crate) struct Judging<'a, K: HeldCost> {
     pub(crate) remaining: &'a Remaining,
@@ -52,8 +40,7 @@ impl<'a, K: HeldCost> Judging<'a, K> {
     ghost use Rattle.std.specs.Prelude.{◌≡◌, ◌+◌, Some, OnOk};
     ghost use Rattle.ch_contract.specs.Legs.{Legs, IsLegWithin};
     ghost use Rattle.ch_contract.specs.LegRows.{label_of};
-    ghost use Rattle.ch_contract.specs.Rounds.{AreShortcutsAmong};
-    ghost use Rattle.ch_contract.specs.ShortcutLists.{legs_touching, AreShortcutsBefore, IsShortcutBetween};
+    ghost use Rattle.ch_contract.specs.ShortcutLists.{legs_touching, AreShortcutsAmong, AreShortcutsBefore, IsShortcutBetween};
     ghost use Rattle.ch_contract.specs.HeldCosts.{IsHeld};
     ghost use Rattle.ch_contract.specs.KnownCosts.{known_of, IsClean};
     ghost use Rattle.ch_contract.specs.Candidates.{IsKnown, IsMostFor};

@@ -5,7 +5,6 @@ ghost use Rattle.ch_contract.specs.declared.held_cost.TheConstants.{MOST_LIGHT};
 use crate::held_cost::MOST_LIGHT;
 use crate::shortcut::Shortcut;
 use ch_graph::InArc;
-use ch_hierarchy::Leg;
 
 /// Whether all these arcs are light enough for searches over words.
 pub(super) fn are_light_arcs(arcs: &[InArc]) -> bool
@@ -25,18 +24,6 @@ pub(super) fn are_light(shortcuts: &[Shortcut]) -> bool
 {
     for shortcut in shortcuts {
         if shortcut.cost.weight > MOST_LIGHT {
-            return false;
-        }
-    }
-    true
-}
-
-/// Whether all these legs are light enough for searches over words.
-pub(super) fn are_light_legs(legs: &[Leg]) -> bool
-    ensures { IsTrue result → All (λ l. l.cost.weight ≤ MOST_LIGHT) legs.now }
-{
-    for leg in legs {
-        if leg.cost.weight > MOST_LIGHT {
             return false;
         }
     }

@@ -1,7 +1,6 @@
 //! The shortcuts that the contraction of a node would put in, and its priority.
 ghost use Rattle.std.specs.Prelude.{◌≡◌, ◌<◌, ◌≤◌, ◌^◌, IfOk, OnOk};
 ghost use Rattle.ch_graph.specs.declared.limits.TheConstants.{MOST_NODES};
-ghost use Rattle.ch_hierarchy.specs.Rows.{row};
 ghost use Rattle.ch_contract.specs.Legs.{AreLegsWithin};
 ghost use Rattle.ch_contract.specs.Contraction.{AreShortcuts, IsPriority, count_touching};
 ghost use Rattle.ch_contract.specs.LegRows.{AreLegsFrom, AreLegsTo};
@@ -112,20 +111,6 @@ impl Remaining {
             node,
             up: self.out_legs(node),
             down: self.in_legs(node),
-        }
-    }
-
-    /// Returns a node with the legs that touched it when it was taken out.
-    pub(crate) fn touched(&self, node: u32) -> Touching<'_>
-        requires { node < self.now.nodes }
-        ensures node { result.node ≡ node }
-        ensures up { result.up.now ≡ row self.now.ups node }
-        ensures down { result.down.now ≡ row self.now.downs node }
-    {
-        Touching {
-            node,
-            up: self.up_legs(node),
-            down: self.down_legs(node),
         }
     }
 }

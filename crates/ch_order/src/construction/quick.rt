@@ -1,6 +1,6 @@
 //! The construction of a hierarchy whose first nodes come in a given order, and the others in an order that takes little
 //! time to find.
-ghost use Rattle.std.specs.Prelude.{◌≡◌, ℕ, ◌^◌, ◌<◌, ◌≤◌, ◌++◌, All, Err, IfOk, OnOk, length, take};
+ghost use Rattle.std.specs.Prelude.{◌≡◌, ℕ, ◌^◌, ◌<◌, ◌≤◌, ◌++◌, ◌∷◌, [], if◌then◌else◌, All, Err, IfOk, IsTrue, OnOk, length, take};
 ghost use Rattle.ch_graph.specs.Graph.{IsWithinLimits};
 ghost use Rattle.ch_contract.specs.Like.{given_count as count_of};
 ghost use Rattle.ch_order.specs.Quick.{IsHierarchyAfter, HaveKeys};
@@ -9,9 +9,10 @@ ghost use Rattle.ch_hierarchy.specs.Kept.{IsKept};
 ghost use Rattle.ch_hierarchy.specs.Saved.{IsOrderOf};
 
 use super::Construction;
+use super::estimates::Estimates;
 use super::like::{OrderError, split_given};
-use crate::priority::PriorityJob;
 use ch_contract::memory::ask_ahead;
+use ch_contract::order::all_nodes;
 use ch_contract::{HopBound, OrderBy, Percent};
 use ch_graph::Graph;
 use ch_hierarchy::Hierarchy;
@@ -23,34 +24,32 @@ use std::thread::Threads;
 /// The numbers of nodes below are so many tenths of those that remain.
 const PARTS: usize = 10;
 
-/// So many tenths are judged together, from the first one on.
-const JUDGED_PARTS: usize = 7;
-
-/// When so many tenths are left, the next ones are judged.
-const DUE_PARTS: usize = 4;
-
-/// So many nodes more are judged, so that the last nodes are judged all together.
-const MORE_JUDGED: usize = 100;
+/// When so many tenths are left, the nodes are judged whose legs have changed.
+const DUE_PARTS: usize = 3;
 
 /// The key of the first node that is not judged yet. No priority of a road network comes near it.
 const UNJUDGED: i64 = 1 << 60;
 
 /// How much less than its priority the key of a node is that was judged alone. Such a node often comes first
 /// although another has a slightly lesser key, and its searches are then not made in vain.
-const PREFERENCE: i64 = 2;
+const PREFERENCE: i64 = 4;
 
 /// The most nodes that are judged before one of them is contracted.
 const MOST_JUDGED: u32 = 16;
+
+/// The most pairs of legs of a node that is judged before it is the first in the queue. A node of more pairs waits with an
+/// estimate, because to judge it would take much time, and memory for a shortcut of each pair.
+const MOST_PAIRS: u64 = 1 << 14;
 
 /// Builds a contraction hierarchy of a graph that begins like [`build_like`](crate::build_like): all nodes but the last
 /// `fresh` per cent come in the given order. It is for answers that do not depend on the order, because it takes less time
 /// to find the order of the fresh nodes.
 ///
-/// When the last given node is contracted, the fresh nodes wait as given, and the first seven tenths of them get
-/// priorities by depth. A priority is then computed again only when its node is the first in the queue, and the node is
-/// contracted if it is still the first (*lazy updates*). The priority of a node that becomes less is not noticed so.
-/// Whenever three fifths of the nodes have gone, the first seven tenths of the others therefore get priorities, whether
-/// they had some or not. Workers share these. To take less time, their witnesses have one leg less.
+/// When the last given node is contracted, chains are contracted first: nodes with at most two neighbours, for which no
+/// witness is looked for but a leg. Then the other fresh nodes get priorities by depth, which workers share. To take less
+/// time, their witnesses have one leg less. When a neighbour is contracted, a node gets a key by an estimate. Its priority
+/// is computed again only when it is the first in the queue, and it is contracted if it is still the first (*lazy
+/// updates*). Once three tenths of the nodes are left, those whose legs have changed get priorities again, and so on.
 ///
 /// # Errors
 /// `Order` if the given order does not have each node of the graph exactly once, and `NoMemory` if the call or a piece
@@ -74,6 +73,26 @@ pub fn build_like_quickly<R: Threads + Sync, G: Gate>(
     Ok(contract_quickly(crew, graph, first, others, hops)?)
 }
 
+/// Builds a contraction hierarchy of a graph in an order that takes little time to find. It is for answers that do not depend
+/// on the order. See [`build_like_quickly`].
+///
+/// # Errors
+/// `AllocError` if the call or a piece is refused memory. All workers are joined before the call returns. Everything that it
+/// made is dropped, and the graph is as before.
+pub fn build_quickly<R: Threads + Sync, G: Gate>(
+    crew: &Crew<'_, R, G>,
+    graph: &Graph,
+    hops: HopBound,
+) -> Result<Hierarchy, AllocError>
+    ensures hierarchy { IfOk result (IsHierarchyAfter graph.now hops.number []) }
+    ensures kept { IfOk result (IsKept graph.now) }
+    ensures limits { IsWithinLimits graph.now }
+{
+    ask_ahead(crew.alloc, graph)?;
+    let nodes = all_nodes(crew.alloc, graph.nodes())?;
+    contract_quickly(crew, graph, &[], nodes.as_slice(), hops)
+}
+
 /// Builds a contraction hierarchy of a graph. The nodes `given` are contracted first, as they come, and then the others. The
 /// two lists together have each node once.
 fn contract_quickly<R: Threads + Sync, G: Gate>(
@@ -88,14 +107,18 @@ fn contract_quickly<R: Threads + Sync, G: Gate>(
 {
     let begun = Construction::after(crew.alloc, crew.gate, graph, given, hops)?;
     let queued = begun.queue(others);
-    let mut construction = queued.rank_if_due(crew, others, others.len(), hops)?;
-    let mut due = others.len() / PARTS * DUE_PARTS;
+    let mut estimates = Estimates::new(crew.alloc, graph.nodes())?;
+    let open = queued.without_chains(crew.alloc, crew.gate, graph, given, others, hops)?;
+    let remaining = open.waiting.len();
+    let mut construction = open.rank_if_due(crew, others, remaining, hops, &mut estimates)?;
+    let mut due = due_after(remaining, remaining);
     while let Some(least) = construction.next() {
         crew.gate
             .watch(Stage::Building, construction.contracted, graph.nodes());
-        let (judged, node) = construction.judge_first(crew.alloc, least, hops)?;
-        let (taken, _) = judged.take(crew.alloc, node, hops)?;
-        construction = taken.rank_if_due(crew, others, due, hops)?;
+        let (judged, node) = construction.judge_first(crew.alloc, least, hops, &mut estimates)?;
+        let (taken, neighbours) = judged.take(crew.alloc, node, hops)?;
+        let estimated = taken.estimate_all(neighbours.as_slice(), &mut estimates);
+        construction = estimated.rank_if_due(crew, others, due, hops, &mut estimates)?;
         due = due_after(due, construction.waiting.len());
     }
     construction.finish()
@@ -122,12 +145,14 @@ fn put_in_order(waiting: &mut KeyQueue<i64>, nodes: &[u32])
     }
 }
 
-/// Returns how many of the nodes that remain are judged together: seven tenths and some more, or all.
-fn next_count(remaining: usize) -> usize
-    ensures { result ≤ remaining }
+/// Appends a node if `wanted` is true.
+fn push_if(list: &mut Vec<u32>, node: u32, wanted: bool) -> Result<(), AllocError>
+    ensures { OnOk result (list.new.items ≡ (if wanted then list.old.items ++ node ∷ [] else list.old.items)) }
 {
-    let next = remaining / PARTS * JUDGED_PARTS;
-    remaining.min(next.saturating_add(MORE_JUDGED))
+    if wanted {
+        list.push(node)?;
+    }
+    Ok(())
 }
 
 /// Returns the most legs of a witness while nodes are judged together: one less than otherwise, if that is not none.
@@ -138,9 +163,7 @@ fn hops_together(hops: HopBound) -> HopBound {
 }
 
 impl Construction {
-    ghost use Rattle.std.specs.Prelude.{filter, is_some};
-    ghost use Rattle.ch_queue.specs.Queue.{key_of};
-    ghost use Rattle.ch_order.specs.Quick.{AreQueued, HasKey, IsRekeyed};
+    ghost use Rattle.ch_order.specs.Quick.{AreQueued, HasKey, IsRekeyed, IsUnderWay};
     ghost use Rattle.ch_order.specs.Construction.{IsSized, IsJudging, progress_of};
 
     /// Puts these nodes into the queue, in their order, behind all nodes that are judged.
@@ -165,6 +188,7 @@ impl Construction {
         alloc: Global,
         first: u32,
         hops: HopBound,
+        estimates: &mut Estimates,
     ) -> Result<(Construction, u32), AllocError>
         requires sizes { IsSized self }
         requires first { HasKey self.waiting first }
@@ -180,14 +204,20 @@ impl Construction {
             if self.room.judged.iter().any(|other| *other == node) {
                 break;
             }
-            node = self.judge(alloc, node, hops)?;
+            node = self.judge(alloc, node, hops, estimates)?;
         }
         Ok((self, node))
     }
 
     /// Gives a node of the queue a key that is [`PREFERENCE`] less than the priority by depth that it has now. Returns the
     /// node that is then the first.
-    fn judge(&mut self, alloc: Global, node: u32, hops: HopBound) -> Result<u32, AllocError>
+    fn judge(
+        &mut self,
+        alloc: Global,
+        node: u32,
+        hops: HopBound,
+        estimates: &mut Estimates,
+    ) -> Result<u32, AllocError>
         requires sizes { IsSized self.old }
         requires node { HasKey self.old.waiting node }
         requires ready { IsJudging hops.number self.old }
@@ -197,13 +227,9 @@ impl Construction {
         ensures first { IfOk result (HasKey self.new.waiting) }
         ensures ready { OnOk result (IsJudging hops.number self.new) }
     {
-        let job = PriorityJob {
-            remaining: &self.remaining,
-            depths: self.depths.as_slice(),
-            hops,
-            by: OrderBy::Depth,
-        };
-        let priority = job.priority(alloc, &mut self.room, node)?;
+        let measure = self.room.judge(alloc, &self.remaining, node, hops)?;
+        let priority = OrderBy::Depth.key(measure, self.depths[node as usize]);
+        estimates.note(node, measure.shortcuts, self.pairs(node));
         self.waiting.set(node, priority.saturating_sub(PREFERENCE));
         match self.next() {
             Some(first) => Ok(first),
@@ -211,17 +237,57 @@ impl Construction {
         }
     }
 
-    /// If the queue has at most `due` nodes, gives those that come first in the list the priorities by depth that they have
-    /// now. Workers share them.
+    /// Returns the number of legs to a node times the number of legs from it.
+    fn pairs(&self, node: u32) -> u64
+        requires { node < self.now.remaining.nodes }
+    {
+        let out = self.remaining.out_legs(node).len() as u64;
+        out.saturating_mul(self.remaining.in_legs(node).len() as u64)
+    }
+
+    /// Gives those of these nodes that wait keys by estimates.
+    fn estimate_all(mut self, nodes: &[u32], estimates: &mut Estimates) -> Construction
+        requires sizes { IsSized self }
+        ensures sizes { IsSized result }
+        ensures nodes { result.remaining.nodes ≡ self.remaining.nodes }
+        ensures rekeyed { IsRekeyed (progress_of self) (progress_of result) }
+        ensures ready { (h : ℕ) → IsJudging h self → IsJudging h result }
+    {
+        for node in nodes {
+            self.estimate(*node, estimates);
+        }
+        self
+    }
+
+    /// Gives a node a key by an estimate, if it waits.
+    fn estimate(&mut self, node: u32, estimates: &mut Estimates)
+        requires sizes { IsSized self.old }
+        ensures sizes { IsSized self.new }
+        ensures nodes { self.new.remaining.nodes ≡ self.old.remaining.nodes }
+        ensures rekeyed { IsRekeyed (progress_of self.old) (progress_of self.new) }
+        ensures ready { (h : ℕ) → IsJudging h self.old → IsJudging h self.new }
+    {
+        if !self.waits(node) {
+            return;
+        }
+        estimates.touch(node);
+        let legs = self.remaining.count_touching(node);
+        let measure = estimates.measure(node, self.pairs(node), legs);
+        let key = OrderBy::Depth.key(measure, self.depths[node as usize]);
+        self.waiting.set(node, key);
+    }
+
+    /// If the queue has at most `due` nodes, gives those whose legs have changed the priorities by depth that they have now,
+    /// except for nodes with many pairs of legs. Workers share them.
     fn rank_if_due<R: Threads + Sync, G: Gate>(
         self,
         crew: &Crew<'_, R, G>,
         nodes: &[u32],
         due: usize,
         hops: HopBound,
+        estimates: &mut Estimates,
     ) -> Result<Construction, AllocError>
         requires sizes { IsSized self }
-        requires nodes { All (λ x. x < self.remaining.nodes) nodes.now }
         requires count { length nodes.now < 2 ^ 32 }
         requires ready { IsJudging hops.number self }
         ensures sizes { IfOk result IsSized }
@@ -232,22 +298,61 @@ impl Construction {
         if self.waiting.len() > due {
             return Ok(self);
         }
-        let waiting = self.waiting_among(crew.alloc, nodes)?;
-        let next = &waiting.as_slice()[..next_count(waiting.len())];
-        self.rank(crew, next, hops_together(hops), OrderBy::Depth)
+        let stale = self.stale_among(crew.alloc, nodes, estimates)?;
+        let ranked = self.rank(crew, stale.as_slice(), hops_together(hops), OrderBy::Depth)?;
+        ranked.note_all(stale.as_slice(), estimates);
+        Ok(ranked)
     }
 
-    /// Returns those of these nodes that are in the queue.
-    fn waiting_among(&self, alloc: Global, nodes: &[u32]) -> Result<Vec<u32>, AllocError>
-        requires { All (λ x. x < length self.now.waiting) nodes.now }
-        ensures { IfOk result (λ list. list.items ≡ filter (λ x. is_some (key_of self.now.waiting x)) nodes.now) }
+    /// Returns those of these nodes that are in the queue, whose legs have changed since they were judged, and that have at
+    /// most [`MOST_PAIRS`] pairs of legs.
+    fn stale_among(
+        &self,
+        alloc: Global,
+        nodes: &[u32],
+        estimates: &Estimates,
+    ) -> Result<Vec<u32>, AllocError>
+        requires sizes { self.now.remaining.nodes ≡ length self.now.waiting }
+        ensures keys { IfOk result (λ list. All (HasKey self.now.waiting) list.items) }
+        ensures count { IfOk result (λ list. length list.items ≤ length nodes.now) }
     {
         let mut list = Vec::new(alloc);
         for node in nodes {
-            if self.waiting.key(*node).is_some() {
-                list.push(*node)?;
-            }
+            let stale = self.is_stale(*node, estimates);
+            push_if(&mut list, *node, stale)?;
         }
         Ok(list)
+    }
+
+    /// Whether a node is in the queue, its legs have changed since it was judged, and its pairs of legs are few.
+    fn is_stale(&self, node: u32, estimates: &Estimates) -> bool
+        requires sizes { self.now.remaining.nodes ≡ length self.now.waiting }
+        ensures { IsTrue result → HasKey self.now.waiting node }
+    {
+        self.waits(node) && estimates.is_stale(node) && self.pairs(node) <= MOST_PAIRS
+    }
+
+    /// Notes that these nodes were judged. Their keys tell the numbers of their shortcuts.
+    fn note_all(&self, nodes: &[u32], estimates: &mut Estimates)
+        requires sizes { IsSized self.now }
+    {
+        for node in nodes {
+            self.note(*node, estimates);
+        }
+    }
+
+    /// Notes that a node was judged, if it waits.
+    fn note(&self, node: u32, estimates: &mut Estimates)
+        requires sizes { IsSized self.now }
+    {
+        if !self.waits(node) {
+            return;
+        }
+        if let Some(key) = self.waiting.key(node) {
+            let legs = self.remaining.count_touching(node) as i64;
+            let depth = i64::from(self.depths[node as usize]);
+            let twice = key.saturating_add(legs).saturating_sub(depth).max(0) as u64;
+            estimates.note(node, twice / 2, self.pairs(node));
+        }
     }
 }

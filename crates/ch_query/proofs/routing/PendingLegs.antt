@@ -18,7 +18,7 @@ use Rattle.ch_query.specs.Distance.{IsKeptForSome}
 use Rattle.ch_query.specs.Routes.{IsUnpacked, shortcut}
 use Rattle.ch_query.specs.Unpacking.{IsPending, ArePending, pending_arcs, ArePendingArcs, IsSplit}
 use Rattle.ch_query.proofs.routing.Rows.{has_row}
-use Rattle.ch_query.proofs.routing.Unpacked.{halves_one, leg_has_arc}
+use Rattle.ch_query.proofs.routing.Unpacked.{halves_one, leg_has_arc, leg_unpacked}
 
 -- the number of legs that are popped until these are unpacked
 abbrev pub unpackings : List PendingLeg → ℕ
@@ -79,6 +79,17 @@ module _ (H : LevelsAndLegs) where
       where
         later : {q : PendingLeg} → Contains pending q → Contains (p ∷ pending) q
         later (i, lt, e) = (suc i, omega arith, e)
+
+    -- pending legs stand for some arcs
+    pub pending_unpacked : (pending : List PendingLeg) → ArePending H pending → (arcs : List InArc) × ArePendingArcs H pending arcs
+    pending_unpacked [] are = ([], refl)
+    pending_unpacked (p ∷ pending) are =
+        let rest = pending_unpacked pending (λ q has. are q (behind has)) in
+        let here = leg_unpacked k.0 H k.2 p.from p.to p.cost p.middle (are p (0, omega arith, refl)) in
+        (rest.0 ++ here.0, (rest.0, here.0, rest.1, here.1, refl))
+      where
+        behind : {q : PendingLeg} → Contains pending q → Contains (p ∷ pending) q
+        behind (i, lt, e) = (suc i, omega arith, e)
 
     module _ (p : PendingLeg) (v : ℕ) (leg : IsPending H p) (e : p.middle ≡ Some v) where
       -- a leg with a middle is the sum of two legs

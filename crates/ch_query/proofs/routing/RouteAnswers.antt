@@ -1,11 +1,11 @@
 -- The answers of the call for a route.
-use Rattle.std.proofs.Common.{◌≡◌, ℕ, ◌<◌, length, [], Option, Some, None, Result, sym, ap, subst, arith}
+use Rattle.std.proofs.Common.{◌≡◌, ℕ, ◌<◌, length, reverse, [], ◌≤◌, List, true, false, Option, Some, None, Result, refl, sym, ap}
+use Rattle.std.proofs.Common.{subst, arith}
 use Rattle.std.specs.Prelude.{IfOk, MatchOption, ⊤, ◌+◌, Vec, vec_len, vec_capacity}
 use Rattle.std.specs.declared.alloc.Global.{Global}
 use Rattle.std.specs.declared.alloc.AllocError.{AllocError}
 use Rattle.std.specs.List.Sorted.{IsPermutation}
 use Rattle.std.proofs.lemmas.Result.{IfOk-weaker}
-use Rattle.ch_graph.specs.declared.arc.InArc.{InArc}
 use Rattle.ch_graph.specs.declared.cost.Cost.{Cost}
 use Rattle.ch_graph.proofs.SimpleWalks.{IsLeast-arcs}
 use Rattle.ch_hierarchy.specs.Hierarchy.{LevelsAndLegs, nodes_of}
@@ -20,11 +20,12 @@ use Rattle.ch_query.specs.TwoSided.{IsPast}
 use Rattle.ch_query.specs.Meeting.{AreMeeting}
 use Rattle.ch_query.specs.Routes.{IsRoute, IsRouteBy}
 use Rattle.ch_query.specs.Descents.{HasReached, HasReachedWithRoom, IsTraced}
-use Rattle.ch_query.specs.Unpacking.{ArePending, pending_arcs, HasRoomToUnpack}
+use Rattle.ch_query.specs.Unpacking.{ArePending, pending_arcs}
+use Rattle.ch_query.specs.Ways.{AreLegsFound, AreLegsOver}
 use Rattle.ch_query.proofs.two_sides.Distances.{meet_is_least}
 use Rattle.ch_query.proofs.two_sides.LeastMeeting.{reached}
-use Rattle.ch_query.proofs.routing.PendingLegs.{pending_few}
-use Rattle.ch_query.proofs.routing.RouteArcs.{traced_pending, traced_arcs, turned_pending, turned_arcs}
+use Rattle.ch_query.proofs.routing.PendingLegs.{pending_few, pending_unpacked}
+use Rattle.ch_query.proofs.routing.RouteArcs.{route_found, traced_pending, traced_arcs, turned_pending, turned_arcs}
 use Rattle.ch_query.proofs.routing.RouteWalks.{route_least_walk}
 
 -- the answer is the route over the meet, or none if there is no meet
@@ -68,7 +69,7 @@ module _ (H : LevelsAndLegs) (s t : ℕ) where
 module _ (H : LevelsAndLegs) (k : IsKeptForSome H) (x y : Search) (m : ℕ) (c : Cost) (meeting : AreMeeting H x y (Some (c, m)))
     (past : IsPast x.queue (Some (c, m)) × IsPast y.queue (Some (c, m))) (sides : (x.side ≡ Up) × (y.side ≡ Down))
     (meet : IsMeet H x.source y.source m c)
-    (start : Vec PendingLeg Global) (none : start.items ≡ []) (len : vec_len start ≡ 0) (exact : vec_capacity start ≡ c.arcs) where
+    (start : Vec PendingLeg Global) (none : start.items ≡ []) (len : vec_len start ≡ 0) (wide : c.arcs ≤ vec_capacity start) where
   -- the cost of the way up to the meet
   up : Cost
   up = meet.meets.0
@@ -122,11 +123,31 @@ module _ (H : LevelsAndLegs) (k : IsKeptForSome H) (x y : Search) (m : ℕ) (c :
       all_pending = traced_pending H x m up reached_both.0 turned.items all.items rise
           (turned_pending H fallen.items turned.items turn fallen_pending)
 
-      -- there is room for their arcs
-      pub room_for_all : (arcs : Vec InArc Global) → vec_len arcs ≡ 0 → vec_capacity arcs ≡ c.arcs → HasRoomToUnpack all arcs
-      room_for_all arcs empty exact' =
+      -- they stand for as many arcs as the route has
+      all_arcs : pending_arcs all.items ≡ c.arcs
+      all_arcs =
           let rising = traced_arcs H x m up reached_both.0 turned.items all.items rise in
           let falling = turned_arcs fallen.items turned.items turn in
           let down_is = fallen_arcs in
-          let sum = both in
-          record { legs = omega arith; arcs_left = omega arith; empty = empty }
+          let sum = both in omega arith
+
+      -- they are the legs of the route
+      pub legs_over_meet : turned.items ≡ reverse fallen.items → AreLegsOver H x.source y.source c all
+      legs_over_meet turn_is = record {
+        pending = all_pending;
+        arcs = all_arcs;
+        room = omega arith;
+        route = λ arcs are. route_found H x y sides.0 sides.1 m c meet fallen.items turned.items all.items
+            (subst (λ old. IsTraced H y m old fallen.items) none fall) turn_is rise arcs are;
+      }
+
+-- the legs of a way over a meet, and the arcs that they stand for, are those of the route
+pub legs_found : (H : LevelsAndLegs) → IsKeptForSome H → (s t : ℕ) (c : Cost) (legs : Vec PendingLeg Global) → AreLegsOver H s t c legs →
+    AreLegsFound H s t true legs.items
+legs_found H k s t c legs over =
+    let arcs = pending_unpacked H k legs.items over.pending in
+    (Some (record { weight = c.weight; arcs = arcs.0 }), refl, (over.route arcs.0 arcs.1, over.pending, arcs.1))
+
+-- without a meet there are no legs
+pub legs_missing : (H : LevelsAndLegs) (s t : ℕ) (legs : List PendingLeg) → NeverMeets H s t → legs ≡ [] → AreLegsFound H s t false legs
+legs_missing H s t legs never none = (None, refl, (never, none))

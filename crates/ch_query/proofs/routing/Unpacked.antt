@@ -1,5 +1,6 @@
 -- The arcs that a leg stands for are a walk of its cost, and are determined.
-use Rattle.std.proofs.Common.{◌≡◌, ℕ, ◌<◌, List, [], ◌∷◌, ◌++◌, Contains, Option, Some, None, refl, sym, ◌∙◌, ap, subst, arith, inl, inr}
+use Rattle.std.proofs.Common.{◌≡◌, ℕ, zero, suc, ◌+◌, ◌<◌, ◌≤◌, List, [], ◌∷◌, ◌++◌, Contains, Option, Some, None, refl, sym, ◌∙◌, ap}
+use Rattle.std.proofs.Common.{subst, arith, inl, inr}
 use Rattle.std.specs.Prelude.{slice_index}
 use Rattle.ch_graph.specs.declared.arc.InArc.{InArc}
 use Rattle.ch_graph.specs.declared.cost.Cost.{Cost}
@@ -56,6 +57,26 @@ module _ (g : Network) (H : LevelsAndLegs) (kept : IsKept g H) where
                 (let lt = down.4 in absurd (omega arith))
           ]
       some (x ∷ xs) walk e = let n = ap (λ (q : Cost). q.arcs) e in omega arith
+
+  unpacked_within : (n u w : ℕ) (c : Cost) (middle : Option ℕ) → c.arcs ≤ n → IsLeg H u w c middle →
+      (arcs : List InArc) × IsUnpacked H u w c.weight middle arcs
+  unpacked_within zero u w c middle most l = absurd (let some = leg_has_arc u w c middle l in omega (arith, most, some))
+  unpacked_within (suc n) u w c None most l = (record { from = u; to = w; weight = c.weight } ∷ [], arc {u = u} {w = w} {weight = c.weight})
+  unpacked_within (suc n) u w c (Some v) most l =
+      let f = kept.founded u w c (Some v) l in
+      let first : IsLeg H u v f.0.cost f.0.middle = (f.0, refl, refl, inr (f.2, f.3)) in
+      let second : IsLeg H v w f.1.cost f.1.middle = (f.1, refl, refl, inl (f.4, f.5)) in
+      let sum : c.arcs ≡ f.0.cost.arcs + f.1.cost.arcs = ap (λ (q : Cost). q.arcs) f.6 in
+      let a = leg_has_arc u v f.0.cost f.0.middle first in
+      let b = leg_has_arc v w f.1.cost f.1.middle second in
+      let xs = unpacked_within n u v f.0.cost f.0.middle (omega (arith, most, sum, b)) first in
+      let ys = unpacked_within n v w f.1.cost f.1.middle (omega (arith, most, sum, a)) second in
+      (xs.0 ++ ys.0, shortcut {weight = c.weight} f.2 f.3 f.4 f.5 xs.1 ys.1)
+
+  -- a leg stands for some arcs
+  pub leg_unpacked : (u w : ℕ) (c : Cost) (middle : Option ℕ) → IsLeg H u w c middle →
+      (arcs : List InArc) × IsUnpacked H u w c.weight middle arcs
+  leg_unpacked u w c middle l = unpacked_within c.arcs u w c middle (omega arith) l
 
   -- the arcs of a leg are a walk of its cost
   pub unpacked_walk : {u w weight : ℕ} {middle : Option ℕ} {xs : List InArc} → IsUnpacked H u w weight middle xs → (c : Cost) →

@@ -11,8 +11,8 @@ ghost use Rattle.ch_query.specs.Distance.{IsKeptForSome};
 ghost use Rattle.ch_query.specs.Routes.{IsRoute, IsRouteBy};
 
 use super::Route;
-use super::descent::descend;
 use super::unpacking::unpack;
+use super::way::legs_over;
 use crate::scratch::Scratch;
 use crate::sides::Sides;
 use crate::sides::meeting::meet;
@@ -84,7 +84,7 @@ pub(crate) fn route_in(
 }
 
 /// Leaves both sides clean for the next query.
-fn clean(up: &mut Search, down: &mut Search)
+pub(crate) fn clean(up: &mut Search, down: &mut Search)
     requires rooms { IsRoom up.old × IsRoom down.old }
     ensures up { IsClean (length up.old.labels.costs) up.new × (up.new.side ≡ up.old.side) }
     ensures down { IsClean (length down.old.labels.costs) down.new × (down.new.side ≡ down.old.side) }
@@ -109,12 +109,9 @@ fn route_over(
     requires meet { IsMeet hierarchy.now up.now.source down.now.source node cost }
     ensures route { IfOk result (λ answer. (route : FoundRoute) × (answer ≡ Some route) × IsRoute hierarchy.now up.now.source down.now.source route) }
 {
-    let count = cost.arcs as usize;
-    let mut pending = Vec::with_capacity(alloc, count)?;
-    let mut arcs = Vec::with_capacity(alloc, count)?;
-    descend(hierarchy, down, node, &mut pending);
-    pending.reverse();
-    descend(hierarchy, up, node, &mut pending);
+    let mut pending = Vec::new(alloc);
+    legs_over(hierarchy, up, down, cost, node, &mut pending)?;
+    let mut arcs = Vec::with_capacity(alloc, cost.arcs as usize)?;
     unpack(hierarchy, &mut pending, &mut arcs);
     Ok(Some(Route {
         weight: cost.weight,

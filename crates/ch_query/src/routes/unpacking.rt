@@ -7,13 +7,17 @@ use super::legs::leg_at;
 use ch_graph::{Cost, InArc};
 use ch_hierarchy::{Hierarchy, Leg};
 
-/// A leg that still has to be unpacked, with both of its nodes.
-#[derive(Clone, Copy)]
-pub(crate) struct PendingLeg {
-    pub(crate) from: u32,
-    pub(crate) to: u32,
-    pub(crate) cost: Cost,
-    pub(crate) middle: Option<u32>,
+/// A leg of a route that still has to be unpacked, with both of its nodes.
+#[derive(Clone, Copy, Debug)]
+pub struct PendingLeg {
+    /// The node from which it leads.
+    pub from: u32,
+    /// The node to which it leads.
+    pub to: u32,
+    /// The weight of the arcs that it stands for, and their number.
+    pub cost: Cost,
+    /// The node between the two legs that it stands for, or `None` if it is an arc.
+    pub middle: Option<u32>,
 }
 
 impl PendingLeg {

@@ -14,7 +14,6 @@ use super::loading::{Loaded, loaded_from};
 use super::output::write_text;
 use super::texts::{answers_by, plain_text};
 use crate::fault::RunFault;
-use crate::orders::order_for_queries;
 use crate::plan::{Crew, Gate};
 use crate::routes::writes_routes;
 use ch_job::{Options, Source};
@@ -77,7 +76,7 @@ fn text_of<R: Threads + Sync, G: Gate>(
     if options.plain {
         return plain_text(crew.alloc, loaded.graph(), queries, crew.gate);
     }
-    let order = order_for_queries(options, &crew.plan, loaded.graph().nodes());
-    let hierarchy = loaded.hierarchy(crew, options.hops, order)?;
-    answers_by(crew, &hierarchy, queries, writes_routes(options))
+    let routes = writes_routes(options);
+    let hierarchy = loaded.hierarchy_for(crew, options.hops, options.order, routes)?;
+    answers_by(crew, &hierarchy, queries, routes)
 }

@@ -1,5 +1,5 @@
 //! A graph, and a saved hierarchy or an order if there is one. Both are read to their end and checked.
-ghost use Rattle.std.specs.Prelude.{◌≡◌, ◌<◌, Some, IfOk, IfErr, IsOkAnd, MatchResult, ⊤};
+ghost use Rattle.std.specs.Prelude.{◌≡◌, ◌<◌, IsTrue, Some, IfOk, IfErr, IsOkAnd, MatchResult, ⊤};
 ghost use Rattle.ch_graph.specs.Saved.{OrderAndLegs};
 ghost use Rattle.ch_hierarchy.specs.Hierarchy.{LevelsAndLegs};
 ghost use Rattle.ch_hierarchy.specs.Kept.{IsKept};
@@ -10,16 +10,16 @@ ghost use Rattle.ch_read.specs.Names.{NamesOrder, NamesSaved};
 ghost use Rattle.ch_graph.specs.Graph.{IsWithinLimits};
 ghost use Rattle.ch_hierarchy.specs.Saved.{NamesKept};
 ghost use Rattle.ch_run.specs.Story.{EndsAt, IsOrderRefusedOn, IsSavedRefusedOn, Loads, NamesLike};
-ghost use Rattle.ch_run.specs.Source.{IsInPlaceOf, IsServing, ReadsSaved, source_reading};
+ghost use Rattle.ch_run.specs.Source.{IsInPlaceOf, IsServing, IsToSave, ReadsSaved, source_reading};
 
 use super::inputs::{bytes_from, graph_from};
-use crate::building::{build_by, build_in_order};
+use crate::building::{build_by, build_in_order, build_to_save};
 use crate::fault::{RunFault, Which};
 use crate::plan::{Crew, Gate, Stage};
 use ch_contract::{CheckError, Hierarchy, HopBound, OrderBy, Percent};
 use ch_graph::{Graph, Saved};
-use ch_job::Source;
-use ch_order::OrderError;
+use ch_job::{Options, Source};
+use ch_order::{OrderError, build_quickly};
 use ch_query::check_watched;
 use ch_read::{read_order_by, read_saved_by};
 use ch_text::Input;
@@ -208,6 +208,61 @@ impl Loaded {
         let Checked { graph, hierarchy } = self.checked(crew, hops, order)?;
         drop(graph);
         Ok(hierarchy)
+    }
+
+    /// Returns the hierarchy that is saved with these options: the one that was loaded, or one that it builds. It drops the
+    /// graph.
+    pub(crate) fn hierarchy_to_save<R: Threads + Sync, G: Gate>(
+        self,
+        crew: &Crew<'_, R, G>,
+        options: &Options,
+    ) -> Result<Hierarchy, AllocError>
+        ensures { IfOk result (IsToSave options.now self.graph self.saved) }
+    {
+        let Loaded { graph, saved } = self;
+        let hierarchy = match saved {
+            Some(hierarchy) => hierarchy,
+            None => build_to_save(crew, &graph, options)?,
+        };
+        drop(graph);
+        Ok(hierarchy)
+    }
+
+    /// Returns a hierarchy that serves where no answer depends on which one it is: the one that was loaded, or one that takes
+    /// little time to build. It drops the graph.
+    pub(crate) fn any_hierarchy<R: Threads + Sync, G: Gate>(
+        self,
+        crew: &Crew<'_, R, G>,
+        hops: HopBound,
+    ) -> Result<Hierarchy, AllocError>
+        ensures kept { IfOk result (IsKept self.graph) }
+    {
+        let Loaded { graph, saved } = self;
+        let hierarchy = match saved {
+            Some(hierarchy) => hierarchy,
+            None => build_quickly(crew, &graph, hops)?,
+        };
+        drop(graph);
+        Ok(hierarchy)
+    }
+
+    /// Returns the hierarchy that serves if what the run writes names it, and any hierarchy otherwise. It drops the graph.
+    pub(crate) fn hierarchy_for<R: Threads + Sync, G: Gate>(
+        self,
+        crew: &Crew<'_, R, G>,
+        hops: HopBound,
+        order: OrderBy,
+        named: bool,
+    ) -> Result<Hierarchy, AllocError>
+        ensures serving { IfOk result (λ H. IsTrue named → IsServing order hops.number self.graph self.saved H) }
+        ensures kept { IfOk result (IsKept self.graph) }
+        ensures limits { IsWithinLimits self.graph }
+    {
+        let _graph = self.graph();
+        if named {
+            return self.hierarchy(crew, hops, order);
+        }
+        self.any_hierarchy(crew, hops)
     }
 }
 

@@ -12,7 +12,6 @@ use super::loading::{Loaded, loaded_from};
 use super::near_texts::near_by;
 use super::output::write_text;
 use crate::fault::{RunFault, Which};
-use crate::orders::quick_order;
 use crate::plan::{Crew, Gate};
 use ch_job::{Options, Source, Sources};
 use ch_text::{Input, Output};
@@ -89,7 +88,6 @@ fn near_of<R: Threads + Sync, G: Gate>(
     requires lists { AreNodeLists loaded.graph.nodes (nodes_of_sources loaded.graph.nodes sources.now) targets.now }
     ensures { IfOk result (λ text. IsNearTextFor options.now loaded.graph (nodes_of_sources loaded.graph.nodes sources.now) targets.now text.items) }
 {
-    let order = quick_order(&crew.plan, loaded.graph().nodes());
-    let hierarchy = loaded.hierarchy(crew, options.hops, order)?;
+    let hierarchy = loaded.any_hierarchy(crew, options.hops)?;
     near_by(crew, &hierarchy, sources, targets, options)
 }

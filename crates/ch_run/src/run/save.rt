@@ -2,7 +2,7 @@
 ghost use Rattle.std.specs.Prelude.{◌≡◌, IfOk};
 ghost use Rattle.ch_job.specs.Job.{source_map};
 ghost use Rattle.ch_run.specs.Run.{Delivers, reading};
-ghost use Rattle.ch_run.specs.Source.{IsOfRoutes, source_reading};
+ghost use Rattle.ch_run.specs.Source.{IsToSave, source_reading};
 ghost use Rattle.ch_run.specs.Stories.{RunsSave};
 ghost use Rattle.ch_run.specs.SaveRun.{IsSavedBy};
 ghost use Rattle.ch_run.specs.Text.{IsSaveTextOf};
@@ -20,8 +20,8 @@ use std::thread::Threads;
 /// that it loads.
 ///
 /// Each input is read to its end and judged before the next is read, and the whole text is made before the first
-/// write. The text is the same for every plan and gate. Of the options it uses `hops` and `order`, if it builds the
-/// hierarchy without an order.
+/// write. The text is the same for every plan and gate. Of the options it uses `hops`, `order` and `quick`, if it builds
+/// the hierarchy without an order.
 ///
 /// # Errors
 /// - `Read`: the first fault of the graph, or of the lines of a saved hierarchy or of an order.
@@ -61,8 +61,8 @@ fn save_text_of<R: Threads + Sync, G: Gate>(
     loaded: Loaded,
     options: &Options,
 ) -> Result<Vec<u8>, AllocError>
-    ensures { IfOk result (λ text. IsSaveTextOf (IsOfRoutes options.now loaded.graph loaded.saved) text.items) }
+    ensures { IfOk result (λ text. IsSaveTextOf (IsToSave options.now loaded.graph loaded.saved) text.items) }
 {
-    let hierarchy = loaded.hierarchy(crew, options.hops, options.order)?;
+    let hierarchy = loaded.hierarchy_to_save(crew, options)?;
     save_text(crew.alloc, &hierarchy)
 }

@@ -13,7 +13,6 @@ use super::loading::{Loaded, loaded_from};
 use super::output::write_parts;
 use super::texts::table_parts_by;
 use crate::fault::{RunFault, Which};
-use crate::orders::quick_order;
 use crate::plan::{Crew, Gate};
 use ch_job::{Options, Source};
 use ch_text::{Input, Output};
@@ -91,7 +90,6 @@ fn table_of<R: Threads + Sync, G: Gate>(
     ensures text { IfOk result (λ parts. IsTableText loaded.graph options.now.within sources.now targets.now (flat_map (λ part. part.items) parts.items)) }
     ensures length { IfOk result (λ parts. length (flat_map (λ part. part.items) parts.items) < 2 ^ 64) }
 {
-    let order = quick_order(&crew.plan, loaded.graph().nodes());
-    let hierarchy = loaded.hierarchy(crew, options.hops, order)?;
+    let hierarchy = loaded.any_hierarchy(crew, options.hops)?;
     table_parts_by(crew, &hierarchy, sources, targets, options.within)
 }

@@ -3,12 +3,12 @@
 //! Contracts know the bytes of these devices if they know those of the reader or writer. They know those
 //! of a stream in memory, but not those of a file or of a stream of the system.
 
-ghost use Rattle.std.specs.Prelude.{◌≡◌, ◌+◌, ◌≤◌, ℕ, false, List, Option, Result, IfOk, length};
+ghost use Rattle.std.specs.Prelude.{◌≡◌, ◌+◌, ◌≤◌, ℕ, List, Option, Result, IfOk, length};
 ghost use Rattle.std.specs.Io.{ReadsAtMost, WritesAtMost};
 ghost use Rattle.std.specs.Io.KnownBytes.{ReadConsumes, WriteAppends};
 ghost use Rattle.std.specs.declared.io.Error.{Error as IoError};
 ghost use Rattle.ch_text.specs.Calls.{IsDeviceRead, IsDeviceWrite, IsReadOf, IsWriteOf};
-ghost use Rattle.ch_text.specs.Device.{CanCountOneMore, ClosesAtFault, idle_writes, failures_in};
+ghost use Rattle.ch_text.specs.Device.{CanCountOneMore, idle_writes, failures_in};
 ghost use Rattle.ch_text.specs.Told.{reader_tells, writer_tells};
 
 use super::{DeviceFault, Input, Output};
@@ -157,7 +157,6 @@ pub struct WriterOutput<D: WriteOnce + Drop> {
     writer: D,
     failures: u64,
     zeros: u64,
-    is_closed: bool,
 }
 
 impl<D: WriteOnce + Drop> WriterOutput<D> {
@@ -167,13 +166,11 @@ impl<D: WriteOnce + Drop> WriterOutput<D> {
         ensures taken { ⟦<WriterOutput<D> as Output>⟧.taken result ≡ D.contents writer }
         ensures failed { ⟦<WriterOutput<D> as Output>⟧.failed result ≡ 0 }
         ensures idle { ⟦<WriterOutput<D> as Output>⟧.idle result ≡ 0 }
-        ensures closed { ⟦<WriterOutput<D> as Output>⟧.closed result ≡ false }
     {
         WriterOutput {
             writer,
             failures: 0,
             zeros: 0,
-            is_closed: false,
         }
     }
 }
@@ -197,26 +194,22 @@ impl<D: WriteOnce + Drop> Output for WriterOutput<D> {
 
     ghost idle = { λ d. d.zeros };
 
-    ghost write_gives = { λ old bytes answer new. IsDeviceWrite D.write_gives old.writer old.is_closed bytes answer new.writer new.is_closed
+    ghost write_gives = { λ old bytes answer new. IsDeviceWrite D.write_gives old.writer bytes answer new.writer
         × (new.failures ≡ old.failures + failures_in answer) × (new.zeros ≡ old.zeros + idle_writes answer bytes) };
 
     ghost taken = { λ d. D.contents d.writer };
 
-    ghost closed = { λ d. d.is_closed };
-
-    ghost tells = { λ old bytes answer new made. writer_tells D.write_gives D.contents D.tells old.writer old.is_closed bytes answer new.writer new.is_closed made.0 };
+    ghost tells = { λ old bytes answer new made. writer_tells D.write_gives D.contents D.tells old.writer bytes answer new.writer made.0 };
 
     ghost counts = { λ old bytes answer new made. (made.1, made.2) };
 
-    // It takes the bytes that the writer took, and fails if the writer failed. Only a broken pipe closes
-    // it.
+    // It takes the bytes that the writer took, and fails if the writer failed.
     fn write(&mut self, bytes: &[u8]) -> Result<usize, DeviceFault>
         requires failures { CanCountOneMore self.old.failures }
         requires zeros { CanCountOneMore self.old.zeros }
         ensures fits { IfOk result (λ count. count ≤ length bytes.now) }
-        ensures made { IsDeviceWrite D.write_gives self.old.writer self.old.is_closed bytes.now result self.new.writer self.new.is_closed
+        ensures made { IsDeviceWrite D.write_gives self.old.writer bytes.now result self.new.writer
             × (self.new.failures ≡ self.old.failures + failures_in result) × (self.new.zeros ≡ self.old.zeros + idle_writes result bytes.now) }
-        ensures closes { ClosesAtFault self.old.is_closed self.new.is_closed result }
     {
         match write_uninterrupted(&mut self.writer, bytes) {
             Ok(count) => {
@@ -225,11 +218,8 @@ impl<D: WriteOnce + Drop> Output for WriterOutput<D> {
                 }
                 Ok(count)
             }
-            Err(error) => {
+            Err(_) => {
                 self.failures += 1;
-                if error.kind() == ErrorKind::BrokenPipe {
-                    self.is_closed = true;
-                }
                 Err(DeviceFault)
             }
         }
@@ -241,9 +231,5 @@ impl<D: WriteOnce + Drop> Output for WriterOutput<D> {
 
     fn zeros(&self) -> u64 {
         self.zeros
-    }
-
-    fn is_closed(&self) -> bool {
-        self.is_closed
     }
 }

@@ -1,8 +1,8 @@
 //! Devices over memory, for tests. Contracts know their bytes. They fail at the calls that a test
 //! chooses.
 
-ghost use Rattle.std.specs.Prelude.{◌≡◌, ◌+◌, ◌-◌, ◌<◌, ◌≤◌, ◌↔◌, ◌||◌, [], true, false, None, Some, IfOk, IsErr, IsTrue, OnErr, OnOk, length, min, vec_capacity, vec_len};
-ghost use Rattle.ch_text.specs.Device.{CanCountOneMore, ClosesAtFault, GivesBytes, TakesBytes, idle_writes, failures_in, turns_after};
+ghost use Rattle.std.specs.Prelude.{◌≡◌, ◌+◌, ◌-◌, ◌<◌, ◌≤◌, ◌↔◌, [], None, Some, IfOk, IsErr, IsTrue, OnErr, OnOk, length, min, vec_capacity, vec_len};
+ghost use Rattle.ch_text.specs.Device.{CanCountOneMore, GivesBytes, TakesBytes, idle_writes, failures_in, turns_after};
 
 use super::{DeviceFault, Input, Output};
 use std::alloc::{AllocError, Global};
@@ -127,8 +127,6 @@ pub struct MemoryOutput {
     pause: Turn,
     failures: u64,
     zeros: u64,
-    closes: bool,
-    is_closed: bool,
     ghost fits: { vec_len taken ≤ room },
     ghost is_reserved: { room ≤ vec_capacity taken },
 }
@@ -142,10 +140,8 @@ impl MemoryOutput {
         ensures most { IfOk result (λ output. output.most ≡ most) }
         ensures turn { IfOk result (λ output. output.fault.before ≡ None) }
         ensures pause { IfOk result (λ output. output.pause.before ≡ None) }
-        ensures closes { IfOk result (λ output. output.closes ≡ false) }
         ensures failed { IfOk result (λ output. ⟦<MemoryOutput as Output>⟧.failed output ≡ 0) }
         ensures idle { IfOk result (λ output. ⟦<MemoryOutput as Output>⟧.idle output ≡ 0) }
-        ensures closed { IfOk result (λ output. ⟦<MemoryOutput as Output>⟧.closed output ≡ false) }
     {
         Ok(MemoryOutput {
             taken: Vec::with_capacity(alloc, room)?,
@@ -155,8 +151,6 @@ impl MemoryOutput {
             pause: Turn::NEVER,
             failures: 0,
             zeros: 0,
-            closes: false,
-            is_closed: false,
         })
     }
 
@@ -164,13 +158,11 @@ impl MemoryOutput {
     pub fn failing_after(mut self, writes: u64) -> Self
         ensures turn { result.fault.before ≡ Some writes }
         ensures pause { result.pause.before ≡ self.pause.before }
-        ensures closes { result.closes ≡ self.closes }
         ensures room { result.room ≡ self.room }
         ensures most { result.most ≡ self.most }
         ensures taken { ⟦<MemoryOutput as Output>⟧.taken result ≡ ⟦<MemoryOutput as Output>⟧.taken self }
         ensures failed { ⟦<MemoryOutput as Output>⟧.failed result ≡ ⟦<MemoryOutput as Output>⟧.failed self }
         ensures idle { ⟦<MemoryOutput as Output>⟧.idle result ≡ ⟦<MemoryOutput as Output>⟧.idle self }
-        ensures closed { ⟦<MemoryOutput as Output>⟧.closed result ≡ ⟦<MemoryOutput as Output>⟧.closed self }
     {
         self.fault = Turn {
             before: Some(writes),
@@ -182,33 +174,15 @@ impl MemoryOutput {
     pub fn idle_after(mut self, writes: u64) -> Self
         ensures pause { result.pause.before ≡ Some writes }
         ensures turn { result.fault.before ≡ self.fault.before }
-        ensures closes { result.closes ≡ self.closes }
         ensures room { result.room ≡ self.room }
         ensures most { result.most ≡ self.most }
         ensures taken { ⟦<MemoryOutput as Output>⟧.taken result ≡ ⟦<MemoryOutput as Output>⟧.taken self }
         ensures failed { ⟦<MemoryOutput as Output>⟧.failed result ≡ ⟦<MemoryOutput as Output>⟧.failed self }
         ensures idle { ⟦<MemoryOutput as Output>⟧.idle result ≡ ⟦<MemoryOutput as Output>⟧.idle self }
-        ensures closed { ⟦<MemoryOutput as Output>⟧.closed result ≡ ⟦<MemoryOutput as Output>⟧.closed self }
     {
         self.pause = Turn {
             before: Some(writes),
         };
-        self
-    }
-
-    /// Makes a write that fails close the output.
-    pub fn closing(mut self) -> Self
-        ensures closes { result.closes ≡ true }
-        ensures turn { result.fault.before ≡ self.fault.before }
-        ensures pause { result.pause.before ≡ self.pause.before }
-        ensures room { result.room ≡ self.room }
-        ensures most { result.most ≡ self.most }
-        ensures taken { ⟦<MemoryOutput as Output>⟧.taken result ≡ ⟦<MemoryOutput as Output>⟧.taken self }
-        ensures failed { ⟦<MemoryOutput as Output>⟧.failed result ≡ ⟦<MemoryOutput as Output>⟧.failed self }
-        ensures idle { ⟦<MemoryOutput as Output>⟧.idle result ≡ ⟦<MemoryOutput as Output>⟧.idle self }
-        ensures closed { ⟦<MemoryOutput as Output>⟧.closed result ≡ ⟦<MemoryOutput as Output>⟧.closed self }
-    {
-        self.closes = true;
         self
     }
 
@@ -230,14 +204,11 @@ impl Output for MemoryOutput {
 
     ghost taken = { λ d. Some d.taken.items };
 
-    ghost closed = { λ d. d.is_closed };
-
     ghost tells = { λ old bytes answer new made. made.0 };
 
     ghost counts = { λ old bytes answer new made. (made.1, made.2) };
 
-    // It fails at its turn, and at no other write. If `closes` is set, that closes it. At the turn of
-    // its pause it takes no byte.
+    // It fails at its turn, and at no other write. At the turn of its pause it takes no byte.
     fn write(&mut self, bytes: &[u8]) -> Result<usize, DeviceFault>
         requires failures { CanCountOneMore self.old.failures }
         requires zeros { CanCountOneMore self.old.zeros }
@@ -253,13 +224,9 @@ impl Output for MemoryOutput {
         ensures most { self.new.most ≡ self.old.most }
         ensures pauses { OnOk result (self.new.pause.before ≡ turns_after self.old.pause.before) }
         ensures no_pause { OnErr result (self.new.pause.before ≡ self.old.pause.before) }
-        ensures closes { ClosesAtFault self.old.is_closed self.new.is_closed result }
-        ensures closing { OnErr result (self.new.is_closed ≡ self.old.is_closed || self.old.closes) }
-        ensures told { self.new.closes ≡ self.old.closes }
     {
         if self.fault.has_come() {
             self.failures += 1;
-            self.is_closed = self.is_closed || self.closes;
             return Err(DeviceFault);
         }
         let room = self.room - self.taken.len();
@@ -283,9 +250,5 @@ impl Output for MemoryOutput {
 
     fn zeros(&self) -> u64 {
         self.zeros
-    }
-
-    fn is_closed(&self) -> bool {
-        self.is_closed
     }
 }

@@ -8,13 +8,15 @@ from typing import TYPE_CHECKING, Any, NamedTuple
 import numpy
 
 from chtab.maps import profiles
-from chtab.roads.legs import FAR, legs_between, metres_by, table_ways
+from chtab.roads.legs import FAR, legs_between, legs_by, metres_by, table_ways
+from chtab.roads.lines import metres_between
 from chtab.roads.snapping import length_text
-from chtab.server.osrm import cells, matching, options, telling, tours, url
+from chtab.server.osrm import cells, curb, matching, options, telling, tours, url
 from chtab.server.osrm.crossings import Crossings
 from chtab.server.osrm.drawing import Drawing
 from chtab.server.osrm.options import Refusal
 from chtab.server.osrm.steps import Steps
+from chtab.server.osrm.stops import straight_ways
 
 if TYPE_CHECKING:
     from chtab import files
@@ -27,6 +29,7 @@ if TYPE_CHECKING:
 MODES = {"car": "driving", "bicycle": "cycling", "foot": "walking"}
 # How many cells of a table have their routes asked for together.
 BATCH = 2_048
+MILLISECONDS = 1_000
 # Tenths of a metre in a metre: answers give one digit after the decimal point.
 TENTHS = 10
 # Characters of a coordinate with seven digits behind the point, and of what else stands in an address.
@@ -82,6 +85,7 @@ class Answers:
         coordinates = network.coordinates
         self.network, self.limits, self.profiles = network, limits, profiles
         mode = MODES.get(profile_of(coordinates.comments), "driving")
+        self.is_straight_by_default = mode == MODES["car"]
         steps = Steps(Crossings(network.roads, coordinates.copies(), streets), mode)
         drawings = {form: Drawing(network.roads.lines, network.nodes, form) for form in options.FORMS}
         self.voice = telling.Voice(steps, numbers, drawings)
@@ -102,10 +106,8 @@ class Answers:
         limits, own = self.limits, question.own
         if question.service == "nearest" and own > limits.nearest:
             raise Refusal("TooBig", f"number: at most {limits.nearest:,}")
-        if question.service == "nearest" and own > 1 and question.general.has_bearings:
-            raise Refusal("InvalidOptions", "bearings: with number=1 alone")
-        if question.service == "match" and question.general.has_bearings:
-            raise options.unsupported("bearings")
+        if question.service == "match" and question.general.has_curbs:
+            raise options.unsupported("approaches")
         if question.service == "table":
             most = limits.cells_with_distances if own.has_distances else limits.cells
             if len(own.sources) * len(own.destinations) > most:
@@ -122,12 +124,26 @@ class Answers:
             general, fault = question.general, None
             if general.has_bearings:
                 spots, fault = facing_spots(roads, spots, question, first)
+            if general.has_curbs and fault is None:
+                spots, fault = self.at_curbs(spots, question, first)
             if general.has_radiuses:
                 fault = fault or far_fault(spots.metres[first:first + len(question.coordinates)], general.radiuses)
             if fault:
                 faults[place] = fault
             first += len(question.coordinates)
         return spots, faults
+
+    def at_curbs(self, spots: Spots, question: Question, first: int) -> tuple[Spots, Refusal | None]:
+        """The spots, of which those of a question that are to be at the curb are left and reached on the side of the road where their coordinate lies;
+        and the fault where a direction that is asked for leads along the other side. The spots of the question begin at `first`."""
+        which = first + numpy.flatnonzero(question.general.are_at_curb)
+        places = numpy.array(question.coordinates)[which - first]
+        own = curb.at_curb(self.network.roads, spots[which], places, self.voice.steps.known.side == "left")
+        if not own.sides.all():
+            return spots, Refusal("NoSegment", "no road leads in the direction of a coordinate on its side of the road")
+        every, places = matching.together([spots, own]), numpy.arange(len(spots))
+        places[which] = len(spots) + numpy.arange(len(which))
+        return every[places], None
 
     def own_spots(self, question: Question) -> Spots:
         """The spots of one question. Raises a refusal if a coordinate is too far from each road."""
@@ -152,8 +168,10 @@ class Answers:
         cuts = numpy.cumsum([0, *(len(question.coordinates) for question in questions)]).tolist()
         # A leg leads from each spot to the next one, but from the last of a question.
         firsts = numpy.delete(numpy.arange(len(spots)), numpy.array(cuts[1:]) - 1)
-        legs = legs_between(self.network._trips, spots[firsts], spots[firsts + 1])
         which = [list(range(first - place, last - place - 1)) for place, (first, last) in enumerate(zip(cuts, cuts[1:]))]
+        straight = [part for part, question in zip(which, questions) if self.is_straight(question.own)]
+        starts, ends = spots[firsts], spots[firsts + 1]
+        legs = legs_by(self.network._trips, starts, ends, *straight_ways(self.network._trips, starts, ends, straight))
         if legs.weights.min(initial=0) < 0:
             for place, some in enumerate(which):
                 if place not in faults and (legs.weights[some] < 0).any():
@@ -161,9 +179,13 @@ class Answers:
         told = [place for place in range(len(questions)) if place not in faults]
         texts = dict(zip(told, self.route_texts(legs, [which[place] for place in told], [questions[place].own for place in told])))
         return [
-            faults.get(place) or answer_of("routes", texts[place], "waypoints", objects(waypoints[cuts[place]:cuts[place + 1]], question.general))
+            faults.get(place) or answer_of("routes", texts[place], "waypoints", objects(chosen(waypoints, cuts[place], question), question.general))
             for place, question in enumerate(questions)
         ]
+
+    def is_straight(self, own: options.Route) -> bool:
+        """Whether a route goes straight on at its stops: by default those of cars do, as OSRM has it."""
+        return self.is_straight_by_default if own.is_straight is None else own.is_straight
 
     def route_texts(self, legs: Legs, parts: Sequence[list[int]], own: Sequence[options.Route]) -> list[str]:
         """The texts of routes, each over a part of the legs and with its own options."""
@@ -189,7 +211,7 @@ class Answers:
     def match(self, question: Question) -> str:
         """The answer to a question for the likeliest roads of a track."""
         own, general = question.own, question.general
-        track = matching.Track(numpy.array(question.coordinates), general.radiuses, own.timestamps)
+        track = matching.Track(numpy.array(question.coordinates), general.radiuses, own.timestamps, general.bearings)
         parts = matching.matched(self.network._trips, track, own.is_parted, own.is_tidied)
         if not parts:
             raise Refusal("NoMatch", "no roads lead along the coordinates")
@@ -227,10 +249,16 @@ class Answers:
         starts, ends = (spots if some == list(range(len(spots))) else spots[some] for some in (own.sources, own.destinations))
         best, ways = table_ways(self.network._trips, starts, ends)
         is_there, parts = best < FAR, []
+        metres = self.metres(starts, ends, best, ways) if own.has_distances else None
+        if own.fallback is not None:
+            straight = straight_lines(question, starts, ends)
+            best, told = numpy.where(is_there, best, straight / own.fallback * MILLISECONDS), numpy.argwhere(~is_there).tolist()
+            metres, is_there = None if metres is None else numpy.where(is_there, metres, straight), numpy.ones_like(is_there)
+            parts.append(f'"fallback_speed_cells": {json.dumps(told)}')
         if own.has_durations:
             parts.append(f'"durations": {rows_of(best * own.scale if own.scale != 1 else best, 3, is_there)}')
-        if own.has_distances:
-            parts.append(f'"distances": {rows_of(self.metres(starts, ends, best, ways) * TENTHS, 1, is_there)}')
+        if metres is not None:
+            parts.append(f'"distances": {rows_of(metres * TENTHS, 1, is_there)}')
         if general.has_waypoints:
             told = self.waypoints(spots)
             for name, some in ("sources", own.sources), ("destinations", own.destinations):
@@ -251,7 +279,13 @@ class Answers:
     def nearest(self, question: Question) -> str:
         """The answer to a question for the nearest roads."""
         [(longitude, latitude)] = question.coordinates
-        spots = self.network.roads.find_some(longitude, latitude, question.own)
+        [bearing] = question.general.bearings
+        if bearing:
+            spots = matching.facing(self.network.roads, longitude, latitude, question.own, bearing)
+            if not len(spots):
+                raise Refusal("NoSegment", "no road leads in the direction of coordinate 0")
+        else:
+            spots = self.network.roads.find_some(longitude, latitude, question.own)
         see_that_near(spots[:1], question.general.radiuses)
         spots = spots[numpy.argsort(spots.metres, kind="stable")]
         spots = spots[spots.metres <= question.general.radiuses[0]]
@@ -277,6 +311,12 @@ class Answers:
 def answer_of(name: str, texts: str, more: str, listed: str | None) -> str:
     """The text of an answer: the objects of its main list, and another list, None where it has none."""
     return f'{{"code": "Ok", "{name}": [{texts}]{"" if listed is None else f", {chr(34)}{more}{chr(34)}: {listed}"}}}'
+
+
+def chosen(waypoints: Sequence[str], first: int, question: Question) -> Sequence[str]:
+    """The waypoints of a question for a route, whose coordinates begin at `first`."""
+    own = waypoints[first:first + len(question.coordinates)]
+    return own if question.own.waypoints is None else [own[place] for place in question.own.waypoints]
 
 
 def objects(insides: Sequence[str | None], general: options.General) -> str | None:
@@ -328,6 +368,15 @@ def facing_spots(roads: Roads, spots: Spots, question: Question, first: int) -> 
     which = numpy.arange(len(spots))
     which[[first + index for index, _ in facing]] = len(spots) + numpy.arange(len(facing))
     return every[which], None
+
+
+def straight_lines(question: Question, starts: Spots, ends: Spots) -> Floats:
+    """The metres along straight lines from each source of a table to each destination."""
+    own, places = question.own, numpy.array(question.coordinates)
+    one, other = (places[own.sources], places[own.destinations]) if own.is_between_inputs else (
+        numpy.column_stack([spots.longitudes, spots.latitudes]) for spots in (starts, ends))
+    pairs = numpy.repeat(one, len(other), axis=0), numpy.tile(other, (len(one), 1))
+    return metres_between(*pairs[0].T, *pairs[1].T).reshape(len(one), len(other))
 
 
 def far_fault(metres: Floats, radiuses: Sequence[float]) -> Refusal | None:

@@ -15,6 +15,7 @@ from chtab.roads.lines import metres_between
 from chtab.roads.snapping import Spots
 
 if TYPE_CHECKING:
+    from chtab.roads.snapping import Roads
     from chtab.roads.trips import Trips
     from chtab.typing import Floats, Integers
 
@@ -32,12 +33,13 @@ RIGHT, WRONG, SHARE_RIGHT = (0.005986, 0.016646), (0.054385, 0.458432), 0.696774
 
 
 class Track(NamedTuple):
-    """A track: its places in degrees (n, 2), the precision of each in metres (`radiuses`), infinite if it isn't given, and the seconds of each, or
-    None."""
+    """A track: its places in degrees (n, 2), the precision of each in metres (`radiuses`), infinite if it isn't given, the seconds of each, or None, and
+    the direction in which each was driven over, with how many degrees off it are taken, or None."""
 
     places: Floats
     radiuses: Sequence[float]
     timestamps: list[int] | None
+    bearings: Sequence[tuple[int, int] | None] = ()
 
 
 class Part(NamedTuple):
@@ -100,8 +102,9 @@ class Model:
         self.spots = [self.near(place) for place in range(len(track.places))]
 
     def near(self, place: int) -> Spots:
-        x, y = self.track.places[place]
-        found = self.trips.roads.find_some(x, y, MOST_ROADS)
+        (x, y), roads = self.track.places[place], self.trips.roads
+        bearing = self.track.bearings[place] if self.track.bearings else None
+        found = roads.find_some(x, y, MOST_ROADS) if bearing is None else facing(roads, x, y, MOST_ROADS, bearing)
         return found[found.metres <= TIMES * self.spreads[place]]
 
     def emission(self, place: int) -> Floats:
@@ -196,6 +199,17 @@ def confidence(straight: float, metres: float) -> float:
     return round(float(right / (right + wrong)), 6)
 
 
+def facing(roads: Roads, longitude: float, latitude: float, most: int, bearing: tuple[int, int]) -> Spots:
+    """The spots of a place on its nearest roads that lead in a direction, at most `most` of them, the nearest first."""
+    found: list[Spots] = []
+    while len(found) < most:
+        one = roads.find_facing(longitude, latitude, *bearing, [int(each.roads[0]) for each in found])
+        if not len(one):
+            break
+        found.append(one)
+    return together(found) if found else roads.find_any([longitude], [latitude])[:0]
+
+
 def together(parts: Sequence[Spots]) -> Spots:
     """Joins spots, one after the other."""
-    return Spots(*(numpy.concatenate(columns) for columns in zip(*(vars(part).values() for part in parts))))
+    return Spots.joined(parts)

@@ -8,10 +8,14 @@ import urllib.parse
 from collections.abc import Callable, Mapping
 from typing import Any, NamedTuple
 
+# The classes of ways that may be excluded.
+CLASSES = "toll", "motorway", "ferry"
 # A percent sign that begins no escape.
 BROKEN = re.compile("%(?![0-9A-Fa-f]{2})")
 NUMBER = re.compile(r"\d+(?:\.\d*)?|\.\d+", re.ASCII)
 INDEX = re.compile(r"\d{1,9}", re.ASCII)
+# The metres a second of cells without a way.
+LEAST_SPEED, MOST_SPEED = 0.001, 1_000_000
 # With larger factors, durations might be no numbers of JSON.
 MOST_SCALE = 1_000_000_000
 ANNOTATIONS = "duration", "distance", "nodes", "weight", "speed", "datasources"
@@ -68,25 +72,30 @@ def values_in(query: str) -> dict[str, str]:
 
 
 class General(NamedTuple):
-    """What all services take: for each coordinate the metres within which a road has to lie, and the direction in which it has to be driven along
-    with how many degrees off it are taken, or None; whether waypoints have hints, which are empty, and whether there are waypoints; and whether any
-    radius is not infinite, and any direction asked for."""
+    """What all services take: for each coordinate the metres within which a road has to lie, the direction in which it has to be driven along with
+    how many degrees off it are taken, or None, and whether it has to lie on the side of the road that is driven on; whether waypoints have hints,
+    which are empty, and whether there are waypoints; and whether any radius is not infinite, any direction asked for, and any side of the road."""
 
     radiuses: tuple[float, ...]
     bearings: tuple[tuple[int, int] | None, ...]
+    are_at_curb: tuple[bool, ...]
     has_hints: bool
     has_waypoints: bool
     has_radiuses: bool
     has_bearings: bool
+    has_curbs: bool
 
 
 class Route(NamedTuple):
-    """The options of a route."""
+    """The options of a route: its lines, whether it has steps, its annotations, whether it goes straight on at its stops, None for the default, and the
+    coordinates between which it has legs, None for all."""
 
     geometries: str
     overview: str
     has_steps: bool
     annotations: tuple[str, ...]
+    is_straight: bool | None = None
+    waypoints: tuple[int, ...] | None = None
 
     @property
     def work(self) -> float:
@@ -96,7 +105,7 @@ class Route(NamedTuple):
     @property
     def has_traces(self) -> bool:
         """Whether the places of the route have to be known, and what lies between them."""
-        return self.overview == "simplified" or any(name != "nodes" for name in self.annotations)
+        return self.overview == "simplified" or bool(self.annotations)
 
 
 class Trip(NamedTuple):
@@ -120,13 +129,16 @@ class Match(NamedTuple):
 
 
 class Table(NamedTuple):
-    """The options of a table: the coordinates of its rows and columns, and what its cells have."""
+    """The options of a table: the coordinates of its rows and columns, what its cells have, by which number durations are multiplied, and the metres a
+    second along the straight line in a cell without a way, None where it is empty, between the coordinates as they came or where roads are."""
 
     sources: list[int]
     destinations: list[int]
     has_durations: bool
     has_distances: bool
     scale: float
+    fallback: float | None = None
+    is_between_inputs: bool = True
 
     @property
     def size(self) -> int:
@@ -161,11 +173,6 @@ class Reader:
         if len(found) != self.count:
             raise Refusal("InvalidOptions", f"{name}: {len(found):,} elements for {self.count:,} coordinates")
         return found
-
-    def only(self, name: str, *harmless: str) -> None:
-        """Refuses an option with any other non-empty element than these."""
-        if set(self.elements(name)) - {"", *harmless}:
-            raise unsupported(name)
 
     def refuse(self, *names: str) -> None:
         for name in names:
@@ -208,12 +215,29 @@ def general(reader: Reader) -> General:
     bearings = tuple(bearing_in(text) for text in reader.elements("bearings"))
     # Hints of other servers would only shorten the search for a road.
     reader.take("hints", "")
-    reader.only("approaches", "unrestricted")
+    curbs = tuple(is_at_curb(text) for text in reader.elements("approaches"))
     # Trips may start on each road of a graph, so that both are the same.
     reader.choice("snapping", "default", "any")
-    reader.refuse("exclude")
+    # Another network answers, which the service has chosen.
+    reader.take("exclude", "")
     hints, waypoints = reader.boolean("generate_hints", True), not reader.boolean("skip_waypoints", False)
-    return General(radiuses, bearings, hints, waypoints, any(map(math.isfinite, radiuses)), any(bearings))
+    return General(radiuses, bearings, curbs, hints, waypoints, any(map(math.isfinite, radiuses)), any(bearings), any(curbs))
+
+
+def excluded_in(query: str) -> tuple[str, ...]:
+    """The classes of ways that a query excludes, in order and each once."""
+    word = values_in(query).get("exclude", "")
+    names = word.split(",") if word else []
+    if not set(names) <= set(CLASSES):
+        raise Refusal("InvalidValue", f"exclude: some of {', '.join(CLASSES)}, with commas between them")
+    return tuple(name for name in CLASSES if name in names)
+
+
+def is_at_curb(text: str) -> bool:
+    """Whether a coordinate has to lie on the side of the road that is driven on."""
+    if text not in ("", "unrestricted", "curb"):
+        raise Refusal("InvalidQuery", "approaches: one of unrestricted, curb")
+    return text == "curb"
 
 
 def bearing_in(text: str) -> tuple[int, int] | None:
@@ -232,10 +256,21 @@ def route(reader: Reader) -> Route:
     # One route is a correct answer even if alternatives are asked for, because OSRM doesn't promise any.
     if not ALTERNATIVES.fullmatch(reader.take("alternatives", "false")):
         raise Refusal("InvalidQuery", "alternatives: true, false or a number")
-    reader.refuse("waypoints")
-    # All routes go on as they come: taken, and without effect.
-    reader.choice("continue_straight", "default", "true", "false")
-    return told_route(reader)
+    straight = reader.choice("continue_straight", "default", "true", "false")
+    found = told_route(reader)._replace(is_straight={"true": True, "false": False}.get(straight), waypoints=waypoints(reader))
+    if found.waypoints is not None and found.has_steps:
+        raise Refusal("InvalidOptions", "waypoints: not supported with steps")
+    return found
+
+
+def waypoints(reader: Reader) -> tuple[int, ...] | None:
+    """The indices of the coordinates that are waypoints, in order, the first and the last coordinate among them; None if all are."""
+    if "waypoints" not in reader.given:
+        return None
+    found = tuple(sorted({*reader.indices("waypoints")}))
+    if found[:1] != (0,) or found[-1] != reader.count - 1:
+        raise Refusal("InvalidValue", "waypoints: the first and the last coordinate are waypoints")
+    return found
 
 
 def told_route(reader: Reader) -> Route:
@@ -289,12 +324,16 @@ def timestamps(reader: Reader) -> list[int] | None:
 def table(reader: Reader) -> Table:
     if reader.count < 2:
         raise Refusal("InvalidOptions", "a table has at least two coordinates")
-    reader.refuse("fallback_speed", "fallback_coordinate")
     annotations = reader.choice("annotations", "duration", "distance", "duration,distance", "distance,duration")
     scale = reader.number("scale_factor", reader.take("scale_factor", "1"))
     if not 0 < scale <= MOST_SCALE:
         raise Refusal("InvalidOptions", f"scale_factor: a number above 0, at most {MOST_SCALE:,}")
-    return Table(reader.indices("sources"), reader.indices("destinations"), "duration" in annotations, "distance" in annotations, scale)
+    fallback = reader.number("fallback_speed", reader.take("fallback_speed", "0")) if "fallback_speed" in reader.given else None
+    if fallback is not None and not LEAST_SPEED <= fallback <= MOST_SPEED:
+        raise Refusal("InvalidOptions", f"fallback_speed: metres a second, from {LEAST_SPEED} to {MOST_SPEED:,}")
+    is_between_inputs = reader.choice("fallback_coordinate", "input", "snapped") == "input"
+    sources, destinations = reader.indices("sources"), reader.indices("destinations")
+    return Table(sources, destinations, "duration" in annotations, "distance" in annotations, scale, fallback, is_between_inputs)
 
 
 def nearest(reader: Reader) -> int:

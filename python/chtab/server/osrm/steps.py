@@ -11,10 +11,10 @@ import numpy
 from chtab.engine.walks import ranges
 from chtab.roads.legs import sums_before
 from chtab.roads.snapping import NONE
-from chtab.server.osrm import polylines
+from chtab.server.osrm import joining, polylines
 from chtab.server.osrm.crossings import FERRY
 from chtab.server.osrm.keeping import column_of
-from chtab.server.osrm.maneuvers import ENTER, EXIT, SILENT, TYPES
+from chtab.server.osrm.maneuvers import CONTINUE, ENTER, EXIT, SILENT, TURN, TYPES
 from chtab.server.osrm.passing import Passing, maneuver
 from chtab.server.osrm.rides import Rides, pieces_of
 
@@ -26,6 +26,8 @@ if TYPE_CHECKING:
     from chtab.server.osrm.rides import Passages, Pieces
     from chtab.typing import Floats, Integers
 
+# The text of a maneuver that continues a street, and that of one onto another street.
+CONTINUES, TURNS = (f'"type": "{TYPES[kind]}"' for kind in (CONTINUE, TURN))
 # The types of maneuvers at rings with names of their own.
 ROTARIES = {ENTER: "rotary", EXIT: "exit rotary"}
 # How many texts of steps at rings are kept.
@@ -89,6 +91,7 @@ class Steps:
         pieces = pieces_of(self.known, lines.drawn.pieces)
         rides = Rides(self.known, self.passing, pieces)
         passages, known = rides.passages(), rides.kept
+        passages, joined = joining.joined(passages, pieces, lines.metres)
         kept = numpy.flatnonzero((passages.kinds != SILENT) | known.is_crossing[passages.ways])
         acting = numpy.flatnonzero(passages.kinds[kept] != SILENT)
         done, numbers = kept[acting], numpy.arange(len(which) + 1)
@@ -97,7 +100,11 @@ class Steps:
         order = order_of(turns[1:] - turns[:-1])
         begun, ended = self.ends_of(legs, which, pieces)
         streets = order.column(begun, pieces.streets[passages.before[done] + 1], ended)
-        members, maneuvers = self.members[streets], order.column(None, known.maneuvers[passages.ways[done]], None)
+        maneuvers = order.column(None, known.maneuvers[passages.ways[done]], None)
+        for passage, street in joined.items():
+            place = order.inner[done.searchsorted(passage)]
+            streets[place], maneuvers[place] = street, maneuvers[place].replace(CONTINUES, TURNS, 1)
+        members = self.members[streets]
         self.see_to_rings(passages, pieces, done, order.inner, members, maneuvers)
         maneuvers[order.begins], maneuvers[order.lasts] = map(column_of, zip(*lines.ends()))
         # The crossings of a step are those up to the next step; an arrival has none. The text of a maneuver has the crossing where it is.

@@ -1,6 +1,7 @@
 """Routes in OSRM's form: `routes` with their legs, steps and annotations."""
 from __future__ import annotations
 
+import itertools
 import json
 from collections.abc import Mapping, Sequence
 from typing import TYPE_CHECKING, Any, NamedTuple
@@ -86,29 +87,49 @@ def route(voice: Voice, legs: Legs, which: list[int], options: Route, told: OfLe
     """The text of the route over some legs, one after the other."""
     duration = sum(told.weights[leg] for leg in which) / MILLISECONDS
     metres = round(sum(told.metres[leg] for leg in which), 1)
-    texts = ", ".join([leg_text(voice, legs, leg, options, told) for leg in which])
+    texts = ", ".join([leg_text(voice, legs, part, options, told) for part in between_waypoints(which, options.waypoints)])
     drawn = "" if line is None else f' "geometry": {line},'
     return f'{{"distance": {metres}, "duration": {duration}, "weight": {duration}, "weight_name": "duration",{drawn} "legs": [{texts}]}}'
 
 
-def leg_text(voice: Voice, legs: Legs, leg: int, options: Route, told: OfLegs) -> str:
-    weight, steps, more = told.weights[leg] / MILLISECONDS, told.steps.get(leg), ""
+def between_waypoints(which: list[int], waypoints: tuple[int, ...] | None) -> list[list[int]]:
+    """The legs of a route that are told as one: those between two waypoints."""
+    if waypoints is None:
+        return [[leg] for leg in which]
+    return [which[first:last] for first, last in itertools.pairwise(waypoints)]
+
+
+def leg_text(voice: Voice, legs: Legs, which: list[int], options: Route, told: OfLegs) -> str:
+    """The text of some legs, told as one. Only a leg by itself has steps."""
+    weight, metres = sum(told.weights[leg] for leg in which) / MILLISECONDS, sum(told.metres[leg] for leg in which)
+    steps, more = told.steps.get(which[0]), ""
     if options.annotations:
-        trace = told.traces.of(told.places[leg]) if leg in told.places else None
-        more = f' "annotation": {json.dumps(annotation(legs, leg, trace, options.annotations, voice.numbers))},'
+        parts = [annotation(told.traces.of(told.places[leg]), options.annotations, voice.numbers) for leg in which]
+        more = f' "annotation": {json.dumps(parts[0] if len(parts) == 1 else together(parts))},'
     summary, listed = (steps.summary, steps.steps) if steps else ('""', "[]")
-    return f'{{"distance": {round(told.metres[leg], 1)}, "duration": {weight}, "weight": {weight}, "summary": {summary},{more} "steps": {listed}}}'
+    return f'{{"distance": {round(metres, 1)}, "duration": {weight}, "weight": {weight}, "summary": {summary},{more} "steps": {listed}}}'
 
 
-def annotation(legs: Legs, leg: int, trace: Trace | None, wanted: Sequence[str], numbers: Integers | None) -> dict[str, Any]:
-    """What lies between each two places of the full line, and the nodes that the leg passes. What lies between sums up to the whole leg."""
+def together(parts: Sequence[dict[str, Any]]) -> dict[str, Any]:
+    """The annotations of several legs as those of one. Where one leg ends and the next begins in the middle of a road, there is no node."""
+    found = {name: list(column) if isinstance(column, list) else column for name, column in parts[0].items()}
+    for part in parts[1:]:
+        for name, column in part.items():
+            if name == "nodes":
+                last = found[name].pop()
+                found[name] += [column[0] if column[0] == last else 0, *column[1:]]
+            elif isinstance(column, list):
+                found[name] += column
+    return found
+
+
+def annotation(trace: Trace, wanted: Sequence[str], numbers: Integers | None) -> dict[str, Any]:
+    """What lies between each two places of the full line, and the nodes there: one more than lie between, with 0 for bends. What lies between sums up
+    to the whole leg."""
     found: dict[str, Any] = {}
     if "nodes" in wanted:
-        nodes = legs.nodes(leg)
-        called = nodes if numbers is None else numbers[numpy.array(nodes, int) - 1].tolist()
-        found["nodes"] = [number for place, number in enumerate(called) if not place or number != called[place - 1]]
-    if trace is None:
-        return found
+        nodes = trace.nodes if len(trace.nodes) > 1 else numpy.repeat(trace.nodes, 2)
+        found["nodes"] = (nodes if numbers is None else numpy.where(nodes > 0, numbers[nodes - 1], 0)).tolist()
     weights, metres = numpy.array(between(trace.weights)), numpy.array(between(trace.metres))
     durations = (weights / MILLISECONDS).tolist()
     speeds = numpy.where(weights > 0, metres / numpy.where(weights > 0, weights / MILLISECONDS, 1), 0)

@@ -53,6 +53,16 @@ def words_of(target: str, most: int) -> Words:
     return Words(service, text_of(parts[2]), coordinates.removesuffix(".json"), query)
 
 
+def posted(target: str, body: bytes) -> str:
+    """The target of a request by POST, whose body has the coordinates and the options: what follows the profile in an address."""
+    if "?" in target:
+        raise Refusal("InvalidUrl", "options are in the body: COORDINATES?NAME=VALUE&..")
+    try:
+        return f"{target.rstrip('/')}/{body.decode('ascii').strip()}"
+    except UnicodeDecodeError:
+        raise Refusal("InvalidUrl", "a body has printable characters of ASCII alone") from None
+
+
 def coordinates_of(text: str, most: int) -> list[Point]:
     """The coordinates of an address, at most `most`: (longitude, latitude) in degrees."""
     line = POLYLINE.fullmatch(text)

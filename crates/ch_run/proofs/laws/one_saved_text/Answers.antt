@@ -15,10 +15,10 @@ returns-clause-tables g c = λ graph graph' saved saved' sources sources' target
     (reading g.L.Input.read_gives targets targets') options (file, told_file) (from, told_from) (to, told_to) text other
 
 pub returns-clause-hierarchies : goal.returns-clause-hierarchies
-returns-clause-hierarchies g c = λ graph graph' options bytes text other told.
-    saves_one (reading g.I.Input.read_gives graph graph') bytes told NoFile options tt text other
+returns-clause-hierarchies g c = λ graph graph' options bytes text other named told.
+    saves_one (reading g.I.Input.read_gives graph graph') bytes told NoFile options named tt text other
 
 pub returns-clause-orders : goal.returns-clause-orders
 returns-clause-orders g c = λ graph graph' order order' options fresh hops bytes file text other told told_file.
     saves_one (reading g.I.Input.read_gives graph graph') bytes told (OrderFile (reading g.S.Input.read_gives order order') fresh hops)
-    options (file, told_file) text other
+    options tt (file, told_file) text other

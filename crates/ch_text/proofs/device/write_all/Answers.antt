@@ -13,7 +13,6 @@ loop-count-preserved g c =
       within = grind (arith, common_steps, wrote.fits);
       failed = count.0 ∙ c.loop-count.invariant.failed;
       idle = count.1 ∙ c.loop-count.invariant.idle;
-      closed = grind (arith, common_steps, wrote.closes);
       taken = took-more g.O.Output.write_gives _ _ _ _ _ _ c.loop-count.invariant.taken wrote.made c.if-taken-gt0.true wrote.fits;
     }
 

@@ -8,7 +8,6 @@ invariant-loop-count g l = record {
   within : l.count ≤ length l.bytes;
   failed : g.O.Output.failed l.output ≡ g.O.Output.failed l.initial.output;
   idle : g.O.Output.idle l.output ≡ g.O.Output.idle l.initial.output;
-  closed : g.O.Output.closed l.output ≡ g.O.Output.closed l.initial.output;
   taken : TookBefore g.O.Output.write_gives l.initial.output l.bytes (drop l.count l.bytes) l.output;
 }
 

@@ -2,4 +2,4 @@
 use Rattle.chtab.proofs.program.run.Goals as goal
 
 pub returns : goal.returns
-returns g c = (c.answer_to-answer.result, c.answer_to-answer.ensures, rw c.is_closed.ensures at c.end.ensures)
+returns g c = (c.answer_to-answer.result, c.answer_to-answer.ensures, c.end.ensures)

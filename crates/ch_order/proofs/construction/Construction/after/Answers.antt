@@ -7,6 +7,7 @@ use Rattle.ch_order.specs.Steps.{IsAfterGiven}
 use Rattle.ch_order.specs.Construction.{progress_of}
 use Rattle.ch_contract.specs.Remaining.{legs_of}
 use Rattle.ch_contract.proofs.theory.OneInTurn.{not_before}
+use Rattle.ch_contract.proofs.theory.Contracting.{pairs_by_needed}
 use Rattle.ch_order.proofs.StepsMade.{given_none, given_more, legs_within, depth_within, count_fewer}
 use Rattle.ch_order.proofs.ConstructionCalls.{taken_step}
 use Rattle.ch_order.proofs.construction.Construction.after.Goals as goal
@@ -26,7 +27,8 @@ take-requires g c =
     record {
       next = record {
         sizes = i.0;
-        limits = subst (λ n. AreLegsWithin n (legs_of c.loop-node.construction.remaining)) (sym i.1) (legs_within _ _ _ _ _ u);
+        limits = subst (λ n. AreLegsWithin n (legs_of c.loop-node.construction.remaining)) (sym i.1)
+            (legs_within _ _ _ _ _ u (pairs_by_needed _ _));
         node = subst (λ n. v < n) (sym i.1) node;
         count = subst (λ n. c.loop-node.construction.contracted < n) (sym i.1) (count_fewer _ _ _ _ _ u v node left);
         depth = depth_within _ _ _ _ _ u v;

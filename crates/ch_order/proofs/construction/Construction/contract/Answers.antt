@@ -9,14 +9,14 @@ use Rattle.ch_order.proofs.construction.Construction.contract.Goals as goal
 pub refresh-requires-clause-nodes : goal.refresh-requires-clause-nodes
 refresh-requires-clause-nodes g c lifetimes bounds =
     let t = c.in_ok-taken.ensures.taken in
-    let list = c.as_slice-2.ensures.value ∙ t.listed in
+    let list = c.as_slice-2.ensures ∙ t.listed in
     subst (λ n. All (λ x. x < n) c.as_slice-2.result.now) (sym t.nodes)
     (neighbours_within _ _ _ _ _ _ t.up.legs t.down.legs c.requires.next.limits list)
 
 pub refresh-requires-clause-count : goal.refresh-requires-clause-count
 refresh-requires-clause-count g c lifetimes bounds =
     let t = c.in_ok-taken.ensures.taken in
-    let few = neighbours_count _ _ _ _ _ _ c.requires.next.limits t.up.legs t.down.legs (c.as_slice-2.ensures.value ∙ t.listed) in
+    let few = neighbours_count _ _ _ _ _ _ c.requires.next.limits t.up.legs t.down.legs (c.as_slice-2.ensures ∙ t.listed) in
     let most = c.requires.next.sizes.nodes in
     omega arith
 
@@ -28,5 +28,5 @@ returns-clause-step g c =
     let taken = c.in_ok-taken.taken in
     let next = c.requires.next in
     let anew = lent_refreshed (λ d. IsPriorityIn c.args.by taken.remaining c.args.hops.number d) _ _ _ _ _ _ c.as_slice.ensures.value
-    c.as_slice-2.ensures.value c.in_ok-refresh.ensures.anew in
+    c.as_slice-2.ensures c.in_ok-refresh.ensures.anew in
     stepped c.args.by c.args.hops.number c.args.self c.args.node _ taken _ next.node next.limits next.sizes c.in_ok-taken.ensures.taken anew

@@ -16,7 +16,7 @@ listed ups downs up down items a b c = c ∙ ap (λ l. neighbours_in l downs) a 
 
 pub deepen-requires-clause-nodes : goal.deepen-requires-clause-nodes
 deepen-requires-clause-nodes c =
-    let list = c.as_slice.ensures.value ∙ listed _ _ _ _ _ c.up_legs.ensures c.down_legs.ensures c.in_ok-neighbours.ensures in
+    let list = c.as_slice.ensures ∙ listed _ _ _ _ _ c.up_legs.ensures c.down_legs.ensures c.in_ok-neighbours.ensures in
     let size : c.args.self.remaining.nodes ≡ length c.deref_mut.result.now =
     sym (ap length c.deref_mut.ensures.value ∙ c.requires.next.sizes.depths) in
     subst (λ n. All (λ x. x < n) c.as_slice.result.now) size
@@ -38,7 +38,7 @@ returns-clause-taken c =
       up = c.in_ok-self.ensures.up;
       down = c.in_ok-self.ensures.down;
       listed = listed _ _ _ _ _ c.up_legs.ensures c.down_legs.ensures c.in_ok-neighbours.ensures;
-      deeper = deepened _ _ _ _ _ _ _ c.as_slice.ensures.value c.deref_mut.ensures.value written c.deepen.ensures;
+      deeper = deepened _ _ _ _ _ _ _ c.as_slice.ensures c.deref_mut.ensures.value written c.deepen.ensures;
       waiting = c.leave.ensures;
       levels = refl;
       contracted = refl;

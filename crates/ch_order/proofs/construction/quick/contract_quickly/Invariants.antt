@@ -1,7 +1,7 @@
 -- The nodes that are contracted so far begin with the given ones, and all others wait in the queue.
 use Rattle.std.proofs.Common.{◌≡◌, ◌-◌}
 use Rattle.ch_order.specs.Construction.{IsSized, IsJudging, progress_of}
-use Rattle.ch_order.proofs.QuickSteps.{IsAfterAny}
+use Rattle.ch_order.specs.Quick.{IsAfterAny}
 use Rattle.ch_order.proofs.construction.quick.contract_quickly.Given as goal
 
 abbrev pub invariant-loop-least : goal.invariant-loop-least

@@ -1,0 +1,2 @@
+-- The lemmas on topologies and customization.
+pub mod theory

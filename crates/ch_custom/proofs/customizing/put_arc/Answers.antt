@@ -1,0 +1,30 @@
+-- The arc is put into the row of its lower end.
+use Rattle.std.proofs.Common.{arith, inl, inr}
+use Rattle.ch_hierarchy.specs.declared.side.Side.TheVariants.{Up, Down}
+use Rattle.ch_custom.proofs.theory.LegPairs.{lightened_rows, kept_rows}
+use Rattle.ch_custom.proofs.customizing.put_arc.Goals as goal
+
+pub returns-then-levels-arc : goal.returns-then-levels-arc
+returns-then-levels-arc c =
+    let low = c.requires.levels in
+    let many = c.requires.metric in
+    inl (
+      c.if-levels-arc.true,
+      lightened_rows Up c.args.metric.now c.lighten.new.self c.args.arc.from c.args.arc.to c.args.arc.weight
+          (omega (arith, low.0)) c.lighten.ensures,
+      kept_rows Up c.args.metric.now c.lighten.new.self c.args.arc.from c.args.arc.to c.args.arc.weight
+          (omega (arith, low.0)) c.lighten.ensures,
+    )
+
+pub returns-else-levels-arc : goal.returns-else-levels-arc
+returns-else-levels-arc c =
+    let low = c.requires.levels in
+    let many = c.requires.metric in
+    let new = c.lighten-else-levels-arc.new.self in
+    inr (
+      c.if-levels-arc.false,
+      kept_rows Down c.args.metric.now new c.args.arc.to c.args.arc.from c.args.arc.weight
+          (omega (arith, low.1)) c.lighten-else-levels-arc.ensures,
+      lightened_rows Down c.args.metric.now new c.args.arc.to c.args.arc.from c.args.arc.weight
+          (omega (arith, low.1)) c.lighten-else-levels-arc.ensures,
+    )

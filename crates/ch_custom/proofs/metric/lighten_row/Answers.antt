@@ -1,0 +1,12 @@
+-- All pairs of the row are lightened.
+use Rattle.std.proofs.Common.{arith}
+use Rattle.ch_custom.specs.LegPairs.{lightened_pair}
+use Rattle.ch_custom.proofs.theory.RowLoops.{all_changed}
+use Rattle.ch_custom.proofs.metric.lighten_row.Goals as goal
+
+pub returns : goal.returns
+returns c =
+    let a = c.loop-place.invariant in
+    let past = c.loop-place-test.false in
+    all_changed (lightened_pair c.args.side c.args.other c.args.weight) c.args.row.now c.loop-place.row a.0
+    (λ k d lt. a.1 k d (omega arith) lt)

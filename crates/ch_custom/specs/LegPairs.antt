@@ -1,0 +1,81 @@
+-- The legs of the pairs of a topology, in both directions.
+use Rattle.std.specs.Prelude.{◌≡◌, ℕ, ◌+◌, ◌<◌, ◌==◌, ◌&&◌, nat_lt, if◌then◌else◌, List, [], map, All, slice_index_or, Option, Some, None}
+use Rattle.ch_graph.specs.declared.limits.TheConstants.{MOST_WEIGHT}
+use Rattle.ch_hierarchy.specs.declared.leg.Leg.{Leg}
+use Rattle.ch_hierarchy.specs.declared.side.Side.{Side}
+use Rattle.ch_hierarchy.specs.declared.side.Side.TheVariants.{Up, Down}
+use Rattle.ch_hierarchy.specs.Rows.{IsRow}
+use Rattle.ch_hierarchy.specs.Side.{other}
+use Rattle.ch_custom.specs.declared.leg_pair.Held.{Held}
+use Rattle.ch_custom.specs.declared.leg_pair.LegPair.{LegPair}
+use Rattle.ch_custom.specs.declared.leg_pair.TheConstants.{NO_MIDDLE}
+use Rattle.ch_custom.specs.Metric.{IsHeld, AreLoweredOver}
+use Rattle.ch_custom.specs.Topologies.{AreRelaxed, AreRelaxedTo}
+
+-- the middle of a leg, which NO_MIDDLE says that it has none of
+abbrev pub middle_of : ℕ → Option ℕ
+middle_of m = if m == NO_MIDDLE then None else Some m
+
+-- the leg to or from this node
+abbrev pub leg_at : ℕ → Held → Leg
+leg_at node h = record { node = node; cost = record { weight = h.weight; arcs = h.arcs }; middle = middle_of h.middle }
+
+-- the leg of a pair in a direction
+abbrev pub leg_of : Side → LegPair → Leg
+leg_of Up p = leg_at p.node p.up
+leg_of Down p = leg_at p.node p.down
+
+-- the legs of a row in a direction, and those of all rows
+abbrev pub row_of : Side → List LegPair → List Leg
+row_of side pairs = map (leg_of side) pairs
+
+abbrev pub rows_at : Side → List (List LegPair) → List (List Leg)
+rows_at side rows = map (row_of side) rows
+
+-- the row of a node
+abbrev pub pairs_row : List (List LegPair) → ℕ → List LegPair
+pairs_row rows v = slice_index_or rows v []
+
+-- the pair with this higher node, without a leg
+abbrev pub no_pair : ℕ → LegPair
+no_pair node = record {
+  node = node;
+  up = record { weight = MOST_WEIGHT + 1; arcs = 0; middle = NO_MIDDLE };
+  down =
+      record { weight = MOST_WEIGHT + 1; arcs = 0; middle = NO_MIDDLE };
+}
+
+-- the pair with an arc of this weight in a direction if it is at `node` and lighter
+abbrev pub lightened_pair : Side → ℕ → ℕ → LegPair → LegPair
+lightened_pair Up node weight p = if p.node ==
+    node && nat_lt weight p.up.weight then record {
+      node = p.node;
+      up = record { weight = weight; arcs = 1; middle = NO_MIDDLE };
+      down =
+          p.down;
+    } else p
+lightened_pair Down node weight p = if p.node ==
+    node && nat_lt weight p.down.weight then record {
+      node = p.node;
+      up = p.up;
+      down =
+          record { weight = weight; arcs = 1; middle = NO_MIDDLE };
+    } else p
+
+-- both legs can be added up
+abbrev pub AreHeld : LegPair → Type 0
+AreHeld p = (side : Side) → IsHeld (leg_of side p)
+
+-- the rows in both directions are in order, and their legs can be added up
+abbrev pub IsReady : List LegPair → Type 0
+IsReady pairs = (side : Side) → IsRow (row_of side pairs) × All IsHeld (row_of side pairs)
+
+-- each pair of a row is lowered over v in both directions: with one pair, and the pair of `others` to the same node
+abbrev pub ArePairsLowered : ℕ → ℕ → LegPair → List LegPair → List LegPair → List LegPair → Type 0
+ArePairsLowered n v one others before after = (side : Side) →
+    AreLoweredOver n v (leg_of (other side) one) (row_of side others) (row_of side before) (row_of side after)
+
+-- the row of each node of `taken` is lowered over v
+abbrev pub ArePairsRelaxed : ℕ → ℕ → List LegPair → List (List LegPair) → List (List LegPair) → Type 0
+ArePairsRelaxed n v taken old new = (side : Side) →
+    AreRelaxed n v (row_of (other side) taken) (row_of side taken) (rows_at side old) (rows_at side new)

@@ -1,0 +1,8 @@
+-- The definitions of customization: lowered legs, topologies, and legs over a topology.
+pub mod Ancestors
+pub mod Customizing
+pub mod LegPairs
+pub mod Metric
+pub mod Topologies
+pub mod Opening
+pub mod Pairs

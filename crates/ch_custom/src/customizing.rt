@@ -1,0 +1,185 @@
+//! Customization: the legs of a topology, lowered over one node after the other.
+ghost use Rattle.std.specs.Prelude.{◌≡◌, ◌+◌, ◌<◌, OnOk, IfOk, filter, length, map, slice_index};
+ghost use Rattle.ch_hierarchy.specs.Kept.{IsKept};
+ghost use Rattle.ch_hierarchy.specs.Saved.{AreLevelsOf};
+ghost use Rattle.ch_hierarchy.specs.declared.side.Side.TheVariants.{Up, Down};
+ghost use Rattle.ch_contract.specs.Built.{IsHierarchyIn};
+ghost use Rattle.ch_custom.specs.Customizing.{IsTopology, Lowers};
+ghost use Rattle.ch_custom.specs.LegPairs.{no_pair, pairs_row, rows_at};
+ghost use Rattle.ch_custom.specs.Opening.{IsPut, is_live};
+ghost use Rattle.ch_custom.specs.Topologies.{AreFor, AreMetricsAt, legs_after};
+
+use crate::leg_pair::LegPair;
+use crate::metric::Metric;
+use crate::topology::Topology;
+use ch_graph::{Graph, InArc, Rows};
+use ch_hierarchy::{Hierarchy, Leg, Side};
+use ch_lists::Lists;
+use std::alloc::{AllocError, Global};
+
+/// Returns the hierarchy of the graph in the order of the topology: each leg is lowered to the sums of two legs over
+/// the lower nodes. The work is that of all triangles of the topology.
+///
+/// # Errors
+/// `AllocError` if there is no memory for the legs of the topology or the hierarchy.
+pub fn customize(alloc: Global, topology: &Topology, graph: &Graph) -> Result<Hierarchy, AllocError>
+    requires nodes { length topology.now.pairs ≡ graph.now.nodes }
+    requires topology { IsTopology graph.now topology.now.order topology.now.pairs }
+    ensures hierarchy { IfOk result (λ h. IsHierarchyIn (Lowers graph.now.nodes) graph.now h topology.now.order (legs_after graph.now topology.now.order)) }
+    ensures kept { IfOk result (IsKept graph.now) }
+{
+    customize_over(
+        alloc,
+        graph,
+        topology.order(),
+        topology.levels(),
+        topology.rows(),
+    )
+}
+
+/// Returns the hierarchy of the graph over these rows of a topology.
+fn customize_over(
+    alloc: Global,
+    graph: &Graph,
+    order: &[u32],
+    levels: &[u32],
+    rows: &Rows<u32>,
+) -> Result<Hierarchy, AllocError>
+    requires ready { AreFor graph.now order.now rows.now }
+    requires levels { AreLevelsOf order.now levels.now }
+    ensures hierarchy { IfOk result (λ h. IsHierarchyIn (Lowers graph.now.nodes) graph.now h order.now (legs_after graph.now order.now)) }
+    ensures kept { IfOk result (IsKept graph.now) }
+{
+    let mut metric = Metric::open(alloc, rows)?;
+    put_arcs(graph, order, levels, rows, &mut metric);
+    lower_all(alloc, graph, order, rows, &mut metric)?;
+    close(alloc, graph, order, levels, rows, &metric)
+}
+
+/// Returns the hierarchy of the legs in these arrays.
+fn close(
+    alloc: Global,
+    graph: &Graph,
+    order: &[u32],
+    levels: &[u32],
+    rows: &Rows<u32>,
+    metric: &Metric,
+) -> Result<Hierarchy, AllocError>
+    requires ready { AreFor graph.now order.now rows.now }
+    requires levels { AreLevelsOf order.now levels.now }
+    requires metric { AreMetricsAt graph.now order.now rows.now graph.now.nodes (rows_at Up metric.now) (rows_at Down metric.now) }
+    ensures hierarchy { IfOk result (λ h. IsHierarchyIn (Lowers graph.now.nodes) graph.now h order.now (legs_after graph.now order.now)) }
+    ensures kept { IfOk result (IsKept graph.now) }
+{
+    let copied = Vec::from_slice(alloc, levels)?;
+    let rows_up = metric.legs(alloc, Side::Up)?;
+    let rows_down = metric.legs(alloc, Side::Down)?;
+    closed(
+        alloc, graph, order, rows, copied, rows_up, rows_down, metric,
+    )
+}
+
+/// Returns the hierarchy of these rows, which are the legs in the arrays.
+fn closed(
+    alloc: Global,
+    graph: &Graph,
+    _order: &[u32],
+    _rows: &Rows<u32>,
+    levels: Vec<u32>,
+    rows_up: Lists<Leg>,
+    rows_down: Lists<Leg>,
+    _metric: &Metric,
+) -> Result<Hierarchy, AllocError>
+    requires ready { AreFor graph.now _order.now _rows.now }
+    requires levels { AreLevelsOf _order.now levels.items }
+    requires metric { AreMetricsAt graph.now _order.now _rows.now graph.now.nodes (rows_at Up _metric.now) (rows_at Down _metric.now) }
+    requires up { rows_up ≡ map (λ r. filter is_live r) (rows_at Up _metric.now) }
+    requires down { rows_down ≡ map (λ r. filter is_live r) (rows_at Down _metric.now) }
+    ensures hierarchy { IfOk result (λ h. IsHierarchyIn (Lowers graph.now.nodes) graph.now h _order.now (legs_after graph.now _order.now)) }
+    ensures kept { IfOk result (IsKept graph.now) }
+{
+    let _nodes = graph.nodes();
+    Hierarchy::from_rows(alloc, levels, rows_up, rows_down)
+}
+
+/// Puts the arcs of the graph into the empty places.
+fn put_arcs(graph: &Graph, order: &[u32], levels: &[u32], rows: &Rows<u32>, metric: &mut Metric)
+    requires ready { AreFor graph.now order.now rows.now }
+    requires levels { AreLevelsOf order.now levels.now }
+    requires metric { metric.old ≡ map (λ r. map no_pair r) rows.now }
+    ensures { AreMetricsAt graph.now order.now rows.now 0 (rows_at Up metric.new) (rows_at Down metric.new) }
+{
+    let arcs = graph.arcs();
+    for place in 0..arcs.len() {
+        put_arc(levels, arcs[place], metric);
+    }
+}
+
+/// Puts one arc into the row of its lower end.
+fn put_arc(levels: &[u32], arc: InArc, metric: &mut Metric)
+    requires levels { (arc.from < length levels.now) × (arc.to < length levels.now) }
+    requires metric { length metric.old ≡ length levels.now }
+    ensures { IsPut levels.now arc (rows_at Up metric.old) (rows_at Down metric.old) (rows_at Up metric.new) (rows_at Down metric.new) }
+{
+    if levels[arc.from as usize] < levels[arc.to as usize] {
+        metric.lighten(arc.from, Side::Up, arc.to, arc.weight);
+    } else {
+        metric.lighten(arc.to, Side::Down, arc.from, arc.weight);
+    }
+}
+
+/// Lowers all legs over the nodes of the order, one after the other.
+fn lower_all(
+    alloc: Global,
+    graph: &Graph,
+    order: &[u32],
+    rows: &Rows<u32>,
+    metric: &mut Metric,
+) -> Result<(), AllocError>
+    requires ready { AreFor graph.now order.now rows.now }
+    requires metric { AreMetricsAt graph.now order.now rows.now 0 (rows_at Up metric.old) (rows_at Down metric.old) }
+    ensures { OnOk result (AreMetricsAt graph.now order.now rows.now graph.now.nodes (rows_at Up metric.new) (rows_at Down metric.new)) }
+{
+    let mut taken = Vec::new(alloc);
+    for place in 0..order.len() {
+        lower_over(graph, order, rows, place, &mut taken, metric)?;
+    }
+    Ok(())
+}
+
+/// Lowers the legs over the node at this place of the order.
+fn lower_over(
+    graph: &Graph,
+    order: &[u32],
+    rows: &Rows<u32>,
+    place: usize,
+    taken: &mut Vec<LegPair>,
+    metric: &mut Metric,
+) -> Result<(), AllocError>
+    requires ready { AreFor graph.now order.now rows.now }
+    requires place { place < length order.now }
+    requires metric { AreMetricsAt graph.now order.now rows.now place (rows_at Up metric.old) (rows_at Down metric.old) }
+    ensures { OnOk result (AreMetricsAt graph.now order.now rows.now (place + 1) (rows_at Up metric.new) (rows_at Down metric.new)) }
+{
+    metric.copy_row(order[place], taken)?;
+    lower_with(graph, order, rows, place, taken.as_slice(), metric);
+    Ok(())
+}
+
+/// Lowers the legs over the node at this place of the order, whose row is `taken`.
+fn lower_with(
+    graph: &Graph,
+    order: &[u32],
+    _rows: &Rows<u32>,
+    place: usize,
+    taken: &[LegPair],
+    metric: &mut Metric,
+)
+    requires ready { AreFor graph.now order.now _rows.now }
+    requires place { place < length order.now }
+    requires metric { AreMetricsAt graph.now order.now _rows.now place (rows_at Up metric.old) (rows_at Down metric.old) }
+    requires taken { taken.now ≡ pairs_row metric.old (slice_index order.now place) }
+    ensures { AreMetricsAt graph.now order.now _rows.now (place + 1) (rows_at Up metric.new) (rows_at Down metric.new) }
+{
+    metric.relax(graph.nodes(), order[place], taken);
+}

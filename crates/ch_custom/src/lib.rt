@@ -1,0 +1,17 @@
+//! Customizable contraction hierarchies (Dibbelt, Strasser and Wagner 2016). A *topology* is an order of the nodes of
+//! a graph with the pairs of nodes between which there may be a leg, whatever the weights are. It is made once for
+//! the arcs of a graph. Weights are a *metric*: customization gives the hierarchy of each metric in this order.
+//!
+//! It stands on ch_contract, ch_graph, ch_hierarchy and ch_lists.
+#![tactic(auto)]
+
+mod customizing;
+pub mod laws;
+mod leg_pair;
+mod lowering;
+mod metric;
+mod pairs;
+mod topology;
+
+pub use customizing::customize;
+pub use topology::{Topology, TopologyError, topology_of};

@@ -1,0 +1,98 @@
+//! A row of legs, lowered over a node.
+ghost use Rattle.std.specs.Prelude.{◌≡◌, ℕ, ◌+◌, ◌<◌, ◌≤◌, All, length, slice_index_or};
+ghost use Rattle.ch_hierarchy.specs.declared.side.Side.{Side as AnySide};
+ghost use Rattle.ch_hierarchy.specs.Side.{other as other_side};
+ghost use Rattle.ch_custom.specs.declared.leg_pair.LegPair.{LegPair as AnyPair};
+ghost use Rattle.ch_graph.specs.declared.limits.TheConstants.{MOST_WEIGHT};
+ghost use Rattle.ch_custom.specs.Customizing.{leg_over};
+ghost use Rattle.ch_custom.specs.Metric.{held_leg, IsHeld};
+ghost use Rattle.ch_custom.specs.LegPairs.{leg_at, leg_of, row_of, AreHeld, IsReady, ArePairsLowered};
+
+use crate::leg_pair::{Held, LegPair};
+use ch_graph::Cost;
+use ch_graph::limits::MOST_WEIGHT;
+
+/// Lowers a leg to the sum of a leg to `middle` and a leg from it, if that is within the limits and cheaper.
+#[inline]
+fn lower(nodes: u32, middle: u32, first: Held, second: Held, leg: &mut Held)
+    requires middle { middle < nodes }
+    requires first { first.weight ≤ MOST_WEIGHT + 1 }
+    requires second { second.weight ≤ MOST_WEIGHT + 1 }
+    requires leg { IsHeld (leg_at 0 leg.old) }
+    ensures leg { held_leg (leg_at 0 leg.new) ≡ leg_over nodes middle (held_leg (leg_at 0 first)) (held_leg (leg_at 0 second)) (held_leg (leg_at 0 leg.old)) }
+    ensures held { IsHeld (leg_at 0 leg.new) }
+{
+    let cost = Cost {
+        weight: first.weight + second.weight,
+        arcs: u64::from(first.arcs) + u64::from(second.arcs),
+    };
+    let before = Cost {
+        weight: leg.weight,
+        arcs: u64::from(leg.arcs),
+    };
+    if cost.weight <= MOST_WEIGHT && cost.arcs < u64::from(nodes) && cost < before {
+        leg.weight = cost.weight;
+        leg.arcs = cost.arcs as u32;
+        leg.middle = middle;
+    }
+}
+
+/// Lowers the legs of a pair in both directions over `middle`: with the legs of `one` to or from `middle`, and with
+/// those of `other`.
+#[inline]
+fn lower_pair(nodes: u32, middle: u32, one: &LegPair, other: &LegPair, pair: &mut LegPair)
+    requires middle { middle < nodes }
+    requires one { AreHeld one.now }
+    requires other { AreHeld other.now }
+    requires pair { AreHeld pair.old }
+    ensures node { pair.new.node ≡ pair.old.node }
+    ensures legs { (side : AnySide) → held_leg (leg_of side pair.new) ≡ leg_over nodes middle (held_leg (leg_of (other_side side) one.now)) (held_leg (leg_of side other.now)) (held_leg (leg_of side pair.old)) }
+    ensures held { AreHeld pair.new }
+{
+    lower(nodes, middle, one.down, other.up, &mut pair.up);
+    lower(nodes, middle, one.up, other.down, &mut pair.down);
+}
+
+/// Returns the first place from `next` on whose pair has at least this node, or the length of the row.
+#[inline]
+fn first_from(others: &[LegPair], next: usize, node: u32) -> usize
+    requires next { next ≤ length others.now }
+    requires before { (k : ℕ) (d : AnyPair) → k < next → (slice_index_or others.now k d).node < node }
+    ensures within { result ≤ length others.now }
+    ensures before { (k : ℕ) (d : AnyPair) → k < result → (slice_index_or others.now k d).node < node }
+    ensures after { (d : AnyPair) → result < length others.now → node ≤ (slice_index_or others.now result d).node }
+{
+    let mut place = next;
+    while place < others.len() && others[place].node < node {
+        place += 1;
+    }
+    place
+}
+
+/// Lowers each leg of a row over `middle`, in both directions: to the sum of the leg of `one` and the leg of `others`
+/// to the same node, if there is one. Both rows are walked once, until one of them ends.
+pub(crate) fn lower_row(
+    nodes: u32,
+    middle: u32,
+    one: &LegPair,
+    others: &[LegPair],
+    row: &mut [LegPair],
+)
+    requires middle { middle < nodes }
+    requires one { AreHeld one.now }
+    requires others { IsReady others.now }
+    requires row { IsReady row.old }
+    ensures lowered { ArePairsLowered nodes middle one.now others.now row.old row.new }
+    ensures held { (side : AnySide) → All IsHeld (row_of side row.new) }
+{
+    let mut next = 0;
+    let mut place = 0;
+    while place < row.len() && next < others.len() {
+        let node = row[place].node;
+        next = first_from(others, next, node);
+        if next < others.len() && others[next].node == node {
+            lower_pair(nodes, middle, one, &others[next], &mut row[place]);
+        }
+        place += 1;
+    }
+}

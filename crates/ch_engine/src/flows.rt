@@ -1,0 +1,118 @@
+//! Flows on the lines of the graph: for each the sum of the demands of the pairs whose routes take its arc.
+ghost use Rattle.std.specs.Prelude.{◌≡◌, ℕ, All, IfErr, IfOk, OnOk, length};
+ghost use Rattle.ch_hierarchy.specs.Hierarchy.{nodes_of};
+ghost use Rattle.ch_flows.specs.Plans.{IsPlanOf};
+ghost use Rattle.ch_engine.specs.Flows.{AreFlowsWritten, ArePut};
+ghost use Rattle.ch_engine.specs.Lines.{IsOfSome};
+ghost use Rattle.ch_engine.specs.Refusals.{AreFlowLengths, AreNodes, IsRefusalOfFlows};
+
+use crate::engine::Engine;
+use crate::fault::Refusal;
+use crate::network::Network;
+use crate::words::are_both_nodes;
+use ch_flows::{FlowError, Plan, flows, make_plan};
+use std::alloc::Global;
+
+/// What became of the flows of pairs. They are written whole or not at all.
+#[derive(Clone, Copy, Debug, PartialEq, Eq)]
+pub enum Flowed {
+    /// All flows are written, and so many pairs have no walk.
+    All(u64),
+    /// A flow is more than 2^63.
+    TooLarge,
+    /// There was no memory.
+    NoMemory,
+}
+
+impl Engine {
+    /// Writes the flow on each line of the graph: the sum of the demands of the pairs whose routes take the arc on it, as
+    /// often as they take it. Routes and lines are those of [`Engine::routes`]: of lines between the same nodes the first
+    /// of least weight has the flow. A pair without a walk adds nothing, and is counted. If a flow is more than 2^63, or
+    /// if there is no memory, nothing is written.
+    ///
+    /// # Errors
+    /// `Lengths` if the lengths do not fit, otherwise `NodeRange` if a number is no node. Then nothing is written.
+    pub fn flows(
+        &mut self,
+        alloc: Global,
+        sources: &[u32],
+        targets: &[u32],
+        demands: &[u64],
+        out: &mut [u64],
+    ) -> Result<Flowed, Refusal>
+        ensures written { IfOk result (AreFlowsWritten self.old sources.now targets.now demands.now out.old out.new) }
+        ensures fit { OnOk result (AreFlowLengths (length sources.now) (length targets.now) (length demands.now) (length out.old) self.old.lines.count) }
+        ensures known { OnOk result (AreNodes (nodes_of self.old.hierarchy) sources.now × AreNodes (nodes_of self.old.hierarchy) targets.now) }
+        ensures refused { IfErr result (λ refusal. (out.new ≡ out.old) × IsRefusalOfFlows (nodes_of self.old.hierarchy) self.old.lines.count sources.now targets.now (length demands.now) (length out.old) refusal) }
+        ensures same { self.new ≡ self.old }
+    {
+        let pairs = sources.len();
+        if targets.len() != pairs || demands.len() != pairs || out.len() != self.network.count() {
+            return Err(Refusal::Lengths);
+        }
+        let count = self.nodes();
+        if !are_both_nodes(sources, targets, count) {
+            return Err(Refusal::NodeRange);
+        }
+        Ok(self.write_flows(alloc, sources, targets, demands, out))
+    }
+
+    fn write_flows(
+        &mut self,
+        alloc: Global,
+        sources: &[u32],
+        targets: &[u32],
+        demands: &[u64],
+        out: &mut [u64],
+    ) -> Flowed
+        requires lengths { AreFlowLengths (length sources.now) (length targets.now) (length demands.now) (length out.old) self.old.lines.count }
+        requires sources { AreNodes (nodes_of self.old.hierarchy) sources.now }
+        requires targets { AreNodes (nodes_of self.old.hierarchy) targets.now }
+        ensures written { AreFlowsWritten self.old sources.now targets.now demands.now out.old out.new result }
+        ensures same { self.new ≡ self.old }
+    {
+        let hierarchy = self.network.hierarchy();
+        let Ok(plan) = make_plan(alloc, hierarchy) else {
+            return Flowed::NoMemory;
+        };
+        let scratch = &mut self.scratch;
+        match flows(alloc, hierarchy, &plan, scratch, sources, targets, demands) {
+            Ok(found) => {
+                self.network.put_flows(&plan, &found.legs, out);
+                Flowed::All(found.missed as u64)
+            }
+            Err(FlowError::TooLarge) => Flowed::TooLarge,
+            Err(FlowError::NoMemory) => Flowed::NoMemory,
+        }
+    }
+}
+
+impl Network {
+    /// Writes the flow of each leg that is an arc on the line of this arc, and 0 on all other lines.
+    fn put_flows(&self, plan: &Plan, legs: &[u64], out: &mut [u64])
+        requires kept { IsOfSome self.now.0 self.now.1 }
+        requires plan { IsPlanOf self.now.0 plan.now }
+        requires legs { length legs.now ≡ length plan.now.parts.items }
+        requires lines { length out.old ≡ self.now.1.count }
+        ensures put { ArePut self.now.0 self.now.1 plan.now legs.now (length plan.now.parts.items) out.new }
+        ensures long { length out.new ≡ length out.old }
+    {
+        clear(out);
+        for place in 0..plan.legs() {
+            if let Some((from, to)) = plan.arc(place) {
+                let line = self.line(from, to);
+                out[line as usize] = legs[place];
+            }
+        }
+    }
+}
+
+/// Writes 0 everywhere.
+fn clear(out: &mut [u64])
+    ensures none { All (λ flow. flow ≡ 0) out.new }
+    ensures long { length out.new ≡ length out.old }
+{
+    for i in 0..out.len() {
+        out[i] = 0;
+    }
+}

@@ -1,0 +1,70 @@
+-- One more pair is served.
+use Rattle.std.proofs.Common.{◌≡◌, ℕ, zero, suc, ◌+◌, ◌<◌, List, [], ◌∷◌, ◌++◌, length, get_or, Option, Some, None, true, false}
+use Rattle.std.proofs.Common.{true≢false, refl, sym, ◌∙◌, ap, subst, arith, inl, inr, length-append}
+use Rattle.std.specs.Prelude.{is_some}
+use Rattle.std.proofs.lemmas.Bool.{cases_lt}
+use Rattle.std.proofs.lemmas.List.Sums.{sum_by_push}
+use Rattle.std.proofs.lemmas.List.{get_or_append_left, get_or_push}
+use Rattle.ch_graph.specs.declared.arc.InArc.{InArc}
+use Rattle.ch_hierarchy.specs.Hierarchy.{LevelsAndLegs}
+use Rattle.ch_query.specs.declared.routes.Route.{Route}
+use Rattle.ch_flows.specs.declared.plan.Link.{Link}
+use Rattle.ch_flows.specs.Flows.{AreServed, IsAnswer, missing, without_route}
+use Rattle.ch_flows.specs.Plans.{IsWay}
+
+pub served_none : (H : LevelsAndLegs) (sources targets demands : List ℕ) → AreServed H sources targets demands 0 []
+served_none H sources targets demands = record {
+  long = refl;
+  demand = λ i low. absurd (omega (arith, low));
+  route = λ i low. absurd (omega (arith, low));
+}
+
+pub served_more : (H : LevelsAndLegs) (sources targets demands : List ℕ) (n : ℕ) (served : List (ℕ × Option Route)) (demand : ℕ)
+    (answer : Option Route) →
+    AreServed H sources targets demands n served → demand ≡ get_or demands n 0 →
+    IsAnswer H (get_or sources n 0) (get_or targets n 0) answer →
+    AreServed H sources targets demands (n + 1) (served ++ (demand, answer) ∷ [])
+served_more H sources targets demands n served demand answer are e is =
+    let one : List (ℕ × Option Route) = (demand, answer) ∷ [] in
+    let none : ℕ × Option Route = (0, None) in record {
+      long = omega (arith, length-append served one, are.long);
+      demand = λ i low. elim (cases_lt i n) [
+        | inl less ↦ ap (λ (p : ℕ × Option Route). p.0) (get_or_append_left served one none i (omega (arith, less, are.long)))
+            ∙ are.demand i less
+        | inr last ↦ (
+            let at : i ≡ n = omega (arith, last, low) in
+            ap (λ (p : ℕ × Option Route). p.0) (get_or_push served (demand, answer) none i (omega (arith, at, are.long))) ∙ e
+            ∙ ap (λ (k : ℕ). get_or demands k 0) (sym at))
+      ];
+      route = λ i low. elim (cases_lt i n) [
+        | inl less ↦ subst (λ (p : ℕ × Option Route). IsAnswer H (get_or sources i 0) (get_or targets i 0) p.1)
+            (sym (get_or_append_left served one none i (omega (arith, less, are.long)))) (are.route i less)
+        | inr last ↦ (
+            let at : i ≡ n = omega (arith, last, low) in
+            subst (λ (p : ℕ × Option Route). IsAnswer H (get_or sources i 0) (get_or targets i 0) p.1)
+            (sym (get_or_push served (demand, answer) none i (omega (arith, at, are.long))))
+            (subst (λ (k : ℕ). IsAnswer H (get_or sources k 0) (get_or targets k 0) answer) (sym at) is))
+      ];
+    }
+
+-- the legs of a way are within the list
+pub way_within : (H : LevelsAndLegs) (links : List Link) (way : List ℕ) (arcs : List InArc) → IsWay H links way arcs → (k d : ℕ) →
+    k < length way →
+    get_or way k d < length links
+way_within H links [] arcs is k d low = absurd (omega (arith, low))
+way_within H links (p ∷ way) arcs is zero d low = is.2
+way_within H links (p ∷ way) arcs is (suc k) d low = way_within H links way is.1 is.4 k d (omega (arith, low))
+
+-- a pair without a route is one more, and a pair with one is not
+pub missing_one : (answer : Option Route) → is_some answer ≡ false → missing answer ≡ 1
+missing_one None e = refl
+missing_one (Some route) e = absurd (true≢false e)
+
+pub missing_zero : (answer : Option Route) → is_some answer ≡ true → missing answer ≡ 0
+missing_zero None e = absurd (true≢false (sym e))
+missing_zero (Some route) e = refl
+
+pub missed_more : (served : List (ℕ × Option Route)) (demand : ℕ) (answer : Option Route) (old new : ℕ) → old ≡ without_route served →
+    new ≡ old + missing answer → new ≡ without_route (served ++ (demand, answer) ∷ [])
+missed_more served demand answer old new before is =
+    omega (arith, before, is, sum_by_push (λ (p : ℕ × Option Route). missing p.1) served (demand, answer))

@@ -1,0 +1,6 @@
+-- The definitions of flows.
+pub mod Flows
+pub mod Handing
+pub mod Links
+pub mod Layouts
+pub mod Plans

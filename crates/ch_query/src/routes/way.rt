@@ -1,0 +1,101 @@
+//! The legs of the route between two nodes, before they are unpacked.
+ghost use Rattle.std.specs.Prelude.{◌≡◌, ◌<◌, [], IfOk, OnOk, Some};
+ghost use Rattle.ch_hierarchy.specs.Hierarchy.{nodes_of};
+ghost use Rattle.ch_hierarchy.specs.Paths.{IsMeet};
+ghost use Rattle.ch_hierarchy.specs.declared.side.Side.TheVariants.{Up, Down};
+ghost use Rattle.ch_query.specs.TwoSided.{IsPast};
+ghost use Rattle.ch_query.specs.Meeting.{AreMeeting};
+ghost use Rattle.ch_query.specs.Distance.{IsKeptForSome};
+ghost use Rattle.ch_query.specs.Ways.{AreLegsFound, AreLegsOver};
+
+use super::descent::descend;
+use super::query::clean;
+use super::unpacking::PendingLeg;
+use crate::scratch::Scratch;
+use crate::sides::Sides;
+use crate::sides::meeting::meet;
+use crate::sides::search::Search;
+use ch_graph::Cost;
+use ch_hierarchy::Hierarchy;
+use std::alloc::{AllocError, Global};
+
+/// Lists the legs of the route from `start` to `end`, from the last one to the first, and says whether there is a walk.
+/// Without a walk there are no legs. The route is that of [`route`](crate::route), whose arcs these legs stand for.
+///
+/// The list is cleared first. After the search, steps grow with the number of legs, and memory with the number of arcs.
+///
+/// # Errors
+/// `AllocError` if there is no memory for the legs, or for the two sides of a scratch that has none yet.
+/// The scratch can still be used.
+pub fn route_legs(
+    alloc: Global,
+    hierarchy: &Hierarchy,
+    scratch: &mut Scratch,
+    start: u32,
+    end: u32,
+    legs: &mut Vec<PendingLeg>,
+) -> Result<bool, AllocError>
+    requires kept { IsKeptForSome hierarchy.now }
+    requires scratch { scratch.old ≡ nodes_of hierarchy.now }
+    requires start { start < nodes_of hierarchy.now }
+    requires end { end < nodes_of hierarchy.now }
+    ensures legs { IfOk result (λ found. AreLegsFound hierarchy.now start end found legs.new.items) }
+    ensures scratch { scratch.new ≡ scratch.old }
+{
+    let mut sides = scratch.take_sides(alloc)?;
+    let found = route_legs_in(hierarchy, &mut sides, start, end, legs);
+    scratch.put_sides(sides);
+    found
+}
+
+/// Lists the legs, as [`route_legs`] does, with these two sides.
+fn route_legs_in(
+    hierarchy: &Hierarchy,
+    sides: &mut Sides,
+    start: u32,
+    end: u32,
+    legs: &mut Vec<PendingLeg>,
+) -> Result<bool, AllocError>
+    requires kept { IsKeptForSome hierarchy.now }
+    requires sides { sides.old ≡ nodes_of hierarchy.now }
+    requires start { start < nodes_of hierarchy.now }
+    requires end { end < nodes_of hierarchy.now }
+    ensures legs { IfOk result (λ found. AreLegsFound hierarchy.now start end found legs.new.items) }
+    ensures sides { sides.new ≡ sides.old }
+{
+    let Sides { up, down } = sides;
+    legs.clear();
+    let found = match meet(hierarchy, up, down, start, end) {
+        Some((cost, node)) => match legs_over(hierarchy, up, down, cost, node, legs) {
+            Ok(()) => Ok(true),
+            Err(refused) => Err(refused),
+        },
+        None => Ok(false),
+    };
+    clean(up, down);
+    found
+}
+
+/// Lists the legs of the way over the node where the searches meet, in an empty list.
+pub(crate) fn legs_over(
+    hierarchy: &Hierarchy,
+    up: &Search,
+    down: &Search,
+    cost: Cost,
+    node: u32,
+    legs: &mut Vec<PendingLeg>,
+) -> Result<(), AllocError>
+    requires kept { IsKeptForSome hierarchy.now }
+    requires meeting { AreMeeting hierarchy.now up.now down.now (Some (cost, node)) }
+    requires past { IsPast up.now.queue (Some (cost, node)) × IsPast down.now.queue (Some (cost, node)) }
+    requires sides { (up.now.side ≡ Up) × (down.now.side ≡ Down) }
+    requires meet { IsMeet hierarchy.now up.now.source down.now.source node cost }
+    requires empty { legs.old.items ≡ [] }
+    ensures legs { OnOk result (AreLegsOver hierarchy.now up.now.source down.now.source cost legs.new) }
+{
+    legs.reserve(cost.arcs as usize)?;
+    descend(hierarchy, down, node, legs);
+    legs.reverse();
+    descend(hierarchy, up, node, legs);
+    Ok(())
+}

@@ -1,8 +1,0 @@
--- A workspace that has forgotten all shortcuts is ready to judge the node.
-use Rattle.ch_contract.specs.Remaining.{legs_of}
-use Rattle.ch_rounds.proofs.round_jobs.CountJobListJob.value.Goals as goal
-
-pub judge-requires-clause-ready : goal.judge-requires-clause-ready
-judge-requires-clause-ready c =
-    c.forget.ensures c.args.self.now.remaining.now.nodes c.args.self.now.hops.number (legs_of c.args.self.now.remaining.now)
-    c.requires.clean

@@ -1,0 +1,7 @@
+//! Laws on trees. Each is the contract of a function that does nothing.
+ghost use Rattle.ch_tree.specs.Parents.{TreesFit};
+
+/// The tree of a topology is a tree for each hierarchy that is customized in it, whatever the weights are.
+pub fn trees_fit()
+    ensures { TreesFit }
+{}

@@ -1,0 +1,215 @@
+"""Tests flows on roads, and traffic at equilibrium: against the routes of the same network, scipy, and networks whose equilibrium is known."""
+from functools import partial
+
+import pytest
+
+from helpers.commands import raises
+from helpers.marks import needs
+from helpers.running import PROGRAM
+import chtab
+from chtab.engine import in_process
+
+pytestmark = [needs("python3-numpy", "python3-pandas"), pytest.mark.usefixtures("program")]
+
+# Braess's network (Dietrich Braess, "Über ein Paradoxon aus der Verkehrsplanung", 1968): the time of each road is a + b * flow, and 6 cars go from s to t.
+BRAESS = [("s", "v", 0, 10), ("s", "w", 50, 1), ("v", "t", 50, 1), ("w", "t", 0, 10), ("v", "w", 10, 1)]
+
+
+def routes_flows(network, pairs, demands, rows):
+    """The flow on each row, added up over routes; and how many pairs have none."""
+    owed, missed = [0] * rows, 0
+    for route, demand in zip(network.routes(pairs).rows(), demands):
+        missed += route is None
+        for row in [] if route is None else route.tolist():
+            owed[row] += demand
+    return owed, missed
+
+
+# Flows.
+
+
+@pytest.mark.parametrize("workers, most", [(1, 1 << 16), (1, 7), (3, 7)])
+def test_flows_are_sums_over_routes(monkeypatch, workers, most):
+    """Of random networks with many ties, parallel arcs, loops and rows that lead both ways, exactly, by one call and by parts of several threads."""
+    import numpy
+
+    monkeypatch.setattr(in_process, "FLOWS", most)
+    for seed in range(16):
+        draw = numpy.random.default_rng(seed)
+        count, size, asked = int(draw.integers(2, 25)), int(draw.integers(1, 80)), int(draw.integers(0, 60))
+        tails, heads, weights = draw.integers(0, count, size), draw.integers(0, count, size), draw.integers(0, 4, size)
+        labels = numpy.array([f"node {number}" for number in range(count)])
+        pairs = draw.integers(0, count, (asked, 2))
+        demands = draw.integers(0, [3, 2**47][seed % 2], asked)
+        made = chtab.Network.from_arrays(
+            labels[tails], labels[heads], weights, nodes=labels, both_ways=bool(seed % 3), program=PROGRAM, workers=workers)
+        with made as network:
+            owed, missed = routes_flows(network, labels[pairs], demands.tolist(), size)
+            found = network.flows(labels[pairs[:, 0]], labels[pairs[:, 1]], demands)
+            assert found.tolist() == owed and found.dtype == numpy.int64 and found.index.tolist() == [*range(size)], seed
+            assert found.attrs == {"pairs without a route": missed}, seed
+            assert network.flows(labels[pairs[:, 0]], labels[pairs[:, 1]]).tolist() == routes_flows(network, labels[pairs], [1] * asked, size)[0]
+
+
+@needs("python3-scipy")
+def test_flows_are_those_of_scipy():
+    """Where no two paths weigh the same, they are what its predecessors give."""
+    import numpy
+    import scipy.sparse
+
+    for seed in range(6):
+        draw = numpy.random.default_rng(seed)
+        count = 60
+        cells = draw.permutation(count * count)[:240]
+        tails, heads = cells // count, cells % count
+        # Sums of different powers of 2 differ.
+        weights = 2 ** (20 + draw.permutation(240) % 17) + draw.permutation(2**20)[:240]
+        graph = scipy.sparse.csr_array((weights, (tails, heads)), (count, count))
+        away, before = scipy.sparse.csgraph.dijkstra(graph, return_predecessors=True)
+        pairs, demands = draw.integers(0, count, (300, 2)), draw.random(300)
+        owed = {}
+        for (source, target), demand in zip(pairs.tolist(), demands.tolist()):
+            while numpy.isfinite(away[source, target]) and source != target:
+                last = int(before[source, target])
+                owed[last, target] = owed.get((last, target), 0) + round(demand * 2**20)
+                target = last
+        with chtab.Network.from_arrays(tails, heads, weights, nodes=range(count), program=PROGRAM) as network:
+            found = network.flows(pairs[:, 0], pairs[:, 1], demands, scale=2**20)
+        assert (found * 2**20).tolist() == [owed.get(ends, 0) for ends in zip(tails.tolist(), heads.tolist())], seed
+
+
+def test_flows_have_the_names_of_rows():
+    """Those of the frame that the network was made of; and closed rows have no flow."""
+    import pandas
+
+    frame = pandas.DataFrame({"source": [1, 2, 1], "target": [2, 3, 3], "weight": [2, 2, 5]}, index=["north", "east", "long"])
+    with chtab.Network.from_frame(frame, program=PROGRAM) as network:
+        assert network.flows([1, 2, 3], [3, 3, 1], [4, 1, 9]).to_dict() == {"north": 4, "east": 5, "long": 0}
+        with network.changed(closed=[(2, 3)]) as other:
+            found = other.flows([1, 2], [3, 3], [4, 1])
+            assert found.to_dict() == {"north": 0, "east": 0, "long": 4} and found.attrs == {"pairs without a route": 1}
+        with network.changed(added=[(2, 3, 1)]) as other:
+            found = other.flows([1], [3], [4])
+            assert found.tolist() == [4, 0, 0, 4] and found.index.tolist() == ["north", "east", "long", None]
+
+
+@needs("python3-networkx")
+def test_flows_have_the_names_of_edges():
+    """Of a graph with keys."""
+    import networkx
+
+    graph = networkx.MultiDiGraph()
+    graph.add_edge(1, 2, key="slow", travel_time=9)
+    graph.add_edge(1, 2, key="fast", travel_time=3)
+    graph.add_edge(2, 3, key=0, travel_time=1)
+    with chtab.Network.from_networkx(graph, unit="seconds", program=PROGRAM) as network:
+        found = network.flows([1, 1], [3, 2], [2, 3])
+        assert found.to_dict() == {(1, 2, "slow"): 0, (1, 2, "fast"): 5, (2, 3, 0): 2}
+        with network.changed(closed=[(1, 2, "fast")]) as other:
+            assert other.flows([1, 1], [3, 2], [2, 3]).to_dict() == {(1, 2, "slow"): 5, (2, 3, 0): 2}
+
+
+def test_demands_that_are_refused():
+    """What is no demand is named, and nothing is guessed of columns of other lengths."""
+    import numpy
+
+    with chtab.Network.from_arrays([1, 2], [2, 3], [1, 1], program=PROGRAM) as network:
+        for demand, told in (
+            ([1, numpy.nan], r"demand[1]"), ([1, -1], "below 0"), ([1.5, 1], "is not a whole number"), ([1, numpy.inf], "no demand"), ([2.0**53 + 2, 1], "too large"),
+            (["one", 1], "demand"), ([None, 1], "demand"),
+        ):
+            raises(chtab.DataFault, network.flows, [1, 2], [3, 3], demand, told=told)
+        raises(chtab.DataFault, partial(network.flows, scale=10), [1, 2], [3, 3], [1e15, 1], told="too large")
+        for scale in 0, -1, numpy.nan, numpy.inf, True, "1":
+            raises(chtab.DataFault, partial(network.flows, scale=scale), [1], [3], [1.0], told="scale")
+        for words in ([1], [3, 3]), ([1, 2], [3]), ([1], [3], [1, 2]), ([1, 2], [3, 3], [1]), ([1], [3], [[1]]):
+            raises(ValueError, network.flows, *words)
+        raises(ValueError, network.flows, [9], [3], told="9")
+        raises(chtab.DataFault, network.flows, [1] * 2048, [3] * 2048, [2**53] * 2048, told="2^63")
+        assert network.flows([1] * 1023, [3] * 1023, [2**53] * 1023).tolist() == [1023 * 2**53] * 2
+        found = network.flows([1, 2], [3, 3], [0.25, 1.5], scale=100)
+        assert found.tolist() == [0.25, 1.75] and found.dtype == float
+        assert network.flows([1, 2], [3, 3], [2.0, 1.0]).tolist() == [2.0, 3.0]
+
+
+def test_progress_of_flows(monkeypatch):
+    """A callable gets how many pairs are done."""
+    monkeypatch.setattr(in_process, "FLOWS", 2)
+    steps = []
+    with chtab.Network.from_arrays([1, 2], [2, 3], [1, 1], program=PROGRAM) as network:
+        network.flows([1] * 10, [3] * 10, progress=lambda done, total: steps.append((done, total)))
+    assert steps == [(2 * part, 10) for part in range(1, 6)]
+
+
+# Equilibrium.
+
+
+def braess(rows):
+    """The network of these rows, in milliseconds of seconds, and the times of flows."""
+    import numpy
+
+    tails, heads, own, more = zip(*rows)
+    network = chtab.Network.from_arrays(list(tails), list(heads), numpy.maximum(own, 1), unit="seconds", program=PROGRAM)
+    return network, lambda flows: numpy.array(own) + numpy.array(more) * flows
+
+
+@pytest.mark.parametrize("method", ["msa", "frank-wolfe", "bi-conjugate"])
+def test_braess_has_its_equilibrium(method):
+    """With the road in the middle each of three routes has 2 cars, which take 92; without it each of two has 3, which take 83."""
+    import numpy
+
+    steps = 300 if method == "msa" else 60
+    for rows, flows, time in (BRAESS, [4, 2, 2, 4, 2], 92), (BRAESS[:4], [3, 3, 3, 3], 83):
+        network, times = braess(rows)
+        with network:
+            found = network.assign(["s"], ["t"], [6.0], times=times, method=method, gap=1e-6, steps=steps, scale=1000)
+        near = 0.1 if method == "msa" else 0.001
+        assert numpy.allclose(found.flows, flows, atol=near) and numpy.allclose(found.times, times(numpy.array(flows)), atol=10 * near), (method, found)
+        assert abs(found.total_time - 6 * time) < 60 * near and found.missed == 0 and 0 <= found.rounding <= 0.0005
+        assert found.is_reached == (found.gaps[-1] <= 1e-6) and (found.is_reached or method == "msa"), (method, found.gaps)
+        best = numpy.minimum.accumulate(found.gaps)
+        assert (numpy.array(found.gaps) > -1e-6).all() and best[-1] < best[0] / 100
+
+
+@needs("python3-scipy")
+def test_two_routes_have_equal_times():
+    """By BPR: the flows at which the times of two routes are equal, by scipy's root, with tolls and without."""
+    import numpy
+    import scipy.optimize
+
+    free, capacity, alpha, beta, tolls = numpy.array([10.0, 15]), numpy.array([20.0, 30]), numpy.array([0.15, 0.3]), numpy.array([4.0, 3]), numpy.array([3.0, 0])
+    # Between two nodes only the lighter arc has flow, so that each route has a node of its own.
+    rows = [("s", "v"), ("v", "t"), ("s", "w"), ("w", "t")]
+    with chtab.Network.from_arrays(*map(list, zip(*rows)), [10.0, 0, 15, 0], unit="seconds", program=PROGRAM) as network:
+        for value_of_time in None, 2.0:
+            fixed = tolls / value_of_time if value_of_time else 0 * tolls
+
+            def times(flow):
+                return free * (1 + alpha * (numpy.array([flow, 60 - flow]) / capacity) ** beta)
+
+            owed = scipy.optimize.brentq(lambda flow: numpy.diff(times(flow) + fixed)[0], 0, 60)
+            given = {} if value_of_time is None else {"tolls": [3.0, 0, 0, 0], "value_of_time": value_of_time}
+            found = network.assign(["s"] * 2, ["t"] * 2, [20, 40], numpy.repeat(capacity, 2), alpha=numpy.repeat(alpha, 2), beta=numpy.repeat(beta, 2), gap=1e-7, **given)
+            assert numpy.allclose(found.flows, [owed, owed, 60 - owed, 60 - owed], rtol=1e-5) and found.is_reached, found
+            assert numpy.allclose(found.times[::2], times(owed), rtol=1e-4) and abs(found.total_time - times(owed) @ [owed, 60 - owed]) < 0.05
+
+
+def test_traffic_that_is_refused():
+    """Rows that lead both ways, capacities and times that are none, and words of no meaning."""
+    import numpy
+
+    with chtab.Network.from_arrays([1, 2], [2, 3], [1, 1], unit="seconds", program=PROGRAM) as network:
+        right = [1], [3], [1]
+        for words, told in (
+            ({}, "capacity"), ({"capacity": 1, "method": "dijkstra"}, "method"), ({"capacity": 1, "steps": 0}, "steps"), ({"capacity": 1, "gap": -1}, "gap"),
+            ({"capacity": 1, "gap": numpy.nan}, "gap"), ({"capacity": 1, "tolls": 1}, "value_of_time"), ({"capacity": 1, "tolls": 1, "value_of_time": 0}, "value_of_time"),
+        ):
+            raises(ValueError, partial(network.assign, **words), *right, told=told)
+        for words in {"capacity": [1, 0]}, {"capacity": [1, numpy.nan]}, {"capacity": [1]}, {"capacity": 1, "alpha": [-1, 1]}, {"capacity": 1, "beta": [1, 2, 3]}:
+            raises(chtab.DataFault, partial(network.assign, **words), *right)
+        for times in (lambda flows: flows[:1]), (lambda flows: flows - 1), (lambda flows: flows * numpy.nan):
+            raises(chtab.DataFault, partial(network.assign, times=times), *right, told="times")
+        found = network.assign([3], [1], [5], 10)
+        assert found.flows.tolist() == [0, 0] and found.missed == 1 and found.is_reached and found.total_time == 0
+    with chtab.Network.from_arrays([1], [2], [1], unit="seconds", both_ways=True, program=PROGRAM) as network:
+        raises(chtab.DataFault, network.assign, [1], [2], [1], 10, told="both ways")
