@@ -30,6 +30,8 @@ PICTURES = "routes.svg", "reach.svg", "near.svg"
 PROGRESS = re.compile(r"^\w+: [\d,]+ (?:of [\d,]+ )?\w+ after \d+ s(?:, some \d+ s left)?\n", re.MULTILINE)
 # What the commands find in the folder that they are run in, beside the program.
 PLACES = "tools", "examples", "tests"
+# The page whose lines run by themselves, without what the commands of other pages have made.
+ALONE = "PYTHON.md"
 
 
 def commands(text):
@@ -107,17 +109,24 @@ def is_the_same(picture, folder):
     return made.exists() and made.read_bytes() == (ROOT / "docs" / picture).read_bytes()
 
 
+def made(folder):
+    """A folder in which commands run."""
+    folder.mkdir()
+    for name in PLACES:
+        (folder / name).symlink_to(ROOT / name)
+    (folder / "chtab").write_text(f'#!/bin/sh\nexec "{ROOT}/chtab" "$@"\n')
+    (folder / "chtab").chmod(0o755)
+    return folder
+
+
 def main():
     build()
     tally = Count()
     lacking = missing(*PACKAGES)
     with tempfile.TemporaryDirectory() as kept:
-        folder = Path(kept)
-        for name in PLACES:
-            (folder / name).symlink_to(ROOT / name)
-        (folder / "chtab").write_text(f'#!/bin/sh\nexec "{ROOT}/chtab" "$@"\n')
-        (folder / "chtab").chmod(0o755)
+        alone, together = made(Path(kept) / "alone"), made(Path(kept) / "together")
         for page in PAGES:
+            folder = alone if page.name == ALONE else together
             for command, wanted in commands(page.read_text()):
                 if lacking and needs_packages(command):
                     print(f"left out: {command} needs {', '.join(lacking)}")
@@ -130,9 +139,9 @@ def main():
         if absent := missing(*OF_SERVER):
             print(f"left out: the server needs {', '.join(absent)}")
         else:
-            run_server(tally, folder)
+            run_server(tally, together)
         for picture in PICTURES:
-            tally.expect(is_the_same(picture, folder), f"docs/{picture} is not what the commands make")
+            tally.expect(is_the_same(picture, together), f"docs/{picture} is not what the commands make")
     tally.finish()
 
 

@@ -55,12 +55,12 @@ def small_portions(pairs, swept, together):
 
 @contextlib.contextmanager
 def small_blocks(length, pairs):
-    """Blocks of so few sources and targets."""
+    """Blocks of so few sources and targets, which several threads make where a call has several."""
     from chtab.near import blocks
 
-    before = blocks.LENGTH, blocks.PAIRS
-    blocks.LENGTH, blocks.PAIRS = length, pairs
+    before = blocks.LENGTH, blocks.PAIRS, blocks.SWEPT, blocks.FEW
+    blocks.LENGTH, blocks.PAIRS, blocks.SWEPT, blocks.FEW = length, pairs, 0, 0
     try:
         yield
     finally:
-        blocks.LENGTH, blocks.PAIRS = before
+        blocks.LENGTH, blocks.PAIRS, blocks.SWEPT, blocks.FEW = before

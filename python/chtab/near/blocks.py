@@ -14,7 +14,7 @@ import numpy
 from chtab.engine import cluster, deadlines
 from chtab.engine.progress import progress_of
 from chtab.near import rows as near_rows
-from chtab.near.question import NearQuestion, NearRows
+from chtab.near.question import FEW, SHARE, SWEPT, NearQuestion, NearRows
 from chtab.near.spots import SpotQuestion
 
 if TYPE_CHECKING:
@@ -163,6 +163,8 @@ def values(
         return
     is_client = hasattr(workers, "submit")
     count = cluster.threads_of(workers) if is_client else count_in("workers", workers)
+    if not is_client and are_swept(question, engine.nodes):
+        count = 1
     found = list(cut(question, engine.nodes, count))
     if is_client:
         made = on_cluster(engine, found, make, workers)
@@ -173,6 +175,12 @@ def values(
     reported = progress_of(progress, "near", len(found), "blocks", len(found) > 1)
     with contextlib.closing(made), reported as counted:
         yield from counted.each(made)
+
+
+def are_swept(question: NearQuestion, nodes: int) -> bool:
+    """Whether one thread makes the rows of all nodes at once, in less time than several search."""
+    is_wide = question.height(nodes) >= SHARE * nodes
+    return is_wide and nodes * question.most() <= max(SWEPT, FEW * nodes)
 
 
 def count_in(name: str, value: Any) -> int:
