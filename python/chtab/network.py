@@ -901,8 +901,8 @@ class Network:
             A flow for each row of the arcs that the network was made of, with the labels of the
             frame; for each edge of a graph with keys that isn't closed, by (source, target, key);
             or for each arc of a graph file. Flows are whole numbers, or floats if demands are
-            floats or have a scale. A pair without a route adds nothing, and
-            `attrs["pairs without a route"]` counts these pairs.
+            floats or have a scale, in the unit of the demands. A pair without a route adds nothing,
+            and `attrs["pairs without a route"]` counts these pairs.
 
         Raises
         ------
@@ -938,8 +938,10 @@ class Network:
 
         Parameters
         ----------
-        origins, destinations, demand, scale
-            As `flows` takes them, for each pair.
+        origins, destinations : array of labels, shape (n,) each
+            The nodes of the pairs.
+        demand : array of int or float, shape (n,), or number
+            As `flows` takes it, for each pair.
         capacity, alpha, beta : number or array of float, shape (m,)
             For each row of the arcs, in the order of rows, or one number for all. Columns of pandas
             go by their index, as in `changed`. A capacity is above 0, in the unit of the demand.
@@ -947,7 +949,7 @@ class Network:
             Takes the flows of all rows, an array of float64, and returns their times in the
             network's unit: finite, at least 0, and no less with more flow on the row. Then
             `capacity`, `alpha` and `beta` aren't used.
-        tolls : number or array of float, optional
+        tolls : number or array of float, shape (m,), optional
             What a row costs beside its time.
         value_of_time : float, optional
             How much of the tolls' unit one unit of time is worth. Routes have the least time plus
@@ -959,6 +961,8 @@ class Network:
             The relative gap at which it ends.
         steps : int
             The most steps.
+        scale : float, optional
+            As `flows` takes it.
         progress : bool or callable, optional
             As `distances` takes it, for steps.
 
@@ -983,6 +987,7 @@ class Network:
         traffic.see_that_known(method, gap, steps)
         rows = traffic.Rows(self._layers, self._measure)
         fixed = rows.fixed(tolls, value_of_time)
+        curve: traffic.Bpr | traffic.Given
         curve = rows.bpr(capacity, alpha, beta) if times is None else rows.times(times)
         pairs = of_pairs.pairs_in(self._layers, origins, destinations)
         demands = of_flows.demands_of(demand, len(pairs), scale)

@@ -4,6 +4,7 @@ import json
 import os
 import pathlib
 import random
+import subprocess
 import threading
 import tracemalloc
 
@@ -58,7 +59,7 @@ def test_networks_in_the_order_of_others_answer_as_scipy():
 
 @pytest.mark.parametrize("is_by_library", [True, False])
 def test_it_is_built_in_the_order_of_the_other(library, is_by_library):
-    """With no node afresh the new hierarchy has the order of the old one, with all afresh that of a new network; so in this process, and by a run."""
+    """With no node afresh the new hierarchy has the order of the old one, with all afresh that by depth; so in this process, and by a run."""
     path = ROOT / "examples" / "liechtenstein.gr"
     way = {"program": PROGRAM, "library": library, "workers": 1 if is_by_library else 2}
 
@@ -72,8 +73,8 @@ def test_it_is_built_in_the_order_of_the_other(library, is_by_library):
         with chtab.Network.open("first", **way) as first:
             for fresh in 0, 5, 100:
                 first.changed(network.graph.weights, folder=f"fresh {fresh}", fresh=fresh).close()
-        chtab.Network.from_arrays(*ends_of(network.graph), weights, nodes=network.labels, program=PROGRAM, folder="anew").close()
-    assert order("fresh 0") == order("first") == order("anew")
+    by_depth = subprocess.run([PROGRAM, "save", "--deep", "first/network.gr"], capture_output=True, check=True, text=True).stdout.splitlines()
+    assert order("fresh 0") == order("first") == [line for line in by_depth if line.startswith("o ")]
     count = len(order("first"))
     assert order("fresh 5")[:count - count // 20] == order("first")[:count - count // 20] and order("fresh 5") != order("first")
     assert order("fresh 100") not in (order("first"), order("fresh 5"))
@@ -87,10 +88,6 @@ def test_no_program_is_run_where_the_library_builds(library):
         object.__setattr__(network._opened.setting, "program", str(program.absolute()))
         with network.changed(closed=[0]) as other:
             assert other.distances([("inn", "mill")]).tolist() == [3.0] and other.answers_by == "library"
-
-
-def ends_of(graph):
-    return list(graph.tails), list(graph.heads)
 
 
 def test_the_old_network_answers_while_the_new_one_is_built(library):
@@ -297,7 +294,7 @@ def test_the_program_builds_in_the_order_of_another_network():
     with of_roads(folder="own", **more) as network:
         with network.changed(closed=[0]) as other:
             assert other.distances([("inn", "mill")]).tolist() == [3]
-        assert [line.split()[1] for line in pathlib.Path("built").read_text().splitlines()] == ["--deep", "--like"]
+        assert [line.split()[1] for line in pathlib.Path("built").read_text().splitlines()] == ["--quick", "--like"]
         os.remove("own/network.ch")
         with network.changed(closed=[0]) as other:
             assert other.distances([("inn", "mill")]).tolist() == [3] and pathlib.Path("built").read_text().count("\n") == 2

@@ -24,7 +24,7 @@ const HOPS: HopBound = HopBound { number: 5 };
 
 /// How a test builds a hierarchy.
 #[derive(Clone, Copy)]
-enum Build {
+enum Builder {
     /// In a named order.
     By(OrderBy),
     /// In the order that takes the least time to find.
@@ -36,11 +36,11 @@ fn build<R: Threads + Sync, G: Gate>(
     crew: &Crew<'_, R, G>,
     graph: &Graph,
     hops: HopBound,
-    how: Build,
+    how: Builder,
 ) -> Result<Hierarchy, AllocError> {
     match how {
-        Build::By(order) => build_in_turn(crew, graph, hops, order),
-        Build::Quickly => build_quickly(crew, graph, hops),
+        Builder::By(order) => build_in_turn(crew, graph, hops, order),
+        Builder::Quickly => build_quickly(crew, graph, hops),
     }
 }
 
@@ -51,7 +51,7 @@ fn built<R: Threads + Sync>(
     alloc: Global,
     graph: &Graph,
     hops: HopBound,
-    how: Build,
+    how: Builder,
     plan: &Plan,
 ) -> Result<Vec<u8>, AllocError> {
     let hierarchy = again!(build(&crew(rt, alloc, plan, &Open), graph, hops, how));
@@ -64,7 +64,7 @@ fn expect<R: Threads + Abort + Sync>(
     rt: &R,
     alloc: Global,
     hops: HopBound,
-    how: Build,
+    how: Builder,
     files: Files,
 ) -> Result<(), Fail> {
     let graph = again_after!(ReadError::NoMemory, read_graph(alloc, files.0));
@@ -91,7 +91,7 @@ const RING_QUICKLY: Files = (
 /// enough memory.
 #[test]
 fn built_refused_in_turn(rt: HostRuntime) -> Result<(), Fail> {
-    expect(&rt, rt.alloc(), HOPS, Build::By(OrderBy::Difference), STAR)?;
-    expect(&rt, rt.alloc(), HOPS, Build::By(OrderBy::Difference), RING)?;
-    expect(&rt, rt.alloc(), HOPS, Build::Quickly, RING_QUICKLY)
+    expect(&rt, rt.alloc(), HOPS, Builder::By(OrderBy::Difference), STAR)?;
+    expect(&rt, rt.alloc(), HOPS, Builder::By(OrderBy::Difference), RING)?;
+    expect(&rt, rt.alloc(), HOPS, Builder::Quickly, RING_QUICKLY)
 }

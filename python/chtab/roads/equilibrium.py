@@ -98,7 +98,7 @@ class Rows:
             raise ValueError("tolls and value_of_time go together: a toll divided by the value of time is a time")
         if tolls is None:
             return numpy.zeros(self.count)
-        if isinstance(value_of_time, bool) or not isinstance(value_of_time, numbers.Real) or not 0 < value_of_time < math.inf:
+        if isinstance(value_of_time, bool) or not isinstance(value_of_time, numbers.Real) or not 0 < float(value_of_time) < math.inf:
             raise ValueError(f"value_of_time is a number above 0, not {value_of_time!r}")
         return self.column("tolls", tolls) / float(value_of_time)
 
@@ -159,12 +159,12 @@ class Given(NamedTuple):
     """Times by a function of the caller's."""
 
     call: Callable[[Floats], ArrayLike]
-    count: int
+    rows: int
 
     def times(self, flows: Floats) -> Floats:
         found = numpy.asarray(self.call(flows.copy()), float)
-        if found.shape != (self.count,):
-            raise DataFault(f"times returned the shape {found.shape}, and there are {self.count:,} rows of arcs", "times")
+        if found.shape != (self.rows,):
+            raise DataFault(f"times returned the shape {found.shape}, and there are {self.rows:,} rows of arcs", "times")
         wrong = columns.first_of(~((found >= 0) & (found < numpy.inf)))
         if wrong is not None:
             raise refused("times", wrong, f"{found[wrong]} is no time")

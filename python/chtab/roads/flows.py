@@ -10,7 +10,8 @@ import numpy
 from chtab import files
 from chtab.errors import DataFault
 from chtab.files import columns
-from chtab.files.columns import EXACT, refused
+from chtab.files.columns import refused
+from chtab.files.measures import EXACT
 from chtab.roads.arc_names import ArcNames
 from chtab.roads.pairs import with_ends
 
@@ -100,7 +101,7 @@ def series_of(layers: Layers, by_row: NDArray[Any], missed: int) -> pandas.Serie
         names = ArcNames(layers)
         rows, firsts = numpy.unique(layers.rows, return_index=True)
         own = layers.labels
-        ends = [own.listed(column[firsts]) for column in (names.tails, names.heads)]
+        ends = [own.listed(column[firsts].tolist()) for column in (names.tails, names.heads)]
         keys = [labelling.keys[row] for row in rows.tolist()]
         flows = flows.iloc[rows].set_axis(pandas.MultiIndex.from_arrays([*ends, keys], names=["source", "target", "key"]))
     else:
