@@ -73,7 +73,7 @@ def check_layout(tally, page):
 def check_cells(tally, page):
     """A cell of a table is a phrase, or a short sentence or two."""
     for line in by_hand(page).splitlines():
-                # What the table of options says of each is its help, and is made from there.
+        # What the table of options says of each is its help, and is made from there.
         for cell in line.strip("| ").split(" | ") if line.startswith("|") and not line.startswith("| `--") else ():
             tally.expect(count(bare(cell)) <= MOST_OF_CELL, f"{page.relative_to(ROOT)}: a cell of {count(bare(cell))} words: {cell}")
 
