@@ -1,4 +1,4 @@
-// Dijkstra's algorithm of the Boost Graph Library on a graph and queries of chtab, for bench/others.
+// Dijkstra's algorithm of the Boost Graph Library on a graph and queries of chtab, for bench/figures.
 //   boost GRAPH QUERIES
 // Prints the distance of each query, or -, and last the mean microCPU seconds of a query. A search stops at its target.
 #include <boost/graph/compressed_sparse_row_graph.hpp>

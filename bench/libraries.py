@@ -1,5 +1,4 @@
 """Dijkstra's algorithm as other libraries have it: each gives the mean CPU seconds of a query of a file, and the distances as words."""
-import os
 import shutil
 import subprocess
 import tempfile
@@ -55,59 +54,9 @@ def by_scipy(graph, queries):
     return timed(lambda start, end: scipy.sparse.csgraph.dijkstra(matrix, indices=start)[end], queries)
 
 
-def by_igraph(graph, queries):
-    """igraph's distances, by Dijkstra's algorithm, which stops at the target (python3-igraph; weights as floats)."""
-    try:
-        import igraph
-    except ImportError:
-        return None
-    arcs = items_of(graph, "a")
-    network = igraph.Graph(measure.nodes_of(graph), [(start - 1, end - 1) for start, end, _ in arcs], directed=True)
-    weights = [float(weight) for *_, weight in arcs]
-    return timed(lambda start, end: network.distances(start, end, weights=weights)[0][0], queries)
-
-
-def by_pgrouting(graph, queries):
-    """pgr_dijkstraCost of pgRouting, which takes all arcs from a table for each query (postgresql-15-pgrouting; run as root)."""
-    programs = next(iter(sorted(Path("/usr/lib/postgresql").glob("*/bin"))), None)
-    if not programs or os.geteuid() or not list(Path("/usr/share/postgresql").glob("*/extension/pgrouting.control")):
-        return None
-    with tempfile.TemporaryDirectory() as folder:
-        data = Path(folder) / "data"
-        shutil.chown(folder, "postgres", "postgres")
-
-        def run(*command, text=None):
-            done = subprocess.run(["runuser", "-u", "postgres", "--", *command], cwd=folder, input=text, capture_output=True, text=True)
-            if done.returncode:
-                raise SystemExit(f"{command}: {done.stderr}")
-            return done.stdout
-
-        run(programs / "initdb", "-D", data)
-        run(programs / "pg_ctl", "-D", data, "-w", "-l", data / "log", "-o", f"-c listen_addresses='' -k {folder}", "start")
-        try:
-            return by_psql(lambda text: run(programs / "psql", "-h", folder, "-v", "ON_ERROR_STOP=1", "-Atq", "postgres", text=text), graph, queries)
-        finally:
-            run(programs / "pg_ctl", "-D", data, "-w", "-m", "fast", "stop")
-
-
-def by_psql(psql, graph, queries):
-    """The same, by a call that gives a script to psql."""
-    arcs = "".join(f"{start}\t{end}\t{weight}\n" for start, end, weight in items_of(graph, "a"))
-    psql("create extension pgrouting cascade;\ncreate table arcs (id bigserial, source bigint, target bigint, cost float8);\n"
-         f"copy arcs (source, target, cost) from stdin;\n{arcs}\\.\nanalyze arcs;\n")
-    arcs = "'select id, source, target, cost from arcs'"
-    asked = [f"select coalesce((select agg_cost::bigint::text from pgr_dijkstracost({arcs}, {start}, {end})), '-');\n"
-             for start, end in items_of(queries, "q")]
-    # What the process that answers has taken, in ticks of the user and of the system.
-    ticks = "\\! cut -d ' ' -f 14,15 /proc/$SERVER/stat\n"
-    first, *distances, last = psql(f"select pg_backend_pid() as pid \\gset\n\\setenv SERVER :pid\n{ticks}{''.join(asked)}{ticks}").splitlines()
-    taken = sum(map(int, last.split())) - sum(map(int, first.split()))
-    return taken / os.sysconf("SC_CLK_TCK") / len(asked), distances
-
-
-LIBRARIES = {"Boost": by_boost, "igraph": by_igraph, "scipy": by_scipy, "pgRouting": by_pgrouting}
+LIBRARIES = {"Boost": by_boost, "scipy": by_scipy}
 # Those for which each arc is made an object of Python.
-IN_PYTHON = "igraph", "scipy", "pgRouting"
+IN_PYTHON = ("scipy",)
 
 
 def ratios(graph, queries, seconds, saved, names=LIBRARIES):

@@ -1,6 +1,7 @@
 """For the measurements: inputs from a fixed seed, and runs of the built program with their time and memory."""
 import contextlib
 import datetime
+import math
 import os
 import pathlib
 import platform
@@ -101,6 +102,12 @@ def spread(values, form=",.2f"):
     """The median of the values of all rounds, and the least and the greatest where there are several."""
     least, middle, most = (format(value, form) for value in (min(values), statistics.median(values), max(values)))
     return middle if len(values) == 1 else f"{middle} ({least} to {most})"
+
+
+def digits(value):
+    """A figure with the two digits that count, as 0.058, 8.6, 25 or 5,500."""
+    rounded = float(f"{value:.1e}")
+    return f"{rounded:,.{max(0, 1 - math.floor(math.log10(rounded)))}f}"
 
 
 def nodes_of(graph):
@@ -209,9 +216,3 @@ def network(word):
 def add_networks(parser, *default):
     """The words of a script that name its networks."""
     parser.add_argument("networks", nargs="*", metavar="NETWORK", default=default, help=f"{NETWORKS} ({', '.join(default)} where none is given)")
-
-
-def query_seconds(inputs, saved, many, rounds):
-    """The median of the CPU seconds of a query by a saved hierarchy: the difference of runs with one query and with many."""
-    commands = {count: [PROGRAM, "dist", "--saved", saved, inputs.graph, inputs.queries(count)] for count in (1, many)}
-    return statistics.median((each[many] - each[1]) / (many - 1) for each in each_round(rounds, commands, processor_seconds))

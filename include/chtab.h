@@ -37,7 +37,7 @@
 #include <stdint.h>
 
 /* The version of this header: millions for the first number, thousands for the second. */
-#define CHTAB_VERSION 1001000
+#define CHTAB_VERSION 1002000
 
 /* Stands for no distance, if there is no walk: the greatest number of 64 bits. Each distance is less. */
 #define CHTAB_NO_DISTANCE ((uint64_t)-1)
@@ -143,7 +143,7 @@ uint32_t chtab_version(void);
 uint32_t chtab_open(chtab *handle, const uint8_t *graph, size_t graph_len, const uint8_t *saved, size_t saved_len,
                     chtab_fault *fault);
 
-/* Opens the closed handle `handle` with a graph, as chtab_open does without a saved hierarchy, but in about two thirds of
+/* Opens the closed handle `handle` with a graph, as chtab_open does without a saved hierarchy, but in about half of
  * the time. It serves new weights on known roads: the hierarchy is built in the order of the nodes that the network of the
  * open handle `other` has, and only the last `fresh` per cent of them are ordered afresh, by depth. CHTAB_FRESH is mostly
  * right. If the weights are of another kind, such as metres in place of seconds, 25 is better. The graph has as many nodes as

@@ -1,6 +1,6 @@
 """What `crates.txt` says of the crates, and how the kit's compiler finds a crate and the libraries on which it is built.
 
-The scripts beside this file use it, and `bench/programs.py`.
+The scripts beside this file use it.
 """
 import contextlib
 import functools

@@ -2,13 +2,14 @@
 """Runs each command of README.md, docs/GUIDE.md, docs/PYTHON.md and examples/README.md, in order, and compares what it prints with the lines
 below it, and so each line of Python with `>>>` before it. A check that needs a missing package is named and left out.
 
-The pictures of the guide are those that the commands make, and the code of docs/CALLING.md stands in the sources, where it is proved.
-The last line is 'N passed, N failed'.
+The pictures of the guide are those that the commands make. The server of README.md is started as that says, and answers each line `curl` of the
+pages. The last line is 'N passed, N failed'.
 """
 import contextlib
 import doctest
 import io
 import re
+import shlex
 import subprocess
 import sys
 import tempfile
@@ -19,6 +20,9 @@ from helpers.running import ROOT, Count, build
 
 PAGES = ROOT / "README.md", ROOT / "docs" / "GUIDE.md", ROOT / "docs" / "PYTHON.md", ROOT / "examples" / "README.md"
 PACKAGES = "python3-numpy", "python3-scipy", "python3-shapely", "python3-pandas"
+OF_SERVER = "python3-aiohttp", "python3-numpy", "python3-scipy", "python3-shapely", "libjs-leaflet", "curl"
+# The pages with requests to the server, which README.md starts.
+SERVED = PAGES[0], ROOT / "docs" / "OPERATING.md", ROOT / "docs" / "SERVICE.md"
 # Those of a section that imports one.
 OF_SECTIONS = {"osmnx": "python3-osmnx"}
 PICTURES = "routes.svg", "reach.svg", "near.svg"
@@ -74,16 +78,35 @@ def run_command(tally, command, wanted, folder):
     tally.expect(is_wanted, f"{command}\n  status {done.returncode}\n  wanted: {wanted}\n  came:   {done.stdout}{done.stderr}")
 
 
+def requests(text):
+    """The requests of a page by curl, each with the answer that follows, where `..` is any text."""
+    return re.findall(r"^    (curl .*)\n((?:    (?!curl ).*\n)*)", text, re.MULTILINE)
+
+
+def is_answered(answer, wanted):
+    """Whether an answer is the wanted one, but for blanks."""
+    pattern = ".*".join(re.escape(re.sub(r"\s", "", part)) for part in wanted.split(".."))
+    return re.fullmatch(pattern or ".+", re.sub(r"\s", "", answer)) is not None
+
+
+def run_server(tally, folder):
+    """The server of README.md, by the files that the commands above it made, answers the requests of the pages."""
+    command = re.search(r"^    (tools/page\.py .*)$", SERVED[0].read_text(), re.MULTILINE)[1]
+    with subprocess.Popen([*shlex.split(command), "--port", "0"], cwd=folder, stdout=subprocess.PIPE, text=True) as server:
+        address = server.stdout.readline().strip().rstrip("/")
+        for page in SERVED:
+            for line, wanted in requests(page.read_text()):
+                options = "--silent --show-error" if wanted else "--silent --show-error --fail"
+                asked = line.replace("curl ", f"curl {options} ", 1).replace("http://127.0.0.1:8080", address)
+                done = subprocess.run(asked, shell=True, capture_output=True, text=True)
+                is_wanted = done.returncode == 0 and is_answered(done.stdout, wanted)
+                tally.expect(is_wanted, f"{page.name}: {line}\n  wanted: {wanted}\n  came:   {done.stdout}{done.stderr}")
+        server.terminate()
+
+
 def is_the_same(picture, folder):
     made = folder / "guide" / picture
     return made.exists() and made.read_bytes() == (ROOT / "docs" / picture).read_bytes()
-
-
-def stands_in_sources(page):
-    """The code of the page is part of a source file of its name."""
-    code = re.findall(r"^```rust\n(.*?)^```", page.read_text(), re.MULTILINE | re.DOTALL)
-    sources = [path.read_text() for path in ROOT.glob(f"crates/*/src/**/{page.stem.lower()}.rt")]
-    return code and all(any(part in source for source in sources) for part in code)
 
 
 def made(folder):
@@ -113,9 +136,12 @@ def main():
                 print(f"left out: the Python of {page.name} needs {', '.join(lacking)}")
             else:
                 run_python(tally, page, folder)
+        if absent := missing(*OF_SERVER):
+            print(f"left out: the server needs {', '.join(absent)}")
+        else:
+            run_server(tally, together)
         for picture in PICTURES:
             tally.expect(is_the_same(picture, together), f"docs/{picture} is not what the commands make")
-    tally.expect(stands_in_sources(ROOT / "docs" / "CALLING.md"), "the code of CALLING.md does not stand in the sources")
     tally.finish()
 
 

@@ -148,6 +148,8 @@ def check_installed(tally, prefix, folder):
     program = prefix / "bin" / "chtab"
     tools = set(re.findall(r"^  ([a-z]+)  ", said([program, "--help"], folder)[1], re.MULTILINE)) - {"help"}
     tally.expect(completed(prefix, program, "") == tools | {"--help", "--version"}, f"completion of tools: {tools}")
+    for name in re.findall(r"/usr/share/doc/chtab/([\w@.-]*\w)", (ROOT / "docs" / "OPERATING.md").read_text()):
+        tally.expect((prefix / "share/doc/chtab" / name).is_file(), f"OPERATING.md names {name}, which is not installed")
     for tool in sorted(tools):
         options = options_of([program, tool], folder)
         tally.expect(len(options) > 1 and completed(prefix, program, tool, "--") == options, f"completion of {tool}: {options}")

@@ -165,15 +165,20 @@ def refuse_memory(tally, folder, saved):
 
 
 def run_page(tally, folder):
-    """The lines of C of docs/CALLING.md, as they stand there, on the shipped example: 9 from its first node to its last."""
-    code = re.search(r"^```c\n(.*?)^```", (ROOT / "docs/CALLING.md").read_text(), re.MULTILINE | re.DOTALL).group(1)
-    files = [(ROOT / "examples" / name).read_bytes() for name in ("first.gr", "first.ch")]
-    arrays = [f"static const uint8_t {name}[] = {{{','.join(map(str, text))}}};" for name, text in zip(("graph", "saved"), files)]
-    ask = "int main(void) { printf(\"%lu\", (unsigned long)distance_of(graph, sizeof graph, saved, sizeof saved, 0, 2)); return 0; }"
-    (folder / "page.c").write_text("\n".join(["#include <chtab.h>", "#include <stdio.h>", *arrays, code.replace("uint64_t distance_of", "static uint64_t distance_of"), ask]))
-    built = done("gcc", "-std=c99", "-Wall", "-Wextra", "-pedantic", "-Werror", folder / "page.c", *flags(), f"-Wl,-rpath,{MADE}/lib", "-o", folder / "page")
-    answer = done(folder / "page") if built.returncode == 0 else built
-    tally.expect((answer.returncode, answer.stdout, answer.stderr) == (0, "9", ""), f"the C of CALLING.md: {answer.stdout}{answer.stderr}")
+    """The program of docs/CALLING.md, compiled and run by the lines below it: 9 from the first node of the example to the last."""
+    page = (ROOT / "docs/CALLING.md").read_text()
+    code, behind = re.search(r"^```c\n(.*?)^```(.*)", page, re.MULTILINE | re.DOTALL).groups()
+    lines = re.findall(r"^    (.*)$", behind.split("\n## ")[0], re.MULTILINE)
+    if not shutil.which("pkg-config"):
+        print("left out: the program of CALLING.md needs pkg-config")
+        return
+    (folder / "app.c").write_text(code)
+    for name in "packaging", "examples":
+        (folder / name).symlink_to(ROOT / name)
+    answer = subprocess.run(["bash", "-ec", "\n".join(lines).replace("cc app.c", "cc -std=c99 -Wall -Wextra -pedantic -Werror app.c")], cwd=folder, capture_output=True, text=True)
+    tally.expect((answer.returncode, answer.stdout) == (0, "9\n"), f"the program of CALLING.md: {answer.stdout}{answer.stderr}")
+    shown = re.search(r"^```c\n(.*?)^```", (ROOT / "README.md").read_text(), re.MULTILINE | re.DOTALL)
+    tally.expect(shown and shown[1] in code, "README.md shows other lines of C than CALLING.md")
 
 
 FAULTY = (

@@ -1,5 +1,5 @@
 #!/usr/bin/python3
-"""Tests the names and turns that the service tells: each rule of docs/MAPS.md by a map of its own, random maps against the slow teller of
+"""Tests the names and turns that the service tells: each rule of docs/SERVICE.md by a map of its own, random maps against the slow teller of
 oracles/telling.py, and what steps add up to.
 
 The last line is 'N passed, N failed'.

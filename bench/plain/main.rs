@@ -1,22 +1,19 @@
-//! Answers queries and tables by a saved hierarchy in plain Rust, without contracts and crates, in the layout of data that was the fastest of
+//! Answers queries by a saved hierarchy in plain Rust, without contracts and crates, in the layout of data that was the fastest of
 //! many in trials. `bench/layout` runs it beside the proved program.
 //!
 //!   layout dist HIERARCHY QUERIES
 //!   layout routes HIERARCHY QUERIES
-//!   layout table HIERARCHY SOURCES TARGETS
 //!
 //! Standard output gets the bytes that `chtab` writes. Standard error gets a line for each part of answering, without reading and writing: its
-//! name, and the nanoCPU seconds for each query, route or cell. Files are not checked: they have to be of their forms, and no way up or
+//! name, and the nanoCPU seconds for each query or route. Files are not checked: they have to be of their forms, and no way up or
 //! down the hierarchy may weigh 2^37 or have 2^25 arcs, so that words have room for sums.
-mod cells;
 mod hierarchy;
 mod routes;
 mod search;
 mod slices;
 mod text;
 
-use cells::{cells_of, Buckets};
-use hierarchy::{Hierarchy, UNREACHED};
+use hierarchy::Hierarchy;
 use routes::Route;
 use search::Search;
 use slices::at;
@@ -67,29 +64,12 @@ fn routes_text(hierarchy: &Hierarchy, queries: &str) -> Vec<u8> {
     answers_text("route", hierarchy, queries, |ends| search.route(ends, &mut pending))
 }
 
-fn table_text(hierarchy: &Hierarchy, sources: &str, targets: &str) -> Vec<u8> {
-    let [sources, targets] = [sources, targets].map(|path| nodes_in(path, hierarchy));
-    let (rows, columns, mut search) = (sources.len(), targets.len(), Search::<u64>::new(hierarchy));
-    let spaces = timed("search", rows * columns, || [search.spaces(&sources, 0), search.spaces(&targets, 1)]);
-    let cells = timed("sum", rows * columns, || {
-        let [ups, downs] = spaces.map(|space| Buckets::gather(hierarchy.outer.len(), &space));
-        cells_of(&ups, &downs, rows, columns)
-    });
-    let mut text = Vec::new();
-    for (&[source], row) in sources.iter().zip(cells.chunks(columns)) {
-        let row = row.iter().map(|&cell| (cell < UNREACHED).then_some(cell));
-        push_line(&mut text, b't', std::iter::once(named(at(&hierarchy.outer, source))).chain(row));
-    }
-    text
-}
-
 fn main() {
     let words: Vec<String> = std::env::args().skip(1).collect();
     let words: Vec<&str> = words.iter().map(String::as_str).collect();
     let text = match words[..] {
         ["dist", hierarchy, queries] => distances_text(&Hierarchy::read::<u64>(hierarchy), queries),
         ["routes", hierarchy, queries] => routes_text(&Hierarchy::read::<u128>(hierarchy), queries),
-        ["table", hierarchy, sources, targets] => table_text(&Hierarchy::read::<u64>(hierarchy), sources, targets),
         _ => panic!("other words than the head of the source tells"),
     };
     std::io::Write::write_all(&mut std::io::stdout(), &text).expect("output that can be written");

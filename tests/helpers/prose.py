@@ -1,27 +1,23 @@
-"""How pages read: the length of lines, paragraphs and sentences, and words in whose place the field has better ones."""
+"""How pages read: the length of lines, paragraphs, sentences and cells, and words in whose place the field has better ones."""
 import re
 
 from helpers.running import ROOT
 
-MOST_LINES, MOST_COLUMNS, MOST_WORDS = 5, 100, 30
-# The mean number of words of a page's sentences, and how many sentences in a row may not all be short.
-MEAN, SHORT, RUN = (13, 21), 9, 3
-# What a sentence ends with; a phrase of a list has no such end.
-ENDS = ".", "?", "!", ":", ")", "*"
+MOST_LINES, MOST_COLUMNS, MOST_WORDS, MOST_OF_CELL = 5, 100, 30, 25
 # What scripts write into a page, between two marks.
 WRITTEN = re.compile(r"<!-- What stands from here.*?<!-- End of what.*?-->", re.DOTALL)
 CODE = re.compile(r"`([^`]+)`")
-# Words that hide who does what, or that turn a sentence round.
-HARD = r"as ever|of whose|(?:is|are|was|were|be|been|being) told|whoever|hence|thus|thereby|signs? of life"
+# Words that hide who does what, that turn a sentence round, or that make a chain.
+HARD = r"(?:that|those) of (?:[\w']+ ){1,4}of|as ever|of whose|(?:is|are|was|were|be|been|being) told|whoever|hence|thus|thereby|signs? of life"
 # Words that the field has others for: arguments, CPU time, wall time, synthetic, components, workspace, 'is', 'start'.
 FOREIGN = (
     r"words of the (?:command )?line|processor (?:time|seconds)|\w*(?:seconds|minutes) of processors?|by the clock|made[- ]up"
     r"|hangs? (?:apart|together)|(?:a|its|the|one|clean|each) rooms? of|stands?(?! for\b)(?!-)|stood|beg(?:in|ins|an|un)"
 )
 FIELD = re.compile(rf"\b(?:{HARD}|{FOREIGN})\b", re.IGNORECASE)
-# In pages for users a hierarchy has edges, and a graph has paths; *walk* is named where its definition is meant.
-OF_USERS = re.compile(r"\blegs?\b|(?<!\*)\bwalks?\b(?!\*)", re.IGNORECASE)
-FOR_USERS = "README.md", "docs/GUIDE.md", "docs/REFERENCE.md", "docs/PYTHON.md"
+# A hierarchy has edges, and a graph has paths. Three pages say what the definitions, and OSRM, call them.
+OF_CODE = re.compile(r"\blegs?\b|(?<!\*)\bwalks?\b(?!\*)", re.IGNORECASE)
+WITH_CODE = "docs/BELIEVE.md", "docs/DEFINITIONS.md", "docs/SERVICE.md"
 
 
 def prose(page):
@@ -74,32 +70,28 @@ def check_layout(tally, page):
         tally.expect(lines <= MOST_LINES, f"{page.relative_to(ROOT)}: {lines} lines: {paragraph[:80]}")
 
 
-def check_rhythm(tally, page):
-    """Sentences are neither short throughout nor long, and three in a row are not all short. A phrase of a list is no sentence."""
-    counts = [[count(sentence) for sentence in sentences(paragraph) if sentence.endswith(ENDS)] for paragraph in paragraphs(page)]
-    every = [words for paragraph in counts for words in paragraph]
-    mean = sum(every) / max(1, len(every))
-    tally.expect(MEAN[0] <= mean <= MEAN[1], f"{page.relative_to(ROOT)}: sentences have {mean:.1f} words in the mean")
-    for paragraph, of_paragraph in zip(paragraphs(page), counts):
-        runs = [of_paragraph[at:at + RUN] for at in range(len(of_paragraph) - RUN + 1)]
-        short = any(max(run) < SHORT for run in runs)
-        tally.expect(not short, f"{page.relative_to(ROOT)}: {RUN} short sentences in a row: {paragraph}")
+def check_cells(tally, page):
+    """A cell of a table is a phrase, or a short sentence or two."""
+    for line in by_hand(page).splitlines():
+        # What the table of options says of each is its help, and is made from there.
+        for cell in line.strip("| ").split(" | ") if line.startswith("|") and not line.startswith("| `--") else ():
+            tally.expect(count(bare(cell)) <= MOST_OF_CELL, f"{page.relative_to(ROOT)}: a cell of {count(bare(cell))} words: {cell}")
 
 
 def check_words(tally, page):
     """Tables too have the field's words; headings too."""
     name = str(page.relative_to(ROOT))
     for line in by_hand(page).splitlines():
-        for words in (FIELD, *([OF_USERS] if name in FOR_USERS else [])):
+        for words in (FIELD, *([] if name in WITH_CODE else [OF_CODE])):
             found = words.search(bare(line))
             tally.expect(not found, f"{name} has '{found and found[0]}': {line.strip()[:120]}")
 
 
 def check_prose(tally, page):
-    """Lines, sentences and words of a page are those that a reader understands at once."""
+    """Lines, sentences, cells and words of a page are those that a reader understands at once."""
     check_layout(tally, page)
     for paragraph in paragraphs(page):
         for sentence in sentences(paragraph):
             check_sentence(tally, page, sentence)
-    check_rhythm(tally, page)
+    check_cells(tally, page)
     check_words(tally, page)

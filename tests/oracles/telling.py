@@ -1,4 +1,4 @@
-"""Tells the maneuvers of a route by the rules of docs/MAPS.md. It is independent of the package: it shares no code with it.
+"""Tells the maneuvers of a route by the rules of docs/SERVICE.md. It is independent of the package: it shares no code with it.
 
 It takes small maps alone: at each crossing it looks at all arcs of the map.
 """

@@ -20,7 +20,7 @@ use std::alloc::Global;
 use std::mem;
 
 /// The version: millions for the first number of `VERSION`, thousands for the second.
-const VERSION: u32 = 1_001_000;
+const VERSION: u32 = 1_002_000;
 
 /// The handle of an engine that C holds: 16 bytes, which are all 0 if it is closed.
 #[repr(C)]
@@ -72,7 +72,7 @@ impl Handle {
 /// Returns the version of the library.
 #[unsafe(no_mangle)]
 pub extern "C" fn chtab_version() -> u32
-    ensures { result ≡ 1001000 }
+    ensures { result ≡ 1002000 }
 {
     VERSION
 }

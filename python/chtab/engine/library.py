@@ -24,7 +24,7 @@ if TYPE_CHECKING:
     from chtab.typing import Integers
 
 # The version of the library that this package calls, as `CHTAB_VERSION` of the header has it.
-VERSION = 1_001_000
+VERSION = 1_002_000
 NAME = "libchtab.so.1"
 # The statuses of calls, as in `chtab_status` of the header.
 OK, NO_MEMORY, CLOSED, IS_OPEN, NODE_RANGE, LENGTHS, TOO_LARGE, TOO_SHORT, BAD_GRAPH, BAD_SAVED, WRONG_SAVED, NO_PLACES, SUM_TOO_LARGE, \

@@ -1,4 +1,4 @@
-"""Maneuvers: what a driver does at the crossings of routes, by the rules of docs/MAPS.md, for many passages at once in flat arrays."""
+"""Maneuvers: what a driver does at the crossings of routes, by the rules of docs/SERVICE.md, for many passages at once in flat arrays."""
 from __future__ import annotations
 
 from typing import TYPE_CHECKING
