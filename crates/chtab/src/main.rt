@@ -18,12 +18,5 @@ pub use numbers::numbers;
 use std::process::ExitCode;
 
 fn main(rt: HostRuntime) -> ExitCode {
-    ExitCode::from(system::run(
-        &rt,
-        &mut system::SystemFiles::new(system::HostFiles::new(&rt)),
-        &mut ReaderInput::new(rt.stdin()),
-        &mut WriterOutput::new(rt.stdout()),
-        &mut WriterOutput::new(rt.stderr()),
-        &rt.stderr(),
-    ))
+    ExitCode::from(system::start(&rt, system::HostFiles::new(&rt), &rt))
 }

@@ -1,8 +1,8 @@
 //! The system's side of the program: its words, its files and its streams.
 //!
 //! Each call of `std` that the program makes of the system has a name here, and no meaning: to open a file, to let
-//! it go, to read it, to write to a stream, and to tell the words of the command line. That is why the contract of
-//! [`run`] says which of these calls were made, and what the program did with their answers. That a call does what
+//! it go, to read it, to give the streams, to write to one, and to tell the words of the command line. That is why the
+//! contract of [`start`] says which of these calls were made, and what the program did with their answers. That a call does what
 //! `std` says of it is trusted. No contract of `std` says which words there are, or which bytes a file has.
 
 ghost use Rattle.std.specs.Prelude.{◌≡◌, ℕ, List, MatchResult, Result, String as StringOf, Vec as VecOf, map, ⊤};
@@ -11,9 +11,12 @@ ghost use Rattle.std.specs.String.{string_bytes};
 ghost use Rattle.std.specs.declared.io.Error.{Error as IoError};
 ghost use Rattle.std.specs.declared.alloc.Global.{Global as GlobalOf};
 ghost use Rattle.ch_line.specs.Files.{FileState};
-ghost use Rattle.chtab.specs.Program.{AnswersFault, CanCountWrites, IsAnswer, IsEnd};
+ghost use Rattle.ch_text.specs.declared.device.file.ReaderInput.{ReaderInput as InputOf};
+ghost use Rattle.ch_text.specs.declared.device.file.WriterOutput.{WriterOutput as OutputOf};
+ghost use Rattle.chtab.specs.Program.{AnswersFault, IsAnswer, IsEnd};
 ghost use Rattle.chtab.specs.System.{AreWords, IsOpening};
 ghost use Rattle.chtab.specs.declared.program.ProgramFault.{ProgramFault as FaultOf};
+ghost use Rattle.chtab.specs.declared.system.SystemFiles.{SystemFiles as FilesOf};
 ghost use Rattle.ch_words.specs.declared.fault.LineFault.{LineFault as LineFaultOf};
 
 use crate::program::{self, System};
@@ -22,7 +25,7 @@ use ch_run::{Input, Output, ReadOnce, ReaderInput, WriteOnce, WriterOutput};
 use ch_watch::{Lines, Timer, Watcher};
 use ch_words::{LineFault, refused};
 use std::alloc::Global;
-use std::io::{self, ErrorKind, IsTerminal};
+use std::io::{self, ErrorKind, IsTerminal, Stderr, Stdin, Stdout};
 use std::rt::Env;
 use std::thread::Threads;
 use std::{env, fs, rt};
@@ -154,43 +157,79 @@ pub fn words_of<R: WordsOnce>(rt: &R, alloc: Global) -> Result<Vec<String>, Line
     }
 }
 
-/// Runs the program on the words of its command line, over these files and these streams, and returns its exit status.
-/// Reports of progress go to `terminal`. It gets them if the words ask for them, or if it is a terminal and a stage
-/// takes long.
-pub fn run<R, P, J, O, E, T>(
-    rt: &R,
-    files: &mut SystemFiles<P>,
-    requests: &mut ReaderInput<J>,
-    output: &mut WriterOutput<O>,
-    errors: &mut WriterOutput<E>,
-    terminal: &T,
-) -> u8
+/// What gives the streams of a program. The effect of the one call has a name here, but no meaning. The call takes the
+/// giver, so that no code can make it twice.
+pub trait StreamsOnce {
+    type Input: ReadOnce + Drop;
+
+    type Output: WriteOnce + Drop;
+
+    type Errors: WriteOnce + Drop;
+
+    type Terminal: IsTerminal + Lines + Drop;
+
+    // what the call may give: standard input, standard output, and standard error
+    ghost streams_give: { Self → Self.Input → Self.Output → Self.Errors → Type 0 };
+
+    /// Takes standard input, standard output and standard error. The last stream is standard error too, for reports of
+    /// progress.
+    fn streams_once(self) -> (Self::Input, Self::Output, Self::Errors, Self::Terminal)
+        ensures made { streams_give self result.0 result.1 result.2 };
+}
+
+impl StreamsOnce for &HostRuntime {
+    type Input = Stdin;
+
+    type Output = Stdout;
+
+    type Errors = Stderr;
+
+    type Terminal = Stderr;
+
+    ghost streams_give = { λ _ _ _ _. ⊤ };
+
+    fn streams_once(self) -> (Stdin, Stdout, Stderr, Stderr) {
+        (self.stdin(), self.stdout(), self.stderr(), self.stderr())
+    }
+}
+
+/// Runs the program on the words of its command line, over the files and the streams that these give, and returns its
+/// exit status. Reports of progress go to the terminal. It gets them if the words ask for them, or if it is a terminal
+/// and a stage takes long.
+pub fn start<R, P, S>(rt: &R, opener: P, streams: S) -> u8
 where
     R: Threads + Timer + AllocGlobal + WordsOnce,
     P: OpenOnce + Drop,
-    J: ReadOnce + Drop,
-    O: WriteOnce + Drop,
-    E: WriteOnce + Drop,
-    T: IsTerminal + Lines,
-    requires output { CanCountWrites ⟦<WriterOutput<O> as Output>⟧.failed ⟦<WriterOutput<O> as Output>⟧.idle output.old }
-    requires errors { CanCountWrites ⟦<WriterOutput<E> as Output>⟧.failed ⟦<WriterOutput<E> as Output>⟧.idle errors.old }
+    S: StreamsOnce,
     ensures { (told : Result (VecOf (StringOf GlobalOf) GlobalOf) IoError) × (words : Result (VecOf (StringOf GlobalOf) GlobalOf) LineFaultOf) × (answer : Result Unit FaultOf)
+        × (files : FilesOf P P.File) × (files' : FilesOf P P.File) × (requests : InputOf S.Input) × (requests' : InputOf S.Input)
+        × (output : OutputOf S.Output) × (output' : OutputOf S.Output) × (errors : OutputOf S.Errors) × (errors' : OutputOf S.Errors)
+        × (files.opener ≡ opener) × S.streams_give streams requests.reader output.writer errors.writer
         × R.words_give rt.now told × AreWords told words
         × MatchResult words
         (λ list. IsAnswer ⟦<SystemFiles<P> as Files>⟧.opens ⟦<SystemFiles<P> as Files>⟧.closes
         ⟦<ReaderInput<P::File> as Input>⟧.read_gives ⟦<ReaderInput<P::File> as Input>⟧.origin
-        ⟦<ReaderInput<J> as Input>⟧.read_gives ⟦<ReaderInput<J> as Input>⟧.failed
-        ⟦<WriterOutput<O> as Output>⟧.write_gives ⟦<WriterOutput<O> as Output>⟧.failed ⟦<WriterOutput<O> as Output>⟧.idle
-        (map string_bytes list.items) files.old files.new requests.old requests.new output.old output.new answer)
-        (λ fault. (files.new ≡ files.old) × (requests.new ≡ requests.old)
-        × AnswersFault ⟦<WriterOutput<O> as Output>⟧.write_gives fault output.old output.new answer)
-        × IsEnd ⟦<WriterOutput<E> as Output>⟧.write_gives answer errors.old errors.new result }
+        ⟦<ReaderInput<S::Input> as Input>⟧.read_gives ⟦<ReaderInput<S::Input> as Input>⟧.failed
+        ⟦<WriterOutput<S::Output> as Output>⟧.write_gives ⟦<WriterOutput<S::Output> as Output>⟧.failed ⟦<WriterOutput<S::Output> as Output>⟧.idle
+        (map string_bytes list.items) files files' requests requests' output output' answer)
+        (λ fault. (files' ≡ files) × (requests' ≡ requests)
+        × AnswersFault ⟦<WriterOutput<S::Output> as Output>⟧.write_gives fault output output' answer)
+        × IsEnd ⟦<WriterOutput<S::Errors> as Output>⟧.write_gives answer errors errors' result }
 {
-    let watcher = Watcher::new(rt, terminal, rt.alloc(), terminal.is_terminal());
+    let (input, output, errors, terminal) = streams.streams_once();
+    let watcher = Watcher::new(rt, &terminal, rt.alloc(), terminal.is_terminal());
     let system = System {
         rt,
         alloc: rt.alloc(),
     };
     let words = words_of(rt, rt.alloc());
-    program::run(&system, files, requests, output, errors, words, &watcher)
+    program::run(
+        &system,
+        &mut SystemFiles::new(opener),
+        &mut ReaderInput::new(input),
+        &mut WriterOutput::new(output),
+        &mut WriterOutput::new(errors),
+        words,
+        &watcher,
+    )
 }
