@@ -282,8 +282,8 @@ class Network:
             opens quickly. By default they are in a temporary folder until `close`, or until the
             network is no longer used.
         like : Network, optional
-            A network of the same nodes. The new network takes its order, in three fifths of the
-            time. The nodes, labels and places of `like` are taken unless others are given, and so
+            A network of the same nodes. The new network takes its order, in about half of the time
+            that building by depth takes. The nodes, labels and places of `like` are taken unless others are given, and so
             are the nodes where turns are restricted.
         fresh : int
             With `like`, how many per cent of the nodes are ordered afresh, from 0 to 100.
@@ -597,8 +597,8 @@ class Network:
         Returns
         -------
         Network
-            The changed network. It is built in the order of this one, in three fifths of the time
-            of a new network.
+            The changed network. It is built in the order of this one, in about half of the time that
+            building by depth takes.
 
         Raises
         ------

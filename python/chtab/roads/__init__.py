@@ -8,6 +8,8 @@ reached.
 | `scenarios` | the arcs of the same network with other weights, closed roads and new ones |
 | `arc_names`, `row_labels` | the arcs that names and labels of rows stand for |
 | `pairs` | pairs of nodes as callers name them, and sums along their routes |
+| `flows` | flows on roads: demands added up along routes |
+| `equilibrium` | traffic at user equilibrium |
 | `exporting` | a network as frames of geopandas, and the parts that it falls into |
 | `snapping` | the roads of a graph, and places that are taken to them |
 | `nearest` | the nodes nearest to places |
