@@ -283,8 +283,8 @@ class Network:
             network is no longer used.
         like : Network, optional
             A network of the same nodes. The new network takes its order, in about half of the time
-            that building by depth takes. The nodes, labels and places of `like` are taken unless others are given, and so
-            are the nodes where turns are restricted.
+            of building by depth. The nodes, labels and places of `like` are taken unless others are
+            given, and so are the nodes where turns are restricted.
         fresh : int
             With `like`, how many per cent of the nodes are ordered afresh, from 0 to 100.
         progress : bool or callable, optional
@@ -597,8 +597,8 @@ class Network:
         Returns
         -------
         Network
-            The changed network. It is built in the order of this one, in about half of the time that
-            building by depth takes.
+            The changed network. It is built in the order of this one, in about half of the time of
+            building by depth.
 
         Raises
         ------
