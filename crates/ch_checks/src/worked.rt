@@ -1,16 +1,11 @@
-//! Worked examples at public calls: queues, rows, witnesses, and the entries of buckets.
+//! Worked examples at public calls: queues, rows and witnesses.
 ghost use Rattle.std.specs.Prelude.{◌≡◌};
-ghost use Rattle.ch_hierarchy.specs.Hierarchy.{nodes_of};
 
-use crate::examples::{LINE, RING, hierarchy};
 use ch_contract::{HopBound, Remaining};
 use ch_graph::{Cost, Graph, Rows};
-use ch_hierarchy::Hierarchy;
 use ch_queue::KeyQueue;
 use ch_read::read_graph;
-use ch_table::Buckets;
 use std::alloc::{AllocError, Global};
-use std::process::Abort;
 use std::test::Fail;
 
 /// Makes the cost of a walk of this weight with so many arcs.
@@ -85,34 +80,5 @@ fn witnesses_keep_their_bounds(rt: HostRuntime) -> Result<(), Fail> {
     assert!(rt; graph.nodes() == 5);
     let owed = ([false, true, false, true], [-1, -2]);
     assert_eq!(rt; asked(rt.alloc(), &graph)?, owed);
-    Ok(())
-}
-
-/// Expects the entries of buckets up and down the line. Targets and sources that stand twice have two entries.
-fn expect_entries(rt: &impl Abort, alloc: Global, line: &Hierarchy) -> Result<(), AllocError>
-    requires { nodes_of line.now ≡ 3 }
-{
-    let ups = Buckets::fill_up(alloc, line, &[0, 0, 2], None)?;
-    let downs = Buckets::fill(alloc, line, &[2, 1], None)?;
-    assert_eq!(rt; ups.at(0), [(0, 0), (1, 0)].as_slice());
-    assert_eq!(rt; downs.at(0), [].as_slice());
-    assert_eq!(rt; ups.at(1), [(0, 4), (1, 4)].as_slice());
-    assert_eq!(rt; downs.at(1), [(1, 0)].as_slice());
-    assert_eq!(rt; ups.at(2), [(0, 9), (1, 9), (2, 0)].as_slice());
-    assert_eq!(rt; downs.at(2), [(0, 0)].as_slice());
-    Ok(())
-}
-
-#[test]
-fn buckets_have_the_entries_of_both_sides(rt: HostRuntime) -> Result<(), Fail> {
-    let line = hierarchy(&rt, rt.alloc(), LINE)?;
-    assert!(rt; line.nodes() == 3);
-    expect_entries(&rt, rt.alloc(), &line)?;
-    let ring = hierarchy(&rt, rt.alloc(), RING)?;
-    assert!(rt; ring.nodes() == 5);
-    let buckets = Buckets::fill(rt.alloc(), &ring, &[3, 3, 4], None)?;
-    assert_eq!(rt; buckets.at(3), [(0, 0), (1, 0)].as_slice());
-    assert_eq!(rt; buckets.at(4), [(0, 4), (1, 4), (2, 0)].as_slice());
-    assert_eq!(rt; buckets.at(0), [].as_slice());
     Ok(())
 }
