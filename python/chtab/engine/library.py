@@ -111,7 +111,9 @@ def is_up_to_date(made: str, checkout: str) -> bool:
     """Whether the library of a checkout exists, and no source of its crates is newer."""
     if not os.path.isfile(made):
         return False
-    sources = glob.iglob(os.path.join(glob.escape(checkout), "crates", "*", "src", "**", "*.rt"), recursive=True)
+    files = glob.iglob(os.path.join(glob.escape(checkout), "crates", "*", "src", "**", "*.rt"), recursive=True)
+    # Crates of tests are in no library.
+    sources = (path for path in files if f"_checks{os.sep}" not in path.removeprefix(checkout))
     return max(map(os.path.getmtime, sources), default=0) <= os.path.getmtime(made)
 
 
