@@ -18,6 +18,7 @@ The last line is 'N passed, N failed'.
 """
 import os
 import random
+import re
 import sys
 import tempfile
 import zlib
@@ -410,16 +411,17 @@ def check_leaving(tally, folder):
     for count, words in [(0, words) for words in kinds + helps] + [(1, words) for words in kinds]:
         with open(folder / "long.txt", "rb") as requests:
             answer = run_before_leaving(words, folder, count, requests)
-        is_silent = (answer.status, len(answer.out), answer.err) == (141, count, b"")
-        tally.expect(is_silent, f"{words}, to none after {count} bytes: {answer}")
+        told = re.fullmatch(rb"chtab: cannot write after (\d+) bytes\n", answer.err)
+        is_told = (answer.status, len(answer.out)) == (3, count) and told and int(told[1]) >= count
+        tally.expect(is_told, f"{words}, to none after {count} bytes: {answer}")
     with Conversation(["ask", "line.gr"], folder) as talk:
         talk.say(b"q 1 3\n")
         heard = talk.hear(8)
         talk.leave()
         talk.say(b"q 1 3\n")
         answer = talk.rest()
-    is_silent = (heard, answer.status, answer.err) == (b"d 1 3 9\n", 141, b"")
-    tally.expect(is_silent, f"to none after an answer, and more could come: {heard}, {answer}")
+    is_told = (heard, answer.status, answer.err) == (b"d 1 3 9\n", 3, b"chtab: cannot write after 8 bytes\n")
+    tally.expect(is_told, f"to none after an answer, and more could come: {heard}, {answer}")
 
 
 def main():

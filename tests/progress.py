@@ -40,13 +40,13 @@ TIMES_LEFT = [
     (3_600_000, ["4 h", "90 min", "5 h", "3 h"]),
 ]
 
-# The runs, and their stages.
+# The runs, and their stages. The nodes are a path, of which runs without routes contract all as a chain, so that none is left to be ranked.
 RUNS = [
     (["save", "--piece", "1", "nodes.gr"], ["reading", "ranking the nodes", "building"]),
-    (["dist", "--piece", "1", "nodes.gr", "queries.p2p"], ["reading", "ranking the nodes", "building", "answering"]),
+    (["dist", "--piece", "1", "nodes.gr", "queries.p2p"], ["reading", "building", "ranking the nodes", "answering"]),
     (["dist", "--plain", "nodes.gr", "queries.p2p"], ["reading", "answering"]),
     (["dist", "--piece", "1", "--saved", "nodes.ch", "nodes.gr", "queries.p2p"], ["reading", "checking the saved hierarchy", "answering"]),
-    (["table", "--piece", "1", "nodes.gr", "list.ss", "list.ss"], ["reading", "ranking the nodes", "building", "searching", "answering"]),
+    (["table", "--piece", "1", "nodes.gr", "list.ss", "list.ss"], ["reading", "building", "ranking the nodes", "searching", "answering"]),
 ]
 FILES = {
     "three.gr": "p sp 3 0\n",
@@ -133,6 +133,8 @@ def places_told(events, step, is_asked):
 def is_about_right(events, place, step, told):
     """Whether the time that is left is about as long as what is past of a stage lets expect."""
     event = events[place]
+    if event.all == 0:
+        return not told.left
     begun = max(start for start in range(place + 1) if begins(events, start))
     left = 1 - event.done / event.all
     left = sqrt(left) if event.stage == "building" else left
