@@ -56,7 +56,7 @@ class Tasks:
         self.completed.add(future)
 
     def __iter__(self) -> Iterator[tuple[Any, Any]]:
-        """Yields what was begun with the value of its call. A call that is begun meanwhile
+        """Yields what was started with the value of its call. A call that starts meanwhile
         follows."""
         for future in self.completed:
             yield self.begun.pop(future), future.result()

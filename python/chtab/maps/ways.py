@@ -93,7 +93,7 @@ def duration_of(way: tags.Tags, notes: tags.Notes) -> int:
 
 
 def class_of(way: tags.Tags, profile: Profile, classes: Collection[str]) -> str | None:
-    """The tag by which a way is of one of some classes; None if it is of none of them."""
+    """The tag that puts a way into one of some classes; None if it is in none of them."""
     if "toll" in classes and "yes" in tags.words_of(way.get("toll", "")):
         return f"toll={way['toll']}"
     if "motorway" in classes and way.get("highway") in MOTORWAYS:

@@ -26,7 +26,7 @@ if TYPE_CHECKING:
 METHODS = MSA, FRANK_WOLFE, BI_CONJUGATE = "msa", "frank-wolfe", "bi-conjugate"
 # A step of at least this length ends the memory of earlier directions, because they have no part in the flows any more.
 WHOLE_STEP = 0.999_999
-# How often the interval of a step's length is halved, and the part of a flow by which a derivative is taken.
+# How often the interval of a step's length is halved, and the part of a flow that a derivative is taken over.
 HALVINGS, DIFFERENCE = 60, 1e-6
 
 
@@ -46,7 +46,7 @@ class Equilibrium(NamedTuple):
     is_reached : bool
         Whether the last gap is at most the one that was asked for.
     rounding : float
-        The largest difference, in the network's unit, between a cost and the whole weight by which routes were found.
+        The largest difference, in the network's unit, between a cost and the whole weight that routes were found with.
     missed : int
         How many pairs have no route.
     """

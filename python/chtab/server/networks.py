@@ -86,7 +86,7 @@ class Served:
 
     @property
     def profiles(self) -> tuple[str, ...]:
-        """The names by which clients may call the network, without the classes of ways that it lacks; none if any name will do."""
+        """The names that clients may call the network, without the classes of ways that it lacks; none if any name will do."""
         return (self.name.partition("/")[0],) if self.name else ()
 
     def open_once(self) -> None:

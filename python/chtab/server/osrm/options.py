@@ -129,7 +129,7 @@ class Match(NamedTuple):
 
 
 class Table(NamedTuple):
-    """The options of a table: the coordinates of its rows and columns, what its cells have, by which number durations are multiplied, and the metres a
+    """The options of a table: the coordinates of its rows and columns, what its cells have, the factor of durations, and the metres a
     second along the straight line in a cell without a way, None where it is empty, between the coordinates as they came or where roads are."""
 
     sources: list[int]

@@ -93,7 +93,7 @@ def route(voice: Voice, legs: Legs, which: list[int], options: Route, told: OfLe
 
 
 def between_waypoints(which: list[int], waypoints: tuple[int, ...] | None) -> list[list[int]]:
-    """The legs of a route that are told as one: those between two waypoints."""
+    """The legs of a route that are reported as one: those between two waypoints."""
     if waypoints is None:
         return [[leg] for leg in which]
     return [which[first:last] for first, last in itertools.pairwise(waypoints)]
