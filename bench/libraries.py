@@ -1,9 +1,6 @@
-"""Dijkstra's algorithm as other libraries have it: each gives the mean CPU seconds of a query of a file, and the distances as words."""
-import shutil
+"""Dijkstra's algorithm as scipy has it: the mean CPU seconds of a query of a file, which has to give the distances of the program."""
 import subprocess
-import tempfile
 import time
-from pathlib import Path
 
 import measure
 
@@ -14,32 +11,8 @@ def items_of(path, letter):
         return [tuple(map(int, line.split()[1:])) for line in file if line.startswith(letter + " ")]
 
 
-def timed(answer, queries):
-    """The mean CPU seconds of an answer to a query, numbered from 0, and the answers; one that is infinite is none."""
-    distances, seconds = [], 0.0
-    for start, end in items_of(queries, "q"):
-        begin = time.process_time()
-        found = answer(start - 1, end - 1)
-        seconds += time.process_time() - begin
-        distances.append("-" if found == float("inf") else str(int(found)))
-    return seconds / len(distances), distances
-
-
-def by_boost(graph, queries):
-    """boost::dijkstra_shortest_paths, which stops at the target (libboost-graph-dev, by c++ -O2)."""
-    if not shutil.which("c++"):
-        return None
-    with tempfile.TemporaryDirectory() as folder:
-        program = Path(folder) / "boost"
-        command = ["c++", "-O2", "-std=c++17", "-o", program, measure.ROOT / "bench" / "boost.cpp"]
-        if subprocess.run(command, stderr=subprocess.DEVNULL).returncode:
-            return None
-        *distances, micros = subprocess.run([program, graph, queries], stdout=subprocess.PIPE, text=True, check=True).stdout.split()
-    return float(micros) / 1e6, distances
-
-
 def by_scipy(graph, queries):
-    """scipy.sparse.csgraph.dijkstra, which always goes to all nodes (python3-scipy; weights as floats)."""
+    """The mean CPU seconds of scipy.sparse.csgraph.dijkstra, which always goes to all nodes, and the distances as words. None without scipy."""
     try:
         import scipy.sparse
         import scipy.sparse.csgraph
@@ -51,25 +24,20 @@ def by_scipy(graph, queries):
     starts, ends = zip(*least)
     nodes = measure.nodes_of(graph)
     matrix = scipy.sparse.csr_matrix((list(map(float, least.values())), (starts, ends)), shape=(nodes, nodes))
-    return timed(lambda start, end: scipy.sparse.csgraph.dijkstra(matrix, indices=start)[end], queries)
+    distances, seconds = [], 0.0
+    for start, end in items_of(queries, "q"):
+        begin = time.process_time()
+        found = scipy.sparse.csgraph.dijkstra(matrix, indices=start - 1)[end - 1]
+        seconds += time.process_time() - begin
+        distances.append("-" if found == float("inf") else str(int(found)))
+    return seconds / len(distances), distances
 
 
-LIBRARIES = {"Boost": by_boost, "scipy": by_scipy}
-# Those for which each arc is made an object of Python.
-IN_PYTHON = ("scipy",)
-
-
-def ratios(graph, queries, seconds, saved, names=LIBRARIES):
-    """By library the time of a query as so many times these seconds, or None where it is not installed.
-
-    All have to find the distances that the program finds by this saved hierarchy.
-    """
+def ratio(graph, queries, seconds, saved):
+    """The time of a query by scipy as so many times these seconds, or None without scipy. It has to find the distances that the program finds."""
     command = [measure.PROGRAM, "dist", "--saved", saved, graph, queries]
     wanted = [line.split()[3] for line in subprocess.run(command, stdout=subprocess.PIPE, text=True, check=True).stdout.splitlines()]
-    found = {}
-    for name in names:
-        answer = LIBRARIES[name](graph, queries)
-        if answer and answer[1] != wanted:
-            raise SystemExit(f"{graph}: {name} finds other distances")
-        found[name] = answer and answer[0] / seconds
-    return found
+    found = by_scipy(graph, queries)
+    if found and found[1] != wanted:
+        raise SystemExit(f"{graph}: scipy finds other distances")
+    return found and found[0] / seconds

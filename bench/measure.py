@@ -33,7 +33,9 @@ def processor():
     cpus = pathlib.Path("/proc/cpuinfo")
     lines = cpus.read_text().splitlines() if cpus.exists() else []
     name = next((line.split(":")[1] for line in lines if line.startswith("model name")), platform.processor())
-    return f"{name.strip()}, {platform.machine()}"
+    speed = next((float(line.split(":")[1]) for line in lines if line.startswith("cpu MHz")), 0)
+    at = f" @ {speed / 1000:.2f}GHz" if speed and "GHz" not in name else ""
+    return f"{name.strip()}{at}, {platform.machine()}"
 
 
 def stamp():
@@ -164,10 +166,10 @@ class Inputs:
         return self.listed(count, "ss", "s", 1)
 
     def saved(self, order):
-        """The hierarchy in one of the ORDERS, as the program saves it."""
+        """The hierarchy in one of the ORDERS or the quick one, as the program saves it."""
         path = self.folder / f"{order}.ch"
         with open(path, "wb") as file:
-            subprocess.run([PROGRAM, "save", *ORDERS[order], self.graph], stdout=file, check=True)
+            subprocess.run([PROGRAM, "save", *ORDERS.get(order, ["--quick"]), self.graph], stdout=file, check=True)
         return path
 
 

@@ -1,8 +1,8 @@
 #!/usr/bin/python3
 """Writes the map of a synthetic town into the folder that it is run in, the same bytes each time.
 
-town.osm   a grid of named streets, many of them one-way, with a forbidden turn at every second crossing; a ring, a motorway with a toll, a
-           ferry, an island without a bridge, a yard behind a gate, dead ends, and a road of half a metre
+town.osm   a grid of named streets, many of them one-way, with a forbidden turn at every second crossing, and traffic lights; a ring, a
+           motorway with a toll, a ferry, an island without a bridge, a yard behind a gate, dead ends, and a road of half a metre
 """
 import math
 import random
@@ -29,6 +29,7 @@ class Town:
         self.motorway()
         self.beside()
         self.forbid()
+        self.light()
 
     def node(self, x, y, off=0.0):
         """Adds a node, at most `off` metres from a place. Its number."""
@@ -127,12 +128,21 @@ class Town:
                 word, (one, other) = self.draw.choice(WORDS), self.draw.sample(ways, 2)
                 self.turns.append((one, node, one if word == "no_u_turn" else other, word))
 
+    def light(self):
+        """Traffic lights at some crossings, and in the middle of some blocks of the main streets."""
+        signals = {"highway": "traffic_signals"}
+        self.lights = {node: signals for (x, y), node in self.grid.items() if x % 4 == 1 and y % 3 == 0}
+        main = [nodes for nodes, tags in self.ways if tags.get("highway") == "primary"]
+        for place, nodes in enumerate(main):
+            side = {"traffic_signals:direction": ("forward", "backward", "both")[place % 3]}
+            self.lights[nodes[1]] = signals | side
+
     def text(self):
         """The map as XML."""
         lines = ['<?xml version="1.0" encoding="UTF-8"?>', '<osm version="0.6">']
         wide = METRES * math.cos(math.radians(CORNER[1]))
         for number, (x, y) in enumerate(self.nodes, 1):
-            inside = '<tag k="barrier" v="bollard"/>' if number in self.gates else ""
+            inside = of_tags({"barrier": "bollard"} if number in self.gates else self.lights.get(number, {}))
             lines.append(f'<node id="{number}" lon="{CORNER[0] + x / wide:.7f}" lat="{CORNER[1] + y / METRES:.7f}">{inside}</node>')
         for number, (nodes, tags) in enumerate(self.ways, 1):
             lines.append(f'<way id="{number}">' + "".join(f'<nd ref="{node}"/>' for node in nodes) + of_tags(tags) + "</way>")

@@ -10,6 +10,7 @@ made by tests/library/fuzz.py. Its answers are tested by library_answers.py. The
 """
 import argparse
 import ctypes
+import mmap
 import re
 import shutil
 import subprocess
@@ -202,6 +203,58 @@ def tell_faults(tally, library):
         tally.expect((status, fault.told(), handle.is_open) == (STATUS[name], told, 0), f"{graph} {saved}: {status} {fault.told()}, not {name} {told}")
 
 
+# Arrays of a graph that are refused: the number of nodes, tails, heads, weights and the hierarchy, and the status with line, place and kind. Lengths
+# come before sizes, sizes before arcs, the ends of an arc before its weight, and all of these before the hierarchy.
+FAULTY_ARRAYS = (
+    (9, [0], [1, 2], [4, 5], b"", "LENGTHS", (0, 0, 0)),
+    (9, [0, 1], [1], [4, 5], b"", "LENGTHS", (0, 0, 0)),
+    (2**32 - 1, [0, 9], [1, 9], [4], b"x", "LENGTHS", (0, 0, 0)),
+    (9, [], [], [4], b"", "LENGTHS", (0, 0, 0)),
+    (2**25 + 1, [], [], [], b"", "BAD_GRAPH", (0, 0, 8)),
+    (2**32 - 1, [2**32 - 1], [0], [2**64 - 1], b"x", "BAD_GRAPH", (0, 0, 8)),
+    (0, [0], [0], [0], b"", "BAD_GRAPH", (0, 0, 6)),
+    (3, [0, 3], [1, 2], [4, 5], b"", "BAD_GRAPH", (0, 1, 6)),
+    (3, [0, 1], [1, 2**32 - 1], [4, 5], b"x", "BAD_GRAPH", (0, 1, 6)),
+    (3, [0, 1], [3, 3], [2**64 - 1, 0], b"", "BAD_GRAPH", (0, 0, 6)),
+    (3, [0, 1], [1, 3], [2**64 - 1, 0], b"", "BAD_GRAPH", (0, 0, 7)),
+    (2, [0, 1, 0], [1, 0, 0], [2**59, 2**59, 2**59 + 1], b"", "BAD_GRAPH", (0, 2, 7)),
+    (3, [0, 1], [1, 2], [4, 5], b"\n", "BAD_SAVED", (2, 0, 4)),
+    (3, [0, 1], [1, 2], [4, 5], OF_LINE.replace(b"p ch 3", b"p ch 4"), "BAD_SAVED", (1, 0, 8)),
+    (3, [0, 1], [1, 2], [4, 6], OF_LINE, "WRONG_SAVED", (0, 1, 14)),
+    (3, [1, 0], [2, 1], [5, 4], OF_LINE.replace(b"p ch 3 2", b"p ch 3 1").replace(b"l 2 3 5 1 0\n", b""), "WRONG_SAVED", (0, 0, 16)),
+)
+
+
+def open_arrays(tally, library):
+    """A graph of arrays answers as its file does, by a saved hierarchy and by one that is built. What is refused leaves the handle closed."""
+    for saved in b"", OF_LINE:
+        status, handle, fault = library.open_arrays(3, [0, 1], [1, 2], [4, 5], saved)
+        tally.expect((status, fault.told()) == (0, (0, 0, 0)) and library.nodes(handle) == (0, 3), f"arrays with {saved}: {status} {fault.told()}")
+        tally.expect(library.distances(handle, [0, 2, 1], [2, 0, 1]) == (0, [9, NO_DISTANCE, 0]), "distances of arrays")
+        told = library.routes(handle, [0], [2], 3, lines_room=3)
+        tally.expect(told == (0, 1, [9], [3], [0, 1, 2], [2**32 - 1, 0, 1]), f"the lines of arrays: {told}")
+        tally.expect(library.open_arrays(0, [0], [], [], b"x", handle)[0] == STATUS["IS_OPEN"], "an open handle that is to be opened by arrays")
+        tally.expect(library.distances(handle, [0], [2]) == (0, [9]), "an open handle stays")
+        tally.expect(library.close(handle) == 0, "a handle of arrays closes")
+    for nodes in 0, 2:
+        status, handle, _ = library.open_arrays(nodes, [], [], [])
+        tally.expect(status == 0 and library.nodes(handle) == (0, nodes), f"{nodes} nodes without arcs")
+        tally.expect(library.distances(handle, [0], [1]) == ((0, [NO_DISTANCE]) if nodes else (STATUS["NODE_RANGE"], [7])), "no arcs")
+        library.close(handle)
+    status, handle, _ = library.open_arrays(2, [0, 0], [1, 1], [2**59, 2**59])
+    tally.expect(status == 0 and library.distances(handle, [0], [1]) == (0, [2**59]), "weights at the limit")
+    library.close(handle)
+    for *given, name, told in FAULTY_ARRAYS:
+        status, handle, fault = library.open_arrays(*given)
+        tally.expect((status, fault.told(), handle.is_open) == (STATUS[name], told, 0), f"arrays {given}: {status} {fault.told()}, not {name} {told}")
+    # Memory that nobody writes to takes none: the library refuses so many arcs before it reads one.
+    many = 2**27 + 1
+    ends, weights = mmap.mmap(-1, 4 * many), mmap.mmap(-1, 8 * many)
+    arrays = [(ctypes.c_uint32 * many).from_buffer(ends)] * 2 + [(ctypes.c_uint64 * many).from_buffer(weights)]
+    status, handle, fault = library.open_arrays(1, *arrays)
+    tally.expect((status, fault.told(), handle.is_open) == (STATUS["BAD_GRAPH"], (0, 0, 8), 0), f"too many arcs: {status} {fault.told()}")
+
+
 def ask_too_much(tally, library):
     """A table of more sources, or of more targets, than a list may have, with room for it; and more near places."""
     status, handle, _ = library.open(LINE, OF_LINE)
@@ -270,6 +323,18 @@ def refuse_large_flows(tally, library):
     library.close(handle)
 
 
+def refuse_quickly(tally, library):
+    """What is wrong with a graph that is opened alone is told, and the handle stays."""
+    for graph, told in (b"", (1, 0, 4)), (LINE + b"a 1 2 3\n", (4, 0, 9)), (LINE.replace(b"p sp 3", b"p sp 2"), (3, 0, 6)):
+        status, handle, fault = library.open_quick(graph)
+        tally.expect((status, fault.told(), handle.is_open) == (STATUS["BAD_GRAPH"], told, 0), f"{graph} alone: {status} {fault.told()}, not {told}")
+    status, handle, fault = library.open_quick(LINE)
+    tally.expect((status, fault.told()) == (0, (0, 0, 0)) and library.distances(handle, [0], [2]) == (0, [9]), f"a graph alone: {status} {fault.told()}")
+    tally.expect(library.open_quick(b"", handle)[0] == STATUS["IS_OPEN"], "an open handle that is to be opened with a graph alone")
+    tally.expect(library.distances(handle, [0], [2]) == (0, [9]), "the handle that was open")
+    library.close(handle)
+
+
 def refuse_likes(tally, library):
     """What is wrong is told in the order that the header says, and both handles stay."""
     status, handle, _ = library.open(LINE, OF_LINE)
@@ -306,11 +371,13 @@ def main():
         run_example(tally, folder, saved)
         refuse_memory(tally, folder, saved)
         run_page(tally, folder)
+    open_arrays(tally, library)
     ask_too_much(tally, library)
     tell_faults(tally, library)
     refuse_large_sums(tally, library)
     refuse_large_route_sums(tally, library)
     refuse_large_flows(tally, library)
+    refuse_quickly(tally, library)
     refuse_likes(tally, library)
     fuzzed = done(sys.executable, ROOT / "tests/library/fuzz.py", calls, 1)
     passed, failed = map(int, (re.search(r"(\d+) passed, (\d+) failed$", fuzzed.stdout.strip()) or re.match("(0) (1)", "0 1")).groups())

@@ -241,6 +241,56 @@ def compare_built(tally, library, graph):
     library.close(handle)
 
 
+def compare_arrays(tally, library, graph, hierarchy):
+    """A graph of arrays has the hierarchy and the lines of its file, with a saved hierarchy and without."""
+    count, arcs = graph_of(graph)
+    draw = random.Random(f"library arrays {graph.name}")
+    pairs = [[draw.randrange(count) for _ in range(100)] for _ in range(2)]
+    columns = [[start - 1 for start, _, _ in arcs], [end - 1 for _, end, _ in arcs], [weight for _, _, weight in arcs]]
+    room, values = 50_000, [draw.randrange(1_000) for _ in arcs]
+    for saved in b"", hierarchy.read_bytes():
+        answers = []
+        of_file = library.open(graph.read_bytes(), saved) if saved else library.open_quick(graph.read_bytes())
+        for status, handle, _ in of_file, library.open_arrays(count, *columns, saved):
+            text = library.save(handle, library.save(handle, 0)[1])
+            sums = library.route_sums(handle, *pairs, values)
+            answers.append((status, text, library.distances(handle, *pairs), library.routes(handle, *pairs, room, lines_room=room), sums))
+            library.close(handle)
+        tally.expect(answers[0] == answers[1] and answers[0][0] == 0, f"{graph.name}: arrays answer as the file")
+
+
+def compare_random_arrays(tally, library):
+    """Arrays of random graphs, with loops and parallel arcs: their distances are those of Dijkstra's algorithm, and their text is that of the file."""
+    for seed in range(60):
+        case = Case(f"library arrays {seed}")
+        columns = [[arc[0] - 1 for arc in case.arcs], [arc[1] - 1 for arc in case.arcs], [arc[2] for arc in case.arcs]]
+        status, handle, _ = library.open_arrays(case.nodes, *columns)
+        from_file = library.open_quick(graph_text(case.nodes, case.arcs))[1]
+        texts = [library.save(each, library.save(each, 0)[1]) for each in (handle, from_file)]
+        tally.expect(status == 0 and texts[0] == texts[1], f"the hierarchy of the arrays of graph {seed}")
+        ahead, every = arcs_ahead(case.arcs), range(case.nodes)
+        for source in every:
+            away = distances_from(source + 1, ahead)
+            owed = [away.get(target + 1, NO_DISTANCE) for target in every]
+            tally.expect(library.table(handle, [source], every) == (0, owed), f"distances of the arrays of graph {seed} from {source}")
+        library.close(handle)
+        library.close(from_file)
+
+
+def compare_quick(tally, library, graph):
+    """A graph alone: the answers are those of Dijkstra's algorithm, and the hierarchy is the one that `chtab save --quick` writes."""
+    count, arcs = graph_of(graph)
+    draw, ahead = random.Random(f"library quick {graph.name}"), arcs_ahead(arcs)
+    status, handle, _ = library.open_quick(graph.read_bytes())
+    owed = run(["save", "--quick", graph], graph.parent).out
+    tally.expect((status, *library.save(handle, len(owed))) == (0, 0, len(owed), owed), f"{graph.name}: the hierarchy that is built quickly")
+    pairs = [[draw.randrange(count) for _ in range(40)] for _ in range(2)]
+    away = {source: distances_from(source + 1, ahead) for source in set(pairs[0])}
+    owed = [away[source].get(target + 1, NO_DISTANCE) for source, target in zip(*pairs)]
+    tally.expect(library.distances(handle, *pairs) == (0, owed), f"{graph.name}: distances by the hierarchy that is built quickly")
+    library.close(handle)
+
+
 def compare_like(tally, library, graph):
     """In the order of another network: the answers are those of Dijkstra's algorithm by the new arcs, the other network answers as it did, and with
     100 per cent afresh the hierarchy is the one that is built."""
@@ -310,6 +360,7 @@ def main():
     in_process.make()
     tally, library = Count(), Library()
     compare_orders(tally, library)
+    compare_random_arrays(tally, library)
     tell_lines(tally, library)
     with tempfile.TemporaryDirectory() as kept:
         folder = Path(kept)
@@ -323,6 +374,8 @@ def main():
             compare_flows(tally, library, graph, saved)
             compare_sums(tally, library, graph, saved)
             compare_built(tally, library, graph)
+            compare_arrays(tally, library, graph, saved)
+            compare_quick(tally, library, graph)
             compare_like(tally, library, graph)
         ask_in_threads(tally, library, GRAPHS[1], saved)
     tally.finish()

@@ -15,7 +15,7 @@ from helpers import running, serving
 from helpers.asking_osrm import MILLIONTH, TENTH, answer, distance_to, distances, get, on_sphere, some_nodes, text_of, three, write_network
 from helpers.packages import run_checks
 from helpers.running import PROGRAM, ROOT
-from helpers.serving import SERVICE, here, on_both_maps, service
+from helpers.serving import SERVICE, here, on_all_maps, service
 
 sys.path.insert(0, str(ROOT / "python"))
 
@@ -83,7 +83,8 @@ def steps_and_annotations():
         lines = []
         for leg in route["legs"]:
             steps = leg["steps"]
-            assert steps[0]["maneuver"]["type"] == "depart" and steps[-1]["maneuver"]["type"] == "arrive" and len(steps) > 4
+            assert steps[0]["maneuver"]["type"] == "depart" and steps[-1]["maneuver"]["type"] == "arrive"
+            assert len(steps) > (2 if serving.IS_AT_A_COST else 4)
             assert {step["mode"] for step in steps} == {"driving"} and ({step["name"] for step in steps} == {""}) != serving.IS_IN_TOWN
             parts = [polyline.decode(step["geometry"], 6) for step in steps]
             assert parts[-1] == [parts[-2][-1]] * 2 and all(one[-1] == other[0] for one, other in zip(parts, parts[1:]))
@@ -296,7 +297,7 @@ def tracks_that_part():
 
 GROUPS = (
     ((*SERVICE, "python3-polyline"), [
-        *on_both_maps(
+        *on_all_maps(
             durations_are_those_of_the_program, routes_have_lines, steps_and_annotations, tables_have_rows_of_sources, nearest_roads,
             trips_visit_each_place_once, tracks_are_matched,
         ),

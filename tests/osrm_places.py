@@ -12,7 +12,7 @@ from helpers import running
 from helpers.asking_osrm import answer, distance_to, get, on_sphere, some_nodes, text_of, write_network
 from helpers.packages import run_checks
 from helpers.running import PROGRAM, ROOT
-from helpers.serving import SERVICE, here, on_both_maps, service
+from helpers.serving import SERVICE, here, on_all_maps, service
 
 sys.path.insert(0, str(ROOT / "python"))
 
@@ -137,6 +137,45 @@ def legs_lead_between_waypoints():
             assert abs(other["legs"][0]["duration"] - sum(leg["duration"] for leg in one["legs"][:2])) < 1e-6
 
 
+def tracks_have_legs_between_waypoints():
+    """The legs of a matched track between two waypoints are one, and only waypoints are numbered; a
+    waypoint that no road leads along is told."""
+    draw = random.Random("waypoints of tracks")
+    with service() as (_, address):
+        for seed in range(4):
+            ends = some_nodes(2, seed)[1]
+            words = {"overview": "full", "geometries": "geojson"}
+            line = answer(address, "route", ends, **words)["routes"][0]["geometry"]["coordinates"]
+            track = line[::max(len(line) // 30, 1)][:40]
+            track = [(x + draw.gauss(0, 1) / 75_700, y + draw.gauss(0, 1) / 111_195) for x, y in track]
+            words |= {"radiuses": ";".join(["8"] * len(track)), "annotations": "true"}
+            every = answer(address, "match", track, **words)
+            used = [place for place, point in enumerate(every["tracepoints"]) if point]
+            middle = used[len(used) // 2]
+            if used[0] or used[-1] != len(track) - 1 or len(every["matchings"]) > 1:
+                continue
+            some = answer(address, "match", track, **words, waypoints=f"0;{middle};{len(track) - 1}")
+            [one], [other] = every["matchings"], some["matchings"]
+            at = every["tracepoints"][middle]["waypoint_index"]
+            cuts = (0, at, len(one["legs"]))
+            assert len(other["legs"]) == 2 and other["duration"] == one["duration"]
+            for leg, first, last in zip(other["legs"], cuts, cuts[1:]):
+                parts = one["legs"][first:last]
+                assert abs(leg["duration"] - sum(part["duration"] for part in parts)) < 1e-6
+                for name in "duration", "distance", "speed":
+                    told = [each for part in parts for each in part["annotation"][name]]
+                    assert leg["annotation"][name] == told, name
+            told = [point and point["waypoint_index"] for point in some["tracepoints"]]
+            assert [(place, rank) for place, rank in enumerate(told) if rank is not None] == [
+                (0, 0), (middle, 1), (len(track) - 1, 2)
+            ], told
+            track[middle] = track[middle][0], track[middle][1] + 1
+            status, value = get(address, f"/match/v1/car/{text_of(track)}?waypoints=0;{middle};{len(track) - 1}")
+            assert (status, value["code"]) == (400, "NoMatch"), value
+            return
+        raise AssertionError("no track was matched whole")
+
+
 def places_at_the_curb():
     """A place is left, and come to, on the side of the road where it lies; one on the line on both, and one at a one-way road as the road leads."""
     comments = "c Roads for cars, by hand.\nc Weights are milliseconds.\n"
@@ -221,8 +260,9 @@ def short_roads_have_two_ends():
 GROUPS = (
     (SERVICE, [
         bearings_choose_the_way, places_at_the_curb, cells_without_a_way_are_filled, short_roads_have_two_ends,
-        *on_both_maps(
+        *on_all_maps(
             bearings_hold_where_turns_are_forbidden, routes_go_straight_on_at_stops, legs_lead_between_waypoints, nearest_roads_that_lead_in_a_direction,
+            tracks_have_legs_between_waypoints,
         ),
     ]),
 )

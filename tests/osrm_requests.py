@@ -25,7 +25,7 @@ from helpers.asking_osrm import ESCHEN, PLAIN, TENTH, VADUZ, answer, get, on_sph
 from helpers.maps import tool
 from helpers.packages import PYTHON, run_checks
 from helpers.running import PROGRAM, ROOT
-from helpers.serving import BROWSER, COUNTRY, SERVICE, on_both_maps, send, service, shown_page
+from helpers.serving import BROWSER, COUNTRY, SERVICE, on_all_maps, send, service, shown_page
 from helpers.waiting import PATIENCE
 
 # How many requests with drawn options are asked.
@@ -100,7 +100,7 @@ REFUSED = (
     *((f"/match/v1/car/{PLAIN}?{query}", code, told) for query, code, told in (
         ("timestamps=1", "InvalidOptions", "1 elements for 2"), ("timestamps=2;1", "InvalidOptions", "timestamps"), ("timestamps=1;x", "InvalidQuery", "timestamps"),
         ("timestamps=;", "InvalidQuery", "timestamps"), ("timestamps=1.5;2", "InvalidQuery", "timestamps"), ("gaps=join", "InvalidQuery", "gaps"),
-        ("tidy=1", "InvalidQuery", "tidy"), ("waypoints=0;1", "InvalidOptions", "waypoints: not supported"), ("approaches=curb;", "InvalidOptions", "approaches: not"),
+        ("tidy=1", "InvalidQuery", "tidy"), ("waypoints=0", "InvalidValue", "first and the last"), ("waypoints=0;1&steps=true", "InvalidOptions", "waypoints: not supported with"), ("approaches=curb;", "InvalidOptions", "approaches: not"),
         ("source=first", "InvalidQuery", "not an option of match"),
     )),
     ("/match/v1/car/9.5,47.1", "InvalidOptions", "two coordinates"), (f"/match/v1/car/{';'.join(['9.5,47.1'] * 501)}", "TooBig", "at most 500"),
@@ -396,7 +396,7 @@ def another_site():
 GROUPS = (
     ((*SERVICE, "python3-polyline"), [
         what_is_refused, places_without_a_way, clients_get_what_they_ask_for, names_of_profiles, classes_are_excluded, limits_are_options,
-        *on_both_maps(requests_are_posted, any_options_get_an_answer),
+        *on_all_maps(requests_are_posted, any_options_get_an_answer),
     ]),
     (BROWSER, [other_sites_and_the_page]),
 )

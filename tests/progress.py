@@ -43,10 +43,10 @@ TIMES_LEFT = [
 # The runs, and their stages. The nodes are a path, of which runs without routes contract all as a chain, so that none is left to be ranked.
 RUNS = [
     (["save", "--piece", "1", "nodes.gr"], ["reading", "ranking the nodes", "building"]),
-    (["dist", "--piece", "1", "nodes.gr", "queries.p2p"], ["reading", "building", "ranking the nodes", "answering"]),
+    (["dist", "--piece", "1", "nodes.gr", "queries.p2p"], ["reading", "building", "answering"]),
     (["dist", "--plain", "nodes.gr", "queries.p2p"], ["reading", "answering"]),
     (["dist", "--piece", "1", "--saved", "nodes.ch", "nodes.gr", "queries.p2p"], ["reading", "checking the saved hierarchy", "answering"]),
-    (["table", "--piece", "1", "nodes.gr", "list.ss", "list.ss"], ["reading", "building", "ranking the nodes", "searching", "answering"]),
+    (["table", "--piece", "1", "nodes.gr", "list.ss", "list.ss"], ["reading", "building", "searching", "answering"]),
 ]
 FILES = {
     "three.gr": "p sp 3 0\n",

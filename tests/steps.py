@@ -13,7 +13,7 @@ import pathlib
 import random
 
 # First of all, since it puts the package on the path.
-from helpers.maps import COUNTRY, osm, tool
+from helpers.maps import COUNTRY, osm, tool, town, town_at_a_cost
 
 from helpers import running
 from helpers.packages import run_checks
@@ -226,13 +226,16 @@ def restrictions_close_branches():
     ways = [([2, 1], "Long"), ([1, 4], "Straight"), ([1, 6], "Off")]
     ways = [(refs, {"highway": "residential" if name != "Straight" else "track", "name": name}) for refs, name in ways]
     turn = [("way", 1, "from"), ("node", 1, "via"), ("way", 2, "to")], {"type": "restriction", "restriction": "no_straight_on"}
-    with asked(osm(nodes, ways)) as (ask, _):
-        assert told(ask, WEST, (0.9, 0.45)) == ["turn slight left Off"]
-        assert steps_of(ask, [(-0.0009, 0), (0.0009, 0.00045)])[1]["intersections"][0]["entry"] == [True, True, False]
-    with asked(osm(nodes, ways, [turn]), turns=True) as (ask, _):
-        assert told(ask, WEST, (0.9, 0.45)) == ["new name slight left Off"]
-        found = steps_of(ask, [(-0.0009, 0), (0.0009, 0.00045)])[1]["intersections"][0]
-        assert found["entry"] == [True, False, False] and (found["in"], found["out"]) == (2, 0), found
+    for words in {}, {"turn-costs": True}:
+        with asked(osm(nodes, ways), **words) as (ask, _):
+            assert told(ask, WEST, (0.9, 0.45)) == ["turn slight left Off"]
+            found = steps_of(ask, [(-0.0009, 0), (0.0009, 0.00045)])[1]["intersections"][0]
+            assert found["entry"] == [True, True, False] and found["in"] == 2, found
+    for turns in "turns", "turn-costs":
+        with asked(osm(nodes, ways, [turn]), **{turns: True}) as (ask, _):
+            assert told(ask, WEST, (0.9, 0.45)) == ["new name slight left Off"]
+            found = steps_of(ask, [(-0.0009, 0), (0.0009, 0.00045)])[1]["intersections"][0]
+            assert found["entry"] == [True, False, False] and (found["in"], found["out"]) == (2, 0), found
 
 
 def steps_add_up():
@@ -289,6 +292,29 @@ def what_is_kept_changes_no_answer():
             assert answers_of(*groups, *groups) == alone + alone
         finally:
             passing.MOST_WAYS, drawing.MOST_TEXTS = most
+
+
+def lone_routes_are_those_found_together():
+    """A route between two places without a line is found in another way where it is asked for by
+    itself: its answer is the same, letter for letter, also at nodes, on one road, and without a
+    way."""
+    for out in COUNTRY, town(), town_at_a_cost():
+        draw, ways = random.Random("lone"), collections.Counter()
+        with chtab.Network.open(f"{out}.gr", program=PROGRAM) as network:
+            answers, known = answering.Answers(network), network.coordinates.known()
+            for _ in range(400):
+                one, other = ([
+                    part + draw.gauss(0, draw.choice((0, 0, 2e-6, 2e-4, 3e-3)))
+                    for part in network.coordinates.of(draw.choice(known))
+                ] for _ in range(2))
+                if draw.random() < 0.2:
+                    other = [part + draw.gauss(0, 1e-4) for part in one]
+                places = ";".join(f"{x:.6f},{y:.6f}" for x, y in (one, other))
+                question = answers.question(url.words_of(f"/route/v1/x/{places}?overview=false", 1 << 16))
+                [alone], together = answers.routes([question]), answers.routes([question, question])
+                assert [str(alone)] * 2 == list(map(str, together)), (out, places)
+                ways[str(alone)[:9]] += 1
+        assert ways['{"code": '] > 300, ways
 
 
 def check_leg(leg):
@@ -359,7 +385,10 @@ def random_maps_agree_with_the_other_teller():
         world = mapping.Map(text, "car")
         found = mapping.arcs(world)
         never = mapping.forbidden(world, found)
-        with asked(text, turns=True, **{"driving-side": side}) as (ask, network):
+        turns = draw.choice(["turns", "turn-costs"])
+        if turns == "turn-costs":
+            never |= mapping.turned_back(found, never)
+        with asked(text, **{turns: True, "driving-side": side}) as (ask, network):
             teller = telling.Teller(world, found, never, side)
             for _ in range(12):
                 kinds += compare(draw, ask, teller, (number, text))
@@ -443,7 +472,8 @@ def path_of(teller, start, end, nodes):
 GROUPS = (
     (("python3-numpy", "python3-scipy", "python3-shapely"), [
         turns_at_a_cross, where_roads_end_and_bend, slight_ways, fast_roads, exits_of_rings, names_that_change_beside_a_turn, restrictions_close_branches,
-        steps_add_up, what_is_kept_changes_no_answer, random_maps_agree_with_the_other_teller,
+        steps_add_up, what_is_kept_changes_no_answer, lone_routes_are_those_found_together,
+        random_maps_agree_with_the_other_teller,
     ]),
 )
 

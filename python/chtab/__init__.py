@@ -24,7 +24,7 @@ if typing.TYPE_CHECKING:
     from chtab.roads.routes import Routes
     from chtab.roads.snapping import Spots
 
-__version__ = "1.2"
+__version__ = "1.3"
 __all__ = [
     "ChtabError",
     "DataFault",

@@ -46,6 +46,7 @@ from chtab.roads.trips import Trips, limits_in
 if TYPE_CHECKING:
     import distributed
     import geopandas
+    import matplotlib.axes
     import networkx
     import pandas
     import scipy.sparse
@@ -157,7 +158,9 @@ class Network:
         self._opened, self._folder = opened, folder
         self._layers = layers_of(opened, known)
         self._measure, self._has_turns = self._layers.measure, self._layers.has_turns
-        self._engine = InProcess(opened.setting)
+        graph = (known or {}).get("graph")
+        arcs = None if graph is None else (graph.tails, graph.heads, graph.weights)
+        self._engine = InProcess(opened.setting, arcs)
         self._trips = Trips(self._engine, self._layers)
 
     # Networks of files, and of a caller's own arcs.
@@ -196,8 +199,8 @@ class Network:
             Whether limits and answers are the whole numbers of the graph, even if the folder was
             made with a unit.
         program : str or path, optional
-            The program chtab, which builds hierarchies; by default the one beside the package,
-            beside the running script, or on the path.
+            The program chtab, which builds by several workers and says how far it is; by default
+            the one beside the package, beside the running script, or on the path.
         workers : int
             How many threads build a hierarchy, and answer a large question, 1 to 64.
         timeout : float, optional
@@ -918,13 +921,54 @@ class Network:
         >>> flows = network.flows(trips["from"], trips["to"], trips["persons"])  # doctest: +SKIP
         """
         pairs = of_pairs.pairs_in(self._layers, origins, destinations)
-        demands = of_flows.demands_of(demand, len(pairs), scale)
-        return of_flows.flows_of_rows(self._engine, self._layers, pairs, demands, progress)
+        trips = of_flows.PairTrips(pairs, of_flows.demands_of(demand, (len(pairs),), scale))
+        return of_flows.flows_of_rows(self._engine, self._layers, trips, progress)
+
+    @timed
+    def flows_table(
+        self, demand: ArrayLike | pandas.DataFrame, origins: Nodes | None = None,
+        destinations: Nodes | None = None, *, scale: float | None = None, progress: Progress = None,
+    ) -> pandas.Series:
+        """Returns the flow on each road, as `flows` does, of each origin to each destination.
+
+        A pair takes about the time of a cell of `table`, which is far less than by `flows`.
+
+        Parameters
+        ----------
+        demand : DataFrame, array of int or float, shape (k, l), or number
+            How much goes from each origin to each destination, as `flows` takes it. The index of a
+            frame has the labels of the origins, and its columns those of the destinations.
+        origins, destinations : array of labels, shape (k,) and (l,), optional
+            The nodes, if the demand is no frame. They may repeat.
+        scale, progress : optional
+            As `flows` takes them.
+
+        Returns
+        -------
+        pandas.Series
+            As `flows` returns it, in the unit of the demand.
+
+        Raises
+        ------
+        DataFault
+            As `flows` raises it; `row` is that of the table.
+        ValueError, ProgramFault, TimedOut
+            The demand has another shape, or nodes are given twice or not at all; or as `distances`
+            raises them.
+
+        Examples
+        --------
+        >>> counts = trips.pivot_table("persons", "from", "to", "sum", 0)  # doctest: +SKIP
+        >>> flows = network.flows_table(counts)  # doctest: +SKIP
+        """
+        trips = of_flows.table_in(self._layers, demand, origins, destinations, scale)
+        return of_flows.flows_of_rows(self._engine, self._layers, trips, progress)
 
     @timed
     def assign(
-        self, origins: Nodes, destinations: Nodes, demand: ArrayLike = 1,
-        capacity: ArrayLike | None = None, *, alpha: ArrayLike = 0.15, beta: ArrayLike = 4.0,
+        self, origins: Nodes | None = None, destinations: Nodes | None = None,
+        demand: ArrayLike | pandas.DataFrame = 1, capacity: ArrayLike | None = None, *,
+        alpha: ArrayLike = 0.15, beta: ArrayLike = 4.0,
         times: Callable[[NDArray[numpy.float64]], ArrayLike] | None = None,
         tolls: ArrayLike | None = None, value_of_time: float | None = None,
         method: str = traffic.BI_CONJUGATE, gap: float = 1e-4, steps: int = 100,
@@ -941,7 +985,8 @@ class Network:
         origins, destinations : array of labels, shape (n,) each
             The nodes of the pairs.
         demand : array of int or float, shape (n,), or number
-            As `flows` takes it, for each pair.
+            As `flows` takes it, for each pair. A frame or an array of two dimensions is a table, as
+            `flows_table` takes it; then origins and destinations are those of the table.
         capacity, alpha, beta : number or array of float, shape (m,)
             For each row of the arcs, in the order of rows, or one number for all. Columns of pandas
             go by their index, as in `changed`. A capacity is above 0, in the unit of the demand.
@@ -989,9 +1034,8 @@ class Network:
         fixed = rows.fixed(tolls, value_of_time)
         curve: traffic.Bpr | traffic.Given
         curve = rows.bpr(capacity, alpha, beta) if times is None else rows.times(times)
-        pairs = of_pairs.pairs_in(self._layers, origins, destinations)
-        demands = of_flows.demands_of(demand, len(pairs), scale)
-        search = traffic.Search(method, curve, fixed, traffic.Trips(self, rows, pairs, demands))
+        trips = of_flows.trips_in(self._layers, origins, destinations, demand, scale)
+        search = traffic.Search(method, curve, fixed, traffic.Trips(self, rows, trips))
         return traffic.equilibrium_of(rows, search, gap, steps, progress)
 
     # Nearness.
@@ -1465,24 +1509,69 @@ class Network:
 
     # The network in frames.
 
-    def to_geodataframe(self) -> geopandas.GeoDataFrame:
-        """Returns the arcs as a GeoDataFrame.
+    def to_geodataframe(
+        self, flows: ArrayLike | pandas.Series | None = None, *, widest: float = 6.0,
+    ) -> geopandas.GeoDataFrame:
+        """Returns the arcs as a GeoDataFrame, with flows if there are some.
+
+        Parameters
+        ----------
+        flows : array of float, shape (m,), or Series, optional
+            A number from 0 on for each row of the arcs, as `flows` returns it. Columns of pandas go
+            by their index, as in `changed`.
+        widest : float
+            The width of the arc with the largest flow.
 
         Returns
         -------
         geopandas.GeoDataFrame
             A row for each arc between crossings, in their order: source, target, the row of the
             frame or columns that it was made of, its weight in the network's `unit`, the metres of
-            its road, and its line in degrees (EPSG:4326), None for a loop without bends.
+            its road, and its line in degrees (EPSG:4326), None for a loop without bends. With flows
+            also the flow and, in proportion, the width to draw it with.
 
         Raises
         ------
+        DataFault
+            There are more or fewer flows than rows, or one is below 0 or none.
         ImportError
             geopandas is not installed.
-        ChtabError
-            The network has no places of nodes.
+        ValueError, ChtabError
+            The widest is no number above 0; or the network has no places of nodes.
         """
-        return exporting.edges_of(self._layers, self._measure)
+        if flows is None:
+            return exporting.edges_of(self._layers, self._measure)
+        return exporting.edges_with_flows(self._layers, self._measure, flows, widest)
+
+    def plot(
+        self, flows: ArrayLike | pandas.Series, ax: matplotlib.axes.Axes | None = None, *,
+        widest: float = 6.0, **style: Any,
+    ) -> matplotlib.axes.Axes:
+        """Draws flows by matplotlib: each road as wide as its flow, and those without one thin.
+
+        Parameters
+        ----------
+        flows : array of float, shape (m,), or Series
+            As `to_geodataframe` takes them.
+        ax : matplotlib.axes.Axes, optional
+            The axes to draw in; by default those of a new figure.
+        widest : float
+            The width of the road with the largest flow, in points.
+        **style
+            Arguments of the collections of matplotlib, such as `cmap` or `alpha`.
+
+        Returns
+        -------
+        matplotlib.axes.Axes
+            The axes, in longitudes and latitudes, which are degrees.
+
+        Raises
+        ------
+        DataFault, ValueError, ChtabError, ImportError
+            As `to_geodataframe` raises them; or matplotlib is not installed.
+        """
+        frame = exporting.edges_with_flows(self._layers, self._measure, flows, widest)
+        return exporting.drawn_edges(frame, ax, style)
 
     def nodes_to_geodataframe(
         self, values: ArrayLike | pandas.Series | pandas.DataFrame | None = None,

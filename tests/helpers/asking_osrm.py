@@ -39,16 +39,21 @@ def answer(address, name, places, profile="car", **options):
 
 
 def some_nodes(count, seed):
-    """Nodes of the network that checks ask with their places, at which no other node lies."""
+    """Nodes of the network that checks ask with their places, at which no other node lies; where
+    turns cost time, none but its copies."""
     coordinates = files.read_coordinates(f"{here()}.co")
-    crowds = collections.Counter(map(coordinates.of, coordinates.known()))
-    nodes = random.Random(seed).sample([node for node in coordinates.known() if crowds[coordinates.of(node)] == 1], count)
+    copies = coordinates.copies() if serving.IS_AT_A_COST else {}
+    known = [node for node in coordinates.known() if node not in copies]
+    every = known if serving.IS_AT_A_COST else coordinates.known()
+    crowds = collections.Counter(map(coordinates.of, every))
+    nodes = random.Random(seed).sample([node for node in known if crowds[coordinates.of(node)] == 1], count)
     return nodes, [coordinates.of(node) for node in nodes]
 
 
 def distances(pairs):
-    """What `chtab dist` says of pairs of nodes, in seconds."""
-    files.write_queries("pairs.p2p", pairs)
+    """What `chtab dist` says of pairs of nodes, in seconds, to the nodes where trips to them end."""
+    ends = files.read_coordinates(f"{here()}.co").ends()
+    files.write_queries("pairs.p2p", [(tail, ends.get(head, head)) for tail, head in pairs])
     done = run(["dist", f"{here()}.gr", "pairs.p2p"], ".")
     words = [line.split()[-1] for line in done.out.decode().splitlines()]
     assert done.status == 0 and len(words) == len(pairs)

@@ -71,6 +71,19 @@ class Library:
         status = self.calls.chtab_open(ctypes.byref(handle), graph, ctypes.c_size_t(len(graph)), saved, ctypes.c_size_t(len(saved)), ctypes.byref(fault))
         return status, handle, fault
 
+    def open_arrays(self, nodes, tails, heads, weights, saved=b"", handle=None):
+        """The status, the handle and the fault. The arrays are lists, or arrays of C that are ready."""
+        handle, fault = handle or Handle(), Fault()
+        lists = (tails, ctypes.c_uint32), (heads, ctypes.c_uint32), (weights, ctypes.c_uint64)
+        arrays = [word for items, kind in lists for word in (items if isinstance(items, ctypes.Array) else numbers(items, kind), ctypes.c_size_t(len(items)))]
+        given = ctypes.byref(handle), ctypes.c_uint32(nodes), *arrays, saved, ctypes.c_size_t(len(saved)), ctypes.byref(fault)
+        return self.calls.chtab_open_arrays(*given), handle, fault
+
+    def open_quick(self, graph, handle=None):
+        """The status, the handle and the fault."""
+        handle, fault = handle or Handle(), Fault()
+        return self.calls.chtab_open_quick(ctypes.byref(handle), graph, ctypes.c_size_t(len(graph)), ctypes.byref(fault)), handle, fault
+
     def open_like(self, graph, other, fresh=5, handle=None):
         """The status, the handle and the fault."""
         handle, fault = handle or Handle(), Fault()
@@ -144,6 +157,11 @@ class Library:
         """The status, the number of pairs without a walk, and the flows."""
         lists = [(sources, ctypes.c_uint32), (targets, ctypes.c_uint32), (demands, ctypes.c_uint64)]
         return self.many(self.calls.chtab_flows, handle, lists, [(room, ctypes.c_uint64)])
+
+    def flows_table(self, handle, sources, targets, demands, room):
+        """The same of each source with each target."""
+        lists = [(sources, ctypes.c_uint32), (targets, ctypes.c_uint32), (demands, ctypes.c_uint64)]
+        return self.many(self.calls.chtab_flows_table, handle, lists, [(room, ctypes.c_uint64)])
 
     def near_sums(self, handle, sources, values, limits, room=None):
         """The status, the number of sources, and the sums."""

@@ -2,6 +2,7 @@
 import functools
 import os
 import pathlib
+import random
 import subprocess
 import sys
 import tempfile
@@ -21,15 +22,24 @@ FOLDER = tempfile.TemporaryDirectory()
 ROAD = {"highway": "residential"}
 # A thousandth of a degree is 111.195 m at the equator, which takes 13,343 ms at 30 km/h.
 BLOCK = 13_343
+# Values of the tag of a traffic light's direction; most lights have none that says something.
+LIGHTS = "forward", "backward", "both", ""
 
 
 @functools.cache
-def town():
-    """The start of the names of the files of the town that examples/town.py draws, with its restricted turns, bends and names. Made once."""
-    out = pathlib.Path(FOLDER.name) / "town"
-    subprocess.run([ROOT / "examples" / "town.py"], cwd=FOLDER.name, check=True)
-    tool("osm_to_gr", "--quiet", "--turns", "--bends", "--names", f"{out}.osm", out)
+def town(name="town", *words):
+    """The start of the names of the files of the town that examples/town.py draws, with its bends
+    and names, and by default with its restricted turns. Made once."""
+    out, drawn = pathlib.Path(FOLDER.name) / name, pathlib.Path(FOLDER.name) / "town.osm"
+    if not drawn.exists():
+        subprocess.run([ROOT / "examples" / "town.py"], cwd=FOLDER.name, check=True)
+    tool("osm_to_gr", "--quiet", "--bends", "--names", *(words or ["--turns"]), drawn, out)
     return out
+
+
+def town_at_a_cost():
+    """The same of the town where turns cost time."""
+    return town("costs", "--turn-costs", "--turning-back", "dead-ends")
 
 
 def osm(nodes, ways, relations=(), head=""):
@@ -127,6 +137,9 @@ def random_map(draw, most_relations=6):
     for number in draw.sample(range(1, 60), draw.randint(3, 12)):
         tags = {"barrier": draw.choice(barriers)} if draw.random() < 0.12 else {}
         tags |= {draw.choice(["access", "motorcar", "bicycle", "foot"]): draw.choice(words)} if draw.random() < 0.1 else {}
+        luck = random.Random(f"{number} {len(nodes)}")
+        if luck.random() < 0.2:
+            tags |= {"highway": "traffic_signals", "traffic_signals:direction": luck.choice(LIGHTS)}
         nodes[number] = (draw.randint(0, 6) + 180_000 * draw.random() * (draw.random() < 0.02), draw.randint(0, 6), tags)
     ways = []
     for _ in range(draw.randint(2, 10)):

@@ -11,7 +11,7 @@ import socket
 import subprocess
 import urllib.parse
 
-from helpers.maps import COUNTRY, town
+from helpers.maps import COUNTRY, town, town_at_a_cost
 from helpers.moods import STANDIN, mood
 from helpers.packages import PYTHON
 from helpers.running import PROGRAM, ROOT
@@ -30,13 +30,14 @@ class Keys:
     ARROW_LEFT, ARROW_UP, ARROW_RIGHT, ARROW_DOWN = "\ue012", "\ue013", "\ue014", "\ue015"
 
 
-# Whether services are those of the town.
-IS_IN_TOWN = False
+# Whether services are those of the town, and of the one where turns cost time.
+IS_IN_TOWN = IS_AT_A_COST = False
 
 
 def here():
-    """The start of the names of the files of the network that checks ask: those of the country, or of the town."""
-    return town() if IS_IN_TOWN else COUNTRY
+    """The start of the names of the files of the network that checks ask: those of the country, or
+    of the town."""
+    return town_at_a_cost() if IS_AT_A_COST else town() if IS_IN_TOWN else COUNTRY
 
 
 def words_of_library(out, program):
@@ -45,17 +46,17 @@ def words_of_library(out, program):
     return [] if saved is None else ["--saved", saved]
 
 
-def in_town(check):
+def in_town(check, at_a_cost=False):
     """A check with services of the town."""
     def there():
-        global IS_IN_TOWN
-        IS_IN_TOWN = True
+        global IS_IN_TOWN, IS_AT_A_COST
+        IS_IN_TOWN, IS_AT_A_COST = True, at_a_cost
         try:
             check()
         finally:
-            IS_IN_TOWN = False
+            IS_IN_TOWN = IS_AT_A_COST = False
 
-    there.__name__ = f"{check.__name__}_in_town"
+    there.__name__ = f"{check.__name__}_in_town{'_at_a_cost' * at_a_cost}"
     there.__doc__ = check.__doc__
     return there
 
@@ -63,6 +64,11 @@ def in_town(check):
 def on_both_maps(*checks):
     """These checks with services of the country, and with services of the town."""
     return [*checks, *(in_town(check) for check in checks)]
+
+
+def on_all_maps(*checks):
+    """The same, and with services of the town where turns cost time."""
+    return [*on_both_maps(*checks), *(in_town(check, True) for check in checks)]
 
 
 @contextlib.contextmanager

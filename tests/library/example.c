@@ -155,6 +155,20 @@ static void save(chtab *network, const uint8_t *saved, size_t saved_len) {
     free(text);
 }
 
+/* The graph alone answers the same. */
+static void open_quick(chtab *network, const uint8_t *graph, size_t graph_len) {
+    chtab quick = CHTAB_CLOSED_HANDLE;
+    chtab_fault fault = {9, 9, 9};
+    uint32_t source = 0, target = 1;
+    uint64_t one = 5, other = 7;
+    expect(chtab_open_quick(&quick, graph, 0, &fault) == CHTAB_BAD_GRAPH && fault.line == 1, "no graph alone");
+    expect(chtab_open_quick(&quick, graph, graph_len, &fault) == CHTAB_OK, "open a graph alone");
+    expect(chtab_open_quick(&quick, graph, graph_len, &fault) == CHTAB_IS_OPEN, "open a graph alone again");
+    expect(chtab_distances(network, &source, 1, &target, 1, &one, 1) == CHTAB_OK, "a distance by the saved hierarchy");
+    expect(chtab_distances(&quick, &source, 1, &target, 1, &other, 1) == CHTAB_OK && one == other, "the distance by the one that is built");
+    expect(chtab_close(&quick) == CHTAB_OK, "close what was opened alone");
+}
+
 /* The same graph in the order of its own network answers the same. */
 static void open_like(chtab *network, const uint8_t *graph, size_t graph_len) {
     chtab like = CHTAB_CLOSED_HANDLE, closed = CHTAB_CLOSED_HANDLE;
@@ -212,6 +226,7 @@ int main(int count, char **words) {
     expect(chtab_open(&network, graph, graph_len, saved, saved_len, &fault) == CHTAB_IS_OPEN, "open again");
     arcs = count_arcs(graph, graph_len);
     save(&network, saved, saved_len);
+    open_quick(&network, graph, graph_len);
     open_like(&network, graph, graph_len);
     free(graph);
     free(saved);

@@ -77,6 +77,49 @@ class Caller:
         self.expect(is_told == (status != 0) and bool(handle.is_open) == (status == 0), "what is told of changed files", status, fault.told())
         self.expect(self.library.close(handle) == (STATUS["OK"] if status == 0 else STATUS["CLOSED"]), "closed changed files", status)
 
+    def open_arrays(self):
+        """A network of the graph's arrays, some of them changed: the first fault is told, and without one the distances are those of the graph."""
+        handle, nodes = self.draw.choice(self.handles), self.draw.choice((self.count, self.count, self.count, 0, 2**25 + 1))
+        arrays = [[arc[0] - 1 for arc in self.arcs], [arc[1] - 1 for arc in self.arcs], [arc[2] for arc in self.arcs]]
+        change = self.draw.randrange(6)
+        if change < 3 and self.arcs:
+            arrays[change][self.draw.randrange(len(self.arcs))] = self.draw.choice((2**32 - 1, self.count)) if change < 2 else 2**64 - 1
+        elif change == 3:
+            arrays[self.draw.randrange(3)].append(0)
+        saved = self.draw.choice((b"", self.saved, changed(self.draw, self.saved)))
+        is_open, arcs = handle.is_open, list(zip(*arrays))
+        status, _, fault = self.library.open_arrays(nodes, *arrays, saved, handle)
+        faults = [(place, 6 if max(arc[:2]) >= nodes else 7) for place, arc in enumerate(arcs) if max(arc[:2]) >= nodes or nodes * arc[2] > 2**60]
+        if is_open:
+            owed = {"IS_OPEN"}, {(0, 0, 0)}
+        elif change == 3:
+            owed = {"LENGTHS"}, {(0, 0, 0)}
+        elif nodes > 2**25 or faults:
+            owed = {"BAD_GRAPH"}, {(0, 0, 8) if nodes > 2**25 else (0, *faults[0])}
+        elif saved in (b"", self.saved) and nodes == self.count:
+            owed = {"OK"}, {(0, 0, 0)}
+        else:
+            owed = {"OK", "BAD_SAVED", "WRONG_SAVED"}, {fault.told()}
+        is_owed = status in {STATUS[name] for name in owed[0]} and fault.told() in owed[1]
+        self.expect(is_owed, "opened arrays", nodes, arrays, saved, status, fault.told(), owed)
+        if status != STATUS["OK"]:
+            self.expect(bool(handle.is_open) == bool(is_open), "a handle that is not opened by arrays stays", status)
+            return
+        source, every = self.draw.randrange(nodes) if nodes else None, range(nodes)
+        if nodes == self.count and source is not None:
+            away = [self.word(source, target) for target in every]
+            self.expect(self.library.table(handle, [source], every) == (STATUS["OK"], away), "a table of arrays", source, arrays)
+        self.expect(self.library.close(handle) == STATUS["OK"], "closed what was opened of arrays")
+        self.kept.pop(id(handle), None)
+
+    def open_quick(self):
+        """A network of a graph alone, which is changed or not; nothing of it is kept."""
+        graph = changed(self.draw, self.graph) if self.draw.random() < 0.5 else self.graph
+        status, handle, fault = self.library.open_quick(graph)
+        self.expect(status == STATUS["OK"] or status == STATUS["BAD_GRAPH"] and graph != self.graph, "opened alone", graph, status)
+        self.expect((fault.told() != (0, 0, 0)) == (status != 0) and bool(handle.is_open) == (status == 0), "what is told of it", status, fault.told())
+        self.expect(self.library.close(handle) == (STATUS["OK"] if status == 0 else STATUS["CLOSED"]), "closed what was alone", status)
+
     def open_like(self):
         """A network in the order of a handle, of the graph with other arcs and weights, which answers for these; the handle goes on as it did."""
         handle, other = self.handles if self.draw.random() < 0.5 else self.handles[::-1]
@@ -317,25 +360,35 @@ class Caller:
 
     def ask_flows(self):
         """The flows are those on the lines of the routes, which `ask_routes` compares."""
-        handle, sources = self.draw.choice(self.handles), self.nodes()
+        sources = self.nodes()
         targets = [self.node() for _ in sources] if self.draw.random() < 0.9 else self.nodes()
-        demands = [self.draw.choice((0, 1, 9, 2**61, 2**62, 2**63)) for _ in range(len(sources) + (self.draw.random() < 0.1))]
+        self.see_flows(self.library.flows, sources, targets, sources, targets, len(targets) == len(sources))
+
+    def ask_flows_table(self):
+        """The same of each source with each target."""
+        sources, targets = self.nodes(), self.nodes()
+        self.see_flows(self.library.flows_table, sources, targets, [s for s in sources for _ in targets], targets * len(sources), True)
+
+    def see_flows(self, call, sources, targets, starts, ends, is_even):
+        """What a call gives of pairs with these starts and ends."""
+        handle = self.draw.choice(self.handles)
+        demands = [self.draw.choice((0, 1, 9, 2**61, 2**62, 2**63)) for _ in range(len(starts) + (self.draw.random() < 0.1))]
         room = len(self.arcs) + (self.draw.random() < 0.1)
-        told = self.library.flows(handle, sources, targets, demands, room)
+        told = call(handle, sources, targets, demands, room)
         wanted = "OK"
         if not handle.is_open:
             wanted = "CLOSED"
-        elif not len(targets) == len(demands) == len(sources) or room != len(self.arcs):
+        elif not is_even or len(demands) != len(starts) or room != len(self.arcs):
             wanted = "LENGTHS"
         elif not self.are_nodes(sources, targets):
             wanted = "NODE_RANGE"
         if wanted != "OK":
             self.expect(told == (STATUS[wanted], 7, [7] * room), "flows", sources, targets, demands, wanted, told)
             return
-        places = len(sources) * self.count
-        _, _, weights, ends, _, lines = self.library.routes(handle, sources, targets, places, lines_room=places)
+        places = len(starts) * self.count
+        _, _, weights, begins, _, lines = self.library.routes(handle, starts, ends, places, lines_room=places)
         flows = [0] * room
-        for demand, begin, end in zip(demands, [0, *ends], ends):
+        for demand, begin, end in zip(demands, [0, *begins], begins):
             for line in lines[begin + 1:end]:
                 flows[line] += demand
         if max(flows, default=0) > 2**63:
@@ -356,9 +409,9 @@ class Caller:
         calls = (
             self.open_changed, self.open_or_close, self.share, self.ask_nodes, self.ask_distances, self.ask_table, self.ask_route,
             self.keep_places, self.sweep, self.ask_near, self.save, self.ask_routes, self.ask_sums, self.open_like,
-            self.ask_route_sums, self.ask_flows,
+            self.ask_route_sums, self.ask_flows, self.ask_flows_table, self.open_arrays, self.open_quick,
         )
-        self.draw.choices(calls, (20, 5, 3, 2, 20, 15, 15, 10, 3, 20, 5, 20, 15, 10, 15, 15))[0]()
+        self.draw.choices(calls, (20, 5, 3, 2, 20, 15, 15, 10, 3, 20, 5, 20, 15, 10, 15, 15, 15, 10, 10))[0]()
 
 
 def memory():

@@ -61,8 +61,9 @@ static struct {
     uint64_t cells[64];
     uint64_t row_ends[8];
     uint32_t places[64];
-    /* The weights of the graph's arcs, and their number. */
+    /* The weights of the graph's arcs, their ends, their number, and that of nodes. */
     uint64_t *values;
+    uint32_t *tails, *heads, count;
     size_t arcs;
     /* What the weights of all routes, or all sums, add up to. */
     uint64_t whole;
@@ -72,6 +73,21 @@ static uint32_t open_network(void) {
     chtab_fault fault = {9, 9, 9};
     uint32_t status = chtab_open(&g.network, g.graph, g.graph_len, g.saved, g.saved_len, &fault), count;
     if (status) expect(!fault.line && !fault.place && !fault.kind && chtab_nodes(&g.network, &count) == CHTAB_CLOSED, "a handle stays closed");
+    return status;
+}
+
+/* The graph's arcs as arrays. The hierarchy that is built, or the saved one. */
+static uint32_t open_arrays(void) {
+    chtab_fault fault = {9, 9, 9};
+    uint32_t count, status = chtab_open_arrays(&g.network, g.count, g.tails, g.arcs, g.heads, g.arcs, g.values, g.arcs, g.saved, g.saved_len, &fault);
+    if (status) expect(!fault.line && !fault.place && !fault.kind && chtab_nodes(&g.network, &count) == CHTAB_CLOSED, "a handle stays closed");
+    return status;
+}
+
+static uint32_t open_quick(void) {
+    chtab_fault fault = {9, 9, 9};
+    uint32_t status = chtab_open_quick(&g.other, g.graph, g.graph_len, &fault), count;
+    if (status) expect(!fault.line && !fault.place && !fault.kind && chtab_nodes(&g.other, &count) == CHTAB_CLOSED, "a handle stays closed");
     return status;
 }
 
@@ -237,6 +253,20 @@ static uint32_t write_flows(void) {
     return status;
 }
 
+/* The same of a table with as many sources, and the ends of the pairs in one row each: other cells have no demand. */
+static uint32_t write_table_flows(void) {
+    uint64_t demands[64] = {0}, missed = 99, sum = 0;
+    uint32_t status;
+    size_t k;
+    for (k = 0; k < 8; k++) demands[9 * k] = 1;
+    memset(g.values, 7, g.arcs * sizeof *g.values);
+    status = chtab_flows_table(&g.network, g.ends, 8, g.targets, 8, demands, 64, &missed, g.values, g.arcs);
+    granted = -1;
+    for (k = 0; k < g.arcs; k++) sum += status == CHTAB_OK ? g.values[k] : g.values[k] == 0x0707070707070707u;
+    expect(status == CHTAB_OK ? missed <= 64 && sum == g.whole : missed == 99 && sum == g.arcs, "flows of a table, or none");
+    return status;
+}
+
 /* Where the row of a source is refused memory, the sums of those before it are written, and the next call gives the others. */
 static uint32_t write_sums(void) {
     static const uint64_t limit = CHTAB_NO_LIMIT - 1;
@@ -292,19 +322,28 @@ static uint8_t *bytes_of(const char *path, size_t *len) {
     return bytes;
 }
 
-/* The weights of the arcs of the graph's text. */
+/* The weights and the ends of the arcs of the graph's text, which has several bytes for each. */
 static void read_values(void) {
     const char *at = (const char *)g.graph, *end = at + g.graph_len;
     g.values = (uint64_t *)malloc((g.graph_len + 1) * sizeof *g.values);
-    if (!g.values) exit(2);
+    g.tails = (uint32_t *)malloc((g.graph_len + 1) * sizeof *g.tails);
+    g.heads = (uint32_t *)malloc((g.graph_len + 1) * sizeof *g.heads);
+    if (!g.values || !g.tails || !g.heads) exit(2);
+    g.arcs = 0;
     for (; at < end; at++) {
         char *rest;
         if (*at == 'a' && (at == (const char *)g.graph || at[-1] == '\n')) {
-            strtoul(at + 1, &rest, 10);
-            strtoul(rest, &rest, 10);
+            g.tails[g.arcs] = (uint32_t)strtoul(at + 1, &rest, 10) - 1;
+            g.heads[g.arcs] = (uint32_t)strtoul(rest, &rest, 10) - 1;
             g.values[g.arcs++] = strtoul(rest, &rest, 10);
         }
     }
+}
+
+static void free_values(void) {
+    free(g.values);
+    free(g.tails);
+    free(g.heads);
 }
 
 static void refuse_questions(void) {
@@ -335,7 +374,8 @@ static void refuse_questions(void) {
     g.whole = 0;
     for (k = 0; k < 8; k++) g.whole += arcs_between(g.ends[k], g.targets[k]);
     refuse_each(write_flows, NULL, "flows");
-    free(g.values);
+    refuse_each(write_table_flows, NULL, "flows of a table");
+    free_values();
     g.whole = 0;
     for (k = 0; k < 64; k++) {
         place = k % 8;
@@ -345,9 +385,18 @@ static void refuse_questions(void) {
     close_network();
 }
 
+static void refuse_arrays(void) {
+    expect(open_network() == CHTAB_OK && chtab_nodes(&g.network, &g.count) == CHTAB_OK, "open");
+    close_network();
+    read_values();
+    refuse_each(open_arrays, close_network, "open by arrays");
+    free_values();
+}
+
 static void refuse_likes(void) {
     expect(open_network() == CHTAB_OK, "open");
     refuse_each(open_like, close_other, "open in the order of another network");
+    refuse_each(open_quick, close_other, "open a graph alone");
     close_network();
 }
 
@@ -357,6 +406,7 @@ int main(int count, char **words) {
     g.saved = count == 3 ? bytes_of(words[2], &g.saved_len) : (uint8_t *)malloc(1);
     goes_on = count == 2;
     refuse_each(open_network, close_network, "open");
+    refuse_arrays();
     if (count == 3) {
         refuse_questions();
     } else {

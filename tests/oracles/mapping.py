@@ -2,6 +2,7 @@
 
 It takes small maps alone: it looks at each pair of segments, and searches from each node.
 """
+import collections
 import itertools
 import math
 import pathlib
@@ -32,6 +33,8 @@ class Map:
         self.nodes = {each.get("id"): each for each in there if each.tag == "node" and each.get("lon")}
         self.ways = [each for each in there if each.tag == "way"]
         self.relations = [each for each in there if each.tag == "relation"]
+        # The numbers of nodes at which pieces are cut besides crossings.
+        self.cuts = set()
 
     @staticmethod
     def tags(element):
@@ -140,7 +143,8 @@ def seconds(duration):
 
 
 def pieces(world, each_bend):
-    """The pieces of roads: (way, nodes, metres, speed along, speed against); nodes are (number, copy)."""
+    """The pieces of roads: (way, ends, all nodes, metres, speed along, speed against); ends are
+    (number, copy)."""
     lines = []
     for way in world.ways:
         tags = world.tags(way)
@@ -149,7 +153,7 @@ def pieces(world, each_bend):
         nodes = [number for number, _ in itertools.groupby(each.get("ref") for each in way.findall("nd"))]
         if len(nodes) > 1:
             lines.append((way.get("id"), tags, nodes))
-    met = [number for _, _, nodes in lines for number in nodes]
+    met = collections.Counter(number for _, _, nodes in lines for number in nodes)
     ends = {number for _, _, nodes in lines for number in (nodes[0], nodes[-1])}
     copies = itertools.count(1)
     for way, tags, nodes in lines:
@@ -165,17 +169,18 @@ def pieces(world, each_bend):
                 continue
             piece.append(number)
             is_last = at + 1 == len(nodes) or nodes[at + 1] not in world.nodes
-            is_cut = each_bend or number in ends or met.count(number) > 1 or world.is_blocked(number)
+            is_cut = each_bend or number in ends or met[number] > 1 or number in world.cuts
+            is_cut = is_cut or world.is_blocked(number)
             if len(piece) > 1 and (is_last or is_cut):
                 outer = [(end, next(copies) if world.is_blocked(end) else 0) for end in (piece[0], piece[-1])]
-                yield way, outer, sum(map(world.metres, piece, piece[1:])), *speeds
+                yield way, outer, piece, sum(map(world.metres, piece, piece[1:])), *speeds
                 piece = [number]
 
 
 def arcs(world, each_bend=False, in_metres=False):
     """The arcs (from, to, weight, way, piece, whether it leads along the way) in the order of the ways."""
     found = []
-    for piece, (way, (start, end), metres, along, against) in enumerate(pieces(world, each_bend)):
+    for piece, (way, (start, end), _, metres, along, against) in enumerate(pieces(world, each_bend)):
         for speed, ends, is_along in ((along, (start, end), True), (against, (end, start), False)):
             if speed:
                 weight = round(metres) if in_metres else round(metres * 3600 / float(speed))
@@ -249,14 +254,20 @@ def forbidden(world, found):
 
 def turned_back(found, never, everywhere=False):
     """The pairs of arcs by which one turns back where just two roads meet, or everywhere, and may go on by another one."""
-    ends = {arc[4]: arc[:2] for arc in found}
-    branches = [node for pair in ends.values() for node in pair]
-    pairs = set()
+    branches, leaving, pairs = branches_of(found), collections.defaultdict(list), set()
+    for b, arc in enumerate(found):
+        leaving[arc[0]].append(b)
     for a, (_, node, *_, piece, _) in enumerate(found):
-        outs = [b for b, arc in enumerate(found) if arc[0] == node and (a, b) not in never]
-        if (everywhere or branches.count(node) == 2) and any(found[b][4] != piece for b in outs):
+        outs = [b for b in leaving[node] if (a, b) not in never]
+        if (everywhere or branches[node] == 2) and any(found[b][4] != piece for b in outs):
             pairs |= {(a, b) for b in outs if found[b][4] == piece and a != b}
     return pairs
+
+
+def branches_of(found):
+    """How many ends of pieces meet at each node."""
+    ends = {arc[4]: arc[:2] for arc in found}
+    return collections.Counter(node for pair in ends.values() for node in pair)
 
 
 def trip(found, never, leaving, arriving):

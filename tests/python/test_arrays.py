@@ -140,7 +140,8 @@ def test_faults_of_the_program_leave_nothing():
     arcs = SOURCES, TARGETS, WEIGHTS
     with temporary() as left:
         for more in {}, {"folder": "own"}:
-            fails = {"program": "./fails", "library": make(), **more}
+            # With several workers the program builds.
+            fails = {"program": "./fails", "library": make(), "workers": 2, **more}
             assert raises(chtab.ProgramFault, lambda: chtab.Network.from_arrays(*arcs, **fails), told="out of memory").status == 3
             raises(chtab.ChtabError, lambda: chtab.Network.from_arrays(*arcs, program="./none", **more), told="can't be run")
             raises(TypeError, lambda: of_arrays(*arcs, wieght=1, **more), told="wieght")
@@ -339,7 +340,8 @@ def lines_that_run(arcs, kind):
     os.makedirs(f"{kind}{arcs}")
     sys.settrace(trace)
     try:
-        making.write(arc_columns.arcs_of(arc_columns.Columns(*columns, weights, scale=1000)), f"{kind}{arcs}", str(program.absolute()), opening.Running())
+        arcs_of = arc_columns.arcs_of(arc_columns.Columns(*columns, weights, scale=1000))
+        making.write(arcs_of, f"{kind}{arcs}", str(program.absolute()), None, opening.Running(workers=2))
     finally:
         sys.settrace(before)
     return count[0]

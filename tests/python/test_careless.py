@@ -426,7 +426,7 @@ def test_a_killed_process_leaves_no_building_behind():
         import chtab
         at = numpy.arange(160_000).reshape(400, 400)
         ends = [numpy.concatenate([at[:, :-1].ravel(), at[:-1].ravel()]), numpy.concatenate([at[:, 1:].ravel(), at[1:].ravel()])]
-        chtab.Network.from_arrays(*ends, numpy.ones(len(ends[0]), int), both_ways=True, program=sys.argv[2])
+        chtab.Network.from_arrays(*ends, numpy.ones(len(ends[0]), int), both_ways=True, program=sys.argv[2], workers=2)
     """
 
     def building():

@@ -147,7 +147,164 @@ def test_progress_of_flows(monkeypatch):
         assert network.flows([1], [3]).tolist() == [1, 1]
 
 
+# Tables.
+
+
+@pytest.mark.parametrize("workers, side, worth", [(1, 1 << 12, 1 << 20), (1, 3, 1 << 20), (3, 5, 8)])
+def test_flows_of_tables_are_sums_over_routes(monkeypatch, workers, side, worth):
+    """Of random networks with many ties, exactly, whole and by blocks of several threads; and those of pairs give the same."""
+    import numpy
+
+    monkeypatch.setattr(in_process, "SIDE", side)
+    monkeypatch.setattr(in_process, "WORTH", worth)
+    for seed in range(16):
+        draw = numpy.random.default_rng(seed)
+        count, size = int(draw.integers(2, 25)), int(draw.integers(1, 80))
+        shape = tuple(draw.integers(0, 9, 2).tolist())
+        tails, heads, weights = draw.integers(0, count, size), draw.integers(0, count, size), draw.integers(0, 4, size)
+        labels = numpy.array([f"node {number}" for number in range(count)])
+        origins, destinations = (labels[draw.integers(0, count, length)] for length in shape)
+        demands = draw.integers(0, [3, 2**47][seed % 2], shape)
+        pairs = numpy.column_stack([numpy.repeat(origins, shape[1]), numpy.tile(destinations, shape[0])])
+        made = chtab.Network.from_arrays(
+            labels[tails], labels[heads], weights, nodes=labels, both_ways=bool(seed % 3), program=PROGRAM, workers=workers)
+        with made as network:
+            owed, missed = routes_flows(network, pairs, demands.reshape(-1).tolist(), size)
+            found = network.flows_table(demands, origins, destinations)
+            assert found.tolist() == owed and found.dtype == numpy.int64 and found.index.tolist() == [*range(size)], seed
+            assert found.attrs == {"pairs without a route": missed}, seed
+            assert found.equals(network.flows(pairs[:, 0], pairs[:, 1], demands.reshape(-1)))
+            assert network.flows_table(1, origins, destinations).tolist() == routes_flows(network, pairs, [1] * len(pairs), size)[0]
+
+
+@needs("python3-scipy")
+def test_flows_of_tables_are_those_of_scipy():
+    """Where no two paths weigh the same, they are what its predecessors give."""
+    import numpy
+    import scipy.sparse
+
+    for seed in range(4):
+        draw = numpy.random.default_rng(seed)
+        count = 60
+        cells = draw.permutation(count * count)[:240]
+        tails, heads = cells // count, cells % count
+        weights = 2 ** (20 + draw.permutation(240) % 17) + draw.permutation(2**20)[:240]
+        graph = scipy.sparse.csr_array((weights, (tails, heads)), (count, count))
+        away, before = scipy.sparse.csgraph.dijkstra(graph, return_predecessors=True)
+        demands, owed = draw.integers(0, 2**40, (count, count)), {}
+        for source, target in numpy.ndindex(count, count):
+            node = target
+            while numpy.isfinite(away[source, target]) and source != node:
+                last = int(before[source, node])
+                owed[last, node] = owed.get((last, node), 0) + int(demands[source, target])
+                node = last
+        with chtab.Network.from_arrays(tails, heads, weights, nodes=range(count), program=PROGRAM) as network:
+            found = network.flows_table(demands, range(count), range(count))
+        assert found.tolist() == [owed.get(ends, 0) for ends in zip(tails.tolist(), heads.tolist())], seed
+        assert found.attrs == {"pairs without a route": int((~numpy.isfinite(away)).sum())}
+
+
+def test_tables_of_demands_as_frames():
+    """The index has the origins, the columns the destinations, of any order, and more than once."""
+    import numpy
+    import pandas
+
+    frame = pandas.DataFrame({"source": ["a", "b", "a"], "target": ["b", "c", "c"], "weight": [2, 2, 5]}, index=["north", "east", "long"])
+    with chtab.Network.from_frame(frame, program=PROGRAM) as network:
+        found = network.flows_table(pandas.DataFrame([[4, 1], [9, 2]], ["a", "c"], ["c", "b"]))
+        assert found.to_dict() == {"north": 5, "east": 4, "long": 0} and found.attrs == {"pairs without a route": 1}
+        twice = pandas.DataFrame([[4, 1], [1, 2]], ["a", "a"], ["c", "c"])
+        assert network.flows_table(twice).to_dict() == {"north": 8, "east": 8, "long": 0}
+        mixed = pandas.DataFrame({"c": [2**53, 0], "b": [0.5, 0.0]}, ["a", "b"])
+        raises(chtab.DataFault, network.flows_table, mixed, told="demand[0, 1]")
+        assert network.flows_table(mixed, scale=1).tolist() == [2.0**53, 2.0**53, 0.0]
+        half = network.flows_table(pandas.DataFrame([[0.25]], ["a"], ["b"]), scale=4)
+        assert half.to_dict() == {"north": 0.25, "east": 0.0, "long": 0.0}
+        nothing = network.flows_table(pandas.DataFrame([], [], []))
+        assert nothing.tolist() == [0, 0, 0] and nothing.attrs == {"pairs without a route": 0}
+        assert network.flows_table(numpy.zeros((2, 0)), ["a", "b"], []).tolist() == [0, 0, 0]
+
+
+def test_tables_of_demands_that_are_refused():
+    """What is no demand is named by its cell, nothing is guessed of other shapes, and no flow is told of a table that is refused."""
+    import numpy
+    import pandas
+
+    with chtab.Network.from_arrays([1, 2], [2, 3], [1, 1], program=PROGRAM) as network:
+        ends = [1, 2], [2, 3]
+        for demand, told in (
+            ([[1, 1], [numpy.nan, 1]], "demand[1, 0]"), ([[1, -1], [1, 1]], "demand[0, 1]: -1"), ([[1, 1], [1, 1.5]], "demand[1, 1]"),
+            ([[numpy.inf, 1], [1, 1]], "no demand"), ([[1, 1], [1, 2**53 + 1]], "too large"), ([["1", 1], [1, 1]], "demand[0, 0]"), ([[1, None], [1, 1]], "demand[0, 1]"),
+            (numpy.ma.array([[1, 1], [1, 1]], mask=[[0, 0], [1, 0]]), "demand[1, 0]"), (pandas.DataFrame([[1, None], [1, 1]], *ends, dtype="Int64"), "demand[0, 1]"),
+            (numpy.full((2, 2), "1"), "demand[0, 0]"), (numpy.full((2, 2), True), "demand[0, 0]"),
+        ):
+            raises(chtab.DataFault, network.flows_table, demand, *(() if hasattr(demand, "iloc") else ends), told=told)
+        for demand in [[1, 1]], [1, 1], [[1, 1], [1]], [[[1, 1], [1, 1]]], [[1, 1, 1], [1, 1, 1]], numpy.zeros((2, 3)), numpy.zeros(4), numpy.zeros((2, 2, 1)), []:
+            raises(ValueError, network.flows_table, demand, *ends)
+        frame = pandas.DataFrame([[1, 1], [1, 1]], *ends)
+        for words in (frame, *ends), (frame, ends[0]), (frame, None, ends[1]), ([[1, 1], [1, 1]],), (frame[2], *ends), (frame[2],), (numpy.ones((2, 2)), ends[0]):
+            raises(ValueError, network.flows_table, *words)
+        raises(ValueError, network.flows_table, frame.set_axis([1, 9]), told="9")
+        raises(ValueError, network.flows_table, frame.set_axis(["1", "2"], axis=1), told="destinations")
+        raises(ValueError, network.flows_table, frame.set_axis([1, numpy.nan]), told="origins")
+        whole = pandas.DataFrame(numpy.full((16, 64), 2**53), [1] * 16, [3] * 64)
+        raises(chtab.DataFault, network.flows_table, whole, told="2^63")
+        assert network.flows_table(whole.iloc[:15]).tolist() == [15 * 64 * 2**53] * 2
+
+
+def test_tables_of_places_are_refused():
+    """Spots are no nodes, of this network or of another."""
+    import numpy
+
+    with chtab.Network.from_arrays([1, 2], [2, 1], [1, 1], nodes=[1, 2], x=[0.0, 0.001], y=[0.0, 0.0], program=PROGRAM) as network:
+        spots = network.snap([0.0005], [0.0])
+        with chtab.Network.from_arrays([1], [2], [1], program=PROGRAM) as other:
+            for one in network, other:
+                raises(TypeError, one.flows_table, numpy.ones((1, 1)), spots, [1], told="Spots")
+                raises(TypeError, one.flows_table, numpy.ones((1, 1)), [1], spots, told="Spots")
+
+
+@needs("python3-geopandas", "python3-matplotlib")
+def test_flows_are_drawn_by_their_widths():
+    """Each edge has the flow of its row, and is as wide in proportion."""
+    import matplotlib
+    import numpy
+    import pandas
+
+    matplotlib.use("Agg")
+    frame = pandas.DataFrame({"source": [1, 2, 1], "target": [2, 3, 3], "weight": [2, 2, 5]}, index=["north", "east", "long"])
+    with chtab.Network.from_frame(frame, nodes=[1, 2, 3], x=[0.0, 0.001, 0.002], y=[0.0, 0.001, 0.0], program=PROGRAM) as network:
+        flows = network.flows([1, 1], [2, 3], [3, 1])
+        edges = network.to_geodataframe(flows[::-1])
+        by_row = edges.set_index("row").sort_index()
+        assert by_row["flow"].tolist() == [4.0, 1.0, 0.0] and numpy.allclose(by_row["width"], [6.0, 1.5, 0.0])
+        assert network.to_geodataframe(flows, widest=2)["width"].max() == 2 and "flow" not in network.to_geodataframe()
+        drawn = network.plot(flows, widest=8, cmap="magma").collections
+        assert len(drawn) == 2 and sorted(drawn[1].get_linewidths()) == [2.0, 8.0] and len(drawn[0].get_paths()) == 3
+        assert len(network.plot(flows * 0).collections) == 1
+        for wrong in flows[:2], flows - 5, flows.set_axis([1, 2, 3]), flows * numpy.nan:
+            raises(ValueError, network.to_geodataframe, wrong)
+        for widest in 0, -1, numpy.inf, True, "2":
+            raises(ValueError, partial(network.plot, widest=widest), flows, told="widest")
+
+
 # Equilibrium.
+
+
+def test_tables_have_the_same_equilibrium():
+    """The trips of a table are those of its pairs."""
+    import pandas
+
+    network, times = braess(BRAESS)
+    with network:
+        owed = network.assign(["s", "s"], ["t", "v"], [6.0, 1.0], times=times, gap=1e-6, scale=1000)
+        table = pandas.DataFrame([[1.0, 6.0]], ["s"], ["v", "t"])
+        for words in {"demand": table}, {"origins": ["s"], "destinations": ["v", "t"], "demand": table.to_numpy()}:
+            found = network.assign(**words, times=times, gap=1e-6, scale=1000)
+            assert found.flows.equals(owed.flows) and found.gaps == owed.gaps and found.missed == 0
+        raises(ValueError, partial(network.assign, demand=table, times=times), ["s"], ["t"])
+        raises(ValueError, partial(network.assign, times=times), ["s"])
+        raises(ValueError, partial(network.assign, times=times))
 
 
 def braess(rows):

@@ -163,12 +163,14 @@ def test_nodes_are_those_of_the_network():
 
 
 def test_a_hierarchy_is_built_where_none_is_saved():
-    """Its distances, cells and routes are those of the program, and its text is that of the order by depth."""
+    """Its distances, cells and routes are those of the program by its saved hierarchy, and its text is that of `save --quick`."""
     from chtab.engine import library
 
     ends = [(1 + 37 * place % 3154, 1 + 101 * place % 3154) for place in range(300)]
     files.write_queries("ends.p2p", ends)
-    text = subprocess.run([PROGRAM, "dist", "--routes", "--deep", GRAPH, "ends.p2p"], capture_output=True, check=True).stdout
+    quick = subprocess.run([PROGRAM, "save", "--quick", GRAPH], capture_output=True, check=True).stdout
+    pathlib.Path("quick.ch").write_bytes(quick)
+    text = subprocess.run([PROGRAM, "dist", "--routes", "--saved", "quick.ch", GRAPH, "ends.p2p"], capture_output=True, check=True).stdout
     wanted = [*files.read_routes(text.decode().splitlines())]
     with chtab.Network.open(GRAPH, program=PROGRAM) as network:
         assert network.distances(ends).tolist() == [-1 if each.weight is None else each.weight for each in wanted]
@@ -177,7 +179,7 @@ def test_a_hierarchy_is_built_where_none_is_saved():
         assert cells.diagonal().tolist() == network.distances(ends[:20]).tolist()
     built = library.Handle(library.loaded(make()))
     built.open(pathlib.Path(GRAPH).read_bytes())
-    assert built.save() == subprocess.run([PROGRAM, "save", "--deep", GRAPH], capture_output=True, check=True).stdout
+    assert built.save() == quick
 
 
 def test_faults_are_told_as_by_the_program():
@@ -200,6 +202,70 @@ def test_faults_are_told_as_by_the_program():
             assert (fault.status, fault.line, fault.kind) == (1, line, kind), (texts, vars(fault))
             assert place is None or fault.place == place, vars(fault)
             assert vars(pickle.loads(pickle.dumps(fault))) == vars(fault)
+
+
+def test_columns_that_are_no_graph_are_refused():
+    """Of a graph that is given as columns: what C would misread, and in the words of the program what is no graph, with the arc."""
+    import numpy
+
+    from chtab.engine import library
+
+    handle, saved = library.Handle(library.loaded(make())), FIRST_SAVED.read_bytes()
+    ends, weights = [numpy.array(column, numpy.uint32) for column in ([0, 1], [1, 2])], numpy.array([4, 5], numpy.uint64)
+    for given in (ends[0].astype(numpy.int32), ends[1], weights), (ends[0], ends[1].tolist(), weights), (*ends, weights.astype(numpy.float64)), (*ends, weights[::-1]):
+        raises(TypeError, handle.open_arrays, 3, *given, saved, told="the library takes a column")
+    raises(TypeError, handle.open_arrays, 3, *ends, weights, "text", told="files are bytes")
+    for nodes, given in (3, (ends[0][:1], ends[1], weights)), (3, (*ends, weights[:1])), (-1, (*ends, weights)), (2**32, (*ends, weights)), (3.0, (*ends, weights)):
+        raises(ValueError, handle.open_arrays, nodes, *given, saved, told="a number of nodes, and columns of one length")
+    for nodes, change, told, place, kind in (
+        (2, 0, "graph arc 1: node out of range", 1, "node out of range"), (3, 2**60, "graph arc 0: weight too large", 0, "weight too large"),
+        (2**25 + 1, 0, "graph arc 0: size too large", 0, "size too large"),
+    ):
+        fault = raises(chtab.ProgramFault, handle.open_arrays, nodes, *ends, weights + numpy.uint64(change), saved, told=told)
+        assert (fault.status, fault.place, fault.kind) == (1, place, kind), vars(fault)
+    for text, told in (b"", "saved line 1: no problem line"), (saved + b"x\n", "saved line"), (saved.replace(b"l 2 3 5", b"l 2 3 6"), "saved hierarchy refused: base"):
+        raises(chtab.ProgramFault, handle.open_arrays, 3, *ends, weights, text, told=told)
+    handle.open_arrays(3, *ends, weights, saved)
+    assert handle.nodes() == 3 and handle.save() == saved
+    assert handle.distances(*(numpy.array(column, numpy.uint32) for column in ([0, 2], [2, 0]))).tolist() == [9, -1]
+
+
+def test_networks_of_arcs_are_given_to_the_library_as_columns(monkeypatch):
+    """Their graph is written for others, and not read again; the answers are those of the files, also in a forked process and by lines of arcs."""
+    from chtab.engine import in_process
+
+    read, own = [], in_process.contents_of
+
+    def contents_of(path):
+        read.append(os.path.basename(path))
+        return own(path)
+
+    monkeypatch.setattr(in_process, "contents_of", contents_of)
+    ends = [40, 7, 40, 40, 9, 7], [7, 9, 9, 40, 7, 9]
+    words = {"both_ways": [True] + [False] * 5, "program": PROGRAM, "library": make()}
+    # Several workers are of the program, which saves what it builds.
+    with chtab.Network.from_arrays(*ends, [3, 0, 4, 1, 2, 5], workers=2, **words):
+        assert read == ["network.ch"]
+    read.clear()
+    with chtab.Network.from_arrays(*ends, [3, 0, 4, 1, 2, 5], folder="made", **words) as network:
+        assert read == []
+        pairs = [(one, other) for one in (7, 9, 40) for other in (7, 9, 40)]
+        with chtab.Network.open("made", program=PROGRAM, library=make()) as again:
+            assert sorted(read) == ["network.ch", "network.gr"]
+            assert network.distances(pairs).tolist() == again.distances(pairs).tolist() == [0, 0, 3, 2, 0, 5, 3, 3, 0]
+            assert [tuple(each) for each in network.routes(pairs)] == [tuple(each) for each in again.routes(pairs)]
+        shutil.copy("made/network.gr", "kept.gr")
+        pathlib.Path("made/network.gr").write_text("p sp 3 0\n")
+        child = os.fork()
+        if not child:
+            # The graph's file has changed, so a process that opens the network anew finds that out.
+            try:
+                network.distances(pairs)
+            except chtab.ChtabError:
+                os._exit(7)
+            os._exit(1)
+        assert os.waitstatus_to_exitcode(os.waitpid(child, 0)[1]) == 7
+        assert network.distances(pairs).tolist() == [0, 0, 3, 2, 0, 5, 3, 3, 0]
 
 
 def test_routes_of_another_graph_are_found_out():

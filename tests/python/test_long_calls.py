@@ -44,7 +44,7 @@ def test_a_file_that_cannot_be_written_is_named():
         signal.signal(signal.SIGXFSZ, signal.SIG_IGN)
         resource.setrlimit(resource.RLIMIT_FSIZE, (int(sys.argv[3]), int(sys.argv[3])))
         try:
-            chtab.Network.from_arrays(range(2_000), range(1, 2_001), [5] * 2_000, program=sys.argv[2], library=sys.argv[4])
+            chtab.Network.from_arrays(range(2_000), range(1, 2_001), [5] * 2_000, program=sys.argv[2], library=sys.argv[4], workers=2)
         except (OSError, chtab.ProgramFault) as fault:
             print(type(fault).__name__, fault)
     """
@@ -104,7 +104,7 @@ def test_a_signal_leaves_no_part_of_a_folder():
     slow.write_text(f"#!/bin/sh\nwhile [ \"$1\" = save ] && [ -e {slow.absolute()} ]; do sleep 0.2; done\nexec {PROGRAM} \"$@\"\n")
     slow.chmod(0o755)
     pathlib.Path("own").mkdir()
-    text = "import sys; sys.path.insert(0, sys.argv[1]); import chtab; chtab.Network.from_arrays([1], [2], [3], folder='own/made', program=sys.argv[2], library=sys.argv[3])"
+    text = "import sys; sys.path.insert(0, sys.argv[1]); import chtab; chtab.Network.from_arrays([1], [2], [3], folder='own/made', workers=2, program=sys.argv[2], library=sys.argv[3])"
     for number in signal.SIGTERM, signal.SIGKILL:
         with subprocess.Popen([PYTHON, "-c", text, ROOT / "python", slow.absolute(), make()]) as process:
             until(lambda: list(pathlib.Path("own").glob("made.part-*/network.ch")))

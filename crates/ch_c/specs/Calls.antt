@@ -1,7 +1,8 @@
 -- The results of the calls for C, and the state after them.
-use Rattle.std.specs.Prelude.{◌≡◌, ◌⊎◌, ℕ, zero, suc, IsSome, ◌+◌, ◌*◌, ◌<◌, ◌≤◌, List, length, take, slice_index, slice_index_or}
+use Rattle.std.specs.Prelude.{◌≡◌, ◌⊎◌, ℕ, zero, suc, IsSome, ◌+◌, ◌*◌, ◌<◌, ◌≤◌, List, [], length, take, slice_index, slice_index_or}
 use Rattle.std.specs.Prelude.{Option, Some, None}
 use Rattle.ch_graph.specs.declared.arc.InArc.{InArc}
+use Rattle.ch_graph.specs.declared.graph.GraphFault.{GraphFault}
 use Rattle.ch_hierarchy.specs.declared.fault.CheckFault.{CheckFault}
 use Rattle.ch_hierarchy.specs.Hierarchy.{LevelsAndLegs, nodes_of}
 use Rattle.ch_read.specs.declared.fault.FaultKind.{FaultKind}
@@ -10,7 +11,7 @@ use Rattle.ch_text.specs.SaveText.{IsHierarchyText}
 use Rattle.ch_engine.specs.declared.fault.OpenError.{OpenError}
 use Rattle.ch_engine.specs.declared.fault.Refusal.{Refusal}
 use Rattle.ch_engine.specs.declared.flows.Flowed.{Flowed}
-use Rattle.ch_engine.specs.Flows.{AreFlowsWritten}
+use Rattle.ch_engine.specs.Flows.{AreFlowsWritten, AreTableFlowsWritten}
 use Rattle.ch_near.specs.declared.direction.Direction.{Direction}
 use Rattle.ch_near.specs.declared.direction.Direction.TheVariants.{To, From}
 use Rattle.ch_engine.specs.declared.written.End.{End}
@@ -18,16 +19,16 @@ use Rattle.ch_engine.specs.declared.written.SumsEnd.{SumsEnd}
 use Rattle.ch_engine.specs.Held.{Held, only, with_places}
 use Rattle.ch_engine.specs.Lines.{IsOfSome, Lines}
 use Rattle.ch_engine.specs.NearRows.{AreRowsWritten, StaysFrom, begin_of}
-use Rattle.ch_engine.specs.Opened.{IsOpened, IsOpenedLike}
+use Rattle.ch_engine.specs.Opened.{IsOpened, IsOpenedLike, IsOpenedOfArrays, IsOpenedQuickly}
 use Rattle.ch_engine.specs.Routes.{AreRoutesWritten, IsFound}
 use Rattle.ch_engine.specs.RouteSums.{ArePairSumsWritten}
 use Rattle.ch_engine.specs.Sums.{AreSumsWritten}
 use Rattle.ch_engine.specs.Cells.{ArePairCells, AreTableCells, no_distance}
-use Rattle.ch_engine.specs.Refusals.{AreFlowLengths, IsRefusalOfFlows}
+use Rattle.ch_engine.specs.Refusals.{AreFlowLengths, AreFlowTableLengths, IsRefusalOfFlowTable, IsRefusalOfFlows}
 use Rattle.ch_engine.specs.Refusals.{AreNodes, ArePairs, ArePairSumLengths, ArePlaces, AreRouteLengths, AreRowSources}
 use Rattle.ch_engine.specs.Refusals.{AreSumSources, AreTableLists, IsLikeError, IsNodePair, IsOpenError, IsRefusalOfPairs}
 use Rattle.ch_engine.specs.Refusals.{IsRefusalOfPairSums, IsRefusalOfPlaces, IsRefusalOfRoute, IsRefusalOfRoutes, IsRefusalOfRows}
-use Rattle.ch_engine.specs.Refusals.{IsRefusalOfSums, IsRefusalOfSweep, IsRefusalOfTable}
+use Rattle.ch_engine.specs.Refusals.{IsRefusalOfSums, IsRefusalOfSweep, IsRefusalOfTable, IsArraysOpenError}
 use Rattle.ch_c.specs.declared.faults.Fault.{Fault}
 use Rattle.ch_c.specs.declared.answers.Found.{Found}
 use Rattle.ch_c.specs.declared.status.TheConstants.{OK, NO_MEMORY, CLOSED, IS_OPEN, NODE_RANGE, LENGTHS, TOO_LARGE, TOO_SHORT}
@@ -48,6 +49,8 @@ error_status OpenError.NoMemory = NO_MEMORY
 error_status (OpenError.BadGraph f) = BAD_GRAPH
 error_status (OpenError.BadSaved f) = BAD_SAVED
 error_status (OpenError.WrongSaved f) = WRONG_SAVED
+error_status OpenError.Lengths = LENGTHS
+error_status (OpenError.BadArrays f) = BAD_GRAPH
 error_status OpenError.OtherNodes = OTHER_NODES
 error_status OpenError.FreshRange = FRESH_RANGE
 
@@ -74,12 +77,20 @@ check_fault (CheckFault.Middle place) = record { line = 0; place = place; kind =
 check_fault (CheckFault.Arc place) = record { line = 0; place = place; kind = 16 }
 check_fault (CheckFault.Lower node) = record { line = 0; place = node; kind = 17 }
 
+-- the fault of a graph's arrays, as C sees it: the kind that a file with these arcs would have, and the place of the arc
+abbrev pub arrays_fault : GraphFault → Fault
+arrays_fault GraphFault.Size = record { line = 0; place = 0; kind = kind_number FaultKind.Size }
+arrays_fault (GraphFault.NodeRange place) = record { line = 0; place = place; kind = kind_number FaultKind.NodeRange }
+arrays_fault (GraphFault.Sum place) = record { line = 0; place = place; kind = kind_number FaultKind.Sum }
+
 -- the fault of an error of opening, as C sees it
 abbrev pub fault_of : OpenError → Fault
 fault_of OpenError.NoMemory = record { line = 0; place = 0; kind = 0 }
 fault_of (OpenError.BadGraph f) = record { line = f.line; place = 0; kind = kind_number f.kind }
 fault_of (OpenError.BadSaved f) = record { line = f.line; place = 0; kind = kind_number f.kind }
 fault_of (OpenError.WrongSaved f) = check_fault f
+fault_of OpenError.Lengths = record { line = 0; place = 0; kind = 0 }
+fault_of (OpenError.BadArrays f) = arrays_fault f
 fault_of OpenError.OtherNodes = record { line = 0; place = 0; kind = 0 }
 fault_of OpenError.FreshRange = record { line = 0; place = 0; kind = 0 }
 
@@ -146,6 +157,24 @@ IsOpening graph saved None after fault_before fault status =
     ((status ≡ OK) × ((H : LevelsAndLegs) × (lines : Lines) × (after ≡ Some (only H lines)) × IsOpened graph saved H lines)
     × (fault ≡ fault_before))
     ⊎ ((error : OpenError) × (status ≡ error_status error) × (after ≡ None) × (fault ≡ fault_of error) × IsOpenError graph saved error)
+
+-- the same, with the graph of n nodes and of the arcs of three arrays
+abbrev pub IsOpeningOfArrays : ℕ → List ℕ → List ℕ → List ℕ → List ℕ → Option Held → Option Held → Fault → Fault → ℕ → Type 0
+IsOpeningOfArrays n tails heads weights saved (Some held) after fault_before fault status = (status ≡ IS_OPEN) × (after ≡ Some held)
+    × (fault ≡ fault_before)
+IsOpeningOfArrays n tails heads weights saved None after fault_before fault status =
+    ((status ≡ OK) × ((H : LevelsAndLegs) × (lines : Lines) × (after ≡ Some (only H lines))
+    × IsOpenedOfArrays n tails heads weights saved H lines) × (fault ≡ fault_before))
+    ⊎ ((error : OpenError) × (status ≡ error_status error) × (after ≡ None) × (fault ≡ fault_of error)
+    × IsArraysOpenError n tails heads weights saved error)
+
+-- the same with a hierarchy in some order, of the bytes of a graph alone
+abbrev pub IsOpeningQuickly : List ℕ → Option Held → Option Held → Fault → Fault → ℕ → Type 0
+IsOpeningQuickly graph (Some held) after fault_before fault status = (status ≡ IS_OPEN) × (after ≡ Some held) × (fault ≡ fault_before)
+IsOpeningQuickly graph None after fault_before fault status =
+    ((status ≡ OK) × ((H : LevelsAndLegs) × (lines : Lines) × (after ≡ Some (only H lines)) × IsOpenedQuickly graph H lines)
+    × (fault ≡ fault_before))
+    ⊎ ((error : OpenError) × (status ≡ error_status error) × (after ≡ None) × (fault ≡ fault_of error) × IsOpenError graph [] error)
 
 -- an open handle stays, and so does a closed one if the other handle is closed. Otherwise it opens with a hierarchy that is
 -- right for the graph, in the order of the other handle's hierarchy, or stays closed with an error that is true of the bytes
@@ -309,3 +338,13 @@ AreFlowsAnswered held sources targets demands before after status =
     × AreFlowsWritten held sources targets demands before.flows after.flows flowed × IsMissedTold flowed before.missed after.missed)
     ⊎ ((refusal : Refusal) × (status ≡ refusal_status refusal) × (after ≡ before)
     × IsRefusalOfFlows (nodes_of held.hierarchy) held.lines.count sources targets (length demands) (length before.flows) refusal)
+
+-- the same of the cells of a table
+abbrev pub AreTableFlowsAnswered : Held → List ℕ → List ℕ → List ℕ → FlowArrays → FlowArrays → ℕ → Type 0
+AreTableFlowsAnswered held sources targets demands before after status =
+    ((flowed : Flowed) × (status ≡ flowed_status flowed)
+    × AreFlowTableLengths (length sources) (length targets) (length demands) (length before.flows) held.lines.count
+    × (AreNodes (nodes_of held.hierarchy) sources × AreNodes (nodes_of held.hierarchy) targets)
+    × AreTableFlowsWritten held sources targets demands before.flows after.flows flowed × IsMissedTold flowed before.missed after.missed)
+    ⊎ ((refusal : Refusal) × (status ≡ refusal_status refusal) × (after ≡ before)
+    × IsRefusalOfFlowTable (nodes_of held.hierarchy) held.lines.count sources targets (length demands) (length before.flows) refusal)

@@ -1,11 +1,11 @@
 //! The answers of an engine, as C sees them.
-ghost use Rattle.std.specs.Prelude.{◌≡◌, ◌+◌, ◌<◌, length, IfErr, IfOk, Option, None, Some};
+ghost use Rattle.std.specs.Prelude.{◌≡◌, ◌+◌, ◌<◌, [], length, IfErr, IfOk, Option, None, Some};
 ghost use Rattle.ch_engine.specs.Held.{only};
 ghost use Rattle.ch_engine.specs.NearRows.{StaysFrom};
 ghost use Rattle.ch_hierarchy.specs.Hierarchy.{nodes_of};
-ghost use Rattle.ch_engine.specs.Opened.{IsOpened, IsOpenedLike};
-ghost use Rattle.ch_engine.specs.Refusals.{IsLikeError, IsOpenError};
-ghost use Rattle.ch_c.specs.Calls.{AreFlowsAnswered, ArePairsAnswered, ArePairSumsAnswered, AreRouteNodes, AreRoutesAnswered, IsRouteAnswered, IsRouteTold, IsSaved, IsTableAnswered};
+ghost use Rattle.ch_engine.specs.Opened.{IsOpened, IsOpenedLike, IsOpenedOfArrays, IsOpenedQuickly};
+ghost use Rattle.ch_engine.specs.Refusals.{IsArraysOpenError, IsLikeError, IsOpenError};
+ghost use Rattle.ch_c.specs.Calls.{AreFlowsAnswered, AreTableFlowsAnswered, ArePairsAnswered, ArePairSumsAnswered, AreRouteNodes, AreRoutesAnswered, IsRouteAnswered, IsRouteTold, IsSaved, IsTableAnswered};
 
 use crate::near::{status_of_end, status_of_sums};
 use crate::status::{NO_MEMORY, OK, SUM_TOO_LARGE, TOO_SHORT, status_of};
@@ -37,6 +37,43 @@ pub(crate) fn opened(
     ensures error { IfErr result (IsOpenError graph.now saved.now) }
 {
     let engine = Engine::open(alloc, graph, saved)?;
+    match Box::new(alloc, engine) {
+        Ok(engine) => Ok(engine),
+        Err(_) => Err(OpenError::NoMemory),
+    }
+}
+
+/// Opens an engine on the heap, from the arrays of a graph and the bytes of its saved hierarchy.
+///
+/// # Errors
+/// The errors of [`Engine::open_arrays`].
+pub(crate) fn opened_of_arrays(
+    alloc: Global,
+    nodes: u32,
+    tails: &[u32],
+    heads: &[u32],
+    weights: &[u64],
+    saved: &[u8],
+) -> Result<Box<Engine, Global>, OpenError>
+    ensures value { IfOk result (λ engine. (engine.value.near ≡ None) × IsOpenedOfArrays nodes tails.now heads.now weights.now saved.now engine.value.hierarchy engine.value.lines) }
+    ensures error { IfErr result (IsArraysOpenError nodes tails.now heads.now weights.now saved.now) }
+{
+    let engine = Engine::open_arrays(alloc, nodes, tails, heads, weights, saved)?;
+    match Box::new(alloc, engine) {
+        Ok(engine) => Ok(engine),
+        Err(_) => Err(OpenError::NoMemory),
+    }
+}
+
+/// Opens an engine on the heap, from the bytes of a graph alone, in an order that takes little time to find.
+///
+/// # Errors
+/// The errors of [`Engine::open_quickly`].
+pub(crate) fn opened_quickly(alloc: Global, graph: &[u8]) -> Result<Box<Engine, Global>, OpenError>
+    ensures value { IfOk result (λ engine. (engine.value.near ≡ None) × IsOpenedQuickly graph.now engine.value.hierarchy engine.value.lines) }
+    ensures error { IfErr result (IsOpenError graph.now []) }
+{
+    let engine = Engine::open_quickly(alloc, graph)?;
     match Box::new(alloc, engine) {
         Ok(engine) => Ok(engine),
         Err(_) => Err(OpenError::NoMemory),
@@ -220,6 +257,30 @@ pub(crate) fn write_flows(
     ensures same { engine.new ≡ engine.old }
 {
     match engine.flows(alloc, sources, targets, demands, flows) {
+        Ok(Flowed::All(count)) => {
+            *missed = count;
+            OK
+        }
+        Ok(Flowed::TooLarge) => SUM_TOO_LARGE,
+        Ok(Flowed::NoMemory) => NO_MEMORY,
+        Err(refusal) => status_of(refusal),
+    }
+}
+
+/// Writes the flows of the cells of a table on all lines, and the number of cells without a walk, or nothing. Returns a status.
+pub(crate) fn write_table_flows(
+    alloc: Global,
+    engine: &mut Engine,
+    sources: &[u32],
+    targets: &[u32],
+    demands: &[u64],
+    missed: &mut u64,
+    flows: &mut [u64],
+) -> u32
+    ensures answered { AreTableFlowsAnswered engine.old sources.now targets.now demands.now (record { missed = missed.old; flows = flows.old }) (record { missed = missed.new; flows = flows.new }) result }
+    ensures same { engine.new ≡ engine.old }
+{
+    match engine.flows_table(alloc, sources, targets, demands, flows) {
         Ok(Flowed::All(count)) => {
             *missed = count;
             OK

@@ -1,9 +1,12 @@
 //! The fault of a refused file, as C sees it.
 ghost use Rattle.std.specs.Prelude.{◌≡◌};
-ghost use Rattle.ch_c.specs.Calls.{error_status, fault_of as the_fault, check_fault, kind_number as the_number};
+ghost use Rattle.ch_c.specs.Calls.{arrays_fault, error_status, fault_of as the_fault, check_fault, kind_number as the_number};
 
-use crate::status::{BAD_GRAPH, BAD_SAVED, FRESH_RANGE, NO_MEMORY, OTHER_NODES, WRONG_SAVED};
+use crate::status::{
+    BAD_GRAPH, BAD_SAVED, FRESH_RANGE, LENGTHS, NO_MEMORY, OTHER_NODES, WRONG_SAVED,
+};
 use ch_engine::OpenError;
+use ch_graph::GraphFault;
 use ch_hierarchy::CheckFault;
 use ch_read::{FaultKind, ReadFault};
 
@@ -37,6 +40,8 @@ fn status_of_error(error: &OpenError) -> u32
         OpenError::BadGraph(_) => BAD_GRAPH,
         OpenError::BadSaved(_) => BAD_SAVED,
         OpenError::WrongSaved(_) => WRONG_SAVED,
+        OpenError::Lengths => LENGTHS,
+        OpenError::BadArrays(_) => BAD_GRAPH,
         OpenError::OtherNodes => OTHER_NODES,
         OpenError::FreshRange => FRESH_RANGE,
     }
@@ -47,10 +52,12 @@ fn fault_of(error: OpenError) -> Fault
     ensures { result ≡ the_fault error }
 {
     match error {
-        OpenError::NoMemory | OpenError::OtherNodes | OpenError::FreshRange => at(0, 0, 0),
+        OpenError::NoMemory | OpenError::Lengths => at(0, 0, 0),
+        OpenError::OtherNodes | OpenError::FreshRange => at(0, 0, 0),
         OpenError::BadGraph(fault) => fault_of_read(fault),
         OpenError::BadSaved(fault) => fault_of_read(fault),
         OpenError::WrongSaved(fault) => fault_of_check(fault),
+        OpenError::BadArrays(fault) => fault_of_arrays(fault),
     }
 }
 
@@ -64,6 +71,17 @@ fn fault_of_read(fault: ReadFault) -> Fault
     ensures { result ≡ record { line = fault.line; place = 0; kind = the_number fault.kind } }
 {
     at(kind_number(fault.kind), fault.line, 0)
+}
+
+/// Returns the fault of arrays, with the kind that a file with these arcs would have.
+fn fault_of_arrays(fault: GraphFault) -> Fault
+    ensures { result ≡ arrays_fault fault }
+{
+    match fault {
+        GraphFault::Size => at(kind_number(FaultKind::Size), 0, 0),
+        GraphFault::NodeRange(place) => at(kind_number(FaultKind::NodeRange), 0, place as u64),
+        GraphFault::Sum(place) => at(kind_number(FaultKind::Sum), 0, place as u64),
+    }
 }
 
 fn kind_number(kind: FaultKind) -> u32

@@ -2,13 +2,13 @@
 ghost use Rattle.std.specs.Prelude.{◌≡◌, ◌↔◌, IfSome, IsSome, MatchOption, None, Some, ⊤};
 ghost use Rattle.ch_hierarchy.specs.Hierarchy.{nodes_of};
 ghost use Rattle.ch_engine.specs.Lines.{IsOfSome};
-ghost use Rattle.ch_c.specs.Calls.{AreFlowsAnswered, ArePairsAnswered, ArePairSumsAnswered, ArePlacesKept, AreRoutesAnswered, AreRowsAnswered, AreSumsAnswered, IsOpening, IsOpeningLike, IsRouteAnswered, IsSaved, IsSharing, IsSwept, IsTableAnswered, OfNetwork};
+ghost use Rattle.ch_c.specs.Calls.{AreFlowsAnswered, ArePairsAnswered, ArePairSumsAnswered, ArePlacesKept, AreRoutesAnswered, AreRowsAnswered, AreSumsAnswered, AreTableFlowsAnswered, IsOpening, IsOpeningLike, IsOpeningOfArrays, IsOpeningQuickly, IsRouteAnswered, IsSaved, IsSharing, IsSwept, IsTableAnswered, OfNetwork};
 ghost use Rattle.ch_c.specs.declared.status.TheConstants.{OK};
 
 pub use crate::answers::Found;
 use crate::answers::{
-    opened, opened_like, shared, write_distances, write_flows, write_route, write_route_sums,
-    write_routes, write_saved, write_table,
+    opened, opened_like, opened_of_arrays, opened_quickly, shared, write_distances, write_flows,
+    write_route, write_route_sums, write_routes, write_saved, write_table, write_table_flows,
 };
 use crate::erased::ErasedEngine;
 use crate::faults::{Fault, tell};
@@ -20,7 +20,7 @@ use std::alloc::Global;
 use std::mem;
 
 /// The version: millions for the first number of `VERSION`, thousands for the second.
-const VERSION: u32 = 1_002_000;
+const VERSION: u32 = 1_003_000;
 
 /// The handle of an engine that C holds: 16 bytes, which are all 0 if it is closed.
 #[repr(C)]
@@ -72,7 +72,7 @@ impl Handle {
 /// Returns the version of the library.
 #[unsafe(no_mangle)]
 pub extern "C" fn chtab_version() -> u32
-    ensures { result ≡ 1002000 }
+    ensures { result ≡ 1003000 }
 {
     VERSION
 }
@@ -93,6 +93,57 @@ pub extern "C" fn chtab_open(
         return IS_OPEN;
     }
     match opened(alloc, graph, saved) {
+        Ok(engine) => {
+            handle.put(engine);
+            OK
+        }
+        Err(error) => tell(error, fault),
+    }
+}
+
+/// Opens a closed handle with the graph of `nodes` nodes where arc k leads from `tails[k]` to `heads[k]` and weighs
+/// `weights[k]`. If `saved` is empty, the hierarchy is built as by [`chtab_open_quick`].
+#[unsafe(no_mangle)]
+pub extern "C" fn chtab_open_arrays(
+    alloc: Global,
+    handle: &mut Handle,
+    nodes: u32,
+    tails: &[u32],
+    heads: &[u32],
+    weights: &[u64],
+    saved: &[u8],
+    fault: &mut Fault,
+) -> u32
+    ensures { IsOpeningOfArrays nodes tails.now heads.now weights.now saved.now handle.old.engine.network handle.new.engine.network fault.old fault.new result }
+{
+    let is_open = handle.is_open == 1;
+    if is_open {
+        return IS_OPEN;
+    }
+    match opened_of_arrays(alloc, nodes, tails, heads, weights, saved) {
+        Ok(engine) => {
+            handle.put(engine);
+            OK
+        }
+        Err(error) => tell(error, fault),
+    }
+}
+
+/// Opens a closed handle with a graph alone. The hierarchy is built in an order that takes little time to find.
+#[unsafe(no_mangle)]
+pub extern "C" fn chtab_open_quick(
+    alloc: Global,
+    handle: &mut Handle,
+    graph: &[u8],
+    fault: &mut Fault,
+) -> u32
+    ensures { IsOpeningQuickly graph.now handle.old.engine.network handle.new.engine.network fault.old fault.new result }
+{
+    let is_open = handle.is_open == 1;
+    if is_open {
+        return IS_OPEN;
+    }
+    match opened_quickly(alloc, graph) {
         Ok(engine) => {
             handle.put(engine);
             OK
@@ -353,6 +404,29 @@ pub extern "C" fn chtab_flows(
         return CLOSED;
     };
     let status = write_flows(alloc, &mut engine, sources, targets, demands, missed, flows);
+    handle.put(engine);
+    status
+}
+
+/// Writes the flows of the cells of a table: the number of cells without a walk, and for each line of the graph the sum of the
+/// demands of the cells whose routes take the arc on it.
+#[unsafe(no_mangle)]
+pub extern "C" fn chtab_flows_table(
+    alloc: Global,
+    handle: &mut Handle,
+    sources: &[u32],
+    targets: &[u32],
+    demands: &[u64],
+    missed: &mut u64,
+    flows: &mut [u64],
+) -> u32
+    ensures answered { OfNetwork handle.old.engine.network result ((missed.new ≡ missed.old) × (flows.new ≡ flows.old)) (λ held. AreTableFlowsAnswered held sources.now targets.now demands.now (record { missed = missed.old; flows = flows.old }) (record { missed = missed.new; flows = flows.new }) result) }
+    ensures same { handle.new.engine.network ≡ handle.old.engine.network }
+{
+    let Some(mut engine) = handle.take(alloc) else {
+        return CLOSED;
+    };
+    let status = write_table_flows(alloc, &mut engine, sources, targets, demands, missed, flows);
     handle.put(engine);
     status
 }

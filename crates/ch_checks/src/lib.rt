@@ -4,8 +4,9 @@
 //! - After a refusal of memory, the values that were lent are usable.
 //! - Pieces pass the gate as often as they should, and workers do pieces at the same time.
 //!
-//! The crate has only tests, so the crates below are proved once. It stands on ch_contract, ch_graph, ch_hierarchy,
-//! ch_lists, ch_near, ch_order, ch_query, ch_queue, ch_read, ch_table, ch_text and ch_work.
+//! The crate has only tests, so the crates below are proved once. It stands on ch_contract, ch_custom, ch_dissect,
+//! ch_graph, ch_hierarchy, ch_lists, ch_near, ch_order, ch_query, ch_queue, ch_read, ch_table, ch_text, ch_tree and
+//! ch_work.
 #![tactic(auto)]
 
 #[cfg(test)]
@@ -14,6 +15,10 @@ mod again;
 mod contract;
 #[cfg(test)]
 mod crew;
+#[cfg(test)]
+mod custom;
+#[cfg(test)]
+mod dissect;
 #[cfg(test)]
 mod examples;
 #[cfg(test)]

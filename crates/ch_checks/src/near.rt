@@ -28,11 +28,12 @@ fn expect_searched<R: Threads + Abort + Sync>(
 {
     let plan = Plan::new(workers, 1, 1);
     let crew = crew(rt, alloc, &plan, &Open);
-    let mut near = NearTargets::search(&crew, ring, Direction::To, &[3, 4, 3], None, Some(2))?;
-    let found = near.rows_within(&crew, &[3, 4], None)?;
-    assert!(rt; found.len() == 2);
-    assert_eq!(rt; found[0].as_slice(), [(0, 0), (0, 2)].as_slice());
-    assert_eq!(rt; found[1].as_slice(), [(0, 1), (4, 0)].as_slice());
+    let near = NearTargets::search(&crew, ring, Direction::To, &[3, 4, 3], None, Some(2))?;
+    let mut room = near.room(alloc)?;
+    near.make_row(alloc, &mut room, 3, None)?;
+    assert_eq!(rt; room.row(), [(0, 0), (0, 2)].as_slice());
+    near.make_row(alloc, &mut room, 4, None)?;
+    assert_eq!(rt; room.row(), [(0, 1), (4, 0)].as_slice());
     Ok(())
 }
 

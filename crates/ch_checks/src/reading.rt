@@ -1,4 +1,5 @@
 //! Readers of files.
+mod refusals;
 mod requests;
 mod sections;
 

@@ -71,6 +71,50 @@ fn filled(alloc: Global, ring: &Hierarchy) -> Result<(usize, usize), AllocError>
     Ok((up.at(3).len(), down.at(4).len()))
 }
 
+/// Expects the buckets of three targets on the ring, of which the first two are the same node. Only the targets and the
+/// last node are reached by going down.
+fn expect_buckets<R: Abort>(rt: &R, alloc: Global, ring: &Hierarchy) -> Result<(), AllocError>
+    requires kept { IsKeptForSome ring.now }
+    requires nodes { nodes_of ring.now ≡ 5 }
+{
+    let buckets = Buckets::fill(alloc, ring, &[3, 3, 4], None)?;
+    assert_eq!(rt; buckets.at(3), [(0, 0), (1, 0)].as_slice());
+    assert_eq!(rt; buckets.at(4), [(0, 4), (1, 4), (2, 0)].as_slice());
+    for node in 0..3 {
+        assert!(rt; buckets.at(node).is_empty());
+    }
+    Ok(())
+}
+
+/// Expects the buckets of both sides of a line of three nodes: those of the sources that reach a node by going up, and
+/// of the targets that it reaches by going down.
+fn expect_both<R: Abort>(rt: &R, alloc: Global, line: &Hierarchy) -> Result<(), AllocError>
+    requires kept { IsKeptForSome line.now }
+    requires nodes { nodes_of line.now ≡ 3 }
+{
+    let up = Buckets::fill_up(alloc, line, &[0, 0, 2], None)?;
+    let down = Buckets::fill(alloc, line, &[2, 1], None)?;
+    assert_eq!(rt; up.at(0), [(0, 0), (1, 0)].as_slice());
+    assert!(rt; down.at(0).is_empty());
+    assert_eq!(rt; up.at(1), [(0, 4), (1, 4)].as_slice());
+    assert_eq!(rt; down.at(1), [(1, 0)].as_slice());
+    assert_eq!(rt; up.at(2), [(0, 9), (1, 9), (2, 0)].as_slice());
+    assert_eq!(rt; down.at(2), [(0, 0)].as_slice());
+    Ok(())
+}
+
+#[test]
+fn buckets_have_each_place_with_its_weight(rt: HostRuntime) -> Result<(), Fail> {
+    let alloc = rt.alloc();
+    let ring = hierarchy(&rt, alloc, RING)?;
+    assert!(rt; ring.nodes() == 5);
+    expect_buckets(&rt, alloc, &ring)?;
+    let line = hierarchy(&rt, alloc, LINE)?;
+    assert!(rt; line.nodes() == 3);
+    expect_both(&rt, alloc, &line)?;
+    Ok(())
+}
+
 /// Makes the table with `workers` workers, and expects its last row.
 fn expect<R: Threads + Abort + Sync>(
     rt: &R,

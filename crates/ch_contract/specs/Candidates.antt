@@ -1,5 +1,5 @@
 -- The search for the shortcuts of a node that begin with one leg to it.
-use Rattle.std.specs.Prelude.{◌≡◌, ◌≢◌, ℕ, ◌+◌, ◌-◌, ◌<◌, ◌≤◌, List, length, All, Contains, Option, MatchOption}
+use Rattle.std.specs.Prelude.{◌≡◌, ◌≢◌, ℕ, zero, suc, ◌+◌, ◌<◌, ◌≤◌, List, length, All, Contains, Option, MatchOption}
 use Rattle.ch_graph.specs.declared.limits.TheConstants.{MOST_WEIGHT}
 use Rattle.ch_graph.specs.declared.cost.Cost.{Cost}
 use Rattle.ch_graph.specs.Cost.{IsAtMost, cost_sum}
@@ -9,10 +9,17 @@ use Rattle.ch_contract.specs.KnownCosts.{Known, AreLeastCosts}
 use Rattle.ch_contract.specs.LegLists.{legs_into}
 use Rattle.ch_contract.specs.Remaining.{RemainingLegs}
 
--- the least costs to the wanted end are known, of chains of at most `hops` - 2 legs
+-- the most legs of the chains that a search learns before it looks for witnesses of at most so many legs. One or two legs more
+-- are looked for at each start, unless a witness has only one
+abbrev pub known_legs : ℕ → ℕ
+known_legs zero = 0
+known_legs (suc zero) = 1
+known_legs (suc (suc hops)) = hops
+
+-- the least costs to the wanted end are known, of chains of at most that many legs
 pub record IsKnown (r : RemainingLegs) (s : Wanted) (hops : ℕ) (h : Known) : Type 0 where
   pub size : length h.costs ≡ r.nodes
-  pub least : AreLeastCosts (legs_into r.rows) s (hops - 2) h
+  pub least : AreLeastCosts (legs_into r.rows) s (known_legs hops) h
 
 -- a leg to a node and a leg from it have different other ends, and their sum keeps the limits
 pub record IsCandidate (n : ℕ) (first second : Leg) : Type 0 where

@@ -83,16 +83,8 @@ impl HeldCost for Cost {
 
     #[inline]
     fn is_at_most(self, other: Cost) -> bool {
-        is_at_most(self, other)
+        Cost::is_at_most(self, other)
     }
-}
-
-/// Whether the first cost is at most the second.
-#[inline]
-pub(crate) fn is_at_most(a: Cost, b: Cost) -> bool
-    ensures { IsTrue result ↔ IsAtMost a b }
-{
-    a.weight < b.weight || (a.weight == b.weight && a.arcs <= b.arcs)
 }
 
 /// A cost in one word, for legs that weigh at most [`MOST_LIGHT`]. The low 31 bits hold the arcs, the next 32

@@ -1,11 +1,11 @@
 //! Lists of legs, one for each node.
-ghost use Rattle.std.specs.Prelude.{◌≡◌, ℕ, ◌+◌, ◌<◌, ◌≤◌, ◌==◌, if◌then◌else◌, [], length, All, AllPairs, IfOk, OnOk, Some, None, option_map, find, replicate, slice_index_or, slice_set};
+ghost use Rattle.std.specs.Prelude.{◌≡◌, ℕ, ◌+◌, ◌<◌, ◌≤◌, ◌==◌, IsTrue, false, if◌then◌else◌, [], length, All, AllPairs, IfOk, OnOk, Some, None, option_map, find, replicate, slice_index_or, slice_set};
 ghost use Rattle.ch_graph.specs.declared.limits.TheConstants.{MOST_NODES};
 ghost use Rattle.ch_hierarchy.specs.declared.leg.Leg.{Leg};
 ghost use Rattle.ch_contract.specs.Contraction.{IsPairBefore};
 ghost use Rattle.ch_hierarchy.specs.Rows.{row, IsRow};
 ghost use Rattle.ch_contract.specs.LegRows.{row_leg, label_of};
-ghost use Rattle.ch_contract.specs.LegLists.{AreRows, HaveAll, IsEdited, IsReplaced, IsSet, AreOverridden, end_of, legs_at, legs_from, legs_into, lighter_arc, other_of};
+ghost use Rattle.ch_contract.specs.LegLists.{AreRows, HaveAll, IsEdited, IsPut, IsReplaced, IsSet, AreOverridden, end_of, legs_at, legs_from, legs_into, lighter_arc, other_of};
 
 use crate::shortcut::Shortcut;
 use ch_graph::Cost;
@@ -230,12 +230,7 @@ fn place_of(list: &[Leg], node: u32) -> usize
     ensures before { (k : ℕ) (d : Leg) → k < result → (slice_index_or list.now k d).node < node }
     ensures after { (k : ℕ) (d : Leg) → result ≤ k → k < length list.now → node ≤ (slice_index_or list.now k d).node }
 {
-    for (place, leg) in list.iter().enumerate() {
-        if leg.node >= node {
-            return place;
-        }
-    }
-    list.len()
+    list.partition_point(|leg| leg.node < node)
 }
 
 /// Takes the leg of a list at this node out, if there is one.
@@ -251,6 +246,22 @@ fn take_leg(lists: &mut Lists<Leg>, list: u32, node: u32)
     if place < legs.len() && legs[place].node == node {
         lists.remove(list, place);
     }
+}
+
+/// Writes the leg over the leg of a list at the same node, and returns whether there is one.
+fn replace_leg(lists: &mut Lists<Leg>, list: u32, leg: Leg) -> bool
+    requires list { list < length lists.old }
+    requires row { IsRow (row lists.old list) }
+    ensures replaced { IsTrue result → IsPut list leg lists.old lists.new }
+    ensures free { result ≡ false → (lists.new ≡ lists.old) × (row_leg (row lists.old list) leg.node ≡ None) }
+{
+    let legs = lists.at(list);
+    let place = place_of(legs, leg.node);
+    if place < legs.len() && legs[place].node == leg.node {
+        lists.set(list, place, leg);
+        return true;
+    }
+    false
 }
 
 /// Puts the leg into a list that has none at its node.
@@ -277,7 +288,9 @@ fn put_leg(lists: &mut Lists<Leg>, list: u32, leg: Leg) -> Result<(), AllocError
     ensures row { OnOk result (IsRow (row lists.new list)) }
     ensures legs { OnOk result ((x : ℕ) → row_leg (row lists.new list) x ≡ (if leg.node == x then Some (label_of leg) else row_leg (row lists.old list) x)) }
 {
-    take_leg(lists, list, leg.node);
+    if replace_leg(lists, list, leg) {
+        return Ok(());
+    }
     insert_leg(lists, list, leg)?;
     Ok(())
 }

@@ -4,12 +4,12 @@
 //! It is written for chains that lead to the end. The lists that it is lent decide which chains these are. If
 //! each list has the legs to its node, they are chains of the graph. If each list has the legs from its node,
 //! each leg is seen in the other direction, and the chains of the graph begin at the end.
-ghost use Rattle.std.specs.Prelude.{◌≡◌, ◌≢◌, ◌-◌, ◌<◌, ◌≤◌, ◌↔◌, length, IfOk, OnOk, IsTrue, All};
-ghost use Rattle.ch_graph.specs.declared.limits.TheConstants.{MOST_NODES};
+ghost use Rattle.std.specs.Prelude.{◌≡◌, ◌≢◌, ◌<◌, ◌≤◌, ◌↔◌, length, IfOk, OnOk, IsTrue, All};
+ghost use Rattle.ch_graph.specs.declared.limits.TheConstants.{MOST_HOPS, MOST_NODES};
+ghost use Rattle.ch_graph.specs.Cost.{IsAtMost};
 ghost use Rattle.ch_contract.specs.Legs.{AreLegsWithin};
 
 use crate::held_cost::HeldCost;
-use crate::hop_bound::HopBound;
 use crate::known_costs::{KnownCosts, Step};
 use crate::leg_lists::LegLists;
 use ch_graph::Cost;
@@ -36,7 +36,7 @@ pub(crate) struct WitnessSearch<K> {
 impl<K: HeldCost> WitnessSearch<K> {
     ghost use Rattle.ch_contract.specs.HeldCosts.{IsLight, IsHeld};
     ghost use Rattle.ch_contract.specs.LegLists.{AreRows, legs_into};
-    ghost use Rattle.ch_contract.specs.KnownCosts.{known_of, AreTouched, IsClean, IsIdle, AreLeastCosts, AreLegsUpTo, IsLegLight};
+    ghost use Rattle.ch_contract.specs.KnownCosts.{known_at, known_of, AreTouched, IsClean, IsIdle, AreLeastCosts, AreLegsUpTo, IsLegLight};
     ghost use Rattle.ch_contract.specs.Meeting.{AreListsWithin, AreSmall, IsMet, IsMetAt, IsMetBeyond};
 
     /// Makes a search with room for `nodes` nodes.
@@ -74,14 +74,14 @@ impl<K: HeldCost> WitnessSearch<K> {
         Ok(())
     }
 
-    /// Learns the least costs of chains of at most `hops` - 2 legs to the wanted end. Each list has the legs to its
-    /// node.
+    /// Learns the least costs of chains of at most `rounds` legs to the wanted end. Each list has the legs to its node.
     pub(crate) fn reach(
         &mut self,
         lists: &LegLists,
         wanted: Wanted,
-        hops: HopBound,
+        rounds: u32,
     ) -> Result<(), AllocError>
+        requires rounds { rounds ≤ MOST_HOPS }
         requires clean { IsClean (length lists.now.rows) (known_of K.cost self.old.known) }
         requires rows { AreRows lists.now.rows }
         requires limits { AreLegsWithin (length lists.now.rows) (legs_into lists.now.rows) }
@@ -89,7 +89,7 @@ impl<K: HeldCost> WitnessSearch<K> {
         requires nodes { length lists.now.rows ≤ MOST_NODES }
         requires end { (wanted.end < length lists.now.rows) × (wanted.end ≢ wanted.avoided) }
         requires most { IsHeld K.limit wanted.most }
-        ensures least { OnOk result (AreLeastCosts (legs_into lists.now.rows) wanted (hops.number - 2) (known_of K.cost self.new.known)) }
+        ensures least { OnOk result (AreLeastCosts (legs_into lists.now.rows) wanted rounds (known_of K.cost self.new.known)) }
         ensures touched { OnOk result (AreTouched (known_of K.cost self.new.known)) }
         ensures size { OnOk result (length (known_of K.cost self.new.known).costs ≡ length lists.now.rows) }
     {
@@ -97,12 +97,21 @@ impl<K: HeldCost> WitnessSearch<K> {
         let none = K::of(Cost { weight: 0, arcs: 0 });
         self.known.reserve(1)?;
         self.known.lower(wanted.end, none, true);
-        for _round in 0..hops.number.saturating_sub(2) {
+        for _round in 0..rounds {
             mem::swap(&mut self.front, &mut self.known.next);
             self.known.next.clear();
             self.known.spread_all(lists, self.front.as_slice(), wanted)?;
         }
         Ok(())
+    }
+
+    /// Whether a chain is known from a node that costs at most `most`.
+    pub(crate) fn knows(&self, node: u32, most: Cost) -> bool
+        requires node { node < length self.now.known.costs.items }
+        requires most { IsHeld K.limit most }
+        ensures { IsTrue result ↔ IsAtMost (known_at (known_of K.cost self.now.known) node) most }
+    {
+        self.known.costs[node as usize].is_at_most(K::of(most))
     }
 
     /// Whether a chain of at most `hops` legs leads from `start` to the wanted end, never touches the avoided

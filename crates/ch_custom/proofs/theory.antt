@@ -14,4 +14,6 @@ pub mod Closed
 pub mod RowLoops
 pub mod Unions
 pub mod Growing
+pub mod Triangles
 pub mod Ancestors
+pub mod Numbering

@@ -9,7 +9,8 @@ use Rattle.ch_hierarchy.specs.Side.{other}
 use Rattle.ch_custom.specs.declared.leg_pair.Held.{Held}
 use Rattle.ch_custom.specs.declared.leg_pair.LegPair.{LegPair}
 use Rattle.ch_custom.specs.declared.leg_pair.TheConstants.{NO_MIDDLE}
-use Rattle.ch_custom.specs.Metric.{IsHeld, AreLoweredOver}
+use Rattle.ch_custom.specs.Customizing.{leg_over}
+use Rattle.ch_custom.specs.Metric.{held_leg, IsHeld, AreLoweredOver}
 use Rattle.ch_custom.specs.Topologies.{AreRelaxed, AreRelaxedTo}
 
 -- the middle of a leg, which NO_MIDDLE says that it has none of
@@ -61,6 +62,15 @@ lightened_pair Down node weight p = if p.node ==
       down =
           record { weight = weight; arcs = 1; middle = NO_MIDDLE };
     } else p
+
+-- a leg is lowered over v to the sum of the legs a and b
+abbrev pub IsLowered : ℕ → ℕ → Leg → Leg → Leg → Leg → Type 0
+IsLowered n v a b old new = held_leg new ≡ leg_over n v (held_leg a) (held_leg b) (held_leg old)
+
+-- both legs of a pair are lowered over v: with the leg of `one` to or from v, and with that of `another`
+abbrev pub IsPairLowered : ℕ → ℕ → LegPair → LegPair → LegPair → LegPair → Type 0
+IsPairLowered n v one another old new = (side : Side) →
+    IsLowered n v (leg_of (other side) one) (leg_of side another) (leg_of side old) (leg_of side new)
 
 -- both legs can be added up
 abbrev pub AreHeld : LegPair → Type 0

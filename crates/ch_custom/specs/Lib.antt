@@ -3,6 +3,8 @@ pub mod Ancestors
 pub mod Customizing
 pub mod LegPairs
 pub mod Metric
+pub mod Numbering
 pub mod Topologies
 pub mod Opening
 pub mod Pairs
+pub mod Triangles

@@ -4,16 +4,22 @@ use Rattle.std.specs.Prelude.{slice_index_or, Option, None}
 use Rattle.ch_graph.specs.declared.limits.TheConstants.{MOST_NODES}
 use Rattle.ch_graph.specs.Graph.{Network}
 use Rattle.ch_hierarchy.specs.declared.leg.Leg.{Leg}
+use Rattle.ch_hierarchy.specs.Hierarchy.{LevelsAndLegs}
 use Rattle.ch_hierarchy.specs.Rows.{row}
 use Rattle.ch_hierarchy.specs.Saved.{IsOrderOf}
 use Rattle.ch_contract.specs.Legs.{Label, Legs, turned_legs, opening}
-use Rattle.ch_custom.specs.Customizing.{leg_over, legs_lowered, IsTopology}
+use Rattle.ch_contract.specs.Built.{IsHierarchyIn}
+use Rattle.ch_custom.specs.Customizing.{leg_over, legs_lowered, IsTopology, Lowers}
 use Rattle.ch_custom.specs.Metric.{held_leg, IsHeld, AreLoweredOver}
 
 -- the legs of a graph after the first k nodes of an order are taken, each lowered over
 abbrev pub legs_after : Network → List ℕ → ℕ → Legs
 legs_after g order zero = opening g
 legs_after g order (suc k) = legs_lowered g.nodes (legs_after g order k) (slice_index order k)
+
+-- the hierarchy has the legs of the nodes of this order, each when it is taken
+abbrev pub IsCustomized : Network → List ℕ → LevelsAndLegs → Type 0
+IsCustomized g order H = IsHierarchyIn (Lowers g.nodes) g H order (legs_after g order)
 
 -- each node of the row of a place is the node of a higher place
 abbrev pub AreHigher : ℕ → List ℕ → List (List ℕ) → Type 0

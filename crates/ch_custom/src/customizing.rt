@@ -3,11 +3,10 @@ ghost use Rattle.std.specs.Prelude.{◌≡◌, ◌+◌, ◌<◌, OnOk, IfOk, fil
 ghost use Rattle.ch_hierarchy.specs.Kept.{IsKept};
 ghost use Rattle.ch_hierarchy.specs.Saved.{AreLevelsOf};
 ghost use Rattle.ch_hierarchy.specs.declared.side.Side.TheVariants.{Up, Down};
-ghost use Rattle.ch_contract.specs.Built.{IsHierarchyIn};
-ghost use Rattle.ch_custom.specs.Customizing.{IsTopology, Lowers};
+ghost use Rattle.ch_custom.specs.Customizing.{IsTopology};
 ghost use Rattle.ch_custom.specs.LegPairs.{no_pair, pairs_row, rows_at};
 ghost use Rattle.ch_custom.specs.Opening.{IsPut, is_live};
-ghost use Rattle.ch_custom.specs.Topologies.{AreFor, AreMetricsAt, legs_after};
+ghost use Rattle.ch_custom.specs.Topologies.{AreFor, AreMetricsAt, IsCustomized};
 
 use crate::leg_pair::LegPair;
 use crate::metric::Metric;
@@ -25,7 +24,7 @@ use std::alloc::{AllocError, Global};
 pub fn customize(alloc: Global, topology: &Topology, graph: &Graph) -> Result<Hierarchy, AllocError>
     requires nodes { length topology.now.pairs ≡ graph.now.nodes }
     requires topology { IsTopology graph.now topology.now.order topology.now.pairs }
-    ensures hierarchy { IfOk result (λ h. IsHierarchyIn (Lowers graph.now.nodes) graph.now h topology.now.order (legs_after graph.now topology.now.order)) }
+    ensures hierarchy { IfOk result (IsCustomized graph.now topology.now.order) }
     ensures kept { IfOk result (IsKept graph.now) }
 {
     customize_over(
@@ -47,7 +46,7 @@ fn customize_over(
 ) -> Result<Hierarchy, AllocError>
     requires ready { AreFor graph.now order.now rows.now }
     requires levels { AreLevelsOf order.now levels.now }
-    ensures hierarchy { IfOk result (λ h. IsHierarchyIn (Lowers graph.now.nodes) graph.now h order.now (legs_after graph.now order.now)) }
+    ensures hierarchy { IfOk result (IsCustomized graph.now order.now) }
     ensures kept { IfOk result (IsKept graph.now) }
 {
     let mut metric = Metric::open(alloc, rows)?;
@@ -68,7 +67,7 @@ fn close(
     requires ready { AreFor graph.now order.now rows.now }
     requires levels { AreLevelsOf order.now levels.now }
     requires metric { AreMetricsAt graph.now order.now rows.now graph.now.nodes (rows_at Up metric.now) (rows_at Down metric.now) }
-    ensures hierarchy { IfOk result (λ h. IsHierarchyIn (Lowers graph.now.nodes) graph.now h order.now (legs_after graph.now order.now)) }
+    ensures hierarchy { IfOk result (IsCustomized graph.now order.now) }
     ensures kept { IfOk result (IsKept graph.now) }
 {
     let copied = Vec::from_slice(alloc, levels)?;
@@ -95,7 +94,7 @@ fn closed(
     requires metric { AreMetricsAt graph.now _order.now _rows.now graph.now.nodes (rows_at Up _metric.now) (rows_at Down _metric.now) }
     requires up { rows_up ≡ map (λ r. filter is_live r) (rows_at Up _metric.now) }
     requires down { rows_down ≡ map (λ r. filter is_live r) (rows_at Down _metric.now) }
-    ensures hierarchy { IfOk result (λ h. IsHierarchyIn (Lowers graph.now.nodes) graph.now h _order.now (legs_after graph.now _order.now)) }
+    ensures hierarchy { IfOk result (IsCustomized graph.now _order.now) }
     ensures kept { IfOk result (IsKept graph.now) }
 {
     let _nodes = graph.nodes();

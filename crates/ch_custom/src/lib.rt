@@ -10,8 +10,10 @@ pub mod laws;
 mod leg_pair;
 mod lowering;
 mod metric;
+mod numbering;
 mod pairs;
 mod topology;
 
 pub use customizing::customize;
-pub use topology::{Topology, TopologyError, topology_of};
+pub use numbering::{Renumbered, renumber};
+pub use topology::{TRIANGLES_A_NODE, Topology, TopologyError, topology_of};

@@ -1,12 +1,10 @@
 //! A row of legs, lowered over a node.
 ghost use Rattle.std.specs.Prelude.{◌≡◌, ℕ, ◌+◌, ◌<◌, ◌≤◌, All, length, slice_index_or};
 ghost use Rattle.ch_hierarchy.specs.declared.side.Side.{Side as AnySide};
-ghost use Rattle.ch_hierarchy.specs.Side.{other as other_side};
 ghost use Rattle.ch_custom.specs.declared.leg_pair.LegPair.{LegPair as AnyPair};
 ghost use Rattle.ch_graph.specs.declared.limits.TheConstants.{MOST_WEIGHT};
-ghost use Rattle.ch_custom.specs.Customizing.{leg_over};
-ghost use Rattle.ch_custom.specs.Metric.{held_leg, IsHeld};
-ghost use Rattle.ch_custom.specs.LegPairs.{leg_at, leg_of, row_of, AreHeld, IsReady, ArePairsLowered};
+ghost use Rattle.ch_custom.specs.Metric.{IsHeld};
+ghost use Rattle.ch_custom.specs.LegPairs.{leg_at, row_of, AreHeld, IsLowered, IsPairLowered, IsReady, ArePairsLowered};
 
 use crate::leg_pair::{Held, LegPair};
 use ch_graph::Cost;
@@ -19,7 +17,7 @@ fn lower(nodes: u32, middle: u32, first: Held, second: Held, leg: &mut Held)
     requires first { first.weight ≤ MOST_WEIGHT + 1 }
     requires second { second.weight ≤ MOST_WEIGHT + 1 }
     requires leg { IsHeld (leg_at 0 leg.old) }
-    ensures leg { held_leg (leg_at 0 leg.new) ≡ leg_over nodes middle (held_leg (leg_at 0 first)) (held_leg (leg_at 0 second)) (held_leg (leg_at 0 leg.old)) }
+    ensures leg { IsLowered nodes middle (leg_at 0 first) (leg_at 0 second) (leg_at 0 leg.old) (leg_at 0 leg.new) }
     ensures held { IsHeld (leg_at 0 leg.new) }
 {
     let cost = Cost {
@@ -46,7 +44,7 @@ fn lower_pair(nodes: u32, middle: u32, one: &LegPair, other: &LegPair, pair: &mu
     requires other { AreHeld other.now }
     requires pair { AreHeld pair.old }
     ensures node { pair.new.node ≡ pair.old.node }
-    ensures legs { (side : AnySide) → held_leg (leg_of side pair.new) ≡ leg_over nodes middle (held_leg (leg_of (other_side side) one.now)) (held_leg (leg_of side other.now)) (held_leg (leg_of side pair.old)) }
+    ensures legs { IsPairLowered nodes middle one.now other.now pair.old pair.new }
     ensures held { AreHeld pair.new }
 {
     lower(nodes, middle, one.down, other.up, &mut pair.up);

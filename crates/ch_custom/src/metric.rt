@@ -1,10 +1,12 @@
 //! The legs of a topology: a pair of legs for each pair of nodes, whether there are legs or not.
-ghost use Rattle.std.specs.Prelude.{◌≡◌, ◌+◌, ◌++◌, ◌^◌, ◌<◌, [], All, Contains, IfOk, OnOk, filter, length, map, slice_index_or, slice_set};
+ghost use Rattle.std.specs.Prelude.{◌≡◌, ◌+◌, ◌++◌, ◌^◌, ◌<◌, [], All};
+ghost use Rattle.std.specs.Prelude.{Contains, IfOk, OnOk, filter, length, map, slice_index_or, slice_set};
 ghost use Rattle.ch_hierarchy.specs.declared.side.Side.{Side as AnySide};
 ghost use Rattle.ch_custom.specs.declared.leg_pair.LegPair.{LegPair as AnyPair};
 ghost use Rattle.ch_custom.specs.Opening.{is_live as has_leg};
 ghost use Rattle.ch_custom.specs.Metric.{IsHeld};
-ghost use Rattle.ch_custom.specs.LegPairs.{no_pair, lightened_pair, pairs_row, row_of, rows_at, AreHeld, IsReady, ArePairsLowered, ArePairsRelaxed};
+ghost use Rattle.ch_custom.specs.LegPairs.{no_pair, lightened_pair, pairs_row, row_of};
+ghost use Rattle.ch_custom.specs.LegPairs.{rows_at, AreHeld, IsReady, ArePairsLowered, ArePairsRelaxed};
 
 use crate::leg_pair::LegPair;
 use crate::lowering::lower_row;

@@ -1,10 +1,11 @@
 //! Topologies: the pairs of nodes between which there may be a leg, whatever the weights are.
-ghost use Rattle.std.specs.Prelude.{◌≡◌, ℕ, ◌+◌, ◌<◌, ◌≤◌, [], Contains, Err, IfOk, OnOk, length, slice_index};
+ghost use Rattle.std.specs.Prelude.{◌≡◌, ℕ, ◌+◌, ◌<◌, ◌≤◌, [], Contains, Err, IfOk, OnOk, MatchOption, length, slice_index};
 ghost use Rattle.ch_custom.specs.declared.topology.TopologyError.TheVariants as TopologyError;
 ghost use Rattle.ch_hierarchy.specs.Saved.{IsOrderOf, AreLevelsOf};
 ghost use Rattle.ch_custom.specs.Customizing.{IsTopology};
 ghost use Rattle.ch_custom.specs.Topologies.{IsSound};
 ghost use Rattle.ch_custom.specs.Pairs.{nodes_row, AreRowsFor, AreHandedOn};
+ghost use Rattle.ch_custom.specs.Triangles.{pairs_among, triangles_over, IsCountKept, AreNeeded, AllHaveMore};
 
 use crate::pairs::Pairs;
 use ch_graph::{Graph, Rows};
@@ -12,11 +13,16 @@ use ch_hierarchy::levels_of;
 use std::alloc::{AllocError, Global};
 use std::marker::Model;
 
+/// The number of triangles a node up to which customization pays. Roads in a nested dissection order have some 30.
+pub const TRIANGLES_A_NODE: u64 = 40;
+
 /// Why an order has no topology.
 #[derive(Clone, Copy, Debug, PartialEq, Eq)]
 pub enum TopologyError {
     /// The order does not have each node of the graph exactly once.
     Order,
+    /// The topology in this order has more triangles than are allowed.
+    Triangles,
     /// There is no memory.
     NoMemory,
 }
@@ -74,17 +80,28 @@ impl Topology {
     }
 }
 
-/// Returns the topology of the roads of a graph in this order. No weight changes it.
+/// Returns the topology of the roads of a graph in this order, if it has at most `most` triangles: pairs of a node to
+/// two later nodes. It is the least topology. No weight changes it.
 ///
 /// Each node in order hands the nodes of its row on to the first of them. The work is that of joining as many pairs
-/// of rows as there are nodes.
+/// of rows as there are nodes. The triangles of a node are counted before its row is handed on, so there are never
+/// more than `most` pairs besides those of the arcs.
 ///
 /// # Errors
-/// `Order` if the order does not have each node of the graph exactly once, and `NoMemory` if there is no memory.
-pub fn topology_of(alloc: Global, graph: &Graph, order: &[u32]) -> Result<Topology, TopologyError>
+/// `Order` if the order does not have each node of the graph exactly once, `Triangles` if there are more, and
+/// `NoMemory` if there is no memory.
+pub fn topology_of(
+    alloc: Global,
+    graph: &Graph,
+    order: &[u32],
+    most: u64,
+) -> Result<Topology, TopologyError>
     ensures order { IfOk result (λ f. f.order ≡ order.now) }
     ensures nodes { IfOk result (λ f. length f.pairs ≡ graph.now.nodes) }
     ensures topology { IfOk result (λ f. IsTopology graph.now f.order f.pairs) }
+    ensures least { IfOk result (λ f. AreNeeded graph.now f.order f.pairs) }
+    ensures triangles { IfOk result (λ f. triangles_over f.pairs f.order ≤ most) }
+    ensures exceeded { result ≡ Err TopologyError.Triangles → AllHaveMore graph.now order.now most }
     ensures refused { result ≡ Err TopologyError.Order → IsOrderOf graph.now.nodes order.now → ⊥ }
 {
     let Some(levels) = levels_of(alloc, graph.nodes(), order)? else {
@@ -92,7 +109,7 @@ pub fn topology_of(alloc: Global, graph: &Graph, order: &[u32]) -> Result<Topolo
     };
     let mut pairs = Pairs::empty(alloc, graph.nodes())?;
     put_roads(graph, order, levels.as_slice(), &mut pairs)?;
-    hand_all_on(alloc, graph, order, levels.as_slice(), &mut pairs)?;
+    hand_all_on(alloc, graph, order, levels.as_slice(), most, &mut pairs)?;
     let copied = Vec::from_slice(alloc, order)?;
     let rows = pairs.to_rows(alloc)?;
     Ok(made(graph, copied, levels, rows))
@@ -100,11 +117,13 @@ pub fn topology_of(alloc: Global, graph: &Graph, order: &[u32]) -> Result<Topolo
 
 /// Returns the topology of these rows.
 fn made(_graph: &Graph, order: Vec<u32>, levels: Vec<u32>, rows: Rows<u32>) -> Topology
-    requires { AreHandedOn _graph.now order.items levels.items _graph.now.nodes rows }
+    requires handed { AreHandedOn _graph.now order.items levels.items _graph.now.nodes rows }
+    requires needed { AreNeeded _graph.now order.items rows }
     ensures order { result.order ≡ order.items }
     ensures pairs { result.pairs ≡ rows }
     ensures nodes { length result.pairs ≡ _graph.now.nodes }
     ensures topology { IsTopology _graph.now result.order result.pairs }
+    ensures least { AreNeeded _graph.now result.order result.pairs }
 {
     Topology {
         order,
@@ -120,8 +139,10 @@ fn put_roads(
     levels: &[u32],
     pairs: &mut Pairs,
 ) -> Result<(), AllocError>
-    requires { AreRowsFor graph.now _order.now levels.now [] pairs.old }
-    ensures { OnOk result (AreHandedOn graph.now _order.now levels.now 0 pairs.new) }
+    requires rows { AreRowsFor graph.now _order.now levels.now [] pairs.old }
+    requires needed { AreNeeded graph.now _order.now pairs.old }
+    ensures handed { OnOk result (AreHandedOn graph.now _order.now levels.now 0 pairs.new) }
+    ensures needed { OnOk result (AreNeeded graph.now _order.now pairs.new) }
 {
     let arcs = graph.arcs();
     for place in 0..arcs.len() {
@@ -135,23 +156,48 @@ fn put_roads(
     Ok(())
 }
 
-/// Lets each node in order hand its row on to the first node of it.
+/// Lets each node in order hand its row on to the first node of it, while there are at most `most` triangles.
 fn hand_all_on(
     alloc: Global,
     graph: &Graph,
     order: &[u32],
     levels: &[u32],
+    most: u64,
     pairs: &mut Pairs,
-) -> Result<(), AllocError>
-    requires { AreHandedOn graph.now order.now levels.now 0 pairs.old }
-    ensures { OnOk result (AreHandedOn graph.now order.now levels.now graph.now.nodes pairs.new) }
+) -> Result<(), TopologyError>
+    requires handed { AreHandedOn graph.now order.now levels.now 0 pairs.old }
+    requires needed { AreNeeded graph.now order.now pairs.old }
+    ensures handed { OnOk result (AreHandedOn graph.now order.now levels.now graph.now.nodes pairs.new) }
+    ensures needed { OnOk result (AreNeeded graph.now order.now pairs.new) }
+    ensures triangles { OnOk result (triangles_over pairs.new order.now ≤ most) }
+    ensures exceeded { result ≡ Err TopologyError.Triangles → AllHaveMore graph.now order.now most }
+    ensures order { result ≡ Err TopologyError.Order → ⊥ }
 {
     let mut row = Vec::new(alloc);
+    let mut triangles = 0u64;
     for place in 0..order.len() {
         pairs.copy_row(order[place], &mut row)?;
+        let Some(count) = counted(triangles, row.len(), most) else {
+            return Err(TopologyError::Triangles);
+        };
+        triangles = count;
         hand_on(graph, order, levels, place, row.as_slice(), pairs)?;
     }
     Ok(())
+}
+
+/// Returns this count and the number of triangles of a node with a row of this size, or `None` if it is above `most`.
+fn counted(count: u64, size: usize, most: u64) -> Option<u64>
+    requires { count ≤ most }
+    ensures { MatchOption result (most < count + pairs_among size) (λ sum. (sum ≡ count + pairs_among size) × (sum ≤ most)) }
+{
+    let size = size as u128;
+    let sum = count as u128 + size * size.saturating_sub(1) / 2;
+    if sum <= most as u128 {
+        Some(sum as u64)
+    } else {
+        None
+    }
 }
 
 /// Hands the row of the node at this place on to the first node of it.
@@ -166,7 +212,10 @@ fn hand_on(
     requires place { place < length order.now }
     requires row { row.now ≡ nodes_row pairs.old (slice_index order.now place) }
     requires handed { AreHandedOn _graph.now order.now levels.now place pairs.old }
-    ensures { OnOk result (AreHandedOn _graph.now order.now levels.now (place + 1) pairs.new) }
+    requires needed { AreNeeded _graph.now order.now pairs.old }
+    ensures handed { OnOk result (AreHandedOn _graph.now order.now levels.now (place + 1) pairs.new) }
+    ensures needed { OnOk result (AreNeeded _graph.now order.now pairs.new) }
+    ensures count { OnOk result (IsCountKept order.now (place + 1) pairs.old pairs.new) }
 {
     if row.is_empty() {
         return Ok(());

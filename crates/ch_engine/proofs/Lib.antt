@@ -1,8 +1,10 @@
 -- The lemmas on engines: which hierarchy one opens with, the lines of its legs, and answers in arrays of words.
 mod AddingUp
+mod ArcsOfArrays
 mod Filled
 mod FirstLines
 mod LegSums
+mod FlowsWritten
 mod LineFlows
 mod LineOfPair
 mod Bounds

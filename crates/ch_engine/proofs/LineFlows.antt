@@ -1,5 +1,5 @@
 -- Flows of legs that are arcs, written on the lines of these arcs.
-use Rattle.std.proofs.Common.{◌≡◌, ◌≢◌, ℕ, ◌+◌, ◌<◌, ◌≤◌, List, length, get_or, set, All, Contains, Option, Some, None, inl, inr, refl}
+use Rattle.std.proofs.Common.{◌≡◌, ◌≢◌, ℕ, ◌+◌, ◌<◌, List, length, get_or, set, Option, Some, None, inl, inr}
 use Rattle.std.proofs.Common.{sym, ◌∙◌, ap, subst, arith}
 use Rattle.std.specs.Prelude.{slice_index}
 use Rattle.std.proofs.lemmas.Bool.{cases_eq, cases_lt}
@@ -22,9 +22,9 @@ use Rattle.ch_flows.specs.Links.{from_of, head_of, link_at, tail_of, to_of}
 use Rattle.ch_flows.specs.Plans.{AreFlows, IsPlanOf}
 use Rattle.ch_flows.proofs.Parts.{leg_of, rises}
 use Rattle.ch_flows.proofs.RouteLegs.{from_node, to_node}
-use Rattle.ch_flows.proofs.Unplaced.{HasPlace, no_flow}
+use Rattle.ch_flows.proofs.Unplaced.{no_flow}
 use Rattle.ch_engine.specs.Flows.{ArePut, IsLineFlow, IsNamed, IsPut}
-use Rattle.ch_engine.specs.Lines.{AreLines, IsFirstLine, IsLineBy, IsOfSome, Leads, Lines, Precedes, arc_on}
+use Rattle.ch_engine.specs.Lines.{AreLines, IsFirstLine, IsLineBy, IsOfSome, Leads, Lines, arc_on}
 
 -- of the lines between the same nodes one comes first
 first_one : (arcs : List InArc) (P : ℕ → Type 0) (j k : ℕ) → IsFirstLine arcs P j → IsFirstLine arcs P k → j ≡ k

@@ -6,6 +6,7 @@ use Rattle.ch_hierarchy.specs.Hierarchy.{LevelsAndLegs}
 use Rattle.ch_hierarchy.specs.Kept.{IsKept}
 use Rattle.ch_query.specs.declared.routes.Route.{Route}
 use Rattle.ch_flows.specs.declared.plan.Plan.{Plan}
+use Rattle.ch_flows.specs.Cells.{cell_sources, cell_targets}
 use Rattle.ch_flows.specs.Flows.{AreServed, flow, without_route}
 use Rattle.ch_flows.specs.Handing.{most_flow, part_at}
 use Rattle.ch_flows.specs.Links.{from_of, link_at, to_of}
@@ -41,6 +42,10 @@ AreFlowsWritten held sources targets demands before after (Flowed.All missed) =
 AreFlowsWritten held sources targets demands before after Flowed.TooLarge =
     IsFlowTooLarge held sources targets demands × (after ≡ before)
 AreFlowsWritten held sources targets demands before after Flowed.NoMemory = after ≡ before
+
+-- the same of the pairs of each source with each target
+abbrev pub AreTableFlowsWritten : Held → List ℕ → List ℕ → List ℕ → List ℕ → List ℕ → Flowed → Type 0
+AreTableFlowsWritten held sources targets = AreFlowsWritten held (cell_sources sources targets) (cell_targets sources targets)
 
 -- a line has the flow of the arc that it was written for, among the first n legs; or it was written for none, and has 0
 abbrev pub IsPut : List InArc → Plan → List ℕ → ℕ → ℕ → ℕ → Type 0

@@ -1,12 +1,13 @@
 -- When a network is not opened, when the arguments of a question fit, and when a question is refused.
 use Rattle.std.specs.Prelude.{◌≡◌, ◌≢◌, ℕ, ◌*◌, ◌<◌, ◌≤◌, ◌⊎◌, List, [], length, All, Option, None, IsSome, MatchOption, ⊤}
 use Rattle.ch_graph.specs.declared.limits.TheConstants.{MOST_LISTED}
-use Rattle.ch_graph.specs.Graph.{Network}
+use Rattle.ch_graph.specs.Graph.{Network, IsFirstFault as IsFirstGraphFault}
 use Rattle.ch_graph.specs.Saved.{OrderAndLegs}
 use Rattle.ch_hierarchy.specs.Saved.{IsFirstFault}
 use Rattle.ch_read.specs.declared.form.Form.TheVariants.{Graph, Saved}
 use Rattle.ch_read.specs.Checks.{IsFault}
 use Rattle.ch_read.specs.Names.{NamesGraph, NamesSaved}
+use Rattle.ch_engine.specs.Opened.{IsOfArrays}
 use Rattle.ch_engine.specs.declared.fault.OpenError.{OpenError}
 use Rattle.ch_engine.specs.declared.fault.Refusal.{Refusal}
 use Rattle.ch_near.specs.Searched.{Asked}
@@ -19,8 +20,38 @@ IsOpenError graph saved (OpenError.BadSaved f) = (saved ≢ [])
     × ((g : Network) × NamesGraph graph g × IsFault (Saved g.nodes) saved f.line f.kind)
 IsOpenError graph saved (OpenError.WrongSaved f) = (g : Network) × (s : OrderAndLegs) × NamesGraph graph g
     × NamesSaved saved g.nodes s × IsFirstFault g s f
+IsOpenError graph saved OpenError.Lengths = ⊥
+IsOpenError graph saved (OpenError.BadArrays f) = ⊥
 IsOpenError graph saved OpenError.OtherNodes = ⊥
 IsOpenError graph saved OpenError.FreshRange = ⊥
+
+-- the error is true of the bytes of a saved hierarchy of a graph, or of that hierarchy
+abbrev pub IsSavedError : Network → List ℕ → OpenError → Type 0
+IsSavedError g saved OpenError.NoMemory = ⊤
+IsSavedError g saved (OpenError.BadGraph f) = ⊥
+IsSavedError g saved (OpenError.BadSaved f) = (saved ≢ []) × IsFault (Saved g.nodes) saved f.line f.kind
+IsSavedError g saved (OpenError.WrongSaved f) = (s : OrderAndLegs) × NamesSaved saved g.nodes s × IsFirstFault g s f
+IsSavedError g saved OpenError.Lengths = ⊥
+IsSavedError g saved (OpenError.BadArrays f) = ⊥
+IsSavedError g saved OpenError.OtherNodes = ⊥
+IsSavedError g saved OpenError.FreshRange = ⊥
+
+-- the error is true of the arrays of a graph of n nodes. Lengths come before arcs
+abbrev pub IsArraysError : ℕ → List ℕ → List ℕ → List ℕ → OpenError → Type 0
+IsArraysError n tails heads weights OpenError.NoMemory = ⊤
+IsArraysError n tails heads weights (OpenError.BadGraph f) = ⊥
+IsArraysError n tails heads weights (OpenError.BadSaved f) = ⊥
+IsArraysError n tails heads weights (OpenError.WrongSaved f) = ⊥
+IsArraysError n tails heads weights OpenError.Lengths = (length heads ≡ length tails) × (length weights ≡ length tails) → ⊥
+IsArraysError n tails heads weights (OpenError.BadArrays f) = (g : Network) × IsOfArrays n tails heads weights g
+    × IsFirstGraphFault g f
+IsArraysError n tails heads weights OpenError.OtherNodes = ⊥
+IsArraysError n tails heads weights OpenError.FreshRange = ⊥
+
+-- the error is true of the arrays of a graph, or of its saved hierarchy. Arrays come before hierarchies
+abbrev pub IsArraysOpenError : ℕ → List ℕ → List ℕ → List ℕ → List ℕ → OpenError → Type 0
+IsArraysOpenError n tails heads weights saved error = IsArraysError n tails heads weights error
+    ⊎ ((g : Network) × IsOfArrays n tails heads weights g × IsSavedError g saved error)
 
 -- the error is true of the bytes of a graph, which is built in the order of a hierarchy of n nodes with so many per cent
 -- afresh. Faults come before numbers of nodes, and these before per cents
@@ -29,6 +60,8 @@ IsLikeError graph n fresh OpenError.NoMemory = ⊤
 IsLikeError graph n fresh (OpenError.BadGraph f) = IsFault Graph graph f.line f.kind
 IsLikeError graph n fresh (OpenError.BadSaved f) = ⊥
 IsLikeError graph n fresh (OpenError.WrongSaved f) = ⊥
+IsLikeError graph n fresh OpenError.Lengths = ⊥
+IsLikeError graph n fresh (OpenError.BadArrays f) = ⊥
 IsLikeError graph n fresh OpenError.OtherNodes = (g : Network) × NamesGraph graph g × (g.nodes ≢ n)
 IsLikeError graph n fresh OpenError.FreshRange = (g : Network) × NamesGraph graph g × (g.nodes ≡ n) × (100 < fresh)
 
@@ -128,6 +161,20 @@ IsRefusalOfFlows n lines sources targets demands flows Refusal.Lengths =
     AreFlowLengths (length sources) (length targets) demands flows lines → ⊥
 IsRefusalOfFlows n lines sources targets demands flows Refusal.TooLarge = ⊥
 IsRefusalOfFlows n lines sources targets demands flows Refusal.NoPlaces = ⊥
+
+-- arrays of these lengths fit a table: a demand for each cell, and a flow for each line
+abbrev pub AreFlowTableLengths : ℕ → ℕ → ℕ → ℕ → ℕ → Type 0
+AreFlowTableLengths sources targets demands flows lines = (demands ≡ sources * targets) × (flows ≡ lines)
+
+-- the reason for refusing flows of a table, in the same order
+abbrev pub IsRefusalOfFlowTable : ℕ → ℕ → List ℕ → List ℕ → ℕ → ℕ → Refusal → Type 0
+IsRefusalOfFlowTable n lines sources targets demands flows Refusal.NoMemory = ⊥
+IsRefusalOfFlowTable n lines sources targets demands flows Refusal.NodeRange =
+    AreFlowTableLengths (length sources) (length targets) demands flows lines × (AreNodes n sources × AreNodes n targets → ⊥)
+IsRefusalOfFlowTable n lines sources targets demands flows Refusal.Lengths =
+    AreFlowTableLengths (length sources) (length targets) demands flows lines → ⊥
+IsRefusalOfFlowTable n lines sources targets demands flows Refusal.TooLarge = ⊥
+IsRefusalOfFlowTable n lines sources targets demands flows Refusal.NoPlaces = ⊥
 
 -- these are places: nodes, and not too many
 abbrev pub ArePlaces : ℕ → List ℕ → Type 0

@@ -5,15 +5,15 @@ ghost use Rattle.ch_hierarchy.specs.Hierarchy.{nodes_of};
 ghost use Rattle.ch_engine.specs.Lines.{IsOfSome};
 ghost use Rattle.ch_text.specs.SaveText.{IsHierarchyText};
 ghost use Rattle.ch_engine.specs.Held.{only};
-ghost use Rattle.ch_engine.specs.Opened.{IsOpened, IsOpenedLike};
+ghost use Rattle.ch_engine.specs.Opened.{IsOpened, IsOpenedLike, IsOpenedOfArrays, IsOpenedQuickly};
 ghost use Rattle.ch_engine.specs.Cells.{ArePairCells, AreTableCells, IsCell};
 ghost use Rattle.ch_engine.specs.Routes.{IsFound};
-ghost use Rattle.ch_engine.specs.Refusals.{AreNodes, ArePairs, AreTableLists, IsLikeError, IsNodePair, IsOpenError, IsRefusalOfPairs, IsRefusalOfRoute, IsRefusalOfTable};
+ghost use Rattle.ch_engine.specs.Refusals.{AreNodes, ArePairs, AreTableLists, IsLikeError, IsNodePair, IsOpenError, IsRefusalOfPairs, IsRefusalOfRoute, IsRefusalOfTable, IsArraysOpenError};
 
 use crate::fault::{OpenError, Refusal};
 use crate::leg_sums::KeptSums;
 use crate::network::Network;
-use crate::opening::{opened, opened_like};
+use crate::opening::{opened, opened_like, opened_of_arrays, opened_quickly};
 use crate::words::{are_both_nodes, word_of, write_table};
 use ch_graph::limits::MOST_LISTED;
 use ch_near::KeptTargets;
@@ -67,6 +67,41 @@ impl Engine {
         ensures error { IfErr result (IsOpenError graph.now saved.now) }
     {
         let network = opened(alloc, graph, saved)?;
+        Ok(Engine::of(alloc, network)?)
+    }
+
+    /// Opens an engine for the graph of `nodes` nodes where arc k leads from `tails[k]` to `heads[k]` and weighs `weights[k]`.
+    /// Arc k is line k. Nodes count from 0. `saved` is as in [`Engine::open`], but a hierarchy that is built is built as by
+    /// [`Engine::open_quickly`].
+    ///
+    /// # Errors
+    /// `Lengths` if the lengths of the arrays differ, otherwise `BadArrays` with the first fault of the graph, otherwise the
+    /// errors of [`Engine::open`] for the saved hierarchy; or `NoMemory`.
+    pub fn open_arrays(
+        alloc: Global,
+        nodes: u32,
+        tails: &[u32],
+        heads: &[u32],
+        weights: &[u64],
+        saved: &[u8],
+    ) -> Result<Engine, OpenError>
+        ensures value { IfOk result (λ held. (held.near ≡ None) × IsOpenedOfArrays nodes tails.now heads.now weights.now saved.now held.hierarchy held.lines) }
+        ensures error { IfErr result (IsArraysOpenError nodes tails.now heads.now weights.now saved.now) }
+    {
+        let network = opened_of_arrays(alloc, nodes, tails, heads, weights, saved)?;
+        Ok(Engine::of(alloc, network)?)
+    }
+
+    /// Opens an engine from the bytes of a graph file alone. The hierarchy is built in an order that takes little time to find,
+    /// which no rule names. On road networks this takes a third to a half of the time of building by depth.
+    ///
+    /// # Errors
+    /// The first fault of the graph's bytes, or `NoMemory`.
+    pub fn open_quickly(alloc: Global, graph: &[u8]) -> Result<Engine, OpenError>
+        ensures value { IfOk result (λ held. (held.near ≡ None) × IsOpenedQuickly graph.now held.hierarchy held.lines) }
+        ensures error { IfErr result (IsOpenError graph.now []) }
+    {
+        let network = opened_quickly(alloc, graph)?;
         Ok(Engine::of(alloc, network)?)
     }
 

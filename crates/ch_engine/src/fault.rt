@@ -3,6 +3,7 @@ ghost use Rattle.std.specs.Prelude.{◌≡◌};
 ghost use Rattle.ch_engine.specs.declared.fault.OpenError.TheVariants as OpenError;
 ghost use Rattle.ch_engine.specs.declared.fault.Refusal.TheVariants as Refusal;
 
+use ch_graph::GraphFault;
 use ch_hierarchy::CheckFault;
 use ch_read::ReadFault;
 use std::alloc::AllocError;
@@ -23,6 +24,12 @@ pub enum OpenError {
     /// This is the first fault of the saved hierarchy for the graph.
     #[error("saved hierarchy refused: {0}")]
     WrongSaved(CheckFault),
+    /// The lengths of the arrays of a graph differ.
+    #[error("lengths that differ")]
+    Lengths,
+    /// This is the first fault of the arrays of a graph.
+    #[error("graph {0}")]
+    BadArrays(GraphFault),
     /// The graph has another number of nodes than the network in whose order it is built.
     #[error("another number of nodes")]
     OtherNodes,

@@ -167,7 +167,7 @@ impl Network {
         ensures { IsLegWord side self.now.0 self.now.1 values.now node leg result }
     {
         match leg.middle {
-            None => value_or_none(values, self.line_of_leg(side, node, place)),
+            None => value_or_zero(values, self.line_of_leg(side, node, place)),
             Some(middle) => match side {
                 Side::Up => sums.through(self.hierarchy(), node, middle, leg.node),
                 Side::Down => sums.through(self.hierarchy(), leg.node, middle, node),
@@ -191,7 +191,7 @@ fn word_in(rows: &Rows<u64>, row: u32, place: usize) -> u64
 }
 
 /// Returns the value on a line, or 0 if there is no such line.
-fn value_or_none(values: &[u64], line: u32) -> u64
+fn value_or_zero(values: &[u64], line: u32) -> u64
     ensures { result ≡ slice_index values.now line }
 {
     if line as usize >= values.len() {

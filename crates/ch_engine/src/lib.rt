@@ -6,6 +6,7 @@
 //!
 //! - [`Engine::open`] gives a hierarchy that is right for the graph that the bytes name, or an error that is true of
 //!   the bytes.
+//! - [`Engine::open_arrays`] does the same for the graph with exactly the arcs of three arrays, in their order.
 //! - [`Engine::open_like`] gives a hierarchy that is right for another graph, in the order of an engine's hierarchy, or an
 //!   error that is true of the bytes. With all nodes afresh it is the one that [`Engine::open`] builds.
 //! - Distances, tables, routes and near rows are those of each graph for which the hierarchy is right. Sums are those over
@@ -13,6 +14,7 @@
 //! - No call requires anything of its arguments. A refusal says what is wrong, and changes nothing.
 #![tactic(auto)]
 
+mod arrays;
 mod engine;
 mod fault;
 mod flows;

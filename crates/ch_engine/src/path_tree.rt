@@ -1,6 +1,5 @@
 //! Trees of least paths from a node to higher ones, with the sums of values along their legs.
-ghost use Rattle.std.specs.Prelude.{◌≡◌, ◌≢◌, ◌↔◌, ◌+◌, ◌<◌, ℕ, List, None, length, IsTrue, IfOk, MatchOption, ⊤};
-ghost use Rattle.ch_graph.specs.Cost.{IsBelow, cost_sum};
+ghost use Rattle.std.specs.Prelude.{◌≡◌, ◌≢◌, ◌+◌, ◌<◌, ℕ, List, None, length, IfOk, MatchOption, ⊤};
 ghost use Rattle.ch_hierarchy.specs.Hierarchy.{LevelsAndLegs, nodes_of};
 ghost use Rattle.ch_hierarchy.specs.declared.side.Side.{Side as AnySide};
 ghost use Rattle.ch_hierarchy.specs.declared.side.Side.TheVariants.{Up as UpSide, Down as DownSide};
@@ -122,7 +121,7 @@ fn first_meet(ups: &[(u32, Cost)], downs: &[(u32, Cost)]) -> Option<Meet>
         let Some(j) = place_of(downs, ups[i].0) else {
             continue;
         };
-        let Some(cost) = sum_of(ups[i].1, downs[j].1) else {
+        let Some(cost) = ups[i].1.checked_plus(downs[j].1) else {
             return None;
         };
         found = first_of(
@@ -144,36 +143,10 @@ fn first_of(old: Option<Meet>, new: Meet) -> Option<Meet>
     let Some(meet) = old else {
         return Some(new);
     };
-    if is_below(new.cost, meet.cost) {
+    if new.cost.is_below(meet.cost) {
         return Some(new);
     }
     old
-}
-
-/// Whether `a` costs less than `b`.
-fn is_below(a: Cost, b: Cost) -> bool
-    ensures { IsTrue result ↔ IsBelow a b }
-{
-    a < b
-}
-
-/// Adds two costs, or returns `None` if the sum is too large for words.
-fn sum_of(a: Cost, b: Cost) -> Option<Cost>
-    ensures { MatchOption result ⊤ (λ sum. sum ≡ cost_sum a b) }
-{
-    let weight = a.weight.checked_add(b.weight)?;
-    let arcs = a.arcs.checked_add(b.arcs)?;
-    Some(Cost { weight, arcs })
-}
-
-/// Whether the sum of two costs is a third one.
-fn is_sum(a: Cost, b: Cost, sum: Cost) -> bool
-    ensures { IsTrue result ↔ (cost_sum a b ≡ sum) }
-{
-    a.weight <= sum.weight
-        && sum.weight - a.weight == b.weight
-        && a.arcs <= sum.arcs
-        && sum.arcs - a.arcs == b.arcs
 }
 
 /// Returns the place of the entry of a node, if there is one, by binary search.
@@ -245,7 +218,7 @@ fn take_leg(entries: &[(u32, Cost)], place: usize, leg: Leg, word: u64, steps: &
     if steps[to].is_some() {
         return;
     }
-    if !is_sum(entries[place].1, leg.cost, entries[to].1) {
+    if !entries[to].1.is_sum_of(entries[place].1, leg.cost) {
         return;
     }
     steps[to] = Some(Step {

@@ -149,16 +149,6 @@ module _ (H : LevelsAndLegs) where
               (omega (arith, low, plan.long)) p q));
         }
 
-    -- a way counts as often as its arcs lead from u to w
-    pub way_times : (u w : ℕ) (share : ℕ → ℕ) → AreTimes H links u w share → (way : List ℕ) (arcs : List InArc) → IsWay H links way arcs →
-        shares_of share way ≡ times u w arcs
-    way_times u w share are [] arcs e = sym (ap (times u w) e)
-    way_times u w share are (p ∷ way) arcs is =
-        let rest = way_times u w share are way is.1 is.4 in
-        let here = are p is.0 is.2 is.3 in
-        let all : times u w arcs ≡ times u w (is.1 ++ is.0) = ap (times u w) is.5 in
-        omega (arith, sum_by-cons share p way, rest, here, all, times-append u w is.1 is.0)
-
     -- a place of an arc that a leg counts
     record CountsSome (i : ℕ) : Type 0 where
       place : ℕ
@@ -233,7 +223,7 @@ module _ (H : LevelsAndLegs) where
         IsTally H links (served ++ (demand, answer) ∷ []) new
     tally_more served demand answer way old new tally is added u w share are =
         let arcs = arcs_of answer in
-        let e : demand * shares_of share way ≡ demand * times u w arcs = ap (λ (n : ℕ). demand * n) (way_times u w share are way arcs is) in
+        let e : demand * shares_of share way ≡ demand * times u w arcs = ap (λ (n : ℕ). demand * n) (is.times u w share are) in
         omega (arith, added share, tally u w share are, e, flow_more u w served demand answer)
 
     pub along_too_much : (served : List (ℕ × Option Route)) (demand : ℕ) (answer : Option Route) (way old : List ℕ) →
@@ -243,5 +233,5 @@ module _ (H : LevelsAndLegs) where
         let arcs = arcs_of answer in
         too_much (served ++ (demand, answer) ∷ []) e.0 e.1 (omega (arith, e.2, long)) e.3 (λ u w share are.
         let times_e : demand * shares_of share way ≡ demand * times u w arcs =
-        ap (λ (n : ℕ). demand * n) (way_times u w share are way arcs is) in
+        ap (λ (n : ℕ). demand * n) (is.times u w share are) in
         omega (arith, e.4 share, tally u w share are, times_e, flow_more u w served demand answer))

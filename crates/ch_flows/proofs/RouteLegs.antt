@@ -1,6 +1,6 @@
 -- Each arc of a route has a leg without a middle, and the places of these legs are a way.
 use Rattle.std.proofs.Common.{◌≡◌, ℕ, suc, ◌+◌, ◌*◌, ◌<◌, ◌≤◌, List, [], ◌∷◌, ◌++◌, length, get_or, take, Contains, Option, None, refl}
-use Rattle.std.proofs.Common.{sym, ◌∙◌, ap, subst, arith, inl, inr, append_assoc, append-nil}
+use Rattle.std.proofs.Common.{sym, ◌∙◌, ap, subst, arith, inl, inr}
 use Rattle.std.specs.Prelude.{slice_index}
 use Rattle.std.proofs.lemmas.List.Elements.{All-contains}
 use Rattle.std.proofs.Math.Seq.{take-suc}
@@ -24,6 +24,7 @@ use Rattle.ch_flows.specs.Layouts.{IsLaid, IsPlaceOf, leg_on, link_of}
 use Rattle.ch_flows.specs.Links.{IsLinkUnpacked, link_at}
 use Rattle.ch_flows.specs.Plans.{IsLegPlace, IsWay}
 use Rattle.ch_flows.proofs.Parts.{leg_in, placed_within, rises}
+use Rattle.ch_flows.proofs.WaysByLegs.{way_one, way_swapped}
 
 -- there is a leg without a middle between the ends of an arc, and it weighs as much
 abbrev pub HasArcLeg : LevelsAndLegs → InArc → Type 0
@@ -67,18 +68,6 @@ module _ (H : LevelsAndLegs) where
       (down_legs t r.meet r.downs r.second r.fall r.down_arcs))
 
   -- one more leg of a way
-  way_more : (links : List Link) (way : List ℕ) (xs : List InArc) (p : ℕ) (here : List InArc) → IsWay H links way xs → p < length links →
-      IsLinkUnpacked H (link_at links p) here → IsWay H links (way ++ p ∷ []) (here ++ xs)
-  way_more links [] xs p here is low one = (here, [], low, one, refl, ap (λ (l : List InArc). here ++ l) is ∙ append-nil here)
-  way_more links (q ∷ way) xs p here is low one = (
-    is.0,
-    here ++ is.1,
-    is.2,
-    is.3,
-    way_more links way is.1 p here is.4 low one,
-    ap (λ (l : List InArc). here ++ l) is.5 ∙ sym (append_assoc here is.1 is.0),
-  )
-
   pub way_next : (links : List Link) (way new : List ℕ) (legs : List PendingLeg) (j p : ℕ) (leg : PendingLeg) → j < length legs →
       leg ≡ get_or legs j leg → IsLegPlace H links leg p → new ≡ way ++ p ∷ [] →
       ((arcs : List InArc) → ArePendingArcs H (take j legs) arcs → IsWay H links way arcs) →
@@ -90,7 +79,8 @@ module _ (H : LevelsAndLegs) where
       let parts = pending_arcs_pop H (take j legs) leg arcs (subst (λ (l : List PendingLeg). ArePendingArcs H l arcs) more are) in
       subst (λ (l : List ℕ). IsWay H links l arcs) (sym e)
       (subst (IsWay H links (way ++ p ∷ [])) (sym parts.4)
-      (way_more links way parts.1 p parts.0 (before parts.1 parts.3) place.within (place.unpacked parts.0 parts.2)))
+      (way_swapped H links way (p ∷ []) parts.1 parts.0 (before parts.1 parts.3) (way_one H links p parts.0 place.within
+      (place.unpacked parts.0 parts.2))))
 
   module _ (levelled : IsLevelled H) (leg : PendingLeg) (has : IsPending H leg) where
     -- the leg is in the row of the lower end

@@ -1,16 +1,13 @@
 -- One more pair is served.
-use Rattle.std.proofs.Common.{◌≡◌, ℕ, zero, suc, ◌+◌, ◌<◌, List, [], ◌∷◌, ◌++◌, length, get_or, Option, Some, None, true, false}
+use Rattle.std.proofs.Common.{◌≡◌, ℕ, ◌+◌, List, [], ◌∷◌, ◌++◌, get_or, Option, Some, None, true, false}
 use Rattle.std.proofs.Common.{true≢false, refl, sym, ◌∙◌, ap, subst, arith, inl, inr, length-append}
 use Rattle.std.specs.Prelude.{is_some}
 use Rattle.std.proofs.lemmas.Bool.{cases_lt}
 use Rattle.std.proofs.lemmas.List.Sums.{sum_by_push}
 use Rattle.std.proofs.lemmas.List.{get_or_append_left, get_or_push}
-use Rattle.ch_graph.specs.declared.arc.InArc.{InArc}
 use Rattle.ch_hierarchy.specs.Hierarchy.{LevelsAndLegs}
 use Rattle.ch_query.specs.declared.routes.Route.{Route}
-use Rattle.ch_flows.specs.declared.plan.Link.{Link}
 use Rattle.ch_flows.specs.Flows.{AreServed, IsAnswer, missing, without_route}
-use Rattle.ch_flows.specs.Plans.{IsWay}
 
 pub served_none : (H : LevelsAndLegs) (sources targets demands : List ℕ) → AreServed H sources targets demands 0 []
 served_none H sources targets demands = record {
@@ -46,14 +43,6 @@ served_more H sources targets demands n served demand answer are e is =
             (subst (λ (k : ℕ). IsAnswer H (get_or sources k 0) (get_or targets k 0) answer) (sym at) is))
       ];
     }
-
--- the legs of a way are within the list
-pub way_within : (H : LevelsAndLegs) (links : List Link) (way : List ℕ) (arcs : List InArc) → IsWay H links way arcs → (k d : ℕ) →
-    k < length way →
-    get_or way k d < length links
-way_within H links [] arcs is k d low = absurd (omega (arith, low))
-way_within H links (p ∷ way) arcs is zero d low = is.2
-way_within H links (p ∷ way) arcs is (suc k) d low = way_within H links way is.1 is.4 k d (omega (arith, low))
 
 -- a pair without a route is one more, and a pair with one is not
 pub missing_one : (answer : Option Route) → is_some answer ≡ false → missing answer ≡ 1

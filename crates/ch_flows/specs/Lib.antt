@@ -4,3 +4,6 @@ pub mod Handing
 pub mod Links
 pub mod Layouts
 pub mod Plans
+pub mod Trees
+pub mod Meetings
+pub mod Cells

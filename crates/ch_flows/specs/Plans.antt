@@ -1,11 +1,11 @@
 -- The legs of a hierarchy in one list, and for each leg the places of the two legs that it stands for.
-use Rattle.std.specs.Prelude.{◌≡◌, ℕ, ◌*◌, ◌<◌, ◌≤◌, ◌++◌, ⊤, Bool, is_some, List, [], ◌∷◌, length, slice_index, Option, None, Some}
+use Rattle.std.specs.Prelude.{◌≡◌, ℕ, ◌*◌, ◌<◌, ◌≤◌, ⊤, Bool, is_some, List, length, slice_index, slice_index_or, Option, None, Some}
 use Rattle.ch_graph.specs.declared.arc.InArc.{InArc}
 use Rattle.ch_hierarchy.specs.Hierarchy.{LevelsAndLegs, IsLevelled, nodes_of}
 use Rattle.ch_query.specs.Routes.{IsUnpacked}
 use Rattle.ch_flows.specs.declared.handing.Halves.{Halves}
 use Rattle.ch_flows.specs.declared.plan.Link.{Link}
-use Rattle.ch_flows.specs.Handing.{AreParts, most_flow, part_at, weighed}
+use Rattle.ch_flows.specs.Handing.{AreParts, most_flow, part_at, shares_of, weighed}
 use Rattle.ch_query.specs.declared.routes.Route.{Route}
 use Rattle.ch_query.specs.declared.routes.unpacking.PendingLeg.{PendingLeg}
 use Rattle.ch_flows.specs.declared.plan.Plan.{Plan}
@@ -24,16 +24,15 @@ pub record IsPlan (H : LevelsAndLegs) (links : List Link) (parts : List (Option 
   pub later : AreParts parts
   pub apart : AreApart links
 
--- the places of the legs of a way, which stand for these arcs, from the last leg on
-abbrev pub IsWay : LevelsAndLegs → List Link → List ℕ → List InArc → Type 0
-IsWay H links [] arcs = arcs ≡ []
-IsWay H links (p ∷ way) arcs = (here rest : List InArc) × (p < length links) × IsLinkUnpacked H (link_at links p) here
-    × IsWay H links way rest × (arcs ≡ rest ++ here)
-
 -- a number for each leg: how often its arcs lead from u to w
 abbrev pub AreTimes : LevelsAndLegs → List Link → ℕ → ℕ → (ℕ → ℕ) → Type 0
 AreTimes H links u w share = (i : ℕ) (arcs : List InArc) → i < length links → IsLinkUnpacked H (link_at links i) arcs →
     share i ≡ times u w arcs
+
+-- the places of the legs of a way: these stand for the arcs, each as often as it is there
+pub record IsWay (H : LevelsAndLegs) (links : List Link) (way : List ℕ) (arcs : List InArc) : Type 0 where
+  pub within : (k d : ℕ) → k < length way → slice_index_or way k d < length links
+  pub times : (u w : ℕ) (share : ℕ → ℕ) → AreTimes H links u w share → shares_of share way ≡ times u w arcs
 
 -- the flows of legs count, for all ends, as often as the routes of pairs lead from one to the other, each times its demand
 abbrev pub IsTally : LevelsAndLegs → List Link → List (ℕ × Option Route) → List ℕ → Type 0
@@ -64,6 +63,16 @@ IsWayFound H links s t way found =
 pub record IsPlanOf (H : LevelsAndLegs) (plan : Plan) : Type 0 where
   pub laid : IsLaid H plan.layout.starts.items plan.layout.links.items (2 * nodes_of H)
   pub is : IsPlan H plan.layout.links.items plan.parts.items
+
+-- the first n pairs are counted: in the flows of legs, and those without a route
+abbrev pub AreCounted : LevelsAndLegs → List Link → List ℕ → List ℕ → List ℕ → ℕ → List ℕ → ℕ → Type 0
+AreCounted H links sources targets demands n flows missed = (served : List (ℕ × Option Route))
+    × AreServed H sources targets demands n served × IsTally H links served flows × (missed ≡ without_route served)
+
+-- pair n has this way and this demand
+abbrev pub IsPairAt : LevelsAndLegs → List Link → List ℕ → List ℕ → List ℕ → ℕ → List ℕ → Bool → ℕ → Type 0
+IsPairAt H links sources targets demands n way found demand =
+    IsWayFound H links (slice_index sources n) (slice_index targets n) way found × (slice_index demands n ≡ demand)
 
 -- the flows of all pairs: each leg that is an arc has the flow of that arc; and the number of pairs without a route
 abbrev pub AreFlowsOf : LevelsAndLegs → Plan → List ℕ → List ℕ → List ℕ → List ℕ → ℕ → Type 0

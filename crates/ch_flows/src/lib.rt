@@ -11,10 +11,14 @@
 #![tactic(auto)]
 
 mod handing;
+mod meeting;
 mod pairs;
 mod plan;
+mod table;
 mod tally;
+mod tree;
 
 pub use handing::{Halves, MOST_FLOW};
 pub use pairs::{FlowError, LegFlows, flows};
 pub use plan::{Layout, Link, Plan, make_plan};
+pub use table::table_flows;

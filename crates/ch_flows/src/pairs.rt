@@ -1,14 +1,20 @@
 //! Flows of pairs of nodes.
-ghost use Rattle.std.specs.Prelude.{◌≡◌, [], ◌<◌, ◌*◌, ℕ, List, length, All, Option, IfErr, IfOk, OnOk};
+ghost use Rattle.std.specs.Prelude.{◌≡◌, [], ◌<◌, ◌≤◌, ◌+◌, ◌*◌, ℕ, List, length, All, Option, IfErr, IfOk, OnOk};
 ghost use Rattle.ch_graph.specs.declared.arc.InArc.{InArc as AnyArc};
-ghost use Rattle.ch_hierarchy.specs.Hierarchy.{nodes_of};
+ghost use Rattle.ch_hierarchy.specs.Hierarchy.{LevelsAndLegs, nodes_of};
+ghost use Rattle.ch_hierarchy.specs.declared.side.Side.TheVariants.{Down as DownSide};
 ghost use Rattle.ch_query.specs.Distance.{IsKeptForSome};
 ghost use Rattle.ch_query.specs.Unpacking.{ArePending, ArePendingArcs};
+ghost use Rattle.ch_flows.specs.Handing.{AreParts};
 ghost use Rattle.ch_flows.specs.Layouts.{IsLaid};
-ghost use Rattle.ch_flows.specs.Plans.{AreFlowsOf, IsPlanOf, IsRefusal, IsTally, IsWay, IsWayFound};
+ghost use Rattle.ch_flows.specs.Plans.{AreCounted, AreFlowsOf, IsPairAt, IsPlanOf, IsRefusal, IsTally, IsWay, IsWayFound};
+ghost use Rattle.ch_flows.specs.Trees.{IsRowTree, IsTree};
+ghost use Rattle.ch_flows.specs.declared.plan.Plan.{Plan as AnyPlan};
 
+use crate::meeting::way_between;
 use crate::plan::{Layout, Plan};
 use crate::tally::{add_pair, no_flows, take_down};
+use crate::tree::{RowTree, Tree};
 use ch_hierarchy::Hierarchy;
 use ch_query::{PendingLeg, Scratch, route_legs};
 use std::alloc::{AllocError, Global};
@@ -33,9 +39,9 @@ pub struct LegFlows {
 
 /// The legs of a pair's way, and their places in the plan.
 #[derive(Drop)]
-struct Way {
-    legs: Vec<PendingLeg>,
-    places: Vec<usize>,
+pub(crate) struct Way {
+    pub(crate) legs: Vec<PendingLeg>,
+    pub(crate) places: Vec<usize>,
 }
 
 /// Returns for each leg of the plan that is an arc the sum of the demands of the pairs whose routes take it, as
@@ -121,13 +127,22 @@ fn fill(
         ) else {
             return Err(FlowError::NoMemory);
         };
-        if !is_found {
-            missed += 1;
+        match way.count(is_found, demands[i], flows) {
+            Ok(more) => missed += more,
+            Err(error) => return Err(error),
         }
-        let Ok(()) = add_pair(&way.places, demands[i], flows) else {
-            return Err(FlowError::TooLarge);
-        };
     }
+    finish(plan, missed, flows)
+}
+
+/// Hands the flows of counted pairs down to the arcs, and returns the number of pairs without a walk again.
+pub(crate) fn finish(plan: &Plan, missed: usize, flows: &mut [u64]) -> Result<usize, FlowError>
+    requires parts { AreParts plan.now.parts.items }
+    requires long { length flows.old ≡ length plan.now.parts.items }
+    ensures flows { IfOk result (λ all. (H : LevelsAndLegs) (sources targets demands : List ℕ) → IsPlanOf H plan.now → AreCounted H plan.now.layout.links.items sources targets demands (length sources) flows.old missed → AreFlowsOf H plan.now sources targets demands flows.new all) }
+    ensures refused { IfErr result (λ error. (H : LevelsAndLegs) (sources targets demands : List ℕ) → IsPlanOf H plan.now → AreCounted H plan.now.layout.links.items sources targets demands (length sources) flows.old missed → IsRefusal H plan.now sources targets demands error) }
+    ensures long { length flows.new ≡ length flows.old }
+{
     let Ok(()) = take_down(&plan.parts, flows) else {
         return Err(FlowError::TooLarge);
     };
@@ -136,7 +151,7 @@ fn fill(
 
 impl Way {
     /// Finds the places of the legs of the way between two nodes, and says whether there is one.
-    fn find(
+    pub(crate) fn find(
         &mut self,
         alloc: Global,
         hierarchy: &Hierarchy,
@@ -157,6 +172,61 @@ impl Way {
         let is_found = route_legs(alloc, hierarchy, scratch, source, target, &mut self.legs)?;
         push_places(hierarchy, layout, &self.legs, &mut self.places)?;
         Ok(is_found)
+    }
+
+    /// Finds the places of the legs of the way between the sources of two trees, and says whether there is one. Where the trees
+    /// do not have it, it is searched.
+    pub(crate) fn find_in(
+        &mut self,
+        alloc: Global,
+        hierarchy: &Hierarchy,
+        plan: &Plan,
+        scratch: &mut Scratch,
+        row: &RowTree,
+        downs: &Tree,
+    ) -> Result<bool, AllocError>
+        requires kept { IsKeptForSome hierarchy.now }
+        requires plan { IsPlanOf hierarchy.now plan.now }
+        requires scratch { scratch.old ≡ nodes_of hierarchy.now }
+        requires row { IsRowTree hierarchy.now plan.now.layout.links.items row.now }
+        requires downs { IsTree DownSide hierarchy.now plan.now.layout.links.items downs.now }
+        requires source { row.now.tree.source < nodes_of hierarchy.now }
+        requires target { downs.now.source < nodes_of hierarchy.now }
+        ensures way { IfOk result (IsWayFound hierarchy.now plan.now.layout.links.items row.now.tree.source downs.now.source self.new.places.items) }
+        ensures scratch { scratch.new ≡ scratch.old }
+    {
+        let places = &mut self.places;
+        places.clear();
+        match way_between(row, downs, places)? {
+            Some(is_found) => Ok(is_found),
+            None => self.find(
+                alloc,
+                hierarchy,
+                &plan.layout,
+                scratch,
+                row.tree.source,
+                downs.source,
+            ),
+        }
+    }
+
+    /// Adds the demand of a pair to the legs of its way. Returns 1 if there is no way, and otherwise 0.
+    pub(crate) fn count(
+        &self,
+        is_found: bool,
+        demand: u64,
+        flows: &mut [u64],
+    ) -> Result<usize, FlowError>
+        requires { All (λ place. place < length flows.old) self.now.places.items }
+        ensures counted { IfOk result (λ more. (H : LevelsAndLegs) (plan : AnyPlan) (sources targets demands : List ℕ) (n missed : ℕ) → IsPlanOf H plan → IsPairAt H plan.layout.links.items sources targets demands n self.now.places.items is_found demand → AreCounted H plan.layout.links.items sources targets demands n flows.old missed → AreCounted H plan.layout.links.items sources targets demands (n + 1) flows.new (missed + more)) }
+        ensures few { IfOk result (λ more. more ≤ 1) }
+        ensures refused { IfErr result (λ error. (H : LevelsAndLegs) (plan : AnyPlan) (sources targets demands : List ℕ) (n missed : ℕ) → IsPlanOf H plan → length flows.old ≡ length plan.parts.items → n < length sources → IsPairAt H plan.layout.links.items sources targets demands n self.now.places.items is_found demand → AreCounted H plan.layout.links.items sources targets demands n flows.old missed → IsRefusal H plan sources targets demands error) }
+        ensures long { length flows.new ≡ length flows.old }
+    {
+        let Ok(()) = add_pair(&self.places, demand, flows) else {
+            return Err(FlowError::TooLarge);
+        };
+        Ok(if is_found { 0 } else { 1 })
     }
 }
 

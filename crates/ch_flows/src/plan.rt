@@ -5,7 +5,7 @@ ghost use Rattle.ch_hierarchy.specs.Hierarchy.{nodes_of};
 ghost use Rattle.ch_hierarchy.specs.Rows.{IsRow, row};
 ghost use Rattle.ch_query.specs.Distance.{IsKeptForSome};
 ghost use Rattle.ch_hierarchy.specs.Side.{rows_of};
-ghost use Rattle.ch_flows.specs.Layouts.{IsLaid, IsPartOf, IsPlaceOf, leg_on, link_of};
+ghost use Rattle.ch_flows.specs.Layouts.{IsLaid, IsPartOf, IsPlaceOf, IsSpot, leg_on, link_of, place_of};
 ghost use Rattle.ch_query.specs.Unpacking.{IsPending};
 ghost use Rattle.ch_flows.specs.declared.handing.Halves.{Halves as AnyHalves};
 ghost use Rattle.ch_flows.specs.Handing.{part_at};
@@ -188,9 +188,20 @@ impl Layout {
         ensures { IsPlaceOf hierarchy.now self.now.starts.items side low node result }
     {
         match place_in(hierarchy.legs(side, low), node) {
-            Some(k) => self.starts[side.state(hierarchy.rank(low)) as usize] + k,
+            Some(k) => self.spot(hierarchy, side, low, k),
             None => unreachable!(),
         }
+    }
+
+    /// Returns the place of leg `k` of a node's row.
+    pub(crate) fn spot(&self, hierarchy: &Hierarchy, side: Side, low: u32, k: usize) -> usize
+        requires laid { IsLaid hierarchy.now self.now.starts.items self.now.links.items (2 * nodes_of hierarchy.now) }
+        requires low { low < nodes_of hierarchy.now }
+        requires leg { k < length (row (rows_of hierarchy.now side) low) }
+        ensures spot { IsSpot hierarchy.now (2 * nodes_of hierarchy.now) side low k }
+        ensures place { result ≡ place_of hierarchy.now self.now.starts.items side low k }
+    {
+        self.starts[side.state(hierarchy.rank(low)) as usize] + k
     }
 }
 

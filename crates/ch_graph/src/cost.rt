@@ -1,7 +1,13 @@
 //! Costs of walks.
-ghost use Rattle.std.specs.Prelude.{◌≡◌, ◌+◌, ◌^◌, ◌<◌, ◌≤◌};
+ghost use Rattle.std.specs.Prelude.{◌≡◌, ◌↔◌, ◌+◌, ◌^◌, ◌<◌, ◌≤◌, IsTrue, MatchOption};
 ghost use Rattle.ch_graph.specs.declared.limits.TheConstants.{MOST_SUM};
-ghost use Rattle.ch_graph.specs.Cost.{cost_sum};
+ghost use Rattle.ch_graph.specs.Cost.{IsAtMost, IsBelow, IsSumTooLarge, cost_sum};
+
+use crate::limits::MOST_SUM;
+
+/// The weight that stands for none. It is more than any sum of two weights within the limits, and adding another one
+/// does not overflow.
+pub const UNREACHED: u64 = 2 * MOST_SUM;
 
 /// The cost of a walk.
 ///
@@ -26,5 +32,40 @@ impl Cost {
             weight: self.weight + other.weight,
             arcs: self.arcs + other.arcs,
         }
+    }
+
+    /// Adds two costs, or returns `None` if their weights or their arcs add up to 2^64 or more.
+    pub fn checked_plus(self, other: Cost) -> Option<Cost>
+        ensures { MatchOption result (IsSumTooLarge self other) (λ sum. sum ≡ cost_sum self other) }
+    {
+        let weight = self.weight.checked_add(other.weight)?;
+        let arcs = self.arcs.checked_add(other.arcs)?;
+        Some(Cost { weight, arcs })
+    }
+
+    /// Whether this cost is the sum of two others.
+    pub fn is_sum_of(self, first: Cost, second: Cost) -> bool
+        ensures { IsTrue result ↔ (cost_sum first second ≡ self) }
+    {
+        first.weight <= self.weight
+            && self.weight - first.weight == second.weight
+            && first.arcs <= self.arcs
+            && self.arcs - first.arcs == second.arcs
+    }
+
+    /// Whether this cost is less than the other.
+    #[inline]
+    pub fn is_below(self, other: Cost) -> bool
+        ensures { IsTrue result ↔ IsBelow self other }
+    {
+        self < other
+    }
+
+    /// Whether this cost is at most the other.
+    #[inline]
+    pub fn is_at_most(self, other: Cost) -> bool
+        ensures { IsTrue result ↔ IsAtMost self other }
+    {
+        self.weight < other.weight || (self.weight == other.weight && self.arcs <= other.arcs)
     }
 }

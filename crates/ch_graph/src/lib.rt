@@ -22,7 +22,7 @@ mod saved;
 pub mod walk_laws;
 
 pub use arc::InArc;
-pub use cost::Cost;
+pub use cost::{Cost, UNREACHED};
 pub use graph::{Graph, GraphFault};
 pub use plain::plain_distance;
 pub use rows::{Rows, gather, sort_by_key};

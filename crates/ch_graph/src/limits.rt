@@ -3,8 +3,9 @@
 //! Code, specifications and proofs cite them, here and in the crates above. The limits of work that workers
 //! share are in `ch_work`.
 //!
-//! A walk that visits no node twice has fewer arcs than there are nodes. So no sum of weights in these
-//! crates is more than [`MOST_SUM`], and none wraps.
+//! A walk that visits no node twice has fewer arcs than there are nodes, so it weighs at most [`MOST_WEIGHT`], and
+//! two of them [`MOST_SUM`]. Searches for witnesses add up three such weights before they compare. Other searches
+//! add one to [`UNREACHED`](crate::UNREACHED). No sum is more than that, and none wraps.
 
 /// The most nodes of a graph. A walk that visits no node twice has fewer arcs.
 pub const MOST_NODES: u32 = 1 << 25;

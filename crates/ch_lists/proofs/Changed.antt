@@ -1,8 +1,9 @@
 -- The list at a place after an insert or a removal.
-use Rattle.std.proofs.Common.{◌≡◌, ℕ, ◌+◌, ◌-◌, ◌^◌, ◌<◌, ◌≤◌, inl, List, length, get_or, refl, ap, arith, sym, ◌∙◌}
+use Rattle.std.proofs.Common.{◌≡◌, ℕ, ◌+◌, ◌-◌, ◌^◌, ◌<◌, ◌≤◌, inl, List, length, get_or, set, take, drop, refl, ap, arith, sym, ◌∙◌}
 use Rattle.std.specs.List.{insert, remove}
 use Rattle.std.proofs.lemmas.Bool.{cases_lt}
-use Rattle.std.proofs.lemmas.List.{same_lists}
+use Rattle.std.proofs.lemmas.List.{same_lists, length-set, get_or-set_other, drop-set-add}
+use Rattle.std.proofs.Math.Seq.{take-set-lt}
 use Rattle.std.proofs.lemmas.List.Edits.{length-insert, length-remove, get_or-insert_below, get_or-insert_at, get_or-insert_above}
 use Rattle.std.proofs.lemmas.List.Edits.{get_or-remove_below, get_or-remove_above}
 use Rattle.std.proofs.Math.Logic.{⊎_elim}
@@ -57,6 +58,23 @@ module _ {X : Type 0} where
     below = λ k d before. edit.below k d (omega arith);
     above = λ k d behind inside. edit.above k d (omega arith);
   }
+
+  -- a value that is written over is an edit in the same room
+  pub written : (old : List X) (was : Place) (index : ℕ) (value : X) → index < was.len → was.len ≤ was.room →
+      was.start + was.room ≤ length old → length old < 2 ^ 32 →
+      HasEdited old (set old (was.start + index) value) was was (set (values_at old was) index value)
+  written old was index value low fits within small =
+      let size = length-set old (was.start + index) value in
+      record {
+        size = omega arith;
+        small = omega arith;
+        fits = fits;
+        within = omega arith;
+        room = inl (refl, refl);
+        edited = ap (take was.len) (drop-set-add was.start old index value) ∙ take-set-lt was.len (drop was.start old) index value low;
+        below = λ k d before. get_or-set_other old (was.start + index) k value d (omega arith);
+        above = λ k d behind inside. get_or-set_other old (was.start + index) k value d (omega arith);
+      }
 
   -- the values of the list after an insert
   joined : (old middle new : List X) (was room now : Place) (index : ℕ) (value : X) → index ≤ was.len →

@@ -1,7 +1,7 @@
 -- A list that is read at its place, and all lists after an edit of it.
 use Rattle.std.proofs.Common.{◌≡◌, ℕ, ◌<◌, List, [], length, set, get_or, Some, refl, ap, arith, sym, ◌∙◌}
 use Rattle.std.specs.List.{slice_get}
-use Rattle.std.proofs.lemmas.List.{length-map, get_or-map}
+use Rattle.std.proofs.lemmas.List.{length-map, get_or-map, set-get_or}
 use Rattle.std.proofs.lemmas.Option.{slice_get_read}
 use Rattle.ch_lists.specs.declared.place.Place.{Place}
 use Rattle.ch_lists.specs.Places.{values_at, lists_at, ArePlaces, HasEdited}
@@ -35,3 +35,7 @@ module _ {X : Type 0} (values : List X) (places : List Place) (lists : List (Lis
         lists_after values new places i p now (change (values_at values p)) place_read placed edit
         ∙ ap (λ (ls : List (List X)). set ls i (change (values_at values p))) are
         ∙ ap (λ (xs : List X). set lists i (change xs)) (sym list_read)
+
+  -- an edit of the list at its own place leaves the places as they are
+  pub same_places : set places i p ≡ places
+  same_places = ap (set places i) is ∙ set-get_or places i p

@@ -15,7 +15,7 @@ use std::marker::Model;
 /// A list of n values that has filled its room moves behind all other lists, to a room for n + n / 2 + 2
 /// values. Its old room stays unused until [`Lists::pack`].
 ///
-/// An insert or a removal moves the later values of the list by one. `with_rooms`, `skip` and `pack` take
+/// An insert or a removal moves the later values of the list by one, and `set` moves none. `with_rooms`, `skip` and `pack` take
 /// more steps; the other methods take O(1).
 #[derive(Drop)]
 pub struct Lists<T: Copy> {
@@ -99,6 +99,16 @@ impl<T: Copy> Lists<T> {
         let old = self.places[list as usize];
         let new = place::remove_at(&mut self.values, old, place);
         self.places[list as usize] = new;
+    }
+
+    /// Writes `value` over the value at `place` of a list.
+    pub fn set(&mut self, list: u32, place: usize, value: T)
+        requires list { list < length self.old }
+        requires place { place < length (slice_index_or self.old list []) }
+        ensures { self.new ≡ slice_set self.old list (slice_set (slice_index_or self.old list []) place value) }
+    {
+        let at = self.places[list as usize];
+        place::set_at(&mut self.values, at, place, value);
     }
 
     /// Moves the values of all lists together, in the order of their places in the array, and frees the

@@ -1,5 +1,5 @@
 //! Where the lists are in the array that holds the values of all lists.
-ghost use Rattle.std.specs.Prelude.{◌≡◌, ◌+◌, ◌^◌, ◌<◌, ◌≤◌, length, vec_len, IfOk, MatchOption, OnErr, sum};
+ghost use Rattle.std.specs.Prelude.{◌≡◌, ◌+◌, ◌^◌, ◌<◌, ◌≤◌, length, slice_set, vec_len, IfOk, MatchOption, OnErr, sum};
 ghost use Rattle.std.specs.List.{insert, remove};
 ghost use Rattle.ch_lists.specs.Places.{values_at, AreEmptyPlaces, HasInserted, HasRemoved, HasRoom, HasEdited};
 
@@ -152,4 +152,15 @@ pub(crate) fn remove_at<T: Copy>(values: &mut [T], place: Place, index: usize) -
         len: place.len - 1,
         ..place
     }
+}
+
+/// Writes `value` over the value at `index` of the list at `place`.
+pub(crate) fn set_at<T: Copy>(values: &mut [T], place: Place, index: usize, value: T)
+    requires index { index < place.len }
+    requires fits { place.len ≤ place.room }
+    requires within { place.start + place.room ≤ length values.old }
+    requires small { length values.old < 2 ^ 32 }
+    ensures { HasEdited values.old values.new place place (slice_set (values_at values.old place) index value) }
+{
+    values[place.start as usize + index] = value;
 }

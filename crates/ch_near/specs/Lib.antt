@@ -6,6 +6,7 @@ pub mod Kept
 pub mod Near
 pub mod NearLaws
 pub mod Offers
+pub mod Rooms
 pub mod Searched
 pub mod Sums
 pub mod Sweep

@@ -6,7 +6,7 @@ ghost use Rattle.ch_near.specs.Kept.{AreKeptIn, IsRowOf, asked_by};
 ghost use Rattle.ch_query.specs.Distance.{IsKeptForSome};
 
 use crate::direction::Direction;
-use crate::rows::{Nearest, Room};
+use crate::rows::{NearRoom, Nearest};
 use crate::searched::Searched;
 use crate::spaces::spaces_alone;
 use ch_graph::Rows;
@@ -19,7 +19,7 @@ use std::alloc::{AllocError, Global};
 pub struct KeptTargets {
     searched: Searched,
     /// What a search needs; none before the first one.
-    room: Option<Room>,
+    room: Option<NearRoom>,
     /// By rank, the rows of all nodes; none before they are swept.
     rows: Option<Rows<(u64, u32)>>,
 }
@@ -135,7 +135,7 @@ impl KeptTargets {
         ensures asked { asked_by self.new ≡ asked_by self.old }
     {
         if self.room.is_none() {
-            let room = Room::new(alloc, hierarchy.nodes(), self.searched.targets.len() as u32)?;
+            let room = NearRoom::new(alloc, hierarchy.nodes(), self.searched.targets.len() as u32)?;
             self.room = Some(room);
         }
         Ok(())

@@ -4,7 +4,7 @@
 //! It stands on ch_graph, ch_hierarchy, ch_query and ch_work. These statements are proved on every hierarchy
 //! that is right for a graph, for every plan and gate:
 //!
-//! - Each row of [`NearTargets::rows_within`] has exactly the first targets in order of distance and then of
+//! - Each row of [`NearTargets::make_row`] has exactly the first targets in order of distance and then of
 //!   place, with their distances. It has as many as are asked for, or all.
 //! - With a limit, it has only targets whose distance is at most that.
 //! - There is only one such row ([`laws`]).
@@ -27,4 +27,5 @@ mod sweep;
 pub use direction::Direction;
 pub use kept::KeptTargets;
 pub use nearest::NearTargets;
+pub use rows::NearRoom;
 pub use sweep::NodeRows;

@@ -1,44 +1,40 @@
 //! The nearest targets of many sources.
-ghost use Rattle.std.specs.Prelude.{ℕ, ◌≡◌, ◌<◌, ◌≤◌, length, All, IfOk};
-ghost use Rattle.std.specs.List.{AllZip};
+ghost use Rattle.std.specs.Prelude.{ℕ, ◌≡◌, ◌<◌, ◌≤◌, length, All, IfOk, OnOk};
 ghost use Rattle.ch_graph.specs.declared.limits.TheConstants.{MOST_LISTED};
 ghost use Rattle.ch_hierarchy.specs.Hierarchy.{nodes_of};
 ghost use Rattle.ch_near.specs.Direction.{facing};
 ghost use Rattle.ch_near.specs.Near.{IsNearRow};
+ghost use Rattle.ch_near.specs.Rooms.{IsNearRoomFor};
 ghost use Rattle.ch_query.specs.Distance.{IsKeptForSome};
 ghost use Rattle.ch_query.specs.Limits.{IsWithin};
 
 use crate::direction::Direction;
-use crate::rows::{Nearest, NearestWithin, Room};
+use crate::rows::{NearRoom, Nearest};
 use crate::searched::Searched;
 use crate::spaces::search_targets;
 use ch_hierarchy::Hierarchy;
-use ch_work::{Crew, Gate, Stage, run_list_in};
-use std::alloc::AllocError;
+use ch_work::{Crew, Gate};
+use std::alloc::{AllocError, Global};
 use std::marker::Model;
 use std::thread::Threads;
 
 /// Targets that were searched from, and can be asked for those nearest to sources. One search from each
-/// target serves any number of sources. The rooms of workers stay from one call to the next.
+/// target serves any number of sources, in any number of workers, each with a room of its own.
 #[derive(Drop)]
 pub struct NearTargets<'a> {
     pub(crate) hierarchy: &'a Hierarchy,
     searched: Searched,
-    rooms: Vec<Room>,
 }
 
 impl<'a> Model for NearTargets<'a> {
-    ghost use Rattle.std.specs.Prelude.{◌≡◌, All, length};
-    ghost use Rattle.ch_hierarchy.specs.Hierarchy.{nodes_of};
     ghost use Rattle.ch_near.specs.Near.{Wanted};
-    ghost use Rattle.ch_near.specs.Offers.{AreUnoffered};
     ghost use Rattle.ch_near.specs.Searched.{AreSearched, asked_of, wanted_in};
 
     ghost Value = { Wanted };
 
     ghost view = { λ t. wanted_in t.hierarchy.now (asked_of t.searched) };
 
-    ghost invariant = { λ t. AreSearched t.hierarchy.now t.searched × All (λ room. (room.scratch ≡ nodes_of t.hierarchy.now) × AreUnoffered (length t.searched.targets.items) room.offers) t.rooms.items };
+    ghost invariant = { λ t. AreSearched t.hierarchy.now t.searched };
 }
 
 impl<'a> NearTargets<'a> {
@@ -70,7 +66,6 @@ impl<'a> NearTargets<'a> {
         Ok(NearTargets {
             hierarchy,
             searched,
-            rooms: Vec::new(crew.alloc),
         })
     }
 
@@ -81,36 +76,44 @@ impl<'a> NearTargets<'a> {
         &self.searched.targets
     }
 
-    /// Returns the row of each source, in order, within a limit that is at most the one of the search, and holds for
-    /// this call alone. The workers share the sources.
+    /// Makes a room for rows to these targets.
     ///
-    /// A row has pairs of a distance and a place in the list of targets, in this order. A target that occurs more than
+    /// # Errors
+    /// `AllocError` if there is no memory.
+    pub fn room(&self, alloc: Global) -> Result<NearRoom, AllocError>
+        ensures { IfOk result (IsNearRoomFor self.now) }
+    {
+        NearRoom::new(
+            alloc,
+            self.hierarchy.nodes(),
+            self.searched.targets.len() as u32,
+        )
+    }
+
+    /// Makes the row of a source in this room, within a limit that is at most the one of the search, and holds for this
+    /// row alone.
+    ///
+    /// The row has pairs of a distance and a place in the list of targets, in this order. A target that occurs more than
     /// once has each of its places.
     ///
     /// # Errors
-    /// `AllocError` if there is no memory. Later calls return the same rows as before.
-    pub fn rows_within<R: Threads + Sync, G: Gate>(
-        &mut self,
-        crew: &Crew<'_, R, G>,
-        sources: &[u32],
+    /// `AllocError` if there is no memory. The room can then no longer be used.
+    pub fn make_row(
+        &self,
+        alloc: Global,
+        room: &mut NearRoom,
+        source: u32,
         within: Option<u64>,
-    ) -> Result<Vec<Vec<(u64, u32)>>, AllocError>
-        requires sources { All (λ s. s < nodes_of self.old.hierarchy) sources.now }
-        requires listed { length sources.now ≤ MOST_LISTED }
-        requires within { (x : ℕ) → IsWithin within x → IsWithin self.old.limit x }
-        ensures rows { IfOk result (λ rows. AllZip (λ s row. IsNearRow self.old.hierarchy within self.old.count self.old.targets s row.items) sources.now rows.items) }
-        ensures same { self.new ≡ self.old }
+    ) -> Result<(), AllocError>
+        requires source { source < nodes_of self.now.hierarchy }
+        requires within { (x : ℕ) → IsWithin within x → IsWithin self.now.limit x }
+        requires room { IsNearRoomFor self.now room.old }
+        ensures row { OnOk result (IsNearRow self.now.hierarchy within self.now.count self.now.targets source room.new.row.items) }
+        ensures room { OnOk result (IsNearRoomFor self.now room.new) }
     {
-        crew.gate.watch(Stage::Answering, 0, crew.plan.pieces(sources.len() as u32));
-        let nearest = Nearest {
-            hierarchy: self.hierarchy,
-            searched: &self.searched,
-        };
-        let job = NearestWithin {
-            nearest: &nearest,
-            within,
-        };
-        run_list_in(crew, sources, &mut self.rooms, &job)
+        self.nearest().fill_by_guess(alloc, room, source, within)?;
+        room.guess_by(self.searched.count);
+        Ok(())
     }
 
     /// What makes the rows.

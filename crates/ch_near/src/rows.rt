@@ -12,12 +12,11 @@ use crate::sums::SumsWithin;
 use ch_graph::limits::MOST_WEIGHT;
 use ch_hierarchy::Hierarchy;
 use ch_query::{Scratch, Start, lower_by_search};
-use ch_work::ListJob;
 use std::alloc::{AllocError, Global};
 use std::marker::Model;
 
-/// The job that makes the rows of sources. Each row is made of the source's search space and the buckets of
-/// the targets.
+/// What makes the rows of sources. Each row is made of the source's search space and the buckets of the
+/// targets.
 #[derive(Drop)]
 pub(crate) struct Nearest<'a> {
     pub(crate) hierarchy: &'a Hierarchy,
@@ -40,7 +39,7 @@ impl<'a> Nearest<'a> {
     fn fill(
         &self,
         alloc: Global,
-        room: &mut Room,
+        room: &mut NearRoom,
         source: u32,
         bound: Option<u64>,
     ) -> Result<(), AllocError>
@@ -52,7 +51,7 @@ impl<'a> Nearest<'a> {
         ensures scratch { OnOk result (room.new.scratch ≡ nodes_of self.now.hierarchy) }
         ensures offers { OnOk result (AreUnoffered (length self.now.targets) room.new.offers) }
     {
-        let Room {
+        let NearRoom {
             scratch,
             offers,
             row,
@@ -81,7 +80,7 @@ impl<'a> Nearest<'a> {
     pub(crate) fn fill_by_guess(
         &self,
         alloc: Global,
-        room: &mut Room,
+        room: &mut NearRoom,
         source: u32,
         within: Option<u64>,
     ) -> Result<(), AllocError>
@@ -107,7 +106,7 @@ impl<'a> Nearest<'a> {
     pub(crate) fn write_row(
         &self,
         alloc: Global,
-        room: &mut Room,
+        room: &mut NearRoom,
         source: u32,
         row: &mut Vec<(u64, u32)>,
     ) -> Result<(), AllocError>
@@ -126,28 +125,9 @@ impl<'a> Nearest<'a> {
     }
 }
 
-/// The rows of sources within a limit that is at most the one of the search from the targets.
-#[derive(Drop)]
-pub(crate) struct NearestWithin<'n, 'a> {
-    pub(crate) nearest: &'n Nearest<'a>,
-    pub(crate) within: Option<u64>,
-}
-
-impl<'n, 'a> Model for NearestWithin<'n, 'a> {
-    ghost use Rattle.std.specs.Prelude.{ℕ};
-    ghost use Rattle.ch_near.specs.Near.{Wanted, wanted_within};
-    ghost use Rattle.ch_query.specs.Limits.{IsWithin};
-
-    ghost Value = { Wanted };
-
-    ghost view = { λ job. wanted_within job.nearest.now job.within };
-
-    ghost invariant = { λ job. (x : ℕ) → IsWithin job.within x → IsWithin job.nearest.now.limit x };
-}
-
 /// What a worker has for the rows of sources. It serves one row after the other.
 #[derive(Drop)]
-pub(crate) struct Room {
+pub struct NearRoom {
     pub(crate) scratch: Scratch,
     pub(crate) offers: Offers,
     pub(crate) row: Vec<(u64, u32)>,
@@ -155,20 +135,27 @@ pub(crate) struct Room {
     guess: u64,
 }
 
-impl Room {
+impl NearRoom {
     /// Makes the room for rows of nodes of a hierarchy of `nodes` nodes, to `targets` targets.
-    pub(crate) fn new(alloc: Global, nodes: u32, targets: u32) -> Result<Room, AllocError>
+    pub(crate) fn new(alloc: Global, nodes: u32, targets: u32) -> Result<NearRoom, AllocError>
         ensures scratch { IfOk result (λ room. room.scratch ≡ nodes) }
         ensures offers { IfOk result (λ room. AreUnoffered targets room.offers) }
     {
         let offers = Offers::new(alloc, targets)?;
         let scratch = Scratch::new(alloc, nodes)?;
-        Ok(Room {
+        Ok(NearRoom {
             scratch,
             offers,
             row: Vec::new(alloc),
             guess: MOST_WEIGHT,
         })
+    }
+
+    /// The row that was made last: pairs of a distance and a place in the list of targets, in this order.
+    pub fn row(&self) -> &[(u64, u32)]
+        ensures { result.now ≡ self.now.row.items }
+    {
+        &self.row
     }
 
     /// Whether the row has as many targets as are asked for.
@@ -207,46 +194,5 @@ fn is_lesser(guess: u64, within: Option<u64>) -> bool
     match within {
         Some(most) => guess < most && guess < MOST_WEIGHT,
         None => guess < MOST_WEIGHT,
-    }
-}
-
-impl<'n, 'a> ListJob for NearestWithin<'n, 'a> {
-    ghost use Rattle.std.specs.Prelude.{◌≡◌, ◌<◌, length};
-    ghost use Rattle.ch_hierarchy.specs.Hierarchy.{nodes_of};
-    ghost use Rattle.ch_near.specs.Near.{IsNearRow};
-    ghost use Rattle.ch_near.specs.Offers.{AreUnoffered};
-
-    type Item = u32;
-
-    type Room = Room;
-
-    type Out = Vec<(u64, u32)>;
-
-    ghost takes = { λ wanted s. s < nodes_of wanted.hierarchy };
-
-    ghost meaning = { λ wanted s row. IsNearRow wanted.hierarchy wanted.limit wanted.count wanted.targets s row.items };
-
-    ghost clean = { λ wanted room. (room.scratch ≡ nodes_of wanted.hierarchy) × AreUnoffered (length wanted.targets) room.offers };
-
-    fn room(&self, alloc: Global) -> Result<Room, AllocError> {
-        let nearest = self.nearest;
-        Room::new(
-            alloc,
-            nearest.hierarchy.nodes(),
-            nearest.searched.targets.len() as u32,
-        )
-    }
-
-    fn value(
-        &self,
-        alloc: Global,
-        room: &mut Room,
-        item: &u32,
-    ) -> Result<Vec<(u64, u32)>, AllocError> {
-        let nearest = self.nearest;
-        nearest.fill_by_guess(alloc, room, *item, self.within)?;
-        let row = Vec::from_slice(alloc, &room.row)?;
-        room.guess_by(nearest.searched.count);
-        Ok(row)
     }
 }

@@ -22,7 +22,14 @@ use Rattle.ch_contract.proofs.theory.GivenNodes.{all_others, no_other}
 use Rattle.ch_contract.proofs.theory.OrderSteps.{then_legs}
 use Rattle.ch_order.specs.Progress.{Progress, IsContraction, IsContractionBy, IsNext, AreAll}
 use Rattle.ch_order.specs.Priorities.{IsRanked}
-use Rattle.ch_order.specs.Quick.{AreQueued, HasKey, IsRekeyed, IsHierarchyAfter, IsAfterAny}
+use Rattle.ch_contract.specs.Remaining.{legs_of}
+use Rattle.ch_order.specs.declared.construction.Construction.{Construction}
+use Rattle.ch_order.specs.Construction.{IsJudging, IsReadyFor, IsSized, IsTaken, progress_of}
+use Rattle.ch_contract.specs.declared.room.Room.{Room}
+use Rattle.ch_contract.specs.Rooms.{IsReady}
+use Rattle.ch_order.proofs.ConstructionCalls.{taken_step}
+use Rattle.ch_order.specs.Quick.{AreQueued, HasKey, IsRekeyed, IsHierarchyAfter, IsHierarchyAfterSome, IsAfterAny}
+use Rattle.ch_order.specs.Quick.{IsBegunWith, IsPartOf, IsTakenWithin, IsUnderWay}
 use Rattle.ch_order.specs.Steps.{IsAfterGiven, IsAfterSteps, IsAfterStepsBy}
 use Rattle.ch_order.proofs.PrioritySteps.{key_within}
 use Rattle.ch_order.proofs.StepsMade.{steps_rekeyed, steps_more, legs_within, depth_within, count_fewer, all_steps, all_levelled}
@@ -30,6 +37,15 @@ use Rattle.ch_order.proofs.StepsMade.{steps_rekeyed, steps_more, legs_within, de
 -- a hierarchy that begins with given nodes is kept
 pub after_kept : (g : Network) (h : ℕ) (given : List ℕ) (H : LevelsAndLegs) → IsWithinLimits g → IsHierarchyAfter g h given H → IsKept g H
 after_kept g h given H limits is = hierarchies_with_enough_kept g h H is.0 is.1 limits (hierarchy_within g h H is.0 is.1 limits is.2)
+
+-- so is one that begins with some of the given nodes
+pub after_some_kept : (g : Network) (h : ℕ) (given : List ℕ) (H : LevelsAndLegs) → IsWithinLimits g → IsHierarchyAfterSome g h given H →
+    IsKept g H
+after_some_kept g h given H limits is = after_kept g h is.0 H limits is.2
+
+-- some of no nodes are none
+pub after_none : (g : Network) (h : ℕ) (H : LevelsAndLegs) → IsHierarchyAfterSome g h [] H → IsHierarchyAfter g h [] H
+after_none g h H is = subst (λ l. IsHierarchyAfter g h l H) is.1 is.2
 
 -- contractions with one bound are contractions with this or a lesser one
 pub steps_within : (g : Network) (h : ℕ) (order : List ℕ) (L : ℕ → Legs) (p : Progress) → 1 ≤ h → IsAfterSteps g h order L p →
@@ -68,6 +84,10 @@ value_of (Some p) e = (p, refl)
 none_of : (o : Option ℤ) → is_some o ≡ false → o ≡ None
 none_of None e = refl
 none_of (Some p) e = absurd (true≢false e)
+
+-- an option is `None` if another one is, and both have a value or neither has one
+pub none_again : (o n : Option ℤ) → is_some n ≡ is_some o → o ≡ None → n ≡ None
+none_again o n same none = none_of n (same ∙ ap is_some none)
 
 -- a queue with the same nodes has a key of each node that had one
 pub key_stays : (before after : Progress) (x : ℕ) → IsRekeyed before after → HasKey before.keys x → HasKey after.keys x
@@ -169,29 +189,49 @@ module _ (g : Network) (h : ℕ) (given : List ℕ) (p : Progress) (u : IsAfterA
     pub any_count : p.contracted < g.nodes
     any_count = count_fewer (ContractsWithin g.nodes h) g u.order u.L p u.steps v any_node left
 
-    -- the node is contracted and leaves the queue
-    pub any_next : (q : Progress) → IsContractionBy (ContractsWithin g.nodes h) p v q → q.keys ≡ slice_set p.keys v None →
-        IsAfterAny g h given q
-    any_next q s e = record {
-      order = u.order ++ v ∷ [];
-      L = then_legs (length u.order) u.L q.legs;
-      steps = steps_more (ContractsWithin g.nodes h) g u.order u.L p u.steps v any_node left q s;
-      from = let size = length_push u.order v in let le = u.from in omega arith;
-      first = take-append-le (length given) u.order (v ∷ []) u.from ∙ u.first;
-      waiting = record {
-        size = ap length e ∙ length-set p.keys v None ∙ u.waiting.size;
-        left = λ x lt away.
-            let ne : x ≢ v = λ same. away (subst (Contains (u.order ++ v ∷ [])) (sym same) (Contains-push u.order v)) in
-            let had = u.waiting.left x lt (λ has. away (Contains-append_left u.order (v ∷ []) x has)) in
-            (had.0, ap (λ l. key_of l x) e ∙ get_or-set_other p.keys v x None None ne ∙ had.1);
-        taken = λ x has. ap (λ l. key_of l x) e ∙ elim (Contains-push_cases u.order v x has) [
-          | inl earlier ↦ get_or-set_other p.keys v x None None (λ same. left (subst (Contains u.order) same earlier))
-              ∙ u.waiting.taken x earlier
-          | inr same ↦ subst (λ z. key_of (slice_set p.keys v None) z ≡ None) same
-              (get_or-set_same p.keys v None None (key_within p.keys v k.0 k.1))
-        ];
-      };
-    }
+    module _ (q : Progress) (s : IsContractionBy (ContractsWithin g.nodes h) p v q) (size : length q.keys ≡ length p.keys)
+        (gone : key_of q.keys v ≡ None) (same : (x : ℕ) → x ≢ v → is_some (key_of q.keys x) ≡ is_some (key_of p.keys x)) where
+      -- the node is contracted and leaves the queue
+      pub any_next : IsAfterAny g h given q
+      any_next = record {
+        order = u.order ++ v ∷ [];
+        L = then_legs (length u.order) u.L q.legs;
+        steps = steps_more (ContractsWithin g.nodes h) g u.order u.L p u.steps v any_node left q s;
+        from = let more = length_push u.order v in let le = u.from in omega arith;
+        first = take-append-le (length given) u.order (v ∷ []) u.from ∙ u.first;
+        waiting = record {
+          size = size ∙ u.waiting.size;
+          left = λ x lt away.
+              let ne : x ≢ v = λ is. away (subst (Contains (u.order ++ v ∷ [])) (sym is) (Contains-push u.order v)) in
+              let had = u.waiting.left x lt (λ has. away (Contains-append_left u.order (v ∷ []) x has)) in
+              value_of (key_of q.keys x) (same x ne ∙ ap is_some had.1);
+          taken = λ x has. elim (Contains-push_cases u.order v x has) [
+            | inl earlier ↦
+                let ne : x ≢ v = λ is. left (subst (Contains u.order) is earlier) in
+                none_of (key_of q.keys x) (same x ne ∙ ap is_some (u.waiting.taken x earlier))
+            | inr is ↦ subst (λ z. key_of q.keys z ≡ None) is gone
+          ];
+        };
+      }
+
+      -- if no other nodes than the given ones were contracted, the node is the next given one
+      pub any_given_next : p.contracted ≡ length given → IsAfterAny g h (given ++ v ∷ []) q
+      unfolding any_next
+      any_given_next all =
+          let n = any_next in
+          let count : length u.order ≡ length given = sym u.steps.contracted ∙ all in
+          let is : u.order ≡ given = sym (take_all (length given) u.order (omega (arith, count))) ∙ u.first in
+          let long = length_push u.order v in
+          let wide = length_push given v in
+          record {
+            order = n.order;
+            L = n.L;
+            steps = n.steps;
+            from = omega (arith, count, long, wide);
+            first = take_all (length (given ++ v ∷ [])) (u.order ++ v ∷ []) (omega (arith, count, long, wide))
+                ∙ ap (λ l. l ++ v ∷ []) is;
+            waiting = n.waiting;
+          }
 
   module _ (none : HasNone p.keys) where
     -- when no node has a key, all are contracted
@@ -219,3 +259,149 @@ pub pushed_if : (keys : List (Option ℤ)) (b : Bool) (list : List ℕ) (x k : �
     All (HasKey keys) (if b then list ++ x ∷ [] else list) × (length (if b then list ++ x ∷ [] else list) ≤ k + 1)
 pushed_if keys true list x k has is = (All-push (HasKey keys) list x is.0 (has refl), omega (arith, is.1, length_push list x))
 pushed_if keys false list x k has is = (is.0, omega (arith, is.1))
+
+-- a step stays one if the queue keeps its nodes afterwards
+pub rekeyed_step : (IsStep : Legs → ℕ → Legs → Type 0) (p : Progress) (v : ℕ) (q r : Progress) → IsContractionBy IsStep p v q →
+    IsRekeyed q r → IsContractionBy IsStep p v r
+rekeyed_step IsStep p v q r s k = subst (IsContractionBy IsStep p v) (sym k.rest) (record {
+  legs = s.legs;
+  contracted = s.contracted;
+  levels = s.levels;
+  up = s.up;
+  down = s.down;
+  rows = s.rows;
+  depths = s.depths;
+})
+
+-- some of these nodes are some of one node more
+part_skip : (some nodes : List ℕ) (v : ℕ) → IsPartOf some nodes → IsPartOf some (nodes ++ v ∷ [])
+part_skip some [] v p = inl p
+part_skip some (w ∷ nodes) v (inl p) = inl (part_skip some nodes v p)
+part_skip some (w ∷ nodes) v (inr p) = inr (p.0, p.1, part_skip p.0 nodes v p.2)
+
+-- with the last node they are some of the nodes too
+part_push : (some nodes : List ℕ) (v : ℕ) → IsPartOf some nodes → IsPartOf (some ++ v ∷ []) (nodes ++ v ∷ [])
+part_push some [] v p = inr ([], ap (λ (l : List ℕ). l ++ v ∷ []) p, refl)
+part_push some (w ∷ nodes) v (inl p) = inl (part_push some nodes v p)
+part_push some (w ∷ nodes) v (inr p) = inr (p.0 ++ v ∷ [], ap (λ (l : List ℕ). l ++ v ∷ []) p.1, part_push p.0 nodes v p.2)
+
+-- the node is taken out of the queue, and the others stay in it
+module _ (keys after : List (Option ℤ)) (v : ℕ) (lt : v < length keys) (is : after ≡ slice_set keys v None) where
+  pub left_gone : key_of after v ≡ None
+  left_gone = ap (λ l. key_of l v) is ∙ get_or-set_same keys v None None lt
+
+  pub left_same : (x : ℕ) → x ≢ v → is_some (key_of after x) ≡ is_some (key_of keys x)
+  left_same x ne = ap (λ l. is_some (key_of l x)) is ∙ ap is_some (get_or-set_other keys v x None None ne)
+
+-- a node can be contracted with another bound if the room is ready for that
+pub ready_with : (h k : ℕ) (c : Construction) (v : ℕ) (room : Room) → IsReadyFor h c v →
+    IsReady c.remaining.nodes k (legs_of c.remaining) room → IsReadyFor k (record c { room = room }) v
+ready_with h k c v room next ready = record {
+  sizes = record {
+    nodes = next.sizes.nodes;
+    keys = next.sizes.keys;
+    depths = next.sizes.depths;
+    levels = next.sizes.levels;
+    ups = next.sizes.ups;
+    downs = next.sizes.downs;
+  };
+  limits = next.limits;
+  node = next.node;
+  count = next.count;
+  depth = next.depth;
+  ready = (ready, next.ready.1);
+}
+
+-- a contraction with this bound or a lesser one, after which the room has any shortcuts
+pub taken_within : (k h : ℕ) (before after : Construction) (v : ℕ) (neighbours : List ℕ) → 1 ≤ k → k ≤ h → IsReadyFor k before v →
+    IsSized after → IsTaken k before v neighbours after → (room : Room) → IsJudging h (record after { room = room }) →
+    IsTakenWithin h before v (record after { room = room })
+taken_within k h before after v neighbours most le ready sizes t room judging =
+    let lt : v < length before.waiting = omega (arith, ready.node, ready.sizes.keys) in
+    record {
+      sizes = record {
+        nodes = sizes.nodes;
+        keys = sizes.keys;
+        depths = sizes.depths;
+        levels = sizes.levels;
+        ups = sizes.ups;
+        downs = sizes.downs;
+      };
+      nodes = t.nodes;
+      step = contraction_within _ k h _ _ _ most le (taken_step k before v neighbours after after.waiting t);
+      size = ap length t.waiting ∙ length-set before.waiting v None;
+      gone = left_gone before.waiting after.waiting v lt t.waiting;
+      same = left_same before.waiting after.waiting v lt t.waiting;
+      ready = judging;
+    }
+
+module _ (g : Network) (h : ℕ) (given : List ℕ) (c : Construction) where
+  module _ (i : IsUnderWay g h given c) where
+    -- the construction is still under way if the queue keeps its nodes
+    pub under_way_rekeyed : (d : Construction) → IsSized d → d.remaining.nodes ≡ c.remaining.nodes →
+        IsRekeyed (progress_of c) (progress_of d) → IsJudging h d → IsUnderWay g h given d
+    under_way_rekeyed d sizes nodes keyed ready = record {
+      sizes = sizes;
+      nodes = nodes ∙ i.nodes;
+      some = i.some;
+      part = i.part;
+      after = any_rekeyed g h i.some (progress_of c) i.after (progress_of d) keyed;
+      ready = ready;
+    }
+
+    module _ (v : ℕ) (k : HasKey c.waiting v) where
+      -- a node of the queue can be contracted
+      pub ready_for : IsReadyFor h c v
+      ready_for = record {
+        sizes = i.sizes;
+        limits = subst (λ n. AreLegsWithin n (legs_of c.remaining)) (sym i.nodes) (any_within g h i.some (progress_of c) i.after);
+        node = omega (arith, i.nodes, any_node g h i.some (progress_of c) i.after v k);
+        count = omega (arith, i.nodes, any_count g h i.some (progress_of c) i.after v k);
+        depth = any_depth g h i.some (progress_of c) i.after v;
+        ready = i.ready;
+      }
+
+      -- its contraction, among the nodes of the graph
+      step_within : (d : Construction) → IsTakenWithin h c v d →
+          IsContractionBy (ContractsWithin g.nodes h) (progress_of c) v (progress_of d)
+      step_within d t = subst (λ n. IsContractionBy (ContractsWithin n h) (progress_of c) v (progress_of d)) i.nodes t.step
+
+      -- when it is contracted, the construction is still under way
+      pub under_way_next : (d : Construction) → IsTakenWithin h c v d → IsUnderWay g h given d
+      under_way_next d t = record {
+        sizes = t.sizes;
+        nodes = t.nodes ∙ i.nodes;
+        some = i.some;
+        part = i.part;
+        after = any_next g h i.some (progress_of c) i.after v k (progress_of d) (step_within d t) t.size t.gone t.same;
+        ready = t.ready;
+      }
+
+      -- if no others than the given nodes were contracted, it is the next given one
+      pub begun_next : c.contracted ≡ length i.some → (d : Construction) → IsTakenWithin h c v d → IsBegunWith g h (given ++ v ∷ []) d
+      begun_next all d t = (
+        record {
+          sizes = t.sizes;
+          nodes = t.nodes ∙ i.nodes;
+          some = i.some ++ v ∷ [];
+          part = part_push i.some given v i.part;
+          after = any_given_next g h i.some (progress_of c) i.after v k (progress_of d) (step_within d t) t.size t.gone t.same all;
+          ready = t.ready;
+        },
+        t.step.contracted ∙ omega (arith, all, length_push i.some v),
+      )
+
+  -- a given node may wait
+  pub begun_skip : (v : ℕ) → IsBegunWith g h given c → IsBegunWith g h (given ++ v ∷ []) c
+  begun_skip v b =
+      let i = b.0 in (
+        record {
+          sizes = i.sizes;
+          nodes = i.nodes;
+          some = i.some;
+          part = part_skip i.some given v i.part;
+          after = i.after;
+          ready = i.ready;
+        },
+        b.1,
+      )

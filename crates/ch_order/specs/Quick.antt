@@ -1,12 +1,12 @@
 -- Orders of contraction that begin with given nodes and go on in any way, for hierarchies that are built in little time.
-use Rattle.std.specs.Prelude.{◌≡◌, ◌<◌, ◌≤◌, ℕ, List, length, take, is_some, Contains, Option, Some, None, ℤ}
+use Rattle.std.specs.Prelude.{◌≡◌, ◌≢◌, ◌⊎◌, ◌<◌, ◌≤◌, ℕ, List, [], ◌∷◌, length, take, is_some, Contains, Option, Some, None, ℤ}
 use Rattle.ch_graph.specs.Graph.{Network}
 use Rattle.ch_queue.specs.Queue.{key_of}
 use Rattle.ch_hierarchy.specs.Hierarchy.{LevelsAndLegs}
 use Rattle.ch_contract.specs.Legs.{Legs}
 use Rattle.ch_contract.specs.Enough.{ContractsWithin}
 use Rattle.ch_contract.specs.Built.{IsHierarchyIn}
-use Rattle.ch_order.specs.Progress.{Progress}
+use Rattle.ch_order.specs.Progress.{Progress, IsContractionBy}
 use Rattle.ch_order.specs.declared.construction.Construction.{Construction}
 use Rattle.ch_order.specs.Construction.{IsSized, IsJudging, progress_of}
 use Rattle.ch_order.specs.Steps.{IsAfterStepsBy}
@@ -17,6 +17,15 @@ use Rattle.ch_order.specs.Priorities.{AreRefreshed}
 abbrev pub IsHierarchyAfter : Network → ℕ → List ℕ → LevelsAndLegs → Type 0
 IsHierarchyAfter g h given H =
     (order : List ℕ) × (L : ℕ → Legs) × IsHierarchyIn (ContractsWithin g.nodes h) g H order L × (take (length given) order ≡ given)
+
+-- these are some of these nodes, in the same order
+abbrev pub IsPartOf : List ℕ → List ℕ → Type 0
+IsPartOf some [] = some ≡ []
+IsPartOf some (v ∷ nodes) = IsPartOf some nodes ⊎ ((rest : List ℕ) × (some ≡ v ∷ rest) × IsPartOf rest nodes)
+
+-- a hierarchy of a graph in which some of the given nodes are contracted first, as given, and then the others in any order
+abbrev pub IsHierarchyAfterSome : Network → ℕ → List ℕ → LevelsAndLegs → Type 0
+IsHierarchyAfterSome g h given H = (some : List ℕ) × IsPartOf some given × IsHierarchyAfter g h some H
 
 -- the node has a key in the queue
 abbrev pub HasKey : List (Option ℤ) → ℕ → Type 0
@@ -37,12 +46,29 @@ pub record IsAfterAny (g : Network) (h : ℕ) (given : List ℕ) (p : Progress) 
   pub first : take (length given) order ≡ given
   pub waiting : IsWaiting g.nodes order p.keys
 
--- the construction of a hierarchy of this graph, whose first nodes are given, is under way, and each remaining node waits
+-- the construction of a hierarchy of this graph, whose first nodes are some of the given ones, is under way, and each remaining
+-- node waits
 pub record IsUnderWay (g : Network) (h : ℕ) (given : List ℕ) (c : Construction) : Type 0 where
   pub sizes : IsSized c
   pub nodes : c.remaining.nodes ≡ g.nodes
-  pub after : IsAfterAny g h given (progress_of c)
+  pub some : List ℕ
+  pub part : IsPartOf some given
+  pub after : IsAfterAny g h some (progress_of c)
   pub ready : IsJudging h c
+
+-- some of the given nodes are contracted, in their order, and no others
+abbrev pub IsBegunWith : Network → ℕ → List ℕ → Construction → Type 0
+IsBegunWith g h given c = (u : IsUnderWay g h given c) × (c.contracted ≡ length u.some)
+
+-- v is contracted and out of the queue. Its witnesses have at most h legs, or at most some lesser number
+pub record IsTakenWithin (h : ℕ) (before : Construction) (v : ℕ) (after : Construction) : Type 0 where
+  pub sizes : IsSized after
+  pub nodes : after.remaining.nodes ≡ before.remaining.nodes
+  pub step : IsContractionBy (ContractsWithin before.remaining.nodes h) (progress_of before) v (progress_of after)
+  pub size : length after.waiting ≡ length before.waiting
+  pub gone : key_of after.waiting v ≡ None
+  pub same : (x : ℕ) → x ≢ v → is_some (key_of after.waiting x) ≡ is_some (key_of before.waiting x)
+  pub ready : IsJudging h after
 
 -- these nodes have keys, whatever these are, and the keys of the others stay
 abbrev pub HaveKeys : List ℕ → List (Option ℤ) → List (Option ℤ) → Type 0

@@ -4,6 +4,7 @@ mod chains;
 mod estimates;
 mod like;
 mod quick;
+mod steps;
 
 ghost use Rattle.std.specs.Prelude.{◌≡◌, ℕ, ◌<◌, ◌^◌, ◌++◌, All, IfOk, None, length, slice_set};
 ghost use Rattle.ch_graph.specs.Graph.{IsWithinLimits};
@@ -23,7 +24,7 @@ use ch_hierarchy::Hierarchy;
 use ch_queue::KeyQueue;
 use ch_work::{Crew, Gate, Stage};
 pub use like::{OrderError, build_like};
-pub use quick::{build_like_quickly, build_quickly};
+pub use quick::{build_like_quickly, build_quickly, build_quickly_alone};
 use std::alloc::{AllocError, Global};
 use std::thread::Threads;
 
@@ -90,6 +91,13 @@ fn contract_in_turn<R: Threads + Sync, G: Gate>(
         construction = construction.contract(crew, node, hops, by)?;
     }
     construction.finish()
+}
+
+/// Reports that a ranking begins, unless it has no piece.
+fn tell_ranking<G: Gate>(gate: &G, pieces: u32) {
+    if pieces > 0 {
+        gate.watch(Stage::Ranking, 0, pieces);
+    }
 }
 
 /// Takes a node out of the queue. While no node waits, as before the first priorities, this reads no memory for the node.
@@ -203,8 +211,7 @@ impl Construction {
             hops,
             by,
         };
-        let pieces = crew.plan.pieces(nodes.len() as u32);
-        crew.gate.watch(Stage::Ranking, 0, pieces);
+        tell_ranking(crew.gate, crew.plan.pieces(nodes.len() as u32));
         job.set_by_all(crew, nodes, &mut self.rooms, &mut self.waiting)?;
         Ok(self)
     }

@@ -8,7 +8,8 @@
 //! - [`build_like`] and [`build_like_alone`] make the hierarchy in an order like a given one: its first nodes come
 //!   as given, and the last per cent are ordered afresh by depth.
 //! - [`build_quickly`] makes a kept hierarchy whose order no rule names, in the least time, and [`build_like_quickly`]
-//!   one that begins like a given one. They are for answers that do not depend on the order.
+//!   one that begins like a given one. They are for answers that do not depend on the order. [`build_quickly_alone`]
+//!   starts no thread.
 #![tactic(auto)]
 
 mod construction;
@@ -16,5 +17,5 @@ mod priority;
 
 pub use construction::{
     OrderError, build, build_alone, build_in_turn, build_like, build_like_alone,
-    build_like_quickly, build_quickly,
+    build_like_quickly, build_quickly, build_quickly_alone,
 };

@@ -1,7 +1,7 @@
 //! Answers to many queries.
 
+pub(crate) mod one;
 mod query_job;
-mod route_job;
 
 ghost use Rattle.std.specs.Prelude.{◌≡◌, ◌≤◌, length, All, IfOk};
 ghost use Rattle.std.specs.List.{AllZip};
@@ -13,9 +13,8 @@ ghost use Rattle.ch_query.specs.Replies.{AreQueries, IsReply};
 use crate::scratch::Scratch;
 use ch_graph::InArc;
 use ch_hierarchy::Hierarchy;
-use ch_work::{Crew, Gate, Stage, run_list, run_list_in};
+use ch_work::{Crew, Gate, Stage, run_list_in};
 use query_job::QueryJob;
-use route_job::RouteJob;
 use std::alloc::AllocError;
 use std::marker::Model;
 use std::thread::Threads;
@@ -61,12 +60,8 @@ pub fn answer_all<R: Threads + Sync, G: Gate>(
     requires count { length queries.now ≤ MOST_QUERIES }
     ensures { IfOk result (λ answers. AllZip (IsReply hierarchy.now routes) queries.now answers.items) }
 {
-    crew.gate.watch(Stage::Answering, 0, crew.plan.pieces(queries.len() as u32));
-    if routes {
-        return run_list(crew, queries, &RouteJob { hierarchy });
-    }
-    let job = QueryJob { hierarchy, routes };
-    run_list(crew, queries, &job)
+    let mut scratches = Vec::new(crew.alloc);
+    answer_all_in(crew, hierarchy, &mut scratches, queries, routes)
 }
 
 /// Like [`answer_all`], but in scratches that stay, one for each worker. It is for callers that ask again

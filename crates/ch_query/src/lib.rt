@@ -12,7 +12,8 @@
 //! - [`ranked_spaces`] lists, for each node of a list, the nodes that distances lead over, and
 //!   [`ranked_spaces_alone`] does the same without threads. [`lower_by_search`] lowers the words of a row by
 //!   a search space and buckets.
-//! - [`answer_all`] returns the answers to many queries in their order, for every plan.
+//! - [`answer_one`] returns the answer to a query, and [`answer_all`] those to many queries in their order, for every
+//!   plan.
 //!
 //! Proved on every hierarchy with levels: [`spread`] lists all that a node reaches by legs to higher nodes,
 //! with the exact least costs.
@@ -31,6 +32,7 @@ mod sides;
 mod start;
 mod weights;
 
+pub use answer::one::{answer_one, answer_with_route};
 pub use answer::{Answer, answer_all, answer_all_in};
 pub use checking::{check, check_alone, check_watched};
 pub use routes::Route;
@@ -38,6 +40,6 @@ pub use routes::query::route;
 pub use routes::unpacking::PendingLeg;
 pub use routes::way::route_legs;
 pub use scratch::Scratch;
-pub use sides::spread;
+pub use sides::{Sides, spread};
 pub use start::Start;
 pub use weights::{Lowering, distance, lower_by_search, ranked_spaces, ranked_spaces_alone};

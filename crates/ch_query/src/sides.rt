@@ -13,10 +13,10 @@ pub use spreading::spread;
 use std::alloc::{AllocError, Global};
 use std::marker::Model;
 
-/// Two searches for costs, one for each side, as they are between queries. Contracts see the number of
+/// Two searches for costs, one for each side, as they are between queries for routes. Contracts see the number of
 /// nodes that they have room for.
 #[derive(Drop)]
-pub(crate) struct Sides {
+pub struct Sides {
     pub(crate) up: Search,
     pub(crate) down: Search,
 }
@@ -33,8 +33,11 @@ impl Model for Sides {
 }
 
 impl Sides {
-    /// Makes two clean searches with room for `nodes` nodes.
-    pub(crate) fn new(alloc: Global, nodes: u32) -> Result<Sides, AllocError>
+    /// Makes two clean searches with room for `nodes` nodes. They request 104 bytes for each node, and write 48 of them.
+    ///
+    /// # Errors
+    /// `AllocError` if there is no memory, or `nodes` is more than 2^31 - 1.
+    pub fn new(alloc: Global, nodes: u32) -> Result<Sides, AllocError>
         ensures { IfOk result (λ s. s ≡ nodes) }
     {
         let up = Search::new(alloc, Side::Up, nodes)?;

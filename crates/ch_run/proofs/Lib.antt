@@ -1,6 +1,6 @@
 -- The lemmas on runs: how inputs are read and texts written, what the story of each run says, and that texts are unique.
+pub mod Lines
 pub mod Texts
-pub mod Ranges
 pub mod RowTexts
 pub mod OneText
 pub mod OneRun

@@ -10,6 +10,7 @@ pub mod Loaded
 pub mod SavedTextLaws
 pub mod TextLaws
 pub mod Text
+pub mod Lines
 pub mod TableText
 pub mod NearText
 pub mod Ask

@@ -1,5 +1,5 @@
 -- The promises of a run that writes near rows.
-use Rattle.std.specs.Prelude.{◌≡◌, ◌⊎◌, ℕ, ◌<◌, ◌≤◌, List, length, All, Option, Some, None, Result, Vec}
+use Rattle.std.specs.Prelude.{◌≡◌, ◌⊎◌, ℕ, ◌<◌, ◌≤◌, List, length, All, Option, Some, None, Result, Vec, ⊤}
 use Rattle.std.specs.declared.alloc.Global.{Global}
 use Rattle.ch_graph.specs.declared.limits.TheConstants.{MOST_LISTED}
 use Rattle.ch_read.specs.declared.fault.ReadFault.{ReadFault}
@@ -44,6 +44,11 @@ sources_among nodes (Some from) = from
 abbrev pub nodes_of_sources : ℕ → Sources (Vec ℕ Global) → List ℕ
 nodes_of_sources nodes Each = nodes_in_order nodes
 nodes_of_sources nodes (Listed list) = list.items
+
+-- the list of sources, if it is one, is within the limit
+abbrev pub AreFewSources : Sources (Vec ℕ Global) → Type 0
+AreFewSources Each = ⊤
+AreFewSources (Listed list) = length list.items ≤ MOST_LISTED
 
 -- the list of sources was accepted, if one is read
 abbrev pub AcceptsAnySources : ReadingIf → ℕ → Type 0

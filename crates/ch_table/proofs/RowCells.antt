@@ -4,6 +4,7 @@ use Rattle.std.proofs.Common.{get_or, sym, ◌∙◌, ap, subst, arith, inl, inr
 use Rattle.std.specs.Prelude.{slice_index, slice_index_or}
 use Rattle.std.proofs.lemmas.Bool.{cases_lt, le-leb, lt-leb}
 use Rattle.std.proofs.lemmas.List.{get_or-map, get_or-replicate, length-map, length-replicate}
+use Rattle.ch_graph.specs.declared.cost.TheConstants.{UNREACHED}
 use Rattle.ch_graph.specs.declared.limits.TheConstants.{MOST_SUM}
 use Rattle.ch_hierarchy.specs.Hierarchy.{LevelsAndLegs}
 use Rattle.ch_hierarchy.specs.declared.side.Side.TheVariants.{Up, Down}
@@ -11,7 +12,6 @@ use Rattle.ch_query.specs.Limits.{IsDistanceWithin}
 use Rattle.ch_query.specs.SearchSpace.{IsRankedSpace}
 use Rattle.ch_query.specs.SearchSpaceLaws.{IsSharedSum, IsLeastSharedSum}
 use Rattle.ch_query.proofs.two_sides.SharedSums.{ranked_spaces_give_distance}
-use Rattle.ch_table.specs.declared.row.TheConstants.{UNREACHED}
 use Rattle.ch_query.specs.Lowered.{AreLowered}
 use Rattle.ch_table.specs.Rows.{AreTargetsOf, IsMostSum, IsSumOf, cell_of}
 use Rattle.ch_table.specs.Table.{IsRowBy}

@@ -9,9 +9,9 @@ ghost use Rattle.ch_query.specs.SearchSpace.{IsRankedSpace};
 ghost use Rattle.ch_table.specs.Table.{AreGathered, IsRowBy};
 
 use crate::cells::Table;
-use crate::row::{RowRoom, UNREACHED, Words, write_cells};
+use crate::row::{RowRoom, Words, write_cells};
 use crate::row_job::RowJob;
-use ch_graph::{Rows, gather};
+use ch_graph::{Rows, UNREACHED, gather};
 use ch_hierarchy::{Hierarchy, Side};
 use ch_query::{Scratch, Start, lower_by_search, ranked_spaces, ranked_spaces_alone};
 use ch_work::{Crew, Gate, RoomJob, Stage, run_pieces_in};

@@ -5,13 +5,10 @@ ghost use Rattle.ch_query.specs.Lowered.{AreLowered};
 ghost use Rattle.ch_table.specs.Rows.{IsMostSum, IsSumAt, cell_of};
 ghost use Rattle.ch_table.specs.Sums.{IsEntryAmong};
 
+use ch_graph::UNREACHED;
 use ch_graph::limits::MOST_SUM;
 use ch_query::Lowering;
 use std::alloc::{AllocError, Global};
-
-/// The word of a place that no sum has reached. It is more than any sum, and adding to it does not
-/// overflow.
-pub(crate) const UNREACHED: u64 = 2 * MOST_SUM;
 
 /// What is needed for one row after the other: a word for each target, and the cells that are made of
 /// the words.

@@ -25,6 +25,6 @@ pub use device::{
     WriteOnce, WriterOutput, read_all, write_all,
 };
 pub use hierarchy_text::save_text;
-pub use near_text::{push_near_row, push_near_rows};
+pub use near_text::push_near_row;
 pub use short_text::ShortText;
-pub use text::{answers_text, push_row};
+pub use text::{push_answer, push_row};

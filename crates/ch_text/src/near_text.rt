@@ -1,31 +1,16 @@
 //! The text of near rows, with nodes counted from 1. Each source has a line `n S K`. After it come its K
 //! targets, each with its distance.
-ghost use Rattle.std.specs.Prelude.{◌≡◌, ◌<◌, ◌++◌, length, flat_map, map, All, OnOk};
-ghost use Rattle.std.specs.List.{zip};
+ghost use Rattle.std.specs.Prelude.{◌≡◌, ◌<◌, ◌++◌, length, flat_map, All, OnOk};
 ghost use Rattle.ch_text.specs.NearText.{near_pair_text, near_row_text};
 
 use crate::short_text::ShortText;
 use crate::text::push_all;
 use std::alloc::AllocError;
 
-/// Adds the near row of each source, in order. A row has pairs of a distance and a place in the list of targets.
-pub fn push_near_rows(
-    text: &mut Vec<u8>,
-    sources: &[u32],
-    targets: &[u32],
-    rows: &[Vec<(u64, u32)>],
-) -> Result<(), AllocError>
-    requires rows { length rows.now ≡ length sources.now }
-    requires places { All (λ row. All (λ e. e.1 < length targets.now) row.items) rows.now }
-    ensures { OnOk result (text.new.items ≡ text.old.items ++ flat_map (near_row_text targets.now) (zip sources.now (map (λ row. row.items) rows.now))) }
-{
-    for (place, source) in sources.iter().enumerate() {
-        push_near_row(text, *source, targets, &rows[place])?;
-    }
-    Ok(())
-}
-
-/// Adds the near row of a source.
+/// Adds the near row of a source to a text. A row has pairs of a distance and a place in the list of targets.
+///
+/// # Errors
+/// `AllocError` if there is no memory for it. The text may then end in a part of the row.
 pub fn push_near_row(
     text: &mut Vec<u8>,
     source: u32,

@@ -1,7 +1,7 @@
 //! The texts of answers and tables, with nodes counted from 1. An answer is a line `d S T X`, with `-`
 //! for the distance if there is no walk. If it has a route, a line `r K` and K lines `a U V W` follow. A
 //! row of a table is a line `t S`, with the distance to each target after it.
-ghost use Rattle.std.specs.Prelude.{◌≡◌, ◌++◌, flat_map, Some, IfOk, OnOk};
+ghost use Rattle.std.specs.Prelude.{◌≡◌, ◌++◌, flat_map, Some, OnOk};
 ghost use Rattle.ch_text.specs.Routes.{answer_text, arc_text, route_text};
 ghost use Rattle.ch_text.specs.Distances.{distance_text};
 ghost use Rattle.ch_text.specs.TableText.{cell_text, row_text};
@@ -9,20 +9,20 @@ ghost use Rattle.ch_text.specs.TableText.{cell_text, row_text};
 use crate::short_text::ShortText;
 use ch_graph::InArc;
 use ch_query::Answer;
-use std::alloc::{AllocError, Global};
+use std::alloc::AllocError;
 
-/// Returns the text of the answers, in order.
+/// Adds an answer to a text, with its route if it has one.
 ///
 /// # Errors
-/// `AllocError` if there is no memory for it.
-pub fn answers_text(alloc: Global, answers: &[Answer]) -> Result<Vec<u8>, AllocError>
-    ensures { IfOk result (λ text. text.items ≡ flat_map answer_text answers.now) }
+/// `AllocError` if there is no memory for it. The text may then end in a part of the answer.
+pub fn push_answer(text: &mut Vec<u8>, answer: &Answer) -> Result<(), AllocError>
+    ensures { OnOk result (text.new.items ≡ text.old.items ++ answer_text answer.now) }
 {
-    let mut text = Vec::new(alloc);
-    for answer in answers {
-        push_answer(&mut text, answer)?;
+    push_distance(text, answer)?;
+    match &answer.arcs {
+        Some(arcs) => push_route(text, arcs),
+        None => Ok(()),
     }
-    Ok(text)
 }
 
 /// Adds the row of a source to a text.
@@ -53,17 +53,6 @@ fn push_cells(text: &mut Vec<u8>, cells: &[Option<u64>]) -> Result<(), AllocErro
         push_all(text, short.as_slice())?;
     }
     Ok(())
-}
-
-/// Adds an answer, with its route if it has one.
-fn push_answer(text: &mut Vec<u8>, answer: &Answer) -> Result<(), AllocError>
-    ensures { OnOk result (text.new.items ≡ text.old.items ++ answer_text answer.now) }
-{
-    push_distance(text, answer)?;
-    match &answer.arcs {
-        Some(arcs) => push_route(text, arcs),
-        None => Ok(()),
-    }
 }
 
 /// Adds the line of a distance.

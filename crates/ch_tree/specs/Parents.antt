@@ -29,6 +29,10 @@ pub record AreParentsTo (n : ℕ) (order : List ℕ) (rows : List (List ℕ)) (c
 abbrev pub AreParentsOf : ℕ → List ℕ → List (List ℕ) → List ℕ → Type 0
 AreParentsOf n order rows parents = AreParentsTo n order rows n parents
 
+-- the same of a topology
+abbrev pub AreParentsIn : OrderAndPairs → List ℕ → Type 0
+AreParentsIn f parents = AreParentsOf (length f.pairs) f.order f.pairs parents
+
 -- the tree of a topology is a tree for each hierarchy that is customized in it
 abbrev pub TreesFit : Type 0
 TreesFit = (g : Network) (H : LevelsAndLegs) (order : List ℕ) (L : ℕ → Legs) (rows : List (List ℕ)) (parents : List ℕ) →

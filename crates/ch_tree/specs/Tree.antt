@@ -119,9 +119,9 @@ pub record IsCleared (parents : List ℕ) (place : ℕ) (old costs : List ℕ) :
   pub within : place ≤ length old
   pub known : AreKnownAbove parents place costs
 
--- each known weight is that of a path up from s, and none of these paths weighs less; a node without such a path has NEVER
-pub record AreUpCosts (H : LevelsAndLegs) (side : Side) (s : ℕ) (costs : List ℕ) : Type 0 where
+-- each known weight is that of a path up from s, and no path that weighs at most `most` weighs less; a node without a path has NEVER
+pub record AreUpCosts (H : LevelsAndLegs) (side : Side) (s most : ℕ) (costs : List ℕ) : Type 0 where
   pub found : (v : ℕ) → v < nodes_of H → weight_at costs (rank_of H v) < NEVER → (c : Cost) × IsUpwardCost (rows_of H side) s v c
       × (c.weight ≡ weight_at costs (rank_of H v))
   pub least : (v : ℕ) (legs : List Leg) → v < nodes_of H → IsUpwardPath (rows_of H side) s v legs →
-      (path_cost legs).weight ≤ MOST_WEIGHT → weight_at costs (rank_of H v) ≤ (path_cost legs).weight
+      (path_cost legs).weight ≤ most → weight_at costs (rank_of H v) ≤ (path_cost legs).weight

@@ -2,11 +2,10 @@
 ghost use Rattle.std.specs.Prelude.{◌≡◌, ℕ, ◌+◌, ◌<◌, ◌≤◌, Contains, IfOk, length, slice_index};
 ghost use Rattle.ch_graph.specs.declared.limits.TheConstants.{MOST_NODES};
 ghost use Rattle.ch_hierarchy.specs.Saved.{AreLevelsOf};
-ghost use Rattle.ch_custom.specs.Customizing.{AreClosed, IsTopology, Lowers};
-ghost use Rattle.ch_custom.specs.Topologies.{IsSound, legs_after};
-ghost use Rattle.ch_contract.specs.Built.{IsHierarchyIn};
+ghost use Rattle.ch_custom.specs.Customizing.{AreClosed, IsTopology};
+ghost use Rattle.ch_custom.specs.Topologies.{IsSound, IsCustomized};
 ghost use Rattle.ch_tree.specs.Tree.{IsTree};
-ghost use Rattle.ch_tree.specs.Parents.{IsHighest, AreParentsOf, IsTreeOf};
+ghost use Rattle.ch_tree.specs.Parents.{IsHighest, AreParentsIn, AreParentsOf, IsTreeOf};
 
 use ch_custom::Topology;
 use ch_graph::{Graph, Rows};
@@ -20,7 +19,7 @@ use std::alloc::{AllocError, Global};
 /// `AllocError` if there is no memory for the list.
 pub fn tree_of(alloc: Global, topology: &Topology) -> Result<Vec<u32>, AllocError>
     requires closed { AreClosed (length topology.now.pairs) topology.now.order topology.now.pairs }
-    ensures parents { IfOk result (λ parents. AreParentsOf (length topology.now.pairs) topology.now.order topology.now.pairs parents.items) }
+    ensures parents { IfOk result (λ parents. AreParentsIn topology.now parents.items) }
     ensures fits { IfOk result (λ parents. IsTreeOf topology.now parents.items) }
 {
     places_above(alloc, topology.order(), topology.levels(), topology.rows())
@@ -38,7 +37,7 @@ pub fn tree_for(
 ) -> Result<Vec<u32>, AllocError>
     requires nodes { length topology.now.pairs ≡ graph.now.nodes }
     requires topology { IsTopology graph.now topology.now.order topology.now.pairs }
-    requires hierarchy { IsHierarchyIn (Lowers graph.now.nodes) graph.now hierarchy.now topology.now.order (legs_after graph.now topology.now.order) }
+    requires hierarchy { IsCustomized graph.now topology.now.order hierarchy.now }
     ensures { IfOk result (λ parents. IsTree hierarchy.now parents.items) }
 {
     let _nodes = hierarchy.nodes() == graph.nodes();

@@ -15,7 +15,7 @@ use clap::{Arg, Command};
 use std::alloc::{AllocError, Global};
 
 /// The version of the program, and the line of the kit that it is proved with. The file VERSION has both.
-const VERSION: &str = "1.2\nrattle-kit-13f logic dac8208d650f15bf";
+const VERSION: &str = "1.3\nrattle-kit-13f logic dac8208d650f15bf";
 
 /// What follows the help of `ask`.
 const REQUESTS: &str = "Requests, one a line:\n  \

@@ -60,8 +60,12 @@ def words_of(arguments: Sequence[str]) -> argparse.Namespace:
     parser.add_argument("--metric", choices=UNITS, default="time", help="weights are milliseconds of travel, or metres (time)")
     parser.add_argument("--turns", action="store_true", help="no turn is taken that the map forbids: a crossing with such turns becomes several nodes")
     parser.add_argument(
+        "--turn-costs", action="store_true",
+        help="the same, and turns cost time by their angle, as do traffic lights and turning back: each arc of a road has nodes of its own",
+    )
+    parser.add_argument(
         "--turning-back", choices=("crossings", "dead-ends"), default="crossings",
-        help="with --turns: one turns back at dead ends and crossings, or at dead ends alone, which takes four times as many nodes (crossings)",
+        help="with --turns or --turn-costs: one turns back at dead ends and crossings, or at dead ends alone, for which --turns takes four times as many nodes (crossings)",
     )
     parser.add_argument(
         "--nodes", choices=("crossings", "all"), default="crossings",
@@ -78,7 +82,7 @@ def words_of(arguments: Sequence[str]) -> argparse.Namespace:
     parser.add_argument("--no-ferries", action="store_false", dest="ferries", help="leave ferries out")
     parser.add_argument("--bends", action="store_true", help="write OUT.bends, to draw roads with their bends")
     parser.add_argument("--names", action="store_true", help="write OUT.names, to call roads by their names and to tell turns")
-    parser.add_argument("--driving-side", choices=files.SIDES, default="right", help="the side of the road that is driven on, for OUT.names (right)")
+    parser.add_argument("--driving-side", choices=files.SIDES, default="right", help="the side of the road that is driven on, for OUT.names and --turn-costs (right)")
     parser.add_argument("--log", metavar="FILE", help="write a line of CSV for each object that was left out or ignored: its number, and why")
     parser.add_argument("--quiet", action="store_true", help="write nothing on standard error")
     parser.add_argument(
@@ -87,8 +91,10 @@ def words_of(arguments: Sequence[str]) -> argparse.Namespace:
     )
     parser.add_argument("out", metavar="OUT", help="the files that are written, without their suffix")
     found = parser.parse_args(arguments)
-    if found.turning_back != "crossings" and not found.turns:
-        parser.error("--turning-back is about turns: give --turns too")
+    if found.turning_back != "crossings" and not (found.turns or found.turn_costs):
+        parser.error("--turning-back is about turns: give --turns or --turn-costs too")
+    if found.turn_costs and (found.profile, found.metric) != ("car", "time"):
+        parser.error("--turn-costs are milliseconds of cars: leave --profile and --metric out")
     return found
 
 

@@ -86,6 +86,10 @@ def parser_of() -> cli.Parser:
         help="serve the network OUT to clients of OSRM's interface that ask for the profile NAME; it may be given several times. OUT.ch is its saved "
              "hierarchy, if it exists. The first one is that of the page. NAME/CLASSES, as car/toll, is the network for those that exclude these classes",
     )
+    parser.add_argument(
+        "--prepare", action="store_true",
+        help="serve nothing: write OUT.mapped, with which a service of the same files starts sooner",
+    )
     add_listening(parser)
     add_engines(parser)
     add_limits(parser)
@@ -207,6 +211,10 @@ def main(words: Sequence[str]) -> None:
     sys.setswitchinterval(TURN)
     networks = named(found)
     more = {"program": found.program, "workers": found.workers, "timeout": found.timeout, "load": found.processes == 1}
+    if found.prepare:
+        with Networks(networks, library=found.library or None, **more | {"load": False}) as served:
+            print(*(each.prepare() for each in served), sep="\n")
+        return
     # A port that is taken is reported before the time that reading takes.
     port = port_at(found.host, found.port, found.takeover)
     with Networks(networks, library=found.library or None, **more) as served:
@@ -235,12 +243,14 @@ def serve_all(words: argparse.Namespace, networks: Networks, choices: Choices, p
         print(port.address, flush=True)
         notify("READY=1")
 
-    if words.processes == 1:
-        return asyncio.run(serve(service(0), port, tell))
-    # What is made before processes are forked is in memory once, as long as nobody writes there: not even the collector of garbage, on what stays.
-    networks.open_once()
+    # What stays is not looked at by the collector of garbage. What is made before processes are forked
+    # is in memory once, as long as nobody writes there.
+    if words.processes > 1:
+        networks.open_once()
     gc.collect()
     gc.freeze()
+    if words.processes == 1:
+        return asyncio.run(serve(service(0), port, tell))
     return Family(words.processes, service, metrics, port, networks.told).run(tell)
 
 

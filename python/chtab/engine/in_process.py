@@ -69,12 +69,16 @@ class InProcess:
     ----------
     setting : opening.Setting
         The files, and how they are answered from.
+    arcs : sequence of array of int, shape (m,), optional
+        The tails, heads and weights of the arcs that the graph's file has, in its order. The library
+        then takes these, and does not read that file.
     """
 
-    def __init__(self, setting: Setting) -> None:
+    def __init__(self, setting: Setting, arcs: Sequence[Integers] | None = None) -> None:
         for path in setting.files():
             open(path, "rb").close()
         self.setting, self.stamps = setting, setting.stamps()
+        self.arcs = arcs
         self.calls = library.loaded(setting.library)
         self.nodes, self.is_closed, self.room = files.count_nodes(setting.graph), False, ROOM
         self.leave_parent()
@@ -117,12 +121,16 @@ class InProcess:
     def opened(self) -> library.Handle:
         """Opens the first handle."""
         setting = self.setting
-        graph = contents_of(setting.graph)
+        graph = contents_of(setting.graph) if self.arcs is None else b""
         saved = self.built() if setting.saved is None else contents_of(setting.saved)
         # Checked after reading, so that what was read is what was there at first.
         self.stamps.see_that_same()
         handle = library.Handle(self.calls)
-        interruptible(LONG, handle.open, graph, saved)
+        if self.arcs is None:
+            interruptible(LONG, handle.open, graph, saved)
+        else:
+            columns = library.columns_of(self.nodes, *self.arcs)
+            interruptible(LONG, handle.open_arrays, self.nodes, *columns, saved)
         if handle.nodes() != self.nodes:
             raise mismatch()
         return handle
@@ -299,21 +307,28 @@ class InProcess:
         rows, columns = (library.nodes_of(nodes, self.nodes) for nodes in (sources, targets))
         found = numpy.empty((len(rows), len(columns)), numpy.int64)
         limit = library.NO_LIMIT if within is None else within
+
+        def ask(handle: library.Handle, some: tuple[slice, slice]) -> None:
+            found[some] = handle.table(rows[some[0]], columns[some[1]], limit)
+
+        self.in_blocks(len(rows), len(columns), ask, "table", progress)
+        return found
+
+    def in_blocks(
+        self, rows: int, columns: int, call: Callable[[library.Handle, tuple[slice, slice]], None], name: str,
+        progress: Asked = None,
+    ) -> None:
+        """Calls for blocks of a table, which are slices of rows and of columns, until all cells are done."""
         side = SIDE if self.setting.timeout is None else SHORT
-        height, width = self.height_of(len(rows), len(columns), side), max(
-            1, min(len(columns), side)
-        )
-        across = -(-len(columns) // width)
+        height, width = self.height_of(rows, columns, side), max(1, min(columns, side))
+        across = -(-columns // width)
 
         def ask(handle: library.Handle, part: slice) -> None:
             for block in range(part.start, part.stop):
                 row, column = block // across * height, block % across * width
-                some = slice(row, row + height), slice(column, column + width)
-                found[some] = handle.table(rows[some[0]], columns[some[1]], limit)
+                call(handle, (slice(row, row + height), slice(column, column + width)))
 
-        count = -(-len(rows) // height) * across
-        self.in_parts(count, 1, ask, "table", "blocks", progress, height + width)
-        return found
+        self.in_parts(-(-rows // height) * across, 1, ask, name, "blocks", progress, height + width)
 
     def height_of(self, rows: int, columns: int, side: int) -> int:
         """How many rows of a table are made together, so that several threads have a part of it."""
@@ -377,6 +392,23 @@ class InProcess:
                 numpy.add(flows, more, out=flows)
 
         self.in_parts(len(sources), FLOWS, ask, "flows", "pairs", progress)
+        return missed[0], flows
+
+    def flows_table(
+        self, sources: Integers, targets: Integers, demands: NDArray[numpy.uint64], lines: int, progress: Asked = None,
+    ) -> tuple[int, NDArray[numpy.uint64]]:
+        """The same of each source with each target, by demands (k, l)."""
+        rows, columns = (library.nodes_of(nodes, self.nodes) for nodes in (sources, targets))
+        flows, missed, lock = numpy.zeros(lines, numpy.uint64), [0], threading.Lock()
+
+        def ask(handle: library.Handle, some: tuple[slice, slice]) -> None:
+            cells = numpy.ascontiguousarray(demands[some]).reshape(-1)
+            without, more = handle.flows_table(rows[some[0]], columns[some[1]], cells, lines)
+            with lock:
+                missed[0] += without
+                numpy.add(flows, more, out=flows)
+
+        self.in_blocks(len(rows), len(columns), ask, "flows", progress)
         return missed[0], flows
 
     def make_room(self) -> None:

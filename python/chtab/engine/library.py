@@ -24,7 +24,7 @@ if TYPE_CHECKING:
     from chtab.typing import Integers
 
 # The version of the library that this package calls, as `CHTAB_VERSION` of the header has it.
-VERSION = 1_002_000
+VERSION = 1_003_000
 NAME = "libchtab.so.1"
 # The statuses of calls, as in `chtab_status` of the header.
 OK, NO_MEMORY, CLOSED, IS_OPEN, NODE_RANGE, LENGTHS, TOO_LARGE, TOO_SHORT, BAD_GRAPH, BAD_SAVED, WRONG_SAVED, NO_PLACES, SUM_TOO_LARGE, \
@@ -73,6 +73,11 @@ HANDLE = ctypes.POINTER(Block)
 # The arguments of each call. `CDLL` lets other threads run during a call.
 CALLS = {
     "chtab_open": (HANDLE, ctypes.c_char_p, ctypes.c_size_t, ctypes.c_char_p, ctypes.c_size_t, ctypes.POINTER(Fault)),
+    "chtab_open_arrays": (
+        HANDLE, ctypes.c_uint32, *ARRAY, *ARRAY, *ARRAY, ctypes.c_char_p, ctypes.c_size_t,
+        ctypes.POINTER(Fault),
+    ),
+    "chtab_open_quick": (HANDLE, ctypes.c_char_p, ctypes.c_size_t, ctypes.POINTER(Fault)),
     "chtab_open_like": (HANDLE, ctypes.c_char_p, ctypes.c_size_t, HANDLE, ctypes.c_uint32, ctypes.POINTER(Fault)),
     "chtab_share": (HANDLE, HANDLE),
     "chtab_close": (HANDLE,),
@@ -83,6 +88,7 @@ CALLS = {
     "chtab_route": (HANDLE, ctypes.c_uint32, ctypes.c_uint32, ctypes.POINTER(Found), *ARRAY),
     "chtab_routes": (HANDLE, *ARRAY, *ARRAY, ctypes.POINTER(ctypes.c_uint64), *ARRAY, *ARRAY, *ARRAY, *ARRAY),
     "chtab_route_sums": (HANDLE, *ARRAY, *ARRAY, *ARRAY, ctypes.POINTER(ctypes.c_uint64), *ARRAY, *ARRAY),
+    "chtab_flows_table": (HANDLE, *ARRAY, *ARRAY, *ARRAY, ctypes.POINTER(ctypes.c_uint64), *ARRAY),
     "chtab_flows": (HANDLE, *ARRAY, *ARRAY, *ARRAY, ctypes.POINTER(ctypes.c_uint64), *ARRAY),
     "chtab_near_places": (HANDLE, ctypes.c_uint32, *ARRAY, ctypes.c_uint64, ctypes.c_uint32),
     "chtab_near_sweep": (HANDLE,),
@@ -162,6 +168,15 @@ def nodes_of(numbers: ArrayLike, count: int) -> Nodes:
     return lowered.astype(numpy.uint32, order="C")
 
 
+def columns_of(
+    count: int, tails: ArrayLike, heads: ArrayLike, weights: ArrayLike,
+) -> tuple[Nodes, Nodes, Unsigned]:
+    """The columns of arcs as the library takes them: nodes from 1 to `count` as it counts them, and
+    weights of uint64."""
+    unsigned = numpy.asarray(weights).astype(numpy.uint64, order="C")
+    return nodes_of(tails, count), nodes_of(heads, count), unsigned
+
+
 def close(call: Callable[[Any], int], block: Block, owner: int) -> None:
     """Closes an open handle, unless this process was forked from its owner."""
     if os.getpid() == owner:
@@ -188,21 +203,43 @@ class Handle:
         raise TypeError("a handle is neither copied nor pickled")
 
     def open(self, graph: bytes, saved: bytes | None = None) -> None:
-        """Opens the network of a graph and its saved hierarchy, given as the bytes of both files. Without `saved` the library builds a hierarchy by
-        depth.
+        """Opens the network of a graph and its saved hierarchy, given as the bytes of both files. Without `saved` the library builds a hierarchy,
+        in an order that takes little time to find.
 
         Raises a `ProgramFault` if a file is refused.
         """
         if type(graph) is not bytes or saved is not None and type(saved) is not bytes:
             raise TypeError("files are bytes")
-        # Without any bytes the library would build a hierarchy. An empty file has to be a fault, so the library gets an empty line in its place.
-        given, fault = b"" if saved is None else saved or b"\n", Fault()
+        given, fault = given_bytes(saved), Fault()
         with self.lock:
-            status = self.calls.chtab_open(self.at, graph, len(graph), given, len(given), ctypes.byref(fault))
-        if status == BAD_SAVED and not saved:
-            fault.line = 1
-        if status:
-            raise fault_of(status, fault)
+            if saved is None:
+                status = self.calls.chtab_open_quick(self.at, graph, len(graph), ctypes.byref(fault))
+            else:
+                words = graph, len(graph), given, len(given), ctypes.byref(fault)
+                status = self.calls.chtab_open(self.at, *words)
+        see_that_opened(status, fault, saved)
+
+    def open_arrays(
+        self, nodes: int, tails: Nodes, heads: Nodes, weights: Unsigned, saved: bytes | None = None,
+    ) -> None:
+        """Opens the network of a graph that is given as columns, and of its saved hierarchy, as
+        `open` takes it: arc k leads from `tails[k]` to `heads[k]`, nodes from 0 on, and weighs
+        `weights[k]`.
+
+        Raises a `ProgramFault` if the graph or the file is refused.
+        """
+        if saved is not None and type(saved) is not bytes:
+            raise TypeError("files are bytes")
+        are_long = len(tails) == len(heads) == len(weights)
+        if type(nodes) is not int or not 0 <= nodes < 2**32 or not are_long:
+            raise ValueError("a graph has a number of nodes, and columns of one length")
+        ends = address(tails, numpy.uint32), len(tails), address(heads, numpy.uint32), len(heads)
+        columns = *ends, address(weights, numpy.uint64), len(weights)
+        given, fault = given_bytes(saved), Fault()
+        words = *columns, given, len(given), ctypes.byref(fault)
+        with self.lock:
+            status = self.calls.chtab_open_arrays(self.at, nodes, *words)
+        see_that_opened(status, fault, saved)
 
     def open_like(self, graph: bytes, other: Handle, fresh: int) -> None:
         """Opens the network of a graph with as many nodes as that of another handle, whose hierarchy is built in the order of that one's. Only the
@@ -359,6 +396,14 @@ class Handle:
         """The number of pairs without a walk, of the sources and the targets beside them, columns of uint32, nodes from 0 on; and the flow on each of
         the `lines` of the graph's file, uint64: the sum of the demands of the pairs whose routes take its arc. Raises a `ValueError` if a flow is more
         than 2^63."""
+        return self.flows_by(self.calls.chtab_flows, sources, targets, demands, lines)
+
+    def flows_table(self, sources: Nodes, targets: Nodes, demands: Unsigned, lines: int) -> tuple[int, Unsigned]:
+        """The same of each source with each target, by the demands of all cells, uint64, row after row."""
+        return self.flows_by(self.calls.chtab_flows_table, sources, targets, demands, lines)
+
+    def flows_by(self, call: Callable[..., int], sources: Nodes, targets: Nodes, demands: Unsigned, lines: int) -> tuple[int, Unsigned]:
+        """What a call of the library gives of flows."""
         missed, flows = ctypes.c_uint64(), numpy.empty(lines, numpy.uint64)
         given: list[Any] = []
         columns: list[tuple[NDArray[Any], type]] = [(sources, numpy.uint32), (targets, numpy.uint32), (demands, numpy.uint64)]
@@ -366,7 +411,7 @@ class Handle:
             given += [address(array, kind), len(array)]
         given += [ctypes.byref(missed), address(flows, numpy.uint64, True), len(flows)]
         with self.lock:
-            status = self.calls.chtab_flows(self.at, *given)
+            status = call(self.at, *given)
         if status == SUM_TOO_LARGE:
             raise ValueError("a flow is more than 2^63")
         see_that_done(status)
@@ -442,6 +487,21 @@ def see_that_done(status: int) -> None:
         raise ProgramFault(f"chtab's library answered {status}", 0)
 
 
+def given_bytes(saved: bytes | None) -> bytes:
+    """The bytes of a saved hierarchy, as the library takes them; none where it builds one. An empty
+    file has to be a fault, and without any bytes the library would build a hierarchy. So it gets an
+    empty line in its place."""
+    return b"" if saved is None else saved or b"\n"
+
+
+def see_that_opened(status: int, fault: Fault, saved: bytes | None) -> None:
+    """Raises the fault of a graph and a saved hierarchy that the library refuses."""
+    if status == BAD_SAVED and not saved:
+        fault.line = 1
+    if status:
+        raise fault_of(status, fault)
+
+
 def fault_of(status: int, fault: Fault) -> ProgramFault:
     """The fault of files that the library refuses, in the words of the program."""
     kind = KINDS[fault.kind] if fault.kind < len(KINDS) else str(fault.kind)
@@ -449,5 +509,8 @@ def fault_of(status: int, fault: Fault) -> ProgramFault:
         see_that_done(status)
     if status == WRONG_SAVED:
         return ProgramFault(f"chtab: saved hierarchy refused: {kind}", 1, kind=kind, place=fault.place)
+    if status == BAD_GRAPH and not fault.line:
+        text = f"chtab: graph arc {fault.place}: {kind}"
+        return ProgramFault(text, 1, kind=kind, place=fault.place)
     which = "graph" if status == BAD_GRAPH else "saved"
     return ProgramFault(f"chtab: {which} line {fault.line}: {kind}", 1, line=fault.line, kind=kind)

@@ -13,11 +13,14 @@ from typing import TYPE_CHECKING, Any
 import numpy
 
 from chtab import files
-from chtab.engine import folders, running as running_of
+from chtab.engine import folders, library, running as running_of
+from chtab.engine.interruptible import LONG, interruptible
 from chtab.errors import FileFault
 from chtab.files.node_labels import Labels, fixed
 
 if TYPE_CHECKING:
+    import ctypes
+
     from chtab.engine.in_process import InProcess
     from chtab.engine.library import Handle
     from chtab.engine.opening import Running
@@ -33,6 +36,8 @@ GRAPH, SAVED, COORDINATES, BENDS, LABELS = (
     "network.json",
 )
 NAMES, STREETS, WAYS = "network.nodes", "network.names", "network.ways"
+# The text of a hierarchy mostly has fewer bytes than this for each node and arc.
+BYTES = 64
 
 
 @contextlib.contextmanager
@@ -63,10 +68,13 @@ def see_that_free(folder: str) -> None:
         )
 
 
-def write(arcs: Arcs, folder: str, program: str, running: Running) -> Handle | None:
-    """Writes the files of arcs into a folder, and builds their hierarchy. `running` has the number
-    of workers, the network in whose order it is built, and where progress is reported. Returns a
-    handle of the network if it was built in this process."""
+def write(
+    arcs: Arcs, folder: str, program: str, calls: ctypes.CDLL, running: Running,
+) -> Handle | None:
+    """Writes the files of arcs into a folder, and builds their hierarchy, by the program or by the
+    calls of the library. `running` has the number of workers, the network in whose order it is
+    built, and where progress is reported. Returns a handle of the network if it was built in this
+    process."""
     graph, saved, coordinates, bends, labels = (
         os.path.join(folder, name) for name in (GRAPH, SAVED, COORDINATES, BENDS, LABELS)
     )
@@ -91,6 +99,8 @@ def write(arcs: Arcs, folder: str, program: str, running: Running) -> Handle | N
             files.write_bends(bends, arcs.bends)
     with naming(labels):
         files.write_labels(labels, labelling_of(arcs, digest_of(graph)))
+    if running.like is None and running.workers == 1 and not running.progress:
+        return save_alone(arcs, calls, saved)
     return build(program, graph, saved, running)
 
 
@@ -172,6 +182,17 @@ def build(program: str, graph: str, saved: str, running: Running) -> Handle | No
         running_of.save(program, graph, saved, [*fresh, *workers], running.progress)
         return None
     return save_like(like._engine, graph, saved, running.fresh)
+
+
+def save_alone(arcs: Arcs, calls: ctypes.CDLL, saved: str) -> Handle:
+    """Builds the hierarchy of arcs in this process, and saves it. Returns a handle of its
+    network."""
+    handle, nodes = library.Handle(calls), arcs.labels.count
+    columns = library.columns_of(nodes, arcs.tails, arcs.heads, arcs.weights)
+    interruptible(LONG, handle.open_arrays, nodes, *columns)
+    with naming(saved), open(saved, "wb") as out:
+        out.write(handle.save(BYTES * (nodes + len(arcs.tails))))
+    return handle
 
 
 def save_like(giver: InProcess, graph: str, saved: str, fresh: int) -> Handle:

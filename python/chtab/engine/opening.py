@@ -181,14 +181,14 @@ def made(
     program = program_of(running.program)
     see_to(program)
     # Said before a hierarchy is built.
-    library.loaded(library_of(program, running.library))
+    calls = library.loaded(library_of(program, running.library))
     if folder is not None:
         with making.begun(folder) as part:
-            handle = making.write(arcs, part, program, running)
+            handle = making.write(arcs, part, program, calls, running)
         return of_folder(os.path.realpath(folder), running), None, handle
     kept = folders.Folder()
     try:
-        handle = making.write(arcs, kept.path, program, running)
+        handle = making.write(arcs, kept.path, program, calls, running)
         return of_folder(kept.path, running), kept, handle
     except BaseException:
         kept.remove()

@@ -11,6 +11,8 @@
 | `arcs` | roads as arcs between nodes: crossings, dead ends and barriers; metres between places |
 | `restrictions` | relations that forbid turns |
 | `turns` | nodes that are split so that no walk makes a forbidden turn |
+| `turning_back` | where drivers may turn back |
+| `turn_costs` | the graph of the ends of roads, in which turns cost time |
 | `parts` | strongly connected components |
 | `report` | the table of what was left out |
 | `converting` | all of these in order, and the files written |

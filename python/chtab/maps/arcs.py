@@ -32,7 +32,8 @@ class Network:
     Node k is the map's node `names[k]`, at `places[k]`; several nodes may be the same one of the map. Arc k leads from `tails[k]` to `heads[k]`, has
     the weight `weights[k]`, and is one direction of piece `pieces[k]`, which is part of way `ways[pieces[k]]`. `bends` has the places between the
     ends of each arc, and `streets` the number of its street or None; both are None unless they are wanted. Where turns are restricted, `ends` has the
-    node where trips to a node end, {end: node}, and `copies` the other copies of a node, {copy: node}.
+    node where trips to a node end, {end: node}, and `copies` the other copies of a node, {copy: node}. `ferries` are the pieces of ferries, and `lit`
+    the arcs that lead to a traffic light.
     """
 
     def __init__(self, with_bends: bool = False, with_names: bool = False) -> None:
@@ -47,6 +48,8 @@ class Network:
         self.streets: list[int | None] | None = [] if with_names else None
         self.ends: dict[int, int] = {}
         self.copies: dict[int, int] = {}
+        self.ferries: set[int] = set()
+        self.lit: set[int] = set()
 
     def add_node(self, name: int, place: Point) -> int:
         self.names.append(name)
@@ -67,14 +70,22 @@ class Network:
         if self.streets is not None:
             self.streets.append(street)
 
-    def add_piece(self, tail: int, head: int, weights: tuple[int | None, int | None], road: Road, bends: list[Point] | None) -> None:
-        """Adds the arcs of a road between two of its nodes, first along it and then against it, if they have weights."""
-        piece, (along, against), streets = len(self.ways), weights, road.streets or (None, None)
+    def add_piece(
+        self, ends: tuple[int, int], weights: tuple[int | None, int | None], are_lit: tuple[bool, bool],
+        road: Road, bends: list[Point] | None,
+    ) -> None:
+        """Adds the arcs of a road between two of its nodes, first along it and then against it, if
+        they have weights; and whether they lead to a light."""
+        piece, (tail, head), streets = len(self.ways), ends, road.streets or (None, None)
         self.ways.append(road.number)
-        if along is not None:
-            self.add_arc(tail, head, along, piece, bends, streets[0])
-        if against is not None:
-            self.add_arc(head, tail, against, piece, bends and bends[::-1], streets[1])
+        if road.rule.is_ferry:
+            self.ferries.add(piece)
+        for side, (weight, is_lit) in enumerate(zip(weights, are_lit)):
+            if weight is not None:
+                if is_lit:
+                    self.lit.add(len(self.tails))
+                pair, points = ((head, tail), bends and bends[::-1]) if side else ((tail, head), bends)
+                self.add_arc(*pair, weight, piece, points, streets[side])
 
     def way_of(self, arc: int) -> int:
         """The map's number of the way that an arc is part of; `NO_WAY` for an arc that is no road."""
@@ -94,6 +105,7 @@ class Builder:
 
     def __init__(self, survey: Survey, cuts: set[int] | None, closed: set[int], in_metres: bool = False, with_bends: bool = False) -> None:
         self.report, self.cuts, self.closed, self.in_metres = survey.report, cuts, closed, in_metres
+        self.lights = survey.lights
         self.network = Network(with_bends, survey.streets is not None)
         self.nodes: dict[int, int] = {}
         self.missing: set[int] = set()
@@ -128,7 +140,7 @@ class Builder:
     def add_run(self, road: Road, nodes: list[int], longitudes: list[float], latitudes: list[float]) -> None:
         """Adds the arcs of a run of nodes of a road. The duration of a ferry applies if the run is the whole road."""
         metres = metres_between(longitudes, latitudes)
-        forward, backward, seconds = road.rule
+        forward, backward, seconds, _ = road.rule
         length = math.fsum(metres) if seconds and len(nodes) == len(road.nodes) else 0
         if length:
             forward, backward = (length * 3.6 / seconds if speed else 0 for speed in (forward, backward))
@@ -140,7 +152,12 @@ class Builder:
             length = math.fsum(metres[start:end])
             along = self.weight(length, forward)
             against = along if backward == forward else self.weight(length, backward)
-            network.add_piece(tail, head, (along, against), road, bends)
+            are_lit = self.is_lit(nodes[end], "forward"), self.is_lit(nodes[start], "backward")
+            network.add_piece((tail, head), (along, against), are_lit, road, bends)
+
+    def is_lit(self, number: int, side: str) -> bool:
+        """Whether a node has a light that counts in a direction of its way."""
+        return side in self.lights.get(number, ())
 
     def ends_of(self, nodes: list[int]) -> Sequence[int]:
         """The places in a run of nodes where its pieces start and end."""
@@ -156,10 +173,11 @@ class Builder:
 
 
 def network_of(
-    survey: Survey, closed: set[int], with_all_nodes: bool, in_metres: bool, with_bends: bool, progress: Progress,
+    survey: Survey, closed: set[int], more: set[int] | None, in_metres: bool, with_bends: bool, progress: Progress,
 ) -> tuple[Network, dict[int, int]]:
-    """The network of a survey's roads, which `progress` counts, and its nodes by the map's numbers, except those at barriers."""
-    cuts = None if with_all_nodes else crossings(survey) | closed
+    """The network of a survey's roads, which `progress` counts, and its nodes by the map's numbers,
+    except those at barriers. `more` are nodes besides crossings at which arcs end; None: all do."""
+    cuts = None if more is None else crossings(survey) | closed | more
     builder = Builder(survey, cuts, closed, in_metres, with_bends)
     for road in progress.each(survey.roads):
         builder.add_road(road)

@@ -6,13 +6,14 @@ import functools
 import gc
 import itertools
 import os
-from collections.abc import Callable, Iterator, Sequence
+from collections.abc import Callable, Iterator, Mapping, Sequence
 from typing import TYPE_CHECKING, NamedTuple
 
 from chtab import files
 from chtab.engine.progress import Progress
 from chtab.errors import FileFault
-from chtab.maps import arcs, parts, profiles, reading, restrictions, turning_back, turns
+from chtab.maps import arcs, parts, profiles, reading, restrictions
+from chtab.maps import turn_costs, turning_back, turns
 from chtab.maps.report import Report
 from chtab.maps.ways import Survey
 
@@ -40,6 +41,7 @@ class Choices(NamedTuple):
     driving_side: str = "right"
     exclude: tuple[str, ...] = ()
     turning_back: str = "crossings"
+    turn_costs: bool = False
 
 
 class Numbered(NamedTuple):
@@ -76,19 +78,33 @@ def convert(path: str, choices: Choices, is_told: bool = False, is_logged: bool 
     survey = Survey(profile, report, choices.ferries, choices.names, choices.exclude)
     reading.read_map(path, survey, is_told)
     survey.note_ways_that_come_twice()
-    restricting = restrictions.read_all(survey.relations, profile, report) if choices.turns else []
+    if not (choices.turns or choices.turn_costs):
+        survey.relations.clear()
+    restricting = restrictions.read_all(survey.relations, profile, report)
     with Progress("roads", len(survey.roads), "roads", is_told=is_told) as progress:
-        made, nodes = arcs.network_of(
-            survey, survey.closed_nodes(), choices.nodes == "all", choices.metric == "metres", choices.bends, progress
-        )
+        # A light costs time where an arc ends.
+        cuts = None if choices.nodes == "all" else set(survey.lights) if choices.turn_costs else set()
+        with_bends = choices.bends or choices.turn_costs
+        made, nodes = arcs.network_of(survey, survey.closed_nodes(), cuts, choices.metric == "metres", with_bends, progress)
     if not made.tails:
         raise FileFault(f"{name_of(path)}: the map has no road for {profile.people}")
-    forbidden = restrictions.forbidden_turns(restricting, made, nodes, report)
+    made = turned(made, restrictions.forbidden_turns(restricting, made, nodes, report), choices)
+    return numbered(made, kept_of(made, choices.part, report), survey.streets, choices.driving_side), report
+
+
+def turned(made: arcs.Network, forbidden: Mapping[int, set[int]], choices: Choices) -> arcs.Network:
+    """The network without forbidden turns, {arc in: {arcs out}}, in which turns cost what the
+    choices say."""
     if choices.turning_back == "dead-ends":
         forbidden = turning_back.only_at_dead_ends(made, forbidden)
-    if forbidden:
+    elif choices.turn_costs:
+        forbidden = turning_back.only_at_dead_ends(made, forbidden, most=2)
+    if choices.turn_costs:
+        made = turn_costs.with_costs(made, forbidden, choices.driving_side)
+        made.bends = made.bends if choices.bends else None
+    elif forbidden:
         made = turns.split(made, turning_back.without_turning_back(made, forbidden))
-    return numbered(made, kept_of(made, choices.part, report), survey.streets, choices.driving_side), report
+    return made
 
 
 def kept_of(made: arcs.Network, wanted: str | int, report: Report) -> bytearray:
@@ -131,7 +147,8 @@ def name_of(path: str) -> str:
 
 def comments_of(path: str, choices: Choices) -> list[str]:
     """The comments of a graph's files: the map, and the choices."""
-    more = ", turns as the map restricts them" * choices.turns + ", no ferries" * (not choices.ferries)
+    more = ", turns as the map restricts them" * (choices.turns or choices.turn_costs) + ", at a cost" * choices.turn_costs
+    more += ", no ferries" * (not choices.ferries)
     more += "".join(f", without {name}" for name in choices.exclude) + ", turning back at dead ends alone" * (choices.turning_back == "dead-ends")
     people = profiles.profile(choices.profile).people
     return [f"Roads for {people}, from {name_of(path)}: nodes {choices.nodes}, part {choices.part}{more}.", *SOURCE]

@@ -15,7 +15,7 @@ from chtab.errors import FileFault
 from chtab.maps import unpacking
 from chtab.maps.reading import Relation
 from chtab.maps.signs import KEYS
-from chtab.maps.ways import NOWHERE, ROAD_KEYS
+from chtab.maps.ways import LIGHT, NOWHERE, ROAD_KEYS
 
 if TYPE_CHECKING:
     from chtab.engine.progress import Progress
@@ -26,8 +26,9 @@ if TYPE_CHECKING:
 MEMBER = re.compile(r"([nwr])(-?\d+)@([^,]*)")
 CHARACTER = re.compile(r"%([0-9a-f]+)%")
 KINDS = {"n": "node", "w": "way", "r": "relation"}
-# Marks of the lines that are read. Of nodes: a barrier, or a number below 0, whose place pyosmium doesn't look up.
-NODE_MARKS = (b"barrier=", b"\nn-")
+# Marks of the lines that are read. Of nodes: a barrier, a traffic light, or a number below 0, whose
+# place pyosmium doesn't look up.
+NODE_MARKS = (b"barrier=", f"highway={LIGHT}".encode(), b"\nn-")
 OTHER_MARKS = (*(f"{key}=".encode() for key in ROAD_KEYS), b"type=restriction")
 # A node of a way that has no place.
 NO_PLACE = "xy"
@@ -116,15 +117,14 @@ class Lines:
                 self.relation(fields_of(line))
 
     def node(self, fields: Mapping[str, str]) -> None:
-        """Reads a node with a barrier, or with a number below 0."""
+        """Reads a node with a barrier or a traffic light, or with a number below 0."""
         number, tags = int(fields["n"]), tags_of(fields["T"].split(","))
         if fields["d"] == "D" or not fields["x"]:
             return
         if number < 0:
             self.places[number] = (float(fields["x"]), float(fields["y"]))
             self.survey.lone_nodes.add(number)
-        if "barrier" in tags:
-            self.survey.add_barrier(number, tags)
+        self.survey.add_node(number, tags)
 
     def verdict_on(self, items: tuple[str, ...]) -> Verdict | None:
         """The verdict on a way with these tags; None if it has none of `ROAD_KEYS`."""

@@ -104,7 +104,7 @@ class Ways:
 
 
 class Nodes:
-    """Keeps what the second reading finds: the places of the roads' nodes, and barriers."""
+    """Keeps what the second reading finds: the places of the roads' nodes, barriers and lights."""
 
     def __init__(self, survey: Survey) -> None:
         self.survey, self.wanted = survey, set(survey.nodes())
@@ -120,8 +120,7 @@ class Nodes:
         if number in self.places:
             self.survey.report.note("twice", "node", "node", number)
         self.places[number] = (longitude, latitude)
-        if "barrier" in tags:
-            self.survey.add_barrier(number, tags)
+        self.survey.add_node(number, tags)
 
 
 class Elements:

@@ -8,6 +8,7 @@ from __future__ import annotations
 
 import collections
 import itertools
+import math
 from collections.abc import Mapping, Sequence
 from typing import TYPE_CHECKING
 
@@ -36,11 +37,16 @@ def without_turning_back(network: Network, forbidden: Mapping[int, set[int]]) ->
     return found
 
 
-def only_at_dead_ends(network: Network, forbidden: Mapping[int, set[int]]) -> dict[int, set[int]]:
-    """The same with those that lead back from any node where something else leads on."""
+def only_at_dead_ends(
+    network: Network, forbidden: Mapping[int, set[int]], most: float = math.inf,
+) -> dict[int, set[int]]:
+    """The same with those that lead back from any node where something else leads on, or from any
+    where at most so many roads meet."""
     found, outs = {arc: set(others) for arc, others in forbidden.items()}, outs_of(network)
+    branches = branches_of(network)
     for arc, node in enumerate(network.heads):
-        forbid_back(network, arc, outs[node], found)
+        if branches[node] <= most:
+            forbid_back(network, arc, outs[node], found)
     return found
 
 

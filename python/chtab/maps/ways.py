@@ -23,17 +23,23 @@ ROAD_KEYS = ("highway", "route")
 # The classes of ways that may be left out, as OSRM calls them.
 CLASSES = "toll", "motorway", "ferry"
 MOTORWAYS = "motorway", "motorway_link"
+# The tag of a node with a traffic light, and that of the direction along its way in which it counts.
+# https://wiki.openstreetmap.org/wiki/Tag:highway%3Dtraffic_signals
+LIGHT, LIGHT_SIDE = "traffic_signals", "traffic_signals:direction"
+SIDES = "forward", "backward"
 # The place of a node that the map doesn't have.
 NOWHERE = (math.nan, math.nan)
 
 
 class Rule(NamedTuple):
-    """The rule for a way by its tags: the kilometres an hour along it and against it, 0 if it is closed in that direction, and for a ferry the
-    seconds of the whole crossing, 0 if its tags don't say."""
+    """The rule for a way by its tags: the kilometres an hour along it and against it, 0 if it is
+    closed in that direction, and whether it is a ferry, of which `seconds` are those of the whole
+    crossing, 0 if its tags don't say."""
 
     forward: float
     backward: float
     seconds: int
+    is_ferry: bool = False
 
 
 class Road(NamedTuple):
@@ -122,7 +128,7 @@ def judged(way: tags.Tags, profile: Profile, with_ferries: bool = True, excluded
     sides = ("forward", direction != tags.AGAINST), ("backward", direction != tags.ALONG)
     forward, backward = (speeds.speed_of(way, side, usual, profile.limit, notes) if is_open else 0 for side, is_open in sides)
     seconds = duration_of(way, notes) if on_ferry else 0
-    return Verdict(Rule(forward, backward, seconds), tuple(dict.fromkeys(notes)))
+    return Verdict(Rule(forward, backward, seconds, on_ferry), tuple(dict.fromkeys(notes)))
 
 
 class Survey:
@@ -137,6 +143,8 @@ class Survey:
         self.roads: list[Road] = []
         self.barriers: dict[int, tags.Tags] = {}
         self.relations: list[Relation] = []
+        # The nodes with traffic lights, and those of `SIDES` in which each counts.
+        self.lights: dict[int, Collection[str]] = {}
         # Nodes that may be on no road, but whose barriers are noted too.
         self.lone_nodes: set[int] = set()
         self.keys = {*profile.keys(), "toll"} if "toll" in excluded else profile.keys()
@@ -180,6 +188,14 @@ class Survey:
             longitudes, latitudes = zip(*(places.get(node, NOWHERE) for node in road.nodes))
             road.longitudes.extend(longitudes)
             road.latitudes.extend(latitudes)
+
+    def add_node(self, number: int, node: tags.Tags) -> None:
+        """Adds a node's barrier and traffic light, if it has them, by its tags."""
+        if "barrier" in node:
+            self.add_barrier(number, node)
+        if node.get("highway") == LIGHT:
+            side = node.get(LIGHT_SIDE)
+            self.lights[number] = [side] if side in SIDES else SIDES
 
     def add_barrier(self, number: int, node: tags.Tags) -> None:
         """Adds a node with a barrier, by its tags."""

@@ -13,7 +13,7 @@ from chtab.errors import DataFault
 from chtab.files import columns
 from chtab.files.columns import refused
 from chtab.roads.arc_names import ArcNames
-from chtab.roads.flows import Demands, flows_of_arcs, index_of_rows
+from chtab.roads.flows import PairTrips, TableTrips, index_of_rows
 
 if TYPE_CHECKING:
     import pandas
@@ -21,7 +21,7 @@ if TYPE_CHECKING:
     from chtab.files.measures import Measure
     from chtab.network import Network
     from chtab.roads.layers import Layers
-    from chtab.typing import Floats, Integers
+    from chtab.typing import Floats
 
 METHODS = MSA, FRANK_WOLFE, BI_CONJUGATE = "msa", "frank-wolfe", "bi-conjugate"
 # A step of at least this length ends the memory of earlier directions, because they have no part in the flows any more.
@@ -179,8 +179,8 @@ class Given(NamedTuple):
 class Trips:
     """All trips over the fastest routes by given costs."""
 
-    def __init__(self, network: Network, rows: Rows, pairs: Integers, demands: Demands) -> None:
-        self.network, self.rows, self.pairs, self.demands = network, rows, pairs, demands
+    def __init__(self, network: Network, rows: Rows, trips: PairTrips | TableTrips) -> None:
+        self.network, self.rows, self.trips = network, rows, trips
         self.rounding, self.missed = 0.0, 0
 
     def over(self, costs: Floats) -> Floats:
@@ -188,10 +188,11 @@ class Trips:
         weights, rounding = self.rows.rounded(costs)
         self.rounding, layers = max(self.rounding, rounding), self.rows.layers
         with self.network.changed(weights=weights) as changed:
-            self.missed, flows = flows_of_arcs(changed._engine, changed._layers, self.pairs, self.demands.whole)
+            self.missed, flows = self.trips.flows(changed._engine, changed._layers)
         by_row = numpy.zeros(layers.row_count)
         by_row[layers.rows] = flows
-        return by_row if self.demands.scale is None else by_row / self.demands.scale
+        scale = self.trips.demands.scale
+        return by_row if scale is None else by_row / scale
 
 
 class Search:

@@ -1,18 +1,24 @@
 """A network as frames of geopandas, and the parts that it falls into."""
 from __future__ import annotations
 
+import math
+import numbers
 import warnings
+from collections.abc import Mapping
 from typing import TYPE_CHECKING, Any
 
 import numpy
 
 from chtab.errors import DataFault
 from chtab.files import row_index
-from chtab.files.showing import with_geometry
+from chtab.files.columns import first_of
+from chtab.files.showing import drawn, with_geometry
+from chtab.roads.pairs import values_of_rows
 from chtab.roads.snapping import NONE
 
 if TYPE_CHECKING:
     import geopandas
+    import matplotlib.axes
     from chtab.files.measures import Measure
     from chtab.roads.layers import Layers
     from chtab.typing import Integers
@@ -43,6 +49,32 @@ def edges_of(layers: Layers, measure: Measure) -> geopandas.GeoDataFrame:
         for road, back in zip(own.tolist(), is_back.tolist())
     ]
     return with_geometry(pandas.DataFrame(columns), lines)
+
+
+def edges_with_flows(layers: Layers, measure: Measure, flows: Any, widest: float) -> geopandas.GeoDataFrame:
+    """The same rows with the flow on each, and a width in proportion, up to the widest. Flows go by rows."""
+    if isinstance(widest, bool) or not isinstance(widest, numbers.Real) or not 0 < float(widest) < math.inf:
+        raise ValueError(f"widest is a number above 0, not {widest!r}")
+    frame = edges_of(layers, measure)
+    own = values_of_rows(layers, flows, "flows")[frame["row"].to_numpy(numpy.int64)].astype(float)
+    below = first_of(own < 0)
+    if below is not None:
+        raise DataFault(f"flows: {own[below]} is below 0", "flows")
+    most = own.max(initial=0.0)
+    widths = {"flow": own, "width": own * (float(widest) / most) if most else own}
+    names = [*frame.columns.drop("geometry"), *widths, "geometry"]
+    return frame.assign(**widths)[names]
+
+
+def drawn_edges(frame: geopandas.GeoDataFrame, ax: Any, style: Mapping[str, Any]) -> matplotlib.axes.Axes:
+    """Draws rows with flows as lines of their widths, and all roads thin below."""
+    has_line = frame[frame.geometry.notna()]
+    features = [{"geometry": {"type": "LineString", "coordinates": list(line.coords)}, "properties": {"flow": flow}} for line, flow in zip(
+        has_line.geometry, has_line["flow"])]
+    ax = drawn(features, "flow", ax, {"linewidths": 0.4, "alpha": 0.5})
+    busy = has_line["flow"].to_numpy() > 0
+    some = [feature for feature, is_busy in zip(features, busy) if is_busy]
+    return drawn(some, "flow", ax, {"linewidths": has_line["width"].to_numpy()[busy], **style}) if some else ax
 
 
 def nodes_of(layers: Layers, values: Any) -> geopandas.GeoDataFrame:

@@ -13,11 +13,11 @@ from chtab.files import columns
 from chtab.files.columns import refused
 from chtab.files.measures import EXACT
 from chtab.roads.arc_names import ArcNames
-from chtab.roads.pairs import with_ends
+from chtab.roads.pairs import nodes_in, pairs_in, with_ends
 
 if TYPE_CHECKING:
     import pandas
-    from numpy.typing import ArrayLike, NDArray
+    from numpy.typing import NDArray
     from chtab.engine.in_process import InProcess
     from chtab.engine.progress import Asked as Progress
     from chtab.roads.layers import Layers
@@ -31,21 +31,58 @@ LIMIT = 2**63
 MISSED = "pairs without a route"
 
 
-def flows_of_arcs(
-    engine: InProcess, layers: Layers, pairs: Integers, demands: Unsigned, progress: Progress = None,
-) -> tuple[int, Unsigned]:
-    """How many pairs have no route, and the flow on each arc of the graph."""
-    return engine.flows(with_ends(layers, pairs), demands, files.count_arcs(layers.path), progress)
+class PairTrips(NamedTuple):
+    """Pairs of nodes, and the demand of each."""
+
+    pairs: Integers
+    demands: Demands
+
+    def flows(self, engine: InProcess, layers: Layers, progress: Progress = None) -> tuple[int, Unsigned]:
+        """How many pairs have no route, and the flow on each arc of the graph."""
+        return engine.flows(with_ends(layers, self.pairs), self.demands.whole, files.count_arcs(layers.path), progress)
 
 
-def flows_of_rows(
-    engine: InProcess, layers: Layers, pairs: Integers, demands: Demands, progress: Progress,
-) -> pandas.Series:
+class TableTrips(NamedTuple):
+    """The nodes of origins and destinations, and the demand of each origin to each destination."""
+
+    origins: Integers
+    destinations: Integers
+    demands: Demands
+
+    def flows(self, engine: InProcess, layers: Layers, progress: Progress = None) -> tuple[int, Unsigned]:
+        """How many pairs have no route, and the flow on each arc of the graph."""
+        ends = layers.ends_of(self.destinations)
+        return engine.flows_table(self.origins, ends, self.demands.whole, files.count_arcs(layers.path), progress)
+
+
+def trips_in(layers: Layers, origins: Any, destinations: Any, demand: Any, scale: float | None) -> PairTrips | TableTrips:
+    """The trips of a table if the demand is one, and otherwise those of pairs."""
+    if getattr(demand, "ndim", 1) == 2:
+        return table_in(layers, demand, origins, destinations, scale)
+    if origins is None or destinations is None:
+        raise ValueError("origins and destinations are needed, or a frame of demands whose index and columns have them")
+    pairs = pairs_in(layers, origins, destinations)
+    return PairTrips(pairs, demands_of(demand, (len(pairs),), scale))
+
+
+def table_in(layers: Layers, demand: Any, origins: Any, destinations: Any, scale: float | None) -> TableTrips:
+    """The trips of a frame of demands, whose index has the origins and whose columns the destinations; or of an array with both beside it."""
+    if hasattr(demand, "iloc"):
+        if demand.ndim != 2 or origins is not None or destinations is not None:
+            raise ValueError("a frame of demands has origins in its index and destinations in its columns, and these come with no other demand of pandas")
+        origins, destinations = demand.index, demand.columns
+    elif origins is None or destinations is None:
+        raise ValueError("an array of demands needs origins and destinations beside it")
+    rows, columns = nodes_in(layers, "origins", origins), nodes_in(layers, "destinations", destinations)
+    return TableTrips(rows, columns, demands_of(demand, (len(rows), len(columns)), scale))
+
+
+def flows_of_rows(engine: InProcess, layers: Layers, trips: PairTrips | TableTrips, progress: Progress) -> pandas.Series:
     """The flow on each row of the arcs, with what `attrs` says of pairs without a route."""
-    missed, flows = flows_of_arcs(engine, layers, pairs, demands.whole, progress)
+    missed, flows = trips.flows(engine, layers, progress)
     by_row = numpy.zeros(layers.row_count, numpy.uint64)
     numpy.add.at(by_row, layers.rows, flows)
-    return series_of(layers, demands.told(by_row), missed)
+    return series_of(layers, trips.demands.told(by_row), missed)
 
 
 class Demands(NamedTuple):
@@ -59,15 +96,43 @@ class Demands(NamedTuple):
         return flows.astype(numpy.int64) if self.scale is None else flows / self.scale
 
 
-def demands_of(demand: ArrayLike, count: int, scale: float | None) -> Demands:
-    """The demands of so many pairs: one number for all, or one for each."""
-    if isinstance(demand, numbers.Number | numpy.number):
-        demand = [demand] * count
+def demands_of(demand: Any, shape: tuple[int, ...], scale: float | None) -> Demands:
+    """The demands of so many pairs, or of the cells of a table: one number for all, or one for each."""
+    if scale is not None and (isinstance(scale, bool) or not isinstance(scale, numbers.Real) or not 0 < scale < math.inf):
+        raise DataFault(f"scale is a number above 0, not {scale!r}", "scale")
+    count = math.prod(shape)
+    given = [demand] * count if isinstance(demand, numbers.Number | numpy.number) else in_one_column(demand, shape)
+    try:
+        whole, is_float = whole_demands(given, count, scale)
+    except DataFault as fault:
+        if len(shape) == 1 or fault.row is None:
+            raise
+        row, column = divmod(fault.row, shape[1])
+        raise DataFault(str(fault).replace(f"[{fault.row}]", f"[{row}, {column}]", 1), fault.column, row) from None
+    if total_of(whole) >= LIMIT:
+        raise DataFault("the sum of all demands is 2^63 or more of the units that are counted", "demand")
+    return Demands(whole.reshape(shape), 1.0 if scale is None and is_float else scale)
+
+
+def in_one_column(demand: Any, shape: tuple[int, ...]) -> Any:
+    """The demands of a table row after row, and those of pairs as they are."""
+    if len(shape) == 1:
+        return demand
+    if hasattr(demand, "iloc"):
+        # Numbers of several types become no others.
+        demand = demand.to_numpy() if len(set(demand.dtypes)) == 1 else demand.astype(object).to_numpy()
+    elif not hasattr(demand, "__array__"):
+        demand = numpy.array(demand, object)
+    if demand.shape != shape:
+        raise ValueError(f"demand has the shape {demand.shape}, and there are {shape[0]:,} origins and {shape[1]:,} destinations")
+    return demand.reshape(-1)
+
+
+def whole_demands(demand: Any, count: int, scale: float | None) -> tuple[Unsigned, bool]:
+    """The demands in whole units, and whether they are floats."""
     given = columns.numbers_in("demand", demand)
     if given.ndim != 1 or len(given) != count:
         raise ValueError(f"demand has the shape {given.shape}, and there are {count:,} pairs")
-    if scale is not None and (isinstance(scale, bool) or not isinstance(scale, numbers.Real) or not 0 < scale < math.inf):
-        raise DataFault(f"scale is a number above 0, not {scale!r}", "scale")
     wrong = columns.first_of(~((given >= 0) & (given < numpy.inf)))
     if wrong is not None:
         raise refused("demand", wrong, f"{given[wrong]} is {'below 0' if -numpy.inf < given[wrong] < 0 else 'no demand'}")
@@ -79,10 +144,7 @@ def demands_of(demand: ArrayLike, count: int, scale: float | None) -> Demands:
     large = columns.first_of(rounded > EXACT)
     if large is not None:
         raise refused("demand", large, f"{given[large]} is too large: it is more than 2^53 of the units that are counted")
-    demands = rounded.astype(numpy.uint64)
-    if total_of(demands) >= LIMIT:
-        raise DataFault("the sum of all demands is 2^63 or more of the units that are counted", "demand")
-    return Demands(demands, 1.0 if scale is None and given.dtype.kind == "f" else scale)
+    return rounded.astype(numpy.uint64), given.dtype.kind == "f"
 
 
 def total_of(demands: Unsigned) -> int:

@@ -96,6 +96,13 @@ class Lines:
         self.parts = along / numpy.repeat(numpy.where(self.metres > 0, self.metres, 1), counts)
         self.pieces: Pieces | None = None
 
+    @property
+    def index(self) -> Pieces:
+        """What finds the lines that are near a place, made when it is first asked for."""
+        if self.pieces is None:
+            self.pieces = Pieces(self)
+        return self.pieces
+
     def __len__(self) -> int:
         return len(self.metres)
 
@@ -155,17 +162,13 @@ class Lines:
     def nearest(self, longitudes: Floats, latitudes: Floats) -> tuple[Integers, Floats, Floats, Floats]:
         """The nearest point of all lines to each place: the lines, the position of the point along its line, from 0 to 1, and its longitude and
         latitude."""
-        if self.pieces is None:
-            self.pieces = Pieces(self)
-        steps, shares, at = self.pieces.nearest(mercator(longitudes, latitudes))
+        steps, shares, at = self.index.nearest(mercator(longitudes, latitudes))
         lines = numpy.searchsorted(self.firsts, steps, "right") - 1
         return lines, self.parts[steps] + shares * (self.parts[steps + 1] - self.parts[steps]), *degrees(*at.T)
 
     def nearest_few(self, longitudes: Floats, latitudes: Floats) -> list[OnLine]:
         """The same for a few places, one by one, without arrays of a few items."""
-        if self.pieces is None:
-            self.pieces = Pieces(self)
-        found = self.pieces.nearest_few(mercator(longitudes, latitudes))
+        found = self.index.nearest_few(mercator(longitudes, latitudes))
         steps = [step for step, _, _ in found]
         lines = numpy.searchsorted(self.firsts, steps, "right").tolist()
         before, after = self.parts.take(steps).tolist(), self.parts.take([step + 1 for step in steps]).tolist()
@@ -176,25 +179,19 @@ class Lines:
 
     def nearest_some(self, longitude: float, latitude: float, most: int) -> tuple[Integers, Floats, Floats, Floats]:
         """The nearest points of the nearest lines to one place, at most `most` of them, the nearest first."""
-        if self.pieces is None:
-            self.pieces = Pieces(self)
-        steps, shares, at = self.pieces.nearest_some(mercator([longitude], [latitude]), most, self.firsts)
+        steps, shares, at = self.index.nearest_some(mercator([longitude], [latitude]), most, self.firsts)
         lines = numpy.searchsorted(self.firsts, steps, "right") - 1
         return lines, self.parts[steps] + shares * (self.parts[steps + 1] - self.parts[steps]), *degrees(*at.T)
 
     def nearest_facing(self, longitude: float, latitude: float, fits: Callable[[Integers], Marks]) -> tuple[Integers, Floats, tuple[Floats, Floats]]:
         """The nearest step to a place among those for which `fits` holds, the position of the nearest point along it, from 0 to 1, and that point; in
         arrays of one item, or of none if there is no such step."""
-        if self.pieces is None:
-            self.pieces = Pieces(self)
-        steps, shares, at = self.pieces.nearest_fitting(mercator([longitude], [latitude]), fits)
+        steps, shares, at = self.index.nearest_fitting(mercator([longitude], [latitude]), fits)
         return steps, shares, degrees(*at.T)
 
     def bearings(self, steps: Integers) -> Floats:
         """The directions in which steps lead, in degrees clockwise from north."""
-        if self.pieces is None:
-            self.pieces = Pieces(self)
-        rows = self.pieces.rows.take(steps, axis=0)
+        rows = self.index.rows.take(steps, axis=0)
         return numpy.degrees(numpy.arctan2(rows[:, 2], rows[:, 3])) % 360
 
 
@@ -208,6 +205,13 @@ def foot(x: float, y: float, step: int, row: Sequence[float]) -> tuple[float, in
     return u * u + v * v, step, share, (a + east * share, b + north * share)
 
 
+def tree_of(middles: Floats) -> Any:
+    """The k-d tree of some points of the plane."""
+    from scipy.spatial import cKDTree
+
+    return cKDTree(middles, balanced_tree=False)
+
+
 class Pieces:
     """The steps of lines, to be looked for: cut into pieces of at most a length, whose middles stand in a k-d tree.
 
@@ -216,8 +220,6 @@ class Pieces:
     """
 
     def __init__(self, lines: Lines) -> None:
-        from scipy.spatial import cKDTree
-
         plane = mercator(*lines.places.T)
         is_step = numpy.ones(len(plane), bool)
         is_step[lines.firsts[1:] - 1] = False
@@ -232,9 +234,10 @@ class Pieces:
         counts = numpy.maximum(numpy.ceil(lengths / most), 1).astype(int)
         self.steps = numpy.repeat(steps, counts)
         shares = (ranges(numpy.zeros(len(steps), int), counts) + 0.5) / numpy.repeat(counts, counts)
-        self.tree = cKDTree(plane[self.steps] + ways[self.steps] * shares[:, None])
+        self.middles = plane[self.steps] + ways[self.steps] * shares[:, None]
+        self.tree = tree_of(self.middles)
         # The largest distance of a point of a piece from its middle.
-        self.reach = (lengths / counts).max() / 2
+        self.reach = float((lengths / counts).max() / 2)
 
     def nearest(self, places: Floats) -> tuple[Integers, Floats, Floats]:
         """The nearest step to each point of the plane, the position of the nearest point along it, from 0 to 1, and that point."""

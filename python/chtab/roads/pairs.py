@@ -62,20 +62,20 @@ def with_ends(layers: Layers, pairs: Integers) -> Integers:
 # Sums along routes.
 
 
-def values_of_rows(layers: Layers, values: Any) -> NDArray[Any]:
+def values_of_rows(layers: Layers, values: Any, name: str = "values") -> NDArray[Any]:
     """The finite values of all rows, in one column or several: int64, or float64. Columns of pandas
     are put in the order of rows."""
-    given = ArcNames(layers).in_rows("values", values) if hasattr(values, "iloc") else values
+    given = ArcNames(layers).in_rows(name, values) if hasattr(values, "iloc") else values
     found = numpy.asarray(given)
     if found.ndim != 2:
-        columns = [("values", given)]
+        columns = [(name, given)]
     else:
-        columns = [(f"values[:, {place}]", found[:, place]) for place in range(found.shape[1])]
-    made = [finite_numbers(name, column) for name, column in columns]
+        columns = [(f"{name}[:, {place}]", found[:, place]) for place in range(found.shape[1])]
+    made = [finite_numbers(told, column) for told, column in columns]
     count = layers.row_count
     if len(found) != count:
-        text = f"values has {len(found):,} rows, and there are {count:,} rows of arcs"
-        raise DataFault(text, "values")
+        text = f"{name} has {len(found):,} rows, and there are {count:,} rows of arcs"
+        raise DataFault(text, name)
     if found.ndim != 2:
         return made[0]
     return numpy.column_stack(made).astype(float) if made else numpy.zeros((count, 0))

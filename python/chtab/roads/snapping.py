@@ -21,6 +21,7 @@ from chtab.files import row_index
 from chtab.files.columns import degrees_in, see_that_long, quoted
 from chtab.files.showing import SHOWN, table_text
 from chtab.roads import sphere
+from chtab.roads.leaving import NONE, Few, both_ways, ways_of
 from chtab.roads.lines import Lines, metres_between
 
 if TYPE_CHECKING:
@@ -29,8 +30,6 @@ if TYPE_CHECKING:
     from chtab.roads.lines import OnLine
     from chtab.typing import Column, Floats, Integers, Marks, Point
 
-# No arc leads along a road in this direction, or no trip leaves or arrives by this end.
-NONE = -1
 # The directions along a road in which trips may leave a spot and arrive at it, as a set of bits.
 FORWARD, BACKWARD = 1, 2
 # A place that is less than this many metres from an end of its road is at the end.
@@ -178,47 +177,6 @@ def digest_of(*columns: NDArray[Any]) -> bytes:
     return made.digest()
 
 
-class Ways(NamedTuple):
-    """The nodes where trips leave roads, or arrive, and the weights of the whole road: a row for each road, in the order that `Spots` have."""
-
-    nodes: Integers
-    weights: Integers
-
-
-class BothWays(NamedTuple):
-    """The ways out of roads, in the first `outs` columns, and those into them, in the others; and for each column whether its nodes are those of the
-    road's last place."""
-
-    nodes: Integers
-    weights: Integers
-    outs: int
-    is_last: Marks
-
-
-def both_ways(out: Ways, into: Ways) -> BothWays:
-    """The ways out of roads and into them."""
-    widths = out.nodes.shape[1], into.nodes.shape[1]
-    is_last = numpy.concatenate([numpy.arange(width) >= width // 2 for width in widths])
-    nodes, weights = (numpy.ascontiguousarray(numpy.hstack(pair)) for pair in zip(out, into))
-    return BothWays(nodes, weights, widths[0], is_last)
-
-
-def ways_of(roads: Integers, sides: Integers, nodes: Integers, weights: Integers, count: int) -> Ways:
-    """The ways of `count` roads. Each arc is given by its road, the end of this road (0 or 1) at which its node is, the node, and the weight. Of
-    several arcs with one node, the least weight counts."""
-    order = numpy.lexsort([weights, nodes, sides, roads])
-    keys = numpy.column_stack([roads, sides, nodes])[order]
-    is_new = numpy.append(True, (keys[1:] != keys[:-1]).any(axis=1))[:len(keys)]
-    keys, weights = keys[is_new], weights[order][is_new]
-    group = keys[:, 0] * 2 + keys[:, 1]
-    rank = numpy.arange(len(group)) - numpy.searchsorted(group, group)
-    width = int(rank.max(initial=0)) + 1
-    ways = Ways(*numpy.full((2, count, 2 * width), NONE))
-    for column, values in zip(ways, (keys[:, 2], weights)):
-        column[keys[:, 0], keys[:, 1] * width + rank] = values
-    return ways
-
-
 class Roads:
     """The roads of a graph. `firsts` and `lasts` are the nodes at their ends where trips start, and `lines` their lines.
 
@@ -355,27 +313,38 @@ class Roads:
 
     def few_spots(self, longitudes: Sequence[float], latitudes: Sequence[float], found: Sequence[OnLine]) -> Spots:
         """The spots of a few places at these points of roads, as `spots_at` makes them of many."""
-        roads = [each.line for each in found]
-        lengths, ways, outs = self.lines.metres.take(roads).tolist(), self.ways, self.ways.outs
+        few, outs = self.few_on(longitudes, latitudes, found), self.ways.outs
+        nodes, weights = numpy.array([each.nodes for each in few]), numpy.array([each.weights for each in few])
+        x, y, metres, roads, parts = (numpy.array(column) for column in list(zip(*few))[:5])
+        sides, places = numpy.full(len(few), FORWARD | BACKWARD), numpy.column_stack([longitudes, latitudes])
+        return Spots(
+            x, y, metres, roads, parts, nodes[:, :outs], weights[:, :outs], nodes[:, outs:], weights[:, outs:], sides, places,
+            self.origin,
+        )
+
+    def few(self, longitudes: Sequence[float], latitudes: Sequence[float]) -> list[Few]:
+        """The spots of a few places, one by one."""
+        if not len(self):
+            raise ChtabError("the graph has no road between two places")
+        return self.few_on(longitudes, latitudes, self.lines.nearest_few(numpy.array(longitudes), numpy.array(latitudes)))
+
+    def few_on(self, longitudes: Sequence[float], latitudes: Sequence[float], found: Sequence[OnLine]) -> list[Few]:
+        """The same at these points of roads."""
+        roads, ways, few = [each.line for each in found], self.ways, []
+        lengths = self.lines.metres.take(roads).tolist()
         all_nodes, all_weights = ways.nodes.take(roads, axis=0).tolist(), ways.weights.take(roads, axis=0).tolist()
-        parts, metres = [], []
         for place, (nodes, weights) in enumerate(zip(all_nodes, all_weights)):
-            _, part, x, y = found[place]
-            metres.append(sphere.metres_from(longitudes[place], latitudes[place], x, y))
-            before, behind = part * lengths[place], (1 - part) * lengths[place]
+            (road, part, x, y), length = found[place], lengths[place]
+            metres = sphere.metres_from(longitudes[place], latitudes[place], x, y)
+            before, behind = part * length, (1 - part) * length
             part = 0.0 if before < AT_END and before <= behind else 1.0 if behind < AT_END and behind < before else part
-            parts.append(part)
             if part in (0.0, 1.0):
-                self.stay_at_node(nodes, weights, roads[place], part == 0)
+                self.stay_at_node(nodes, weights, road, part == 0)
             else:
                 shares = (1 - part if is_last else part for is_last in self.is_last)
-                weights[:] = [NONE if node == NONE else round(share * weight) for node, weight, share in zip(nodes, weights, shares)]
-        nodes, weights = numpy.array(all_nodes), numpy.array(all_weights)
-        return Spots(
-            numpy.array([each.longitude for each in found]), numpy.array([each.latitude for each in found]), numpy.array(metres), numpy.array(roads),
-            numpy.array(parts), nodes[:, :outs], weights[:, :outs], nodes[:, outs:], weights[:, outs:], numpy.full(len(roads), FORWARD | BACKWARD),
-            numpy.column_stack([longitudes, latitudes]), self.origin,
-        )
+                weights = [NONE if node == NONE else round(share * weight) for node, weight, share in zip(nodes, weights, shares)]
+            few.append(Few(x, y, metres, road, part, length, nodes, weights, ways.outs))
+        return few
 
     def stay_at_node(self, nodes: list[int], weights: list[int], road: int, is_first: bool) -> None:
         """Gives a spot at an end of its road this node alone, at the weight 0."""

@@ -5,6 +5,8 @@ original file, even if another file has its name by then.
 """
 from __future__ import annotations
 
+import functools
+import logging
 import os
 from collections.abc import Iterator, Sequence
 from typing import IO, TYPE_CHECKING, Any, NamedTuple, Self
@@ -13,12 +15,16 @@ from chtab import files
 from chtab.engine.in_process import InProcess
 from chtab.errors import ChtabError
 from chtab.network import Network
+from chtab.files.mapped import digest_of
+from chtab.server import stored
 from chtab.server.osrm.answering import numbers_in
+from chtab.server.tiles import Tiles
 
 if TYPE_CHECKING:
     from chtab.engine.in_process import InProcess
     from chtab.engine.library import Handle
 
+LOG = logging.getLogger("chtab-page")
 # The files that each network has, and what they are for.
 NEEDED = {"gr": "the graph, as osm_to_gr.py writes it", "co": "the coordinates of the graph's nodes, to take places to roads"}
 # The optional files of a network, besides its graph and its coordinates.
@@ -71,14 +77,47 @@ class Served:
         paths = {suffix: kept.path(f"{named.out}.{suffix}") for suffix in NEEDED}
         paths |= {suffix: kept.path(f"{named.out}.{suffix}") for suffix in OPTIONAL if os.path.exists(f"{named.out}.{suffix}")}
         saved = None if named.saved is None else kept.path(named.saved)
-        self.name, self.title = named.name, named.out.rpartition("/")[2]
+        self.name, self.out, self.paths = named.name, named.out, paths
+        self.title = named.out.rpartition("/")[2]
         self.network = Network.open(paths["gr"], saved, coordinates=paths["co"], bends=paths.get("bends"), **running)
-        arcs = len(self.network.roads.tails)
-        self.streets = files.read_streets(paths["names"], arcs) if "names" in paths else None
-        self.numbers = numbers_in(paths["nodes"], self.network.nodes) if "nodes" in paths else None
-
+        made = self.found(kept)
+        if made is None:
+            network, arcs = self.network, len(self.network.roads.tails)
+            streets = files.read_streets(paths["names"], arcs) if "names" in paths else None
+            numbers = numbers_in(paths["nodes"], network.nodes) if "nodes" in paths else None
+            made = stored.made(network, streets, numbers)
+        self.network._layers.kept |= {"roads": made.roads, "coordinates": made.coordinates}
+        self.made, self.crossings, self.streets, self.numbers = made, made.crossings, made.streets, made.numbers
         # The handle of the library that the first process opens, and the forked ones take.
         self.opened: Handle | None = None
+
+    def found(self, kept: Kept) -> stored.Made | None:
+        """What was made for the network before, where its file is there and right."""
+        name = self.out + stored.SUFFIX
+        if not os.path.exists(name):
+            return None
+        try:
+            return stored.read(kept.path(name), self.sums())
+        except files.FileFault as fault:
+            LOG.warning("%s; what it has is made anew", kept.told(str(fault)))
+            return None
+
+    def sums(self) -> dict[str, str]:
+        """The sums of the files of the network."""
+        return {suffix: digest_of(path) for suffix, path in self.paths.items()}
+
+    def prepare(self) -> str:
+        """Keeps what is made for the network in a file beside it, from which further services begin;
+        its name."""
+        name = self.out + stored.SUFFIX
+        stored.write(name, self.sums(), self.made._replace(tiles=self.tiles))
+        return name
+
+    @functools.cached_property
+    def tiles(self) -> Tiles:
+        """The tiles of the network's map, which the page shows."""
+        network = self.network
+        return self.made.tiles or Tiles(network.roads, network.unit == "milliseconds")
 
     @property
     def engine(self) -> InProcess:

@@ -31,7 +31,6 @@ from chtab.server.osrm.options import Refusal
 from chtab.server.queue import Asked, Turns
 from chtab.server.requests import Limits, Refused, bytes_in, fields_of, number_in, place_in, places_in
 from chtab.server.sending import JsonAnswer, lines_of
-from chtab.server.tiles import Tiles
 
 if TYPE_CHECKING:
     from chtab.files import Place
@@ -78,10 +77,12 @@ class Material:
     """What the answers of a service are made of. It is made once, before processes are forked, which then share its memory."""
 
     def __init__(self, networks: Networks, choices: Choices) -> None:
-        first = networks.first.network
-        self.tiles = Tiles(first.roads, first.unit == "milliseconds")
+        self.tiles = networks.first.tiles
         self.osrm = [
-            answering.Answers(each.network, each.profiles or choices.profiles, choices.osrm, each.streets, each.numbers) for each in networks
+            answering.Answers(
+                each.network, each.profiles or choices.profiles, choices.osrm, each.streets, each.numbers, each.crossings,
+            )
+            for each in networks
         ]
         self.by_name = {each.name: answers for each, answers in zip(networks, self.osrm) if each.name}
         # The index of roads is made now, and what simplifies lines is loaded, and not while the first client waits.
@@ -231,6 +232,9 @@ class Service:
         is_quick = answers.network.answers_by == "library"
         if question.service == "route":
             legs = len(question.coordinates) - 1
+            if question.own.alternatives:
+                # To look for alternatives takes longer than a moment on large networks.
+                return Asked(answers.routes, question)
             return Asked(answers.routes, question, True, legs, is_quick, legs * question.own.work)
         if question.service == "nearest" and question.own == 1:
             return Asked(answers.nearest_ones, question, True, 1, is_quick)

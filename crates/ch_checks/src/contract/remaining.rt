@@ -4,10 +4,12 @@ ghost use Rattle.std.specs.Prelude.{◌≡◌};
 
 use super::HOPS;
 use crate::again::again;
-use crate::examples::{STAR, read};
+use crate::examples::{RING, STAR, read};
 use ch_contract::Remaining;
 use ch_graph::{Cost, Graph};
+use ch_hierarchy::Leg;
 use std::alloc::{AllocError, Global};
+use std::process::Abort;
 use std::test::Fail;
 
 /// Asks about the middle of the star. Returns whether two other nodes have a witness, the number of its
@@ -32,5 +34,37 @@ fn refused_in_turn(rt: HostRuntime) -> Result<(), Fail> {
     let (star, _) = read(alloc, STAR)?;
     assert!(rt; star.nodes() == 4);
     assert_eq!(rt; again!(asked(alloc, &star)), (false, 6, 0, 3));
+    Ok(())
+}
+
+/// Contracts the first node of the ring, and expects the legs that the last node has then: one from it, which is the
+/// shortcut, and one to it.
+fn expect_legs<R: Abort>(rt: &R, alloc: Global, ring: &Graph) -> Result<(), AllocError>
+    requires { ring.now.nodes ≡ 5 }
+{
+    let legs = Remaining::open(alloc, ring)?;
+    let (left, removed) = legs.contract(0, HOPS)?;
+    assert_eq!(rt; (removed.up.len(), removed.down.len()), (1, 1));
+    let shortcut = Leg {
+        node: 1,
+        cost: Cost { weight: 2, arcs: 2 },
+        middle: Some(0),
+    };
+    let arc = Leg {
+        node: 3,
+        cost: Cost { weight: 1, arcs: 1 },
+        middle: None,
+    };
+    assert_eq!(rt; left.out_legs(4), [shortcut].as_slice());
+    assert_eq!(rt; left.in_legs(4), [arc].as_slice());
+    Ok(())
+}
+
+#[test]
+fn legs_of_a_neighbour_after_a_contraction(rt: HostRuntime) -> Result<(), Fail> {
+    let alloc = rt.alloc();
+    let (ring, _) = read(alloc, RING)?;
+    assert!(rt; ring.nodes() == 5);
+    expect_legs(&rt, alloc, &ring)?;
     Ok(())
 }

@@ -1,20 +1,20 @@
 -- The searches for the shortcuts of a node, one for each leg to it.
-use Rattle.std.proofs.Common.{◌≡◌, ℕ, ◌+◌, ◌-◌, ◌<◌, ◌≤◌, List, [], ◌∷◌, ◌++◌, length, get_or, All, Option, Some, None}
+use Rattle.std.proofs.Common.{◌≡◌, ℕ, zero, suc, ◌+◌, ◌-◌, ◌<◌, ◌≤◌, List, [], ◌∷◌, ◌++◌, length, get_or, All, Option, Some, None}
 use Rattle.std.proofs.Common.{Contains, refl, sym, ◌∙◌, ap, subst, arith, inl, inr}
 use Rattle.std.specs.Prelude.{◌≢◌, ◌↔◌, Result, Ok, Err, OnOk, min, ◌⊎◌, MatchOption}
 use Rattle.std.specs.declared.alloc.AllocError.{AllocError}
-use Rattle.ch_contract.specs.Candidates.{IsKnown, IsCandidate, IsMostFor, AreBounded}
+use Rattle.ch_contract.specs.Candidates.{IsKnown, IsCandidate, IsMostFor, AreBounded, known_legs}
 use Rattle.ch_graph.proofs.CostOrder.{IsAtMost_trans}
 use Rattle.std.proofs.lemmas.List.Elements.{All-contains, All-from_get_or, All-push, Contains-get_or, Contains-append_left, Contains-push}
 use Rattle.ch_graph.specs.declared.cost.Cost.{Cost}
 use Rattle.ch_graph.specs.Cost.{IsAtMost, cost_sum}
 use Rattle.ch_hierarchy.specs.declared.leg.Leg.{Leg}
 use Rattle.ch_contract.specs.declared.witness_search.Wanted.{Wanted}
-use Rattle.ch_contract.specs.Legs.{Label, Legs, AreLegsWithin, HasWitness, chain_cost}
+use Rattle.ch_contract.specs.Legs.{Label, Legs, AreLegsWithin, HasWitness, IsChain, chain_cost}
 use Rattle.ch_hierarchy.specs.Rows.{row}
 use Rattle.ch_contract.specs.LegRows.{label_of, AreLegsFrom, AreLegsTo}
 use Rattle.ch_contract.specs.HeldCosts.{never, IsHeld}
-use Rattle.ch_contract.specs.KnownCosts.{Known, IsLegLight, AreLegsUpTo, known_at, AreLeastCosts}
+use Rattle.ch_contract.specs.KnownCosts.{Known, IsLegLight, AreLegsUpTo, IsWanted, known_at, AreLeastCosts}
 use Rattle.ch_contract.specs.LegLists.{IsWithinLimits, legs_from, legs_into}
 use Rattle.ch_contract.specs.Meeting.{IsMet, AreListsWithin, AreSmall}
 use Rattle.ch_contract.proofs.theory.RowLegs.{row_has, row_member, leg_at}
@@ -31,6 +31,12 @@ use Rattle.ch_contract.proofs.code.ShortcutLemmas.{before_raise}
 use Rattle.ch_contract.proofs.code.KnownRounds.{wanted_small, chain_small}
 use Rattle.ch_contract.proofs.code.Meetings.{met_is_witness}
 use Rattle.ch_contract.proofs.code.Turning.{turned_witness}
+
+-- of more than one leg, two are not learned
+pub two_less : (hops : ℕ) → hops ≢ 1 → known_legs hops ≡ hops - 2
+two_less zero more = omega arith
+two_less (suc zero) more = absurd (more refl)
+two_less (suc (suc hops)) more = omega arith
 
 module _ (n : ℕ) (outs ins : List (List Leg)) (within : IsWithinLimits n outs ins) where
   -- the legs in the other direction are within the limits
@@ -86,9 +92,46 @@ module _ (n : ℕ) (outs ins : List (List Leg)) (within : IsWithinLimits n outs 
       let turned = turned_witness (legs_from outs) s.avoided s.end w most hops in
       ((λ m. turned.0 (met.0 m)), λ x. met.1 (turned.1 x))
 
-  -- after a search the costs of chains of at most `hops` - 2 legs are known
+  -- a bound of a search that finds no chain is above each cost that it can hold
+  never_above : (c : Cost) → (c.weight ≤ MOST_WEIGHT) × (c.arcs < NEVER_ARCS) → IsAtMost never c → ⊥
+  never_above c small le = let weight = le.0 in let arcs = le.1 (omega (arith, small.0)) in omega (arith, small.1)
+
+  -- a chain of at most one leg is known exactly if there is a witness of one leg
+  pub known_witness : (s : Wanted) (h : Known) (w : ℕ) (most : Cost) → AreLeastCosts (legs_into outs) s 1 h →
+      (most.weight ≤ MOST_WEIGHT) × (most.arcs < NEVER_ARCS) → IsAtMost most s.most → w ≢ s.avoided → w ≢ s.end →
+      IsAtMost (known_at h w) most ↔ HasWitness (legs_from outs) s.avoided s.end w most 1
+  known_witness s h w most least small wanted off apart =
+      let turned = turned_witness (legs_from outs) s.avoided s.end w most 1 in
+      ((λ le. turned.0 (found le (least.sound w))), λ x. back (turned.1 x))
+    where
+      some_legs : (nodes : List ℕ) → IsChain (legs_into outs) w s.end nodes → 0 < length nodes
+      some_legs [] same = absurd (apart same)
+      some_legs (x ∷ nodes) chain = omega arith
+
+      found : IsAtMost (known_at h w) most → (known_at h w ≡ never) ⊎ IsWanted (legs_into outs) s 1 w (known_at h w) →
+          HasWitness (legs_into outs) s.avoided w s.end most 1
+      found le (inl none) = absurd (never_above most small (subst (λ z. IsAtMost z most) none le))
+      found le (inr is) = (
+        is.0.nodes,
+        record {
+          chain = is.0.chain;
+          hops = (some_legs is.0.nodes is.0.chain, is.0.short);
+          away = is.0.away;
+          cheap = subst (λ z. IsAtMost z most) (sym is.0.cost) le;
+        },
+      )
+
+      back : HasWitness (legs_into outs) s.avoided w s.end most 1 → IsAtMost (known_at h w) most
+      back x =
+          let cost = chain_cost (legs_into outs) w x.0 in
+          IsAtMost_trans (known_at h w) cost most (least.whole w cost (
+            record { nodes = x.0; chain = x.1.chain; short = x.1.hops.1; away = x.1.away; cost = refl },
+            IsAtMost_trans cost most s.most x.1.cheap wanted,
+          )) x.1.cheap
+
+  -- after a search the costs of chains of the legs that it learns are known
   pub known_after : (ups downs : List (List Leg)) (s : Wanted) (hops : ℕ) (h : Known) (o : Result (Unit {0}) AllocError) →
-      OnOk o (length h.costs ≡ length outs) → OnOk o (AreLeastCosts (legs_into outs) s (hops - 2) h) →
+      OnOk o (length h.costs ≡ length outs) → OnOk o (AreLeastCosts (legs_into outs) s (known_legs hops) h) →
       OnOk o (IsKnown (record { nodes = n; rows = outs; ups = ups; downs = downs }) s hops h)
   known_after ups downs s hops h (Ok x) size least = record { size = size ∙ within.sizes.0; least = least }
   known_after ups downs s hops h (Err x) size least = least

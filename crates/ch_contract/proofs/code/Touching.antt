@@ -1,8 +1,6 @@
 -- The legs that touch a node, in its two rows.
 use Rattle.std.proofs.Common.{◌≡◌, ℕ, Bool, true, false, cond, List, Some, None, refl, sym, ◌∙◌, ap}
-use Rattle.std.specs.Prelude.{All, ◌≤◌, ◌==◌, if◌then◌else◌}
-use Rattle.std.proofs.lemmas.List.Elements.{All-contains}
-use Rattle.ch_contract.proofs.theory.RowLegs.{row_member, leg_at}
+use Rattle.std.specs.Prelude.{◌==◌, if◌then◌else◌}
 use Rattle.std.proofs.lemmas.Bool.{eqb-true}
 use Rattle.std.proofs.lemmas.Option.{none-some}
 use Rattle.ch_graph.proofs.Numbers.{eqb-refl}

@@ -4,7 +4,6 @@ ghost use Rattle.ch_graph.specs.declared.limits.TheConstants.{MOST_NODES, MOST_W
 ghost use Rattle.ch_graph.specs.Cost.{IsAtMost, cost_sum};
 ghost use Rattle.ch_contract.specs.Candidates.{IsCandidate, AreBounded};
 
-use crate::held_cost::is_at_most;
 use ch_graph::Cost;
 use ch_graph::limits::MOST_WEIGHT;
 use ch_hierarchy::Leg;
@@ -31,7 +30,7 @@ fn greatest(so_far: Option<Cost>, cost: Cost) -> Cost
     ensures so_far { MatchOption so_far (result ≡ cost) (λ c. IsAtMost c result × ((result ≡ cost) ⊎ (result ≡ c))) }
 {
     match so_far {
-        Some(most) if is_at_most(cost, most) => most,
+        Some(most) if cost.is_at_most(most) => most,
         _ => cost,
     }
 }

@@ -1,11 +1,11 @@
 //! Witnesses among the remaining legs.
-ghost use Rattle.std.specs.Prelude.{◌≢◌, ◌<◌, ◌≤◌, ◌↔◌, IfOk, OnOk, IsTrue};
-ghost use Rattle.ch_graph.specs.declared.limits.TheConstants.{MOST_WEIGHT};
+ghost use Rattle.std.specs.Prelude.{◌≡◌, ◌≢◌, ◌<◌, ◌≤◌, ◌↔◌, IfOk, OnOk, IsTrue};
+ghost use Rattle.ch_graph.specs.declared.limits.TheConstants.{MOST_HOPS, MOST_WEIGHT};
 ghost use Rattle.ch_graph.specs.Cost.{IsAtMost};
 ghost use Rattle.ch_contract.specs.Legs.{HasWitness};
 ghost use Rattle.ch_contract.specs.HeldCosts.{IsHeld};
 ghost use Rattle.ch_contract.specs.KnownCosts.{known_of, IsClean, AreTouched, AreLegsUpTo};
-ghost use Rattle.ch_contract.specs.Candidates.{IsKnown};
+ghost use Rattle.ch_contract.specs.Candidates.{IsKnown, known_legs};
 ghost use Rattle.ch_contract.specs.Remaining.{legs_of};
 
 use crate::held_cost::{HeldCost, MOST_CHAIN_ARCS};
@@ -14,6 +14,19 @@ use crate::remaining::Remaining;
 use crate::witness_search::{Wanted, WitnessSearch};
 use ch_graph::Cost;
 use std::alloc::AllocError;
+
+/// Returns the most legs of the chains that are learned before witnesses of at most `hops` legs are looked for: two legs less,
+/// because these are looked for from the other end. The only leg of a witness is learned, because with it each end is looked
+/// up in one step.
+fn known_legs(hops: HopBound) -> u32
+    ensures legs { result ≡ known_legs hops.number }
+    ensures few { result ≤ MOST_HOPS }
+{
+    if hops.number == 1 {
+        return 1;
+    }
+    hops.number.saturating_sub(2)
+}
 
 impl Remaining {
     /// Whether a chain of 1 to `hops` legs leads from `u` to `w`, avoids `v`, and costs at most `cost`.
@@ -49,8 +62,8 @@ impl Remaining {
         Ok(self.is_witnessed(&search, wanted, w, most, hops))
     }
 
-    /// Learns the costs of the chains of at most `hops` - 2 legs from the wanted end. A witness may add two
-    /// legs to them.
+    /// Learns the costs of the chains of at most [`known_legs`] legs from the wanted end. A witness may add two legs to
+    /// them, or none if it has only one.
     ///
     /// The search is written for chains to the end, over the legs to each node. This call lends it the legs
     /// from each node instead, so it sees each leg in the other direction. The chains that it finds start at
@@ -68,12 +81,12 @@ impl Remaining {
         ensures known { OnOk result (IsKnown self.now wanted hops.number (known_of K.cost search.new.known)) }
         ensures touched { OnOk result (AreTouched (known_of K.cost search.new.known)) }
     {
-        search.reach(&self.outs, wanted, hops)
+        search.reach(&self.outs, wanted, known_legs(hops))
     }
 
     /// Whether there is a witness from the wanted end to `w`, of at most `hops` legs and at most this
     /// cost. `search` knows the first legs, as `reach` learned them. This call lends it the legs to each node
-    /// as the legs from it, in the other direction as in `reach`.
+    /// as the legs from it, in the other direction as in `reach`. A witness of one leg is looked up in one step.
     pub(super) fn is_witnessed<K: HeldCost>(
         &self,
         search: &WitnessSearch<K>,
@@ -91,6 +104,10 @@ impl Remaining {
         requires most { IsHeld K.limit wanted.most }
         ensures { IsTrue result ↔ HasWitness (legs_of self.now) wanted.avoided wanted.end w cost hops.number }
     {
-        search.meets(&self.ins, wanted.avoided, w, cost, hops.number)
+        let ins = &self.ins;
+        if hops.number == 1 {
+            return search.knows(w, cost);
+        }
+        search.meets(ins, wanted.avoided, w, cost, hops.number)
     }
 }

@@ -193,6 +193,32 @@ module _ (g : Network) (order levels : List ℕ) (arcs : List InArc) (old : List
                 ])
           ]
 
+module _ (g : Network) (order levels : List ℕ) (k : ℕ) (old new : List (List ℕ)) (parent : ℕ)
+    (a : AreRowsFor g order levels g.arcs old) (lt : k < g.nodes) (has : Contains (nodes_row old (slice_index order k)) parent)
+    (m : IsMerged parent (nodes_row old (slice_index order k)) parent old new) where
+  -- the place of the parent of a place
+  pub parent_place : (j : ℕ) × (k < j) × (j < g.nodes) × (slice_index order j ≡ parent)
+  parent_place = leads_up g order levels g.arcs old a k parent lt has
+
+  pub parent_within : parent < g.nodes
+  parent_within =
+      let o = order_of g order levels g.arcs old a in
+      let count = o.count in
+      subst (λ z. z < g.nodes) parent_place.3 (o.within parent_place.0 (omega (arith, parent_place.2)))
+
+  -- the row of a place that has handed on, or does so now, stays
+  pub row_stays : (i : ℕ) → i ≤ k → nodes_row new (slice_index order i) ≡ nodes_row old (slice_index order i)
+  row_stays i le =
+      let size = a.size in
+      let below = parent_within in
+      other_row parent _ parent old new m (omega arith) (slice_index order i) (λ e.
+      let one = level_at g order levels g.arcs old a i (omega arith) in
+      let two = level_at g order levels g.arcs old a parent_place.0 parent_place.2 in
+      let same : slice_index levels (slice_index order i) ≡ slice_index levels (slice_index order parent_place.0) =
+      ap (slice_index levels) (e ∙ sym parent_place.3) in
+      let past = parent_place.1 in
+      omega arith)
+
 -- one more place hands its nodes on to its parent
 pub handed_more : (g : Network) (order levels : List ℕ) (k : ℕ) (old new : List (List ℕ)) (parent : ℕ) →
     AreHandedOn g order levels k old → k < g.nodes → Contains (nodes_row old (slice_index order k)) parent →
@@ -205,7 +231,7 @@ handed_more g order levels k old new parent h lt has least m =
     a = h.rows_for
 
     its : (j : ℕ) × (k < j) × (j < g.nodes) × (slice_index order j ≡ parent)
-    its = leads_up g order levels g.arcs old a k parent lt has
+    its = parent_place g order levels k old new parent a lt has m
 
     up : (y : ℕ) → Contains (nodes_row old (slice_index order k)) y → y ≢ parent → (j : ℕ) × (its.0 < j) × (j < g.nodes)
         × (slice_index order j ≡ y)
@@ -224,22 +250,11 @@ handed_more g order levels k old new parent h lt has least m =
     next = still_for g order levels g.arcs old a its.0 parent its.2 its.3 (nodes_row old (slice_index order k)) parent new m up
 
     below : parent < length old
-    below =
-        let o = order_of g order levels g.arcs old a in
-        let count = o.count in
-        let size = a.size in
-        let w = o.within its.0 (omega (arith, its.2)) in
-        subst (λ z. z < length old) its.3 (omega arith)
+    below = let size = a.size in let low = parent_within g order levels k old new parent a lt has m in omega arith
 
     -- a row that stays
     stays : (i : ℕ) → i ≤ k → nodes_row new (slice_index order i) ≡ nodes_row old (slice_index order i)
-    stays i le = other_row parent _ parent old new m below (slice_index order i) (λ e.
-        let one = level_at g order levels g.arcs old a i (omega arith) in
-        let two = level_at g order levels g.arcs old a its.0 its.2 in
-        let same : slice_index levels (slice_index order i) ≡ slice_index levels (slice_index order its.0) =
-        ap (slice_index levels) (e ∙ sym its.3) in
-        let past = its.1 in
-        omega arith)
+    stays = row_stays g order levels k old new parent a lt has m
 
     of_old : (i : ℕ) → i ≤ k → HasParent g.nodes order old i → HasParent g.nodes order new i
     of_old i le (inl none) = inl (λ j lt c. none j lt (subst (λ z. Contains z (slice_index order j)) (stays i le) c))
@@ -311,6 +326,16 @@ pub replicate_more : {V : Type 0} (items : V → List ℕ) (rows new : List V) (
 replicate_more items rows new n r all is edited = ap (map items) edited ∙ map-append items rows (r ∷ []) ∙ (λ i. all i ++ is i ∷ [])
     ∙ replicate-append-replicate n 1 []
 
+-- rows without nodes
+pub empty_row : (rows : List (List ℕ)) (n : ℕ) → rows ≡ replicate n [] → (v : ℕ) → nodes_row rows v ≡ []
+empty_row rows n same v = ap (λ z. nodes_row z v) same ∙ (elim (cases_lt v n) [
+  | inl lt ↦ get_or-replicate n v nothing [] lt
+  | inr past ↦ let size = length-replicate n nothing in get_or_past (replicate n nothing) v [] (omega arith)
+])
+  where
+    nothing : List ℕ
+    nothing = []
+
 -- the rows before the first arc
 pub rows_none : (g : Network) (order levels : List ℕ) (rows : List (List ℕ)) → IsWithinLimits g → IsOrderOf g.nodes order →
     AreLevelsOf order levels → rows ≡ replicate g.nodes [] → AreRowsFor g order levels [] rows
@@ -322,21 +347,14 @@ rows_none g order levels rows limits is leveled same =
       sound = record {
         count = omega arith;
         nodes = subst (λ n. IsOrderOf n order) (sym size) is;
-        ordered = λ v i j d lt below. absurd (let e = empty v in let l : length (nodes_row rows v) ≡ 0 = ap length e in omega arith);
-        higher = λ i w lt c. absurd (contains_none w (subst (λ (z : List ℕ). Contains z w) (empty (slice_index order i)) c));
+        ordered = λ v i j d lt below. absurd
+            (let e = empty_row rows g.nodes same v in let l : length (nodes_row rows v) ≡ 0 = ap length e in omega arith);
+        higher = λ i w lt c. absurd
+            (contains_none w (subst (λ (z : List ℕ). Contains z w) (empty_row rows g.nodes same (slice_index order i)) c));
       };
       by_level = leveled;
       with_arcs = λ a i j c. absurd (contains_none a c);
     }
-  where
-    nothing : List ℕ
-    nothing = []
-
-    empty : (v : ℕ) → nodes_row rows v ≡ []
-    empty v = ap (λ z. nodes_row z v) same ∙ (elim (cases_lt v g.nodes) [
-      | inl lt ↦ get_or-replicate g.nodes v [] [] lt
-      | inr past ↦ let size = length-replicate g.nodes nothing in get_or_past (replicate g.nodes nothing) v [] (omega arith)
-    ])
 
 -- the next arc of a graph
 pub arc_next : (g : Network) (order levels : List ℕ) (arcs : List InArc) (k : ℕ) (d : InArc) (old new : List (List ℕ)) (lo hi : ℕ) →

@@ -1,5 +1,6 @@
 //! Laws on customization. Each is the contract of a function that does nothing.
-ghost use Rattle.ch_custom.specs.Customizing.{ContractingIsLowering, LoweredAreContracted, LegsStayInTopologies, TopologiesServeAllWeights, ParentsClose};
+ghost use Rattle.ch_custom.specs.Customizing.{ContractingIsLowering, LoweredAreContracted};
+ghost use Rattle.ch_custom.specs.Customizing.{LegsStayInTopologies, TopologiesServeAllWeights, ParentsClose};
 ghost use Rattle.ch_custom.specs.Ancestors.{ClimbsVisitAncestors};
 ghost use Rattle.ch_custom.specs.Topologies.{RelaxingKeepsMetrics};
 

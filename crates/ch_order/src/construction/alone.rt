@@ -1,5 +1,5 @@
 //! The construction of a hierarchy by the caller alone.
-ghost use Rattle.std.specs.Prelude.{◌≡◌, ◌<◌, ◌++◌, All, Err, IfOk};
+ghost use Rattle.std.specs.Prelude.{◌≡◌, ℕ, ◌<◌, ◌++◌, All, Err, IfOk};
 ghost use Rattle.ch_graph.specs.Graph.{IsWithinLimits};
 ghost use Rattle.ch_contract.specs.Built.{IsHierarchyBy};
 ghost use Rattle.ch_contract.specs.Like.{IsHierarchyFrom, IsHierarchyLike};
@@ -84,7 +84,7 @@ impl Construction {
     ghost use Rattle.ch_order.specs.Construction.{IsSized, IsJudging, IsReadyFor, progress_of};
 
     /// Gives these nodes the priorities by depth that they have now.
-    fn rank_alone(
+    pub(super) fn rank_alone(
         mut self,
         alloc: Global,
         nodes: &[u32],
@@ -92,11 +92,10 @@ impl Construction {
     ) -> Result<Construction, AllocError>
         requires sizes { IsSized self }
         requires nodes { All (λ x. x < self.remaining.nodes) nodes.now }
-        requires ready { IsJudging hops.number self }
         ensures sizes { IfOk result IsSized }
         ensures nodes { IfOk result (λ c. c.remaining.nodes ≡ self.remaining.nodes) }
         ensures ranked { IfOk result (λ c. IsRanked OrderBy.Depth self.remaining.nodes hops.number nodes.now (progress_of self) (progress_of c)) }
-        ensures ready { IfOk result (IsJudging hops.number) }
+        ensures ready { IfOk result (λ c. (h : ℕ) → IsJudging h self → IsJudging h c) }
     {
         let by = OrderBy::Depth;
         let job = PriorityJob {

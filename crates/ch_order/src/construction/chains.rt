@@ -4,7 +4,6 @@ ghost use Rattle.ch_order.specs.Quick.{HasKey, IsUnderWay};
 
 use super::Construction;
 use ch_contract::HopBound;
-use ch_contract::order::Neighbours;
 use ch_graph::Graph;
 use ch_hierarchy::Leg;
 use ch_work::{Gate, Stage};
@@ -13,13 +12,6 @@ use std::mem;
 
 /// The most neighbours of a node in a chain.
 const MOST_NEIGHBOURS: usize = 2;
-
-/// Returns the bound of witnesses of one leg.
-fn direct() -> HopBound
-    ensures { result.number ≡ 1 }
-{
-    HopBound { number: 1 }
-}
 
 /// Whether a leg of this list has this node.
 fn has_node(legs: &[Leg], node: u32) -> bool {
@@ -163,7 +155,8 @@ impl Construction {
             round.next.push(node)?;
             return Ok(self);
         }
-        let (taken, neighbours) = self.take_directly(graph, given, node, hops)?;
+        let alloc = *self.levels.allocator();
+        let (taken, neighbours) = self.take_directly(alloc, node, hops)?;
         round.mark_all(neighbours.as_slice())?;
         Ok(taken)
     }
@@ -184,24 +177,5 @@ impl Construction {
         ensures node { IsTrue result → node < self.now.remaining.nodes }
     {
         node < self.remaining.nodes() && self.waiting.key(node).is_some()
-    }
-
-    /// Contracts a node of the queue with the shortcuts that have no witness of one leg. Returns its neighbours too.
-    fn take_directly(
-        mut self,
-        graph: &Graph,
-        given: &[u32],
-        node: u32,
-        hops: HopBound,
-    ) -> Result<(Construction, Neighbours), AllocError>
-        requires under_way { IsUnderWay graph.now hops.number given.now self }
-        requires node { HasKey self.waiting node }
-        ensures { IfOk result (λ r. IsUnderWay graph.now hops.number given.now r.0) }
-    {
-        let alloc = *self.levels.allocator();
-        self.room.forget();
-        let (mut taken, neighbours) = self.take(alloc, node, direct())?;
-        taken.room.forget();
-        Ok((taken, neighbours))
     }
 }

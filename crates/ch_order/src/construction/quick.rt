@@ -3,7 +3,7 @@
 ghost use Rattle.std.specs.Prelude.{◌≡◌, ℕ, ◌^◌, ◌<◌, ◌≤◌, ◌++◌, ◌∷◌, [], if◌then◌else◌, All, Err, IfOk, IsTrue, OnOk, length, take};
 ghost use Rattle.ch_graph.specs.Graph.{IsWithinLimits};
 ghost use Rattle.ch_contract.specs.Like.{given_count as count_of};
-ghost use Rattle.ch_order.specs.Quick.{IsHierarchyAfter, HaveKeys};
+ghost use Rattle.ch_order.specs.Quick.{IsHierarchyAfter, IsHierarchyAfterSome, IsUnderWay, HaveKeys};
 ghost use Rattle.ch_order.specs.declared.construction.like.OrderError.TheVariants as OrderError;
 ghost use Rattle.ch_hierarchy.specs.Kept.{IsKept};
 ghost use Rattle.ch_hierarchy.specs.Saved.{IsOrderOf};
@@ -17,7 +17,7 @@ use ch_contract::{HopBound, OrderBy, Percent};
 use ch_graph::Graph;
 use ch_hierarchy::Hierarchy;
 use ch_queue::KeyQueue;
-use ch_work::{Crew, Gate, Stage};
+use ch_work::{Crew, Gate, Open, Stage};
 use std::alloc::{AllocError, Global};
 use std::thread::Threads;
 
@@ -34,22 +34,23 @@ const UNJUDGED: i64 = 1 << 60;
 /// although another has a slightly lesser key, and its searches are then not made in vain.
 const PREFERENCE: i64 = 4;
 
+/// How often nodes are judged whose legs have changed. Of the most nodes that a graph may have, none is left then.
+const MOST_RANKINGS: u32 = 16;
+
 /// The most nodes that are judged before one of them is contracted.
 const MOST_JUDGED: u32 = 16;
 
-/// The most pairs of legs of a node that is judged before it is the first in the queue. A node of more pairs waits with an
-/// estimate, because to judge it would take much time, and memory for a shortcut of each pair.
-const MOST_PAIRS: u64 = 1 << 14;
-
 /// Builds a contraction hierarchy of a graph that begins like [`build_like`](crate::build_like): all nodes but the last
-/// `fresh` per cent come in the given order. It is for answers that do not depend on the order, because it takes less time
-/// to find the order of the fresh nodes.
+/// `fresh` per cent come in the given order, except for those that have many legs when their turn comes. These wait for the
+/// fresh part, because a bad order would join all nodes around the given ones by legs. It is for answers that do not depend
+/// on the order, because it takes less time to find the order of the fresh nodes.
 ///
 /// When the last given node is contracted, chains are contracted first: nodes with at most two neighbours, for which no
 /// witness is looked for but a leg. Then the other fresh nodes get priorities by depth, which workers share. To take less
 /// time, their witnesses have one leg less. When a neighbour is contracted, a node gets a key by an estimate. Its priority
 /// is computed again only when it is the first in the queue, and it is contracted if it is still the first (*lazy
-/// updates*). Once three tenths of the nodes are left, those whose legs have changed get priorities again, and so on.
+/// updates*). Once three tenths of the nodes are left, those whose legs have changed get priorities again, and so on. A
+/// node with many legs around it is never judged: it is contracted by its estimate, and no witness is looked for but a leg.
 ///
 /// # Errors
 /// `Order` if the given order does not have each node of the graph exactly once, and `NoMemory` if the call or a piece
@@ -62,15 +63,15 @@ pub fn build_like_quickly<R: Threads + Sync, G: Gate>(
     fresh: Percent,
     hops: HopBound,
 ) -> Result<Hierarchy, OrderError>
-    ensures hierarchy { IfOk result (IsHierarchyAfter graph.now hops.number (take (count_of graph.now.nodes fresh.number) given.now)) }
+    ensures hierarchy { IfOk result (IsHierarchyAfterSome graph.now hops.number (take (count_of graph.now.nodes fresh.number) given.now)) }
     ensures kept { IfOk result (IsKept graph.now) }
     ensures order { IfOk result (λ _. IsOrderOf graph.now.nodes given.now) }
     ensures refused { result ≡ Err OrderError.Order → IsOrderOf graph.now.nodes given.now → ⊥ }
     ensures limits { IsWithinLimits graph.now }
 {
     ask_ahead(crew.alloc, graph)?;
-    let (first, others) = split_given(crew.alloc, graph, given, fresh)?;
-    Ok(contract_quickly(crew, graph, first, others, hops)?)
+    let (first, _) = split_given(crew.alloc, graph, given, fresh)?;
+    Ok(contract_quickly(crew, graph, first, given, hops)?)
 }
 
 /// Builds a contraction hierarchy of a graph in an order that takes little time to find. It is for answers that do not depend
@@ -93,45 +94,75 @@ pub fn build_quickly<R: Threads + Sync, G: Gate>(
     contract_quickly(crew, graph, &[], nodes.as_slice(), hops)
 }
 
-/// Builds a contraction hierarchy of a graph. The nodes `given` are contracted first, as they come, and then the others. The
-/// two lists together have each node once.
+/// Builds the hierarchy that [`build_quickly`] builds. The caller builds it alone: no thread is started, and no progress is
+/// reported.
+///
+/// # Errors
+/// `AllocError` if there is no memory. What was made is dropped, and the graph is as it was.
+pub fn build_quickly_alone(
+    alloc: Global,
+    graph: &Graph,
+    hops: HopBound,
+) -> Result<Hierarchy, AllocError>
+    ensures hierarchy { IfOk result (IsHierarchyAfter graph.now hops.number []) }
+    ensures kept { IfOk result (IsKept graph.now) }
+    ensures limits { IsWithinLimits graph.now }
+{
+    ask_ahead(alloc, graph)?;
+    let nodes = all_nodes(alloc, graph.nodes())?;
+    let order = nodes.as_slice();
+    let mut estimates = Estimates::new(alloc, graph.nodes())?;
+    let mut construction = begin(alloc, &Open, graph, &[], order, hops, &mut estimates)?;
+    for _ in 0..MOST_RANKINGS {
+        let ranked = construction.rank_stale_alone(graph, &[], order, hops, &mut estimates)?;
+        construction = ranked.contract_part(&Open, graph, &[], hops, &mut estimates)?;
+    }
+    construction.finish_in_turn(&Open, graph, &[], hops, &mut estimates)
+}
+
+/// Builds a contraction hierarchy of a graph. The first nodes of the order are given: those of them that have few legs when
+/// their turn comes are contracted first, as they come, and then the others. The order has each node once.
 fn contract_quickly<R: Threads + Sync, G: Gate>(
     crew: &Crew<'_, R, G>,
     graph: &Graph,
     given: &[u32],
-    others: &[u32],
+    order: &[u32],
     hops: HopBound,
 ) -> Result<Hierarchy, AllocError>
-    requires order { IsOrderOf graph.now.nodes (given.now ++ others.now) }
-    ensures { IfOk result (IsHierarchyAfter graph.now hops.number given.now) }
+    requires order { IsOrderOf graph.now.nodes order.now }
+    ensures { IfOk result (IsHierarchyAfterSome graph.now hops.number given.now) }
 {
-    let begun = Construction::after(crew.alloc, crew.gate, graph, given, hops)?;
-    let queued = begun.queue(others);
-    let mut estimates = Estimates::new(crew.alloc, graph.nodes())?;
-    let open = queued.without_chains(crew.alloc, crew.gate, graph, given, others, hops)?;
-    let remaining = open.waiting.len();
-    let mut construction = open.rank_if_due(crew, others, remaining, hops, &mut estimates)?;
-    let mut due = due_after(remaining, remaining);
-    while let Some(least) = construction.next() {
-        crew.gate
-            .watch(Stage::Building, construction.contracted, graph.nodes());
-        let (judged, node) = construction.judge_first(crew.alloc, least, hops, &mut estimates)?;
-        let (taken, neighbours) = judged.take(crew.alloc, node, hops)?;
-        let estimated = taken.estimate_all(neighbours.as_slice(), &mut estimates);
-        construction = estimated.rank_if_due(crew, others, due, hops, &mut estimates)?;
-        due = due_after(due, construction.waiting.len());
+    let gate = crew.gate;
+    let alloc = crew.alloc;
+    let mut estimates = Estimates::new(alloc, graph.nodes())?;
+    let mut construction = begin(alloc, gate, graph, given, order, hops, &mut estimates)?;
+    for _ in 0..MOST_RANKINGS {
+        let ranked = construction.rank_stale(crew, graph, given, order, hops, &mut estimates)?;
+        construction = ranked.contract_part(gate, graph, given, hops, &mut estimates)?;
     }
-    construction.finish()
+    construction.finish_in_turn(gate, graph, given, hops, &mut estimates)
 }
 
-/// Returns how many nodes may remain when all are judged again, if so many remain now. `due` is the number before.
-fn due_after(due: usize, remaining: usize) -> usize
-    ensures { result ≤ due }
+/// Contracts the given nodes that have few legs, and then chains. The others are in the queue with estimates, in which each
+/// pair of legs counts as a shortcut, so that a hub comes after the nodes around it.
+fn begin<G: Gate>(
+    alloc: Global,
+    gate: &G,
+    graph: &Graph,
+    given: &[u32],
+    order: &[u32],
+    hops: HopBound,
+    estimates: &mut Estimates,
+) -> Result<Construction, AllocError>
+    requires order { IsOrderOf graph.now.nodes order.now }
+    ensures { IfOk result (IsUnderWay graph.now hops.number given.now) }
 {
-    if remaining > due {
-        return due;
-    }
-    due / PARTS * DUE_PARTS
+    let opened = Construction::after(alloc, gate, graph, &[], hops)?;
+    let begun = opened
+        .queue(order)
+        .take_given(alloc, gate, graph, given, hops)?;
+    let open = begun.without_chains(alloc, gate, graph, given, order, hops)?;
+    Ok(open.estimate_all(order, estimates))
 }
 
 /// Gives these nodes keys in their order. No node that is judged has a greater key.
@@ -163,7 +194,9 @@ fn hops_together(hops: HopBound) -> HopBound {
 }
 
 impl Construction {
-    ghost use Rattle.ch_order.specs.Quick.{AreQueued, HasKey, IsRekeyed, IsUnderWay};
+    ghost use Rattle.std.specs.Prelude.{MatchOption};
+    ghost use Rattle.ch_queue.specs.Queue.{HasNone};
+    ghost use Rattle.ch_order.specs.Quick.{AreQueued, HasKey, IsRekeyed};
     ghost use Rattle.ch_order.specs.Construction.{IsSized, IsJudging, progress_of};
 
     /// Puts these nodes into the queue, in their order, behind all nodes that are judged.
@@ -181,8 +214,8 @@ impl Construction {
     }
 
     /// Judges the first node of the queue, and then the node that is the first with the new priority, until it is one that
-    /// was judged since the last contraction. Returns this node. After [`MOST_JUDGED`] nodes it returns the first one. The
-    /// queue keeps its nodes.
+    /// was judged since the last contraction, or one that is not judged because it has many legs around it. Returns this node.
+    /// After [`MOST_JUDGED`] nodes it returns the first one. The queue keeps its nodes.
     fn judge_first(
         mut self,
         alloc: Global,
@@ -201,7 +234,7 @@ impl Construction {
     {
         let mut node = first;
         for _ in 0..MOST_JUDGED {
-            if self.room.judged.iter().any(|other| *other == node) {
+            if self.is_settled(node) {
                 break;
             }
             node = self.judge(alloc, node, hops, estimates)?;
@@ -237,16 +270,8 @@ impl Construction {
         }
     }
 
-    /// Returns the number of legs to a node times the number of legs from it.
-    fn pairs(&self, node: u32) -> u64
-        requires { node < self.now.remaining.nodes }
-    {
-        let out = self.remaining.out_legs(node).len() as u64;
-        out.saturating_mul(self.remaining.in_legs(node).len() as u64)
-    }
-
     /// Gives those of these nodes that wait keys by estimates.
-    fn estimate_all(mut self, nodes: &[u32], estimates: &mut Estimates) -> Construction
+    pub(super) fn estimate_all(mut self, nodes: &[u32], estimates: &mut Estimates) -> Construction
         requires sizes { IsSized self }
         ensures sizes { IsSized result }
         ensures nodes { result.remaining.nodes ≡ self.remaining.nodes }
@@ -277,35 +302,115 @@ impl Construction {
         self.waiting.set(node, key);
     }
 
-    /// If the queue has at most `due` nodes, gives those whose legs have changed the priorities by depth that they have now,
-    /// except for nodes with many pairs of legs. Workers share them.
-    fn rank_if_due<R: Threads + Sync, G: Gate>(
+    /// Gives those of these nodes whose legs have changed the priorities by depth that they have now, except for nodes with many
+    /// legs around them. Workers share them.
+    fn rank_stale<R: Threads + Sync, G: Gate>(
         self,
         crew: &Crew<'_, R, G>,
+        graph: &Graph,
+        given: &[u32],
         nodes: &[u32],
-        due: usize,
         hops: HopBound,
         estimates: &mut Estimates,
     ) -> Result<Construction, AllocError>
-        requires sizes { IsSized self }
+        requires under_way { IsUnderWay graph.now hops.number given.now self }
         requires count { length nodes.now < 2 ^ 32 }
-        requires ready { IsJudging hops.number self }
-        ensures sizes { IfOk result IsSized }
-        ensures nodes { IfOk result (λ c. c.remaining.nodes ≡ self.remaining.nodes) }
-        ensures rekeyed { IfOk result (λ c. IsRekeyed (progress_of self) (progress_of c)) }
-        ensures ready { IfOk result (IsJudging hops.number) }
+        ensures { IfOk result (IsUnderWay graph.now hops.number given.now) }
     {
-        if self.waiting.len() > due {
-            return Ok(self);
-        }
         let stale = self.stale_among(crew.alloc, nodes, estimates)?;
         let ranked = self.rank(crew, stale.as_slice(), hops_together(hops), OrderBy::Depth)?;
         ranked.note_all(stale.as_slice(), estimates);
         Ok(ranked)
     }
 
-    /// Returns those of these nodes that are in the queue, whose legs have changed since they were judged, and that have at
-    /// most [`MOST_PAIRS`] pairs of legs.
+    /// Gives the same nodes the same priorities without any thread.
+    fn rank_stale_alone(
+        self,
+        graph: &Graph,
+        given: &[u32],
+        nodes: &[u32],
+        hops: HopBound,
+        estimates: &mut Estimates,
+    ) -> Result<Construction, AllocError>
+        requires under_way { IsUnderWay graph.now hops.number given.now self }
+        ensures { IfOk result (IsUnderWay graph.now hops.number given.now) }
+    {
+        let alloc = *self.levels.allocator();
+        let stale = self.stale_among(alloc, nodes, estimates)?;
+        let ranked = self.rank_alone(alloc, stale.as_slice(), hops_together(hops))?;
+        ranked.note_all(stale.as_slice(), estimates);
+        Ok(ranked)
+    }
+
+    /// Contracts nodes one after the other until three tenths of those in the queue are left.
+    fn contract_part<G: Gate>(
+        self,
+        gate: &G,
+        graph: &Graph,
+        given: &[u32],
+        hops: HopBound,
+        estimates: &mut Estimates,
+    ) -> Result<Construction, AllocError>
+        requires under_way { IsUnderWay graph.now hops.number given.now self }
+        ensures { IfOk result (IsUnderWay graph.now hops.number given.now) }
+    {
+        let due = self.waiting.len() / PARTS * DUE_PARTS;
+        self.contract_until(gate, graph, given, due, hops, estimates)
+    }
+
+    /// Contracts all nodes that are left, and returns the hierarchy.
+    fn finish_in_turn<G: Gate>(
+        self,
+        gate: &G,
+        graph: &Graph,
+        given: &[u32],
+        hops: HopBound,
+        estimates: &mut Estimates,
+    ) -> Result<Hierarchy, AllocError>
+        requires under_way { IsUnderWay graph.now hops.number given.now self }
+        ensures { IfOk result (IsHierarchyAfterSome graph.now hops.number given.now) }
+    {
+        let all = self.contract_until(gate, graph, given, 0, hops, estimates)?;
+        all.finish()
+    }
+
+    /// Contracts nodes one after the other until the queue has at most `due`.
+    fn contract_until<G: Gate>(
+        self,
+        gate: &G,
+        graph: &Graph,
+        given: &[u32],
+        due: usize,
+        hops: HopBound,
+        estimates: &mut Estimates,
+    ) -> Result<Construction, AllocError>
+        requires under_way { IsUnderWay graph.now hops.number given.now self }
+        ensures under_way { IfOk result (IsUnderWay graph.now hops.number given.now) }
+        ensures none { IfOk result (λ c. due ≡ 0 → HasNone c.waiting) }
+    {
+        let alloc = *self.levels.allocator();
+        let mut construction = self;
+        while let Some(least) = construction.next_above(due) {
+            gate.watch(Stage::Building, construction.contracted, graph.nodes());
+            let (judged, node) = construction.judge_first(alloc, least, hops, estimates)?;
+            construction = judged.take_next(alloc, node, hops, estimates)?;
+        }
+        Ok(construction)
+    }
+
+    /// Returns the first node of the queue, or `None` if it has at most `due` nodes.
+    fn next_above(&self, due: usize) -> Option<u32>
+        ensures { MatchOption result (due ≡ 0 → HasNone self.now.waiting) (HasKey self.now.waiting) }
+    {
+        let node = self.next()?;
+        if due > 0 && self.waiting.len() <= due {
+            return None;
+        }
+        Some(node)
+    }
+
+    /// Returns those of these nodes that are in the queue, whose legs have changed since they were judged, and that have few
+    /// legs around them.
     fn stale_among(
         &self,
         alloc: Global,
@@ -324,12 +429,12 @@ impl Construction {
         Ok(list)
     }
 
-    /// Whether a node is in the queue, its legs have changed since it was judged, and its pairs of legs are few.
+    /// Whether a node is in the queue, its legs have changed since it was judged, and it has few legs around it.
     fn is_stale(&self, node: u32, estimates: &Estimates) -> bool
         requires sizes { self.now.remaining.nodes ≡ length self.now.waiting }
         ensures { IsTrue result → HasKey self.now.waiting node }
     {
-        self.waits(node) && estimates.is_stale(node) && self.pairs(node) <= MOST_PAIRS
+        self.waits(node) && estimates.is_stale(node) && !self.is_heavy(node)
     }
 
     /// Notes that these nodes were judged. Their keys tell the numbers of their shortcuts.

@@ -13,7 +13,7 @@ use Rattle.ch_hierarchy.proofs.code.Ranked.{rank_below}
 use Rattle.ch_hierarchy.specs.Ranked.{rank_of}
 use Rattle.ch_hierarchy.specs.declared.side.Side.{Side}
 use Rattle.ch_hierarchy.specs.Side.{state_of}
-use Rattle.ch_query.specs.declared.weights.search.TheConstants.{UNREACHED}
+use Rattle.ch_graph.specs.declared.cost.TheConstants.{UNREACHED}
 use Rattle.ch_query.specs.declared.weights.search.WeightSearch.{WeightSearch}
 use Rattle.ch_query.specs.Weights.{known_cost, weight_cost, side_costs, side_keys, IsSizedFor, IsCleanFor}
 use Rattle.ch_query.specs.Underway.{IsTouched}

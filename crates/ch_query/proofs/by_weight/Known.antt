@@ -4,11 +4,11 @@ use Rattle.std.specs.Prelude.{if◌then◌else◌}
 use Rattle.std.proofs.lemmas.Bool.{cases_eq}
 use Rattle.std.proofs.lemmas.Option.{same_Some, none-some}
 use Rattle.std.proofs.lemmas.List.{get_or-map, map-set}
+use Rattle.ch_graph.specs.declared.cost.TheConstants.{UNREACHED}
 use Rattle.ch_graph.specs.declared.limits.TheConstants.{MOST_WEIGHT}
 use Rattle.ch_graph.specs.declared.cost.Cost.{Cost}
 use Rattle.ch_graph.specs.Cost.{cost_at}
 use Rattle.ch_graph.proofs.Numbers.{not_eqb}
-use Rattle.ch_query.specs.declared.weights.search.TheConstants.{UNREACHED}
 use Rattle.ch_query.specs.Weights.{known_cost, weight_cost}
 
 -- a weight that is not UNREACHED stands for a cost

@@ -22,7 +22,7 @@ use Rattle.ch_hierarchy.specs.declared.side.Side.TheVariants.{Up, Down}
 use Rattle.ch_hierarchy.specs.Side.{rows_of, other, state_of}
 use Rattle.ch_hierarchy.proofs.code.Ranked.{rank_one, node_of_rank}
 use Rattle.ch_queue.specs.Queue.{HasNone, IsLeastEntry}
-use Rattle.ch_query.specs.declared.weights.search.TheConstants.{UNREACHED}
+use Rattle.ch_graph.specs.declared.cost.TheConstants.{UNREACHED}
 use Rattle.ch_query.specs.declared.weights.search.WeightSearch.{WeightSearch}
 use Rattle.ch_query.specs.Distance.{IsKeptForSome}
 use Rattle.ch_query.specs.Limits.{IsWithin, IsMost}

@@ -8,7 +8,7 @@ use Rattle.ch_hierarchy.specs.Ranked.{rank_of}
 use Rattle.ch_hierarchy.specs.declared.side.Side.{Side}
 use Rattle.ch_hierarchy.specs.Side.{state_of}
 use Rattle.ch_hierarchy.proofs.code.Ranked.{rank_below}
-use Rattle.ch_query.specs.declared.weights.search.TheConstants.{UNREACHED}
+use Rattle.ch_graph.specs.declared.cost.TheConstants.{UNREACHED}
 use Rattle.ch_query.specs.declared.weights.search.WeightSearch.{WeightSearch}
 use Rattle.ch_query.specs.Weights.{known_cost, weight_cost, IsCleanFor, IsWeighingAt, UnreachedStateIsUnkeyed}
 use Rattle.ch_query.proofs.one_side.Touched.{none_unless}

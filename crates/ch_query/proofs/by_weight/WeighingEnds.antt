@@ -9,7 +9,7 @@ use Rattle.ch_hierarchy.specs.Ranked.{rank_of}
 use Rattle.ch_hierarchy.specs.declared.side.Side.{Side}
 use Rattle.ch_hierarchy.specs.declared.side.Side.TheVariants.{Up, Down}
 use Rattle.ch_hierarchy.specs.Side.{state_of}
-use Rattle.ch_query.specs.declared.weights.search.TheConstants.{UNREACHED}
+use Rattle.ch_graph.specs.declared.cost.TheConstants.{UNREACHED}
 use Rattle.ch_query.specs.declared.weights.search.WeightSearch.{WeightSearch}
 use Rattle.ch_query.specs.Distance.{IsKeptForSome, IsLeastWeight}
 use Rattle.ch_query.specs.Weighed.{IsWeightSearchTo, IsWeightSearch, IsWeightSeen, IsWeightFound, IsPastWeight}

@@ -11,7 +11,7 @@ use Rattle.ch_hierarchy.specs.declared.side.Side.{Side}
 use Rattle.ch_hierarchy.specs.declared.side.Side.TheVariants.{Up, Down}
 use Rattle.ch_hierarchy.specs.Side.{rows_of, other, state_of}
 use Rattle.ch_hierarchy.proofs.code.Ranked.{rank_below}
-use Rattle.ch_query.specs.declared.weights.search.TheConstants.{UNREACHED}
+use Rattle.ch_graph.specs.declared.cost.TheConstants.{UNREACHED}
 use Rattle.ch_query.specs.declared.weights.search.WeightSearch.{WeightSearch}
 use Rattle.ch_query.specs.Search.{IsSettled, IsUpwardCost, count_unsettled}
 use Rattle.ch_query.specs.Weighed.{weighed}

@@ -8,7 +8,7 @@ use Rattle.ch_hierarchy.specs.declared.ranked.RankedLeg.{RankedLeg}
 use Rattle.ch_hierarchy.specs.Hierarchy.{LevelsAndLegs}
 use Rattle.ch_hierarchy.specs.declared.side.Side.{Side}
 use Rattle.ch_hierarchy.specs.Side.{other, state_of}
-use Rattle.ch_query.specs.declared.weights.search.TheConstants.{UNREACHED}
+use Rattle.ch_graph.specs.declared.cost.TheConstants.{UNREACHED}
 use Rattle.ch_query.specs.declared.weights.search.WeightSearch.{WeightSearch}
 use Rattle.ch_query.specs.Weighed.{weighed_leg}
 use Rattle.ch_query.specs.Weights.{known_cost, weight_cost, side_costs, source_of, is_idle_on, IsWeighingAt, HasGoneOn}

@@ -1,13 +1,11 @@
 //! The job that answers queries in scratches, with routes or without.
-ghost use Rattle.std.specs.Prelude.{◌≡◌, ◌<◌, IfOk};
+ghost use Rattle.std.specs.Prelude.{◌≡◌, ◌<◌};
 ghost use Rattle.ch_hierarchy.specs.Hierarchy.{nodes_of};
-ghost use Rattle.ch_query.specs.Distance.{IsKeptForSome};
 ghost use Rattle.ch_query.specs.Replies.{IsReply};
 
 use super::Answer;
-use super::route_job::reply_with_route;
+use super::one::answer_one;
 use crate::scratch::Scratch;
-use crate::weights::distance;
 use ch_hierarchy::Hierarchy;
 use ch_work::ListJob;
 use std::alloc::{AllocError, Global};
@@ -54,36 +52,6 @@ impl ListJob for QueryJob<'_> {
         room: &mut Scratch,
         item: &(u32, u32),
     ) -> Result<Answer, AllocError> {
-        reply(alloc, self.hierarchy, room, *item, self.routes)
+        answer_one(alloc, self.hierarchy, room, *item, self.routes)
     }
-}
-
-/// Returns the answer to one query.
-fn reply(
-    alloc: Global,
-    hierarchy: &Hierarchy,
-    scratch: &mut Scratch,
-    query: (u32, u32),
-    routes: bool,
-) -> Result<Answer, AllocError>
-    requires kept { IsKeptForSome hierarchy.now }
-    requires scratch { scratch.old ≡ nodes_of hierarchy.now }
-    requires query { (query.0 < nodes_of hierarchy.now) × (query.1 < nodes_of hierarchy.now) }
-    ensures reply { IfOk result (IsReply hierarchy.now routes query) }
-    ensures scratch { scratch.new ≡ scratch.old }
-{
-    if routes {
-        let mut sides = scratch.take_sides(alloc)?;
-        let answer = reply_with_route(alloc, hierarchy, &mut sides, query);
-        scratch.put_sides(sides);
-        return answer;
-    }
-    let (from, to) = query;
-    let weight = distance(hierarchy, scratch, from, to);
-    Ok(Answer {
-        from,
-        to,
-        weight,
-        arcs: None,
-    })
 }

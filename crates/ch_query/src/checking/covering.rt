@@ -11,7 +11,7 @@ ghost use Rattle.ch_query.specs.ByNode.{IsSomeRank};
 ghost use Rattle.ch_query.specs.Underway.{count_unsettled_in, IsSameSearch, IsUnderway, IsClean};
 ghost use Rattle.ch_query.specs.Covering.{is_connected, is_settled, IsPastCost, AreConnected, AreApart};
 
-use crate::costs::{is_below, most_within};
+use crate::costs::most_within;
 use crate::sides::search::Search;
 use ch_graph::Cost;
 use ch_hierarchy::Hierarchy;
@@ -53,7 +53,7 @@ fn is_past(queue: &KeyQueue<Cost>, most: Cost) -> bool
     ensures { result ≡ true → IsPastCost queue.now most }
 {
     match queue.least() {
-        Some((key, _)) => is_below(most, key),
+        Some((key, _)) => most.is_below(key),
         None => true,
     }
 }
@@ -68,7 +68,7 @@ fn connects(hierarchy: &Hierarchy, there: &Search, rank: u32, cost: Cost, most: 
     ensures apart { result ≡ false → (d : CostOf) → cost_at there.now.labels.costs rank ≡ Some d → IsBelow most (cost_sum cost d) }
 {
     match there.labels.get(rank) {
-        Some(known) => !is_below(most, cost.plus(known)),
+        Some(known) => !most.is_below(cost.plus(known)),
         None => false,
     }
 }

@@ -4,7 +4,6 @@ ghost use Rattle.ch_hierarchy.specs.Hierarchy.{nodes_of, IsLevelled};
 ghost use Rattle.ch_hierarchy.specs.Rows.{IsRow};
 ghost use Rattle.ch_query.specs.Checking.{HasLeg, IsRowCost, IsLegCost};
 
-use crate::costs::is_below;
 use ch_graph::Cost;
 use ch_hierarchy::{Hierarchy, Leg};
 
@@ -42,7 +41,7 @@ pub(crate) fn is_leg_within(hierarchy: &Hierarchy, start: u32, end: u32, most: C
     ensures levelled { IsLevelled hierarchy.now }
 {
     match leg_cost(hierarchy, start, end) {
-        Some(cost) => !is_below(most, cost),
+        Some(cost) => !most.is_below(cost),
         None => false,
     }
 }

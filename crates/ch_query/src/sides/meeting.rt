@@ -13,7 +13,6 @@ ghost use Rattle.ch_query.specs.TwoSided.{IsPast};
 ghost use Rattle.ch_query.specs.Meeting.{IsLeastAfter, IsFirst, AreMeeting};
 
 use super::search::Search;
-use crate::costs::is_below;
 use ch_graph::Cost;
 use ch_hierarchy::Hierarchy;
 use ch_queue::KeyQueue;
@@ -56,7 +55,7 @@ fn is_past(queue: &KeyQueue<Cost>, least: Option<(Cost, u32)>) -> bool
     ensures { result ≡ true → IsPast queue.now least }
 {
     match (queue.least(), least) {
-        (Some((key, _)), Some((sum, _))) => is_below(sum, key),
+        (Some((key, _)), Some((sum, _))) => sum.is_below(key),
         (None, _) => true,
         (Some(_), None) => false,
     }

@@ -8,7 +8,6 @@ ghost use Rattle.ch_query.specs.Underway.{idle_of, count_unsettled_in, IsTouched
 ghost use Rattle.ch_query.specs.Meeting.{IsFresh};
 
 use super::labels::Labels;
-use crate::costs::is_below;
 use ch_graph::Cost;
 use ch_graph::limits::MOST_WEIGHT;
 use ch_hierarchy::{Hierarchy, RankedLeg, Side};
@@ -172,7 +171,7 @@ impl Search {
     {
         for leg in hierarchy.ranked_legs(self.side.other(), rank) {
             if let Some(known) = self.labels.get(leg.rank) {
-                if is_below(known.plus(leg.cost()), cost) {
+                if known.plus(leg.cost()).is_below(cost) {
                     return true;
                 }
             }
@@ -202,7 +201,7 @@ impl Search {
         ensures there { result ≡ false → LeadsKeys other.now.queue self.now.queue }
     {
         match (self.queue.least(), other.queue.least()) {
-            (Some((here, _)), Some((there, _))) => !is_below(there, here),
+            (Some((here, _)), Some((there, _))) => !there.is_below(here),
             (None, Some(_)) => false,
             (_, None) => true,
         }

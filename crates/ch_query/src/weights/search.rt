@@ -13,14 +13,11 @@ ghost use Rattle.ch_query.specs.Distance.{IsKeptForSome, IsLeastWeight};
 ghost use Rattle.ch_query.specs.Underway.{IsTouched};
 ghost use Rattle.ch_query.specs.Weights.{known_cost, is_idle_on, weight_cost, source_of, IsSizedFor, IsWeighingAt, IsSameWeighing, UnreachedStateIsUnkeyed, HasGoneOn, ShowsWeight, AtRank, IsCleanFor, IsLeastSoFar, IsLeastState, AreKeysFrom, count_unsettled_states, without_state};
 
+use ch_graph::UNREACHED;
 use ch_graph::limits::MOST_WEIGHT;
 use ch_hierarchy::{Hierarchy, Side};
 use ch_queue::KeyQueue;
 use std::alloc::{AllocError, Global};
-
-/// The weight of a state that is not reached. It is more than two paths weigh together, and adding another
-/// weight does not overflow.
-pub(crate) const UNREACHED: u64 = 1 << 62;
 
 /// The state of a search for a distance, and the room for it.
 #[derive(Drop)]

@@ -6,11 +6,11 @@ ghost use Rattle.ch_run.specs.Serving.{GoesOn, IsAnswerBy, IsRoomFor, places_of}
 
 use super::first::answer_first;
 use super::loading::Checked;
+use super::near_texts::NearSearch;
 use super::output::write_answers;
 use crate::fault::RunFault;
 use crate::plan::{Crew, Gate};
 use ch_job::Options;
-use ch_near::NearTargets;
 use ch_query::Scratch;
 use ch_read::Request;
 use ch_text::Output;
@@ -30,7 +30,7 @@ pub(crate) struct Room<'a> {
     /// The scratches in which workers answer queries.
     pub(crate) scratches: Vec<Scratch>,
     /// The places that were given last, with the searches from them, if any were given.
-    pub(crate) near: Option<NearTargets<'a>>,
+    pub(crate) near: Option<NearSearch<'a>>,
 }
 
 impl<'a> Room<'a> {

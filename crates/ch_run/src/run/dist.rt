@@ -1,5 +1,5 @@
 //! Runs that answer queries.
-ghost use Rattle.std.specs.Prelude.{◌≡◌, ◌≤◌, length, IfOk};
+ghost use Rattle.std.specs.Prelude.{◌≡◌, ◌^◌, ◌<◌, ◌≤◌, length, flat_map, IfOk};
 ghost use Rattle.ch_graph.specs.declared.limits.TheConstants.{MOST_QUERIES};
 ghost use Rattle.ch_query.specs.Replies.{AreQueries};
 ghost use Rattle.ch_job.specs.Job.{source_map};
@@ -10,8 +10,9 @@ ghost use Rattle.ch_run.specs.Stories.{RunsDist};
 ghost use Rattle.ch_run.specs.Text.{IsTextBy, writes_routes};
 
 use super::inputs::queries_from;
+use super::lines::one_part;
 use super::loading::{Loaded, loaded_from};
-use super::output::write_text;
+use super::output::write_parts;
 use super::texts::{answers_by, plain_text};
 use crate::fault::RunFault;
 use crate::plan::{Crew, Gate};
@@ -58,23 +59,25 @@ pub fn run_dist<R: Threads + Sync, I: Input, S: Input + Drop, J: Input, O: Outpu
 {
     let loaded = loaded_from(crew, graph, source, writes_routes(options))?;
     let queries = queries_from(crew.alloc, queries, loaded.graph())?;
-    let text = text_of(crew, loaded, &queries, options)?;
-    write_text(output, &text)
+    let parts = text_of(crew, loaded, &queries, options)?;
+    write_parts(output, &parts)
 }
 
-/// Returns the text that answers the queries, in the way that the options choose.
+/// Returns the text that answers the queries, in the way that the options choose, in parts.
 fn text_of<R: Threads + Sync, G: Gate>(
     crew: &Crew<'_, R, G>,
     loaded: Loaded,
     queries: &[(u32, u32)],
     options: &Options,
-) -> Result<Vec<u8>, AllocError>
+) -> Result<Vec<Vec<u8>>, AllocError>
     requires queries { AreQueries loaded.graph.nodes queries.now }
     requires count { length queries.now ≤ MOST_QUERIES }
-    ensures { IfOk result (λ text. IsTextBy (writes_routes options.now) loaded.graph (IsOfRoutes options.now loaded.graph loaded.saved) queries.now text.items) }
+    ensures text { IfOk result (λ parts. IsTextBy (writes_routes options.now) loaded.graph (IsOfRoutes options.now loaded.graph loaded.saved) queries.now (flat_map (λ part. part.items) parts.items)) }
+    ensures length { IfOk result (λ parts. length (flat_map (λ part. part.items) parts.items) < 2 ^ 64) }
 {
     if options.plain {
-        return plain_text(crew.alloc, loaded.graph(), queries, crew.gate);
+        let text = plain_text(crew.alloc, loaded.graph(), queries, crew.gate)?;
+        return one_part(crew.alloc, text);
     }
     let routes = writes_routes(options);
     let hierarchy = loaded.hierarchy_for(crew, options.hops, options.order, routes)?;

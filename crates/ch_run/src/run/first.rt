@@ -9,7 +9,7 @@ ghost use Rattle.ch_run.specs.Ask.{limit_of};
 ghost use Rattle.ch_run.specs.Serving.{AnswersFirst, AreFirstOf, IsAnswerBy, IsRoomFor, asked_for, near_row_of, places_of};
 
 use super::answering::{Answering, Room};
-use super::near_texts::{ROWS_TOGETHER, push_searched};
+use super::near_texts::NearSearch;
 use super::texts::{answers_in, table_by};
 use crate::plan::{Crew, Gate};
 use crate::routes::has_routes;
@@ -17,8 +17,12 @@ use ch_job::Options;
 use ch_near::NearTargets;
 use ch_read::{NearPlaces, Request, TableLists};
 use ch_text::push_near_row;
+use ch_work::joined;
 use std::alloc::{AllocError, Global};
 use std::thread::Threads;
+
+/// The most near rows of requests that are made together. Their text is in memory at once.
+const ROWS_TOGETHER: usize = 4096;
 
 /// The text that answers the first of some requests, and the number of these.
 #[derive(Drop)]
@@ -128,15 +132,16 @@ fn first_rows<R: Threads + Sync, G: Gate>(
     ensures first { IfOk result (λ answers. AnswersFirst (IsAnswerBy by.now) (places_of room.old.near) (places_of room.new.near) (near_row_of within source ∷ rest.now) answers.text.items answers.count) }
     ensures room { IfOk result (λ _. IsRoomFor by.now.options.now.direction by.now.checked.now room.new) }
 {
-    let mut text = Vec::new(crew.alloc);
     let Some(near) = &mut room.near else {
+        let mut text = Vec::new(crew.alloc);
         push_near_row(&mut text, source, &[], &[])?;
         return Ok(FirstAnswers { text, count: 1 });
     };
     let sources = sources_in_front(crew.alloc, source, within, rest)?;
     let count = sources.len();
     let within = limit_of(by.options, within);
-    push_searched(crew, near, &sources, within, &mut text)?;
+    let parts = near.text(crew, &sources, within)?;
+    let text = joined(crew.alloc, parts)?;
     Ok(FirstAnswers { text, count })
 }
 
@@ -224,7 +229,7 @@ fn take_places<'a, R: Threads + Sync, G: Gate>(
         None,
         count,
     )?;
-    room.near = Some(near);
+    room.near = Some(NearSearch::new(crew.alloc, near));
     Ok(FirstAnswers {
         text: Vec::new(crew.alloc),
         count: 1,

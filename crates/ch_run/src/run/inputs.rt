@@ -5,7 +5,7 @@ ghost use Rattle.ch_graph.specs.declared.limits.TheConstants.{MOST_LISTED, MOST_
 ghost use Rattle.ch_text.specs.Device.{CanCountOneMore};
 ghost use Rattle.ch_text.specs.Moves.{GaveAll};
 ghost use Rattle.ch_job.specs.Job.{sources_map};
-ghost use Rattle.ch_run.specs.NearRun.{AreSources, nodes_of_sources, sources_reading};
+ghost use Rattle.ch_run.specs.NearRun.{AreFewSources, AreSources, nodes_of_sources, sources_reading};
 ghost use Rattle.ch_run.specs.Run.{IsUnread, ReadsGraph, ReadsNodes, ReadsQueries, reading};
 ghost use Rattle.ch_read.specs.declared.form.Form.TheVariants as FormOf;
 ghost use Rattle.ch_run.specs.Story.{EndsAt, EndsAtIf, IsRefused};
@@ -79,6 +79,7 @@ pub(crate) fn sources_from<J: Input + Drop>(
 ) -> Result<Sources<Vec<u32>>, RunFault>
     ensures value { IfOk result (λ from. AreSources (sources_reading J.read_gives sources.old sources.new) graph.now.nodes (nodes_of_sources graph.now.nodes from)) }
     ensures within { IfOk result (λ from. All (λ node. node < graph.now.nodes) (nodes_of_sources graph.now.nodes from)) }
+    ensures few { IfOk result AreFewSources }
     ensures ends { IfErr result (EndsAtIf Which.Sources (sources_reading J.read_gives sources.old sources.new) (IsRefused (FormOf.Nodes graph.now.nodes))) }
     ensures same { sources_map J.origin sources.new ≡ sources_map J.origin sources.old }
 {

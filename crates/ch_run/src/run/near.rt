@@ -1,8 +1,8 @@
 //! Runs that write the nearest targets of each source of a list, or of each node of the graph.
-ghost use Rattle.std.specs.Prelude.{◌≡◌, IfOk};
+ghost use Rattle.std.specs.Prelude.{◌≡◌, ◌^◌, ◌<◌, length, flat_map, IfOk};
 ghost use Rattle.ch_job.specs.Job.{source_map, sources_map};
 ghost use Rattle.ch_run.specs.Stories.{RunsNear};
-ghost use Rattle.ch_run.specs.NearRun.{AreNodeLists, IsNearBy, nodes_of_sources, sources_reading};
+ghost use Rattle.ch_run.specs.NearRun.{AreFewSources, AreNodeLists, IsNearBy, nodes_of_sources, sources_reading};
 ghost use Rattle.ch_run.specs.Run.{Delivers, reading};
 ghost use Rattle.ch_run.specs.Source.{source_reading};
 ghost use Rattle.ch_run.specs.Text.{IsNearTextFor};
@@ -10,7 +10,7 @@ ghost use Rattle.ch_run.specs.Text.{IsNearTextFor};
 use super::inputs::{nodes_from, sources_from};
 use super::loading::{Loaded, loaded_from};
 use super::near_texts::near_by;
-use super::output::write_text;
+use super::output::write_parts;
 use crate::fault::{RunFault, Which};
 use crate::plan::{Crew, Gate};
 use ch_job::{Options, Source, Sources};
@@ -73,20 +73,22 @@ pub fn run_near<
     let loaded = loaded_from(crew, graph, source, false)?;
     let sources = sources_from(crew.alloc, sources, loaded.graph())?;
     let targets = nodes_from(crew.alloc, targets, loaded.graph(), Which::Targets)?;
-    let text = near_of(crew, loaded, &sources, &targets, options)?;
-    write_text(output, &text)
+    let parts = near_of(crew, loaded, &sources, &targets, options)?;
+    write_parts(output, &parts)
 }
 
-/// Returns the text of the near rows of these sources, by the hierarchy that serves.
+/// Returns the text of the near rows of these sources, by the hierarchy that serves, in parts.
 fn near_of<R: Threads + Sync, G: Gate>(
     crew: &Crew<'_, R, G>,
     loaded: Loaded,
     sources: &Sources<Vec<u32>>,
     targets: &[u32],
     options: &Options,
-) -> Result<Vec<u8>, AllocError>
+) -> Result<Vec<Vec<u8>>, AllocError>
     requires lists { AreNodeLists loaded.graph.nodes (nodes_of_sources loaded.graph.nodes sources.now) targets.now }
-    ensures { IfOk result (λ text. IsNearTextFor options.now loaded.graph (nodes_of_sources loaded.graph.nodes sources.now) targets.now text.items) }
+    requires few { AreFewSources sources.now }
+    ensures text { IfOk result (λ parts. IsNearTextFor options.now loaded.graph (nodes_of_sources loaded.graph.nodes sources.now) targets.now (flat_map (λ part. part.items) parts.items)) }
+    ensures length { IfOk result (λ parts. length (flat_map (λ part. part.items) parts.items) < 2 ^ 64) }
 {
     let hierarchy = loaded.any_hierarchy(crew, options.hops)?;
     near_by(crew, &hierarchy, sources, targets, options)

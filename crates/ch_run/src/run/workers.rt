@@ -1,59 +1,107 @@
-//! Texts that workers share. Each worker makes the texts of ranges of answers or of rows of a table, and
-//! these are joined in order.
-ghost use Rattle.std.specs.Prelude.{◌≡◌, ◌^◌, ◌<◌, length, flat_map, IfOk};
-ghost use Rattle.std.specs.List.{slice_range};
-ghost use Rattle.ch_text.specs.Routes.{answer_text};
-ghost use Rattle.ch_text.specs.TableText.{row_text};
-
-use crate::plan::{Crew, Gate, Open, Plan};
-use ch_query::Answer;
+//! The jobs by which workers write answers and the rows of a table. Each line is written by the worker that found what it says.
+use super::lines::LineJob;
+use ch_contract::Hierarchy;
+use ch_query::{Scratch, Sides, answer_one, answer_with_route};
 use ch_table::RowJob;
-use ch_text::{answers_text, push_row};
-use ch_work::{Job, joined, run_pieces};
+use ch_text::{push_answer, push_row};
 use std::alloc::{AllocError, Global};
 use std::marker::Model;
-use std::thread::Threads;
 
-/// The number of answers that a worker writes at once.
-const ANSWERS: u32 = 1024;
+/// The job that writes the answers to queries, with their routes if `routes`.
+#[derive(Drop)]
+pub(crate) struct AnswerLines<'a> {
+    pub(crate) hierarchy: &'a Hierarchy,
+    pub(crate) routes: bool,
+}
 
-/// Makes a crew of the same workers that takes `ANSWERS` answers at a time. It does not pass the caller's
-/// gate, which counts answers.
-fn by_pieces<'a, R, G>(crew: &Crew<'a, R, G>) -> Crew<'a, R, Open>
-    ensures { result.plan.piece ≡ 1024 }
-{
-    Crew {
-        rt: crew.rt,
-        alloc: crew.alloc,
-        plan: Plan::new(crew.plan.workers(), ANSWERS, crew.plan.wide()),
-        gate: &Open,
+impl<'a> Model for AnswerLines<'a> {
+    ghost use Rattle.ch_query.specs.Distance.{IsKeptForSome};
+    ghost use Rattle.ch_query.specs.Tasks.{Task};
+
+    ghost Value = { Task };
+
+    ghost view = { λ job. record { hierarchy = job.hierarchy.now; routes = job.routes } };
+
+    ghost invariant = { λ job. IsKeptForSome job.hierarchy.now };
+}
+
+impl LineJob for AnswerLines<'_> {
+    ghost use Rattle.std.specs.Prelude.{◌≡◌, ◌<◌};
+    ghost use Rattle.ch_hierarchy.specs.Hierarchy.{nodes_of};
+    ghost use Rattle.ch_run.specs.Lines.{AreReplyLines};
+
+    type Item = (u32, u32);
+
+    type Room = Scratch;
+
+    ghost takes = { λ task query. (query.0 < nodes_of task.hierarchy) × (query.1 < nodes_of task.hierarchy) };
+
+    ghost lines = { λ task query lines. AreReplyLines task.hierarchy task.routes query lines };
+
+    ghost clean = { λ task scratch. scratch ≡ nodes_of task.hierarchy };
+
+    fn room(&self, alloc: Global) -> Result<Scratch, AllocError> {
+        Scratch::new(alloc, self.hierarchy.nodes())
+    }
+
+    fn push(
+        &self,
+        alloc: Global,
+        room: &mut Scratch,
+        item: &(u32, u32),
+        text: &mut Vec<u8>,
+    ) -> Result<(), AllocError> {
+        let answer = answer_one(alloc, self.hierarchy, room, *item, self.routes)?;
+        push_answer(text, &answer)
     }
 }
 
-/// The job that writes answers.
+/// The job that writes answers with routes alone. Its workers have no room for distances, which would take half as much memory
+/// again.
 #[derive(Drop)]
-struct AnswersJob<'a> {
-    answers: &'a [Answer],
+pub(crate) struct RouteLines<'a> {
+    pub(crate) hierarchy: &'a Hierarchy,
 }
 
-impl<'a> Model for AnswersJob<'a> {
-    ghost use Rattle.std.specs.Prelude.{List};
-    ghost use Rattle.ch_query.specs.declared.answer.Answer.{Answer as AnyAnswer};
+impl<'a> Model for RouteLines<'a> {
+    ghost use Rattle.ch_hierarchy.specs.Hierarchy.{LevelsAndLegs};
+    ghost use Rattle.ch_query.specs.Distance.{IsKeptForSome};
 
-    ghost Value = { List AnyAnswer };
+    ghost Value = { LevelsAndLegs };
 
-    ghost view = { λ job. job.answers.now };
+    ghost view = { λ job. job.hierarchy.now };
+
+    ghost invariant = { λ job. IsKeptForSome job.hierarchy.now };
 }
 
-impl Job for AnswersJob<'_> {
-    type Out = Vec<u8>;
+impl LineJob for RouteLines<'_> {
+    ghost use Rattle.std.specs.Prelude.{◌≡◌, ◌<◌, true};
+    ghost use Rattle.ch_hierarchy.specs.Hierarchy.{nodes_of};
+    ghost use Rattle.ch_run.specs.Lines.{AreReplyLines};
 
-    ghost size = { λ answers. length answers };
+    type Item = (u32, u32);
 
-    ghost meaning = { λ answers from to text. text.items ≡ flat_map answer_text (slice_range answers from to) };
+    type Room = Sides;
 
-    fn piece(&self, alloc: Global, from: u32, to: u32) -> Result<Vec<u8>, AllocError> {
-        answers_text(alloc, &self.answers[from as usize..to as usize])
+    ghost takes = { λ H query. (query.0 < nodes_of H) × (query.1 < nodes_of H) };
+
+    ghost lines = { λ H query lines. AreReplyLines H true query lines };
+
+    ghost clean = { λ H sides. sides ≡ nodes_of H };
+
+    fn room(&self, alloc: Global) -> Result<Sides, AllocError> {
+        Sides::new(alloc, self.hierarchy.nodes())
+    }
+
+    fn push(
+        &self,
+        alloc: Global,
+        room: &mut Sides,
+        item: &(u32, u32),
+        text: &mut Vec<u8>,
+    ) -> Result<(), AllocError> {
+        let answer = answer_with_route(alloc, self.hierarchy, room, *item)?;
+        push_answer(text, &answer)
     }
 }
 
@@ -61,7 +109,9 @@ impl Job for AnswersJob<'_> {
 pub(crate) struct RowTexts;
 
 impl RowJob for RowTexts {
+    ghost use Rattle.std.specs.Prelude.{◌≡◌, flat_map};
     ghost use Rattle.std.specs.List.{zip};
+    ghost use Rattle.ch_text.specs.TableText.{row_text};
 
     type Out = Vec<u8>;
 
@@ -80,24 +130,4 @@ impl RowJob for RowTexts {
     ) -> Result<(), AllocError> {
         push_row(gathered, source, cells)
     }
-}
-
-/// Returns the text of the answers, in order, as [`answers_text`] does. The workers of the crew share
-/// it.
-pub(crate) fn answers_text_by<R: Threads + Sync, G: Gate>(
-    crew: &Crew<'_, R, G>,
-    answers: &[Answer],
-) -> Result<Vec<u8>, AllocError>
-    requires { length answers.now < 2 ^ 32 }
-    ensures { IfOk result (λ text. text.items ≡ flat_map answer_text answers.now) }
-{
-    if !crew.plan.shares(answers.len(), ANSWERS as usize + 1) {
-        return answers_text(crew.alloc, answers);
-    }
-    let texts = run_pieces(
-        &by_pieces(crew),
-        answers.len() as u32,
-        &AnswersJob { answers },
-    )?;
-    joined(crew.alloc, texts)
 }

@@ -13,13 +13,14 @@ use Rattle.ch_graph.proofs.Lists.{contains_map}
 use Rattle.ch_query.specs.Weighed.{weighed, weighed_leg}
 use Rattle.ch_query.proofs.one_side.Expanding.{leg_up}
 use Rattle.ch_query.proofs.one_side.WeighedPaths.{weighed_row, reached_weight}
-use Rattle.ch_tree.specs.Tree.{weight_at, IsSwept, AreUpCosts}
+use Rattle.ch_tree.specs.Tree.{weight_at, IsSweptTo, AreUpCosts}
 
-module _ (H : LevelsAndLegs) (k : IsLevelled H) (side : Side) (parents : List ℕ) (s : ℕ) (s_low : s < nodes_of H) (costs : List ℕ)
-    (sw : IsSwept H side parents s 0 costs) where
+module _ (H : LevelsAndLegs) (k : IsLevelled H) (side : Side) (parents : List ℕ) (s : ℕ) (s_low : s < nodes_of H) (bound : ℕ)
+    (costs : List ℕ) (sw : IsSweptTo H side parents s bound 0 costs) (most : ℕ) (below : most < bound)
+    (light_most : most ≤ MOST_WEIGHT) where
   -- going on from a known node costs at least what is known at the end
   onward : (u v w : ℕ) (legs : List Leg) → u < nodes_of H → IsUpwardPath (rows_of H side) u v legs → weight_at costs (rank_of H u) ≤ w →
-      w + (path_cost legs).weight ≤ MOST_WEIGHT →
+      w + (path_cost legs).weight ≤ most →
       weight_at costs (rank_of H v) ≤ w + (path_cost legs).weight
   onward u v w [] lt path known light = subst (λ z. weight_at costs (rank_of H z) ≤ w + 0) path (omega arith)
   onward u v w (l ∷ legs) lt path known light =
@@ -32,7 +33,7 @@ module _ (H : LevelsAndLegs) (k : IsLevelled H) (side : Side) (parents : List �
       omega arith
 
   -- the pass finds the least weights
-  pub up_costs_least : AreUpCosts H side s costs
+  pub up_costs_least : AreUpCosts H side s most costs
   up_costs_least = record {
     found = λ v lt known. reached_weight H side s v _ (sw.sound v lt known);
     least = λ v legs lt path light. let start = sw.start in let low = onward s v 0 legs s_low path (omega arith) (omega arith) in

@@ -11,7 +11,7 @@ from chtab.maps import profiles
 from chtab.roads.legs import FAR, legs_between, legs_by, metres_by, table_ways
 from chtab.roads.lines import metres_between
 from chtab.roads.snapping import length_text
-from chtab.server.osrm import cells, curb, matching, options, telling, tours, url
+from chtab.server.osrm import alternatives, cells, curb, lone, matching, options, telling, tours, url
 from chtab.server.osrm.crossings import Crossings
 from chtab.server.osrm.drawing import Drawing
 from chtab.server.osrm.options import Refusal
@@ -27,6 +27,7 @@ if TYPE_CHECKING:
 
 # OSRM's names of the ways of travelling.
 MODES = {"car": "driving", "bicycle": "cycling", "foot": "walking"}
+NO_ROUTE = "no way leads over the coordinates in this order"
 # How many cells of a table have their routes asked for together.
 BATCH = 2_048
 MILLISECONDS = 1_000
@@ -75,18 +76,20 @@ def profile_of(comments: Sequence[str]) -> str:
 
 
 class Answers:
-    """Answers by a network. Clients may call it by each of the names `profiles`, and where there is none by any name. `streets` are what its arcs
-    are called, `files.Streets` or None, and `numbers` what the map calls its nodes, or None."""
+    """Answers by a network. Clients may call it by each of the names `profiles`, and where there is
+    none by any name. `streets` are what its arcs are called, `files.Streets` or None, `numbers` what
+    the map calls its nodes, or None, and `crossings` those of its roads, if they are made already."""
 
     def __init__(
         self, network: Network, profiles: Sequence[str] = (), limits: Limits = Limits(), streets: files.Streets | None = None,
-        numbers: Integers | None = None,
+        numbers: Integers | None = None, crossings: Crossings | None = None,
     ) -> None:
         coordinates = network.coordinates
+        crossings = crossings or Crossings(network.roads, coordinates.copies(), streets)
         self.network, self.limits, self.profiles = network, limits, profiles
         mode = MODES.get(profile_of(coordinates.comments), "driving")
         self.is_straight_by_default = mode == MODES["car"]
-        steps = Steps(Crossings(network.roads, coordinates.copies(), streets), mode)
+        steps = Steps(crossings, mode)
         drawings = {form: Drawing(network.roads.lines, network.nodes, form) for form in options.FORMS}
         self.voice = telling.Voice(steps, numbers, drawings)
 
@@ -163,6 +166,8 @@ class Answers:
 
     def routes(self, questions: Sequence[Question]) -> list[str | Refusal]:
         """The answers to questions for routes, found together, as texts or refusals."""
+        if len(questions) == 1 and lone.is_lone(questions[0].general, questions[0].own, len(questions[0].coordinates)):
+            return [self.lone_route(questions[0])]
         spots, faults = self.spots_of(questions)
         waypoints = self.waypoints(spots)
         cuts = numpy.cumsum([0, *(len(question.coordinates) for question in questions)]).tolist()
@@ -175,13 +180,32 @@ class Answers:
         if legs.weights.min(initial=0) < 0:
             for place, some in enumerate(which):
                 if place not in faults and (legs.weights[some] < 0).any():
-                    faults[place] = Refusal("NoRoute", "no way leads over the coordinates in this order")
+                    faults[place] = Refusal("NoRoute", NO_ROUTE)
         told = [place for place in range(len(questions)) if place not in faults]
         texts = dict(zip(told, self.route_texts(legs, [which[place] for place in told], [questions[place].own for place in told])))
+        for place in told:
+            if questions[place].own.alternatives:
+                texts[place] += self.others(legs, which[place][0], questions[place].own)
         return [
             faults.get(place) or answer_of("routes", texts[place], "waypoints", objects(chosen(waypoints, cuts[place], question), question.general))
             for place, question in enumerate(questions)
         ]
+
+    def others(self, legs: Legs, leg: int, own: options.Route) -> str:
+        """The texts of the alternatives to a route of one leg, each behind a comma."""
+        found = alternatives.alternatives(self.network._trips, legs, leg, own.alternatives)
+        if found is None:
+            return ""
+        parts = [[place] for place in range(len(found))]
+        return "".join([f", {text}" for text in self.route_texts(found, parts, [own] * len(parts))])
+
+    def lone_route(self, question: Question) -> str | Refusal:
+        """The answer to a question for a route between two places without a line."""
+        found, known = lone.Found(self.network._trips, question.coordinates), self.voice.steps
+        if found.weight is None:
+            return Refusal("NoRoute", NO_ROUTE)
+        told = found.waypoints(known.names, known.known.street_of)
+        return answer_of("routes", found.route_text(), "waypoints", objects(told, question.general))
 
     def is_straight(self, own: options.Route) -> bool:
         """Whether a route goes straight on at its stops: by default those of cars do, as OSRM has it."""
@@ -215,10 +239,15 @@ class Answers:
         parts = matching.matched(self.network._trips, track, own.is_parted, own.is_tidied)
         if not parts:
             raise Refusal("NoMatch", "no roads lead along the coordinates")
+        left_out = {*(own.route.waypoints or ())}.difference(*(part.places for part in parts))
+        if left_out:
+            raise Refusal("NoMatch", f"no roads lead along coordinate {min(left_out)}, a waypoint")
         starts, ends = (matching.together([part.spots[some] for part in parts]) for some in (slice(-1), slice(1, None)))
         legs = legs_between(self.network._trips, starts, ends)
         cuts = numpy.cumsum([0, *(len(part.places) - 1 for part in parts)]).tolist()
-        texts = self.route_texts(legs, [list(range(*pair)) for pair in zip(cuts, cuts[1:])], [own.route] * len(parts))
+        ranges = [list(range(*pair)) for pair in zip(cuts, cuts[1:])]
+        wanted = [own.route._replace(waypoints=ends_of(part, own.route.waypoints)) for part in parts]
+        texts = self.route_texts(legs, ranges, wanted)
         matchings = ", ".join(f'{text[:-1]}, "confidence": {part.confidence}}}' for text, part in zip(texts, parts))
         return answer_of("matchings", matchings, "tracepoints", objects(self.tracepoints(question, parts), general))
 
@@ -226,8 +255,11 @@ class Answers:
         """Where each coordinate was taken to, as the inside of an object of JSON; None for one that was left out."""
         found: list[str | None] = [None] * len(question.coordinates)
         for number, part in enumerate(parts):
+            ends = ends_of(part, question.own.route.waypoints) or range(len(part.places))
+            ranks = {index: rank for rank, index in enumerate(ends)}
             for index, (place, each, others) in enumerate(zip(part.places, self.waypoints(part.spots), part.others)):
-                found[place] = f'{each}, "matchings_index": {number}, "waypoint_index": {index}, "alternatives_count": {others}'
+                rank = ranks.get(index, "null")
+                found[place] = f'{each}, "matchings_index": {number}, "waypoint_index": {rank}, "alternatives_count": {others}'
         return found
 
     # Tables.
@@ -317,6 +349,16 @@ def chosen(waypoints: Sequence[str], first: int, question: Question) -> Sequence
     """The waypoints of a question for a route, whose coordinates begin at `first`."""
     own = waypoints[first:first + len(question.coordinates)]
     return own if question.own.waypoints is None else [own[place] for place in question.own.waypoints]
+
+
+def ends_of(part: matching.Part, waypoints: tuple[int, ...] | None) -> tuple[int, ...] | None:
+    """The indices in a part of a track between which it has legs: its ends, and the waypoints; None
+    if all places are."""
+    if waypoints is None:
+        return None
+    last = len(part.places) - 1
+    own = enumerate(part.places)
+    return tuple(index for index, place in own if index in (0, last) or place in waypoints)
 
 
 def objects(insides: Sequence[str | None], general: options.General) -> str | None:

@@ -85,15 +85,31 @@ class Crossings:
         self.firsts = numpy.searchsorted(nodes[self.ends], numpy.arange(len(self.crossing) + 1))
 
     def find_open(self) -> None:
-        """Finds the ends of roads where a node can be left, for each node, and the street of each end: that of the arc of least weight, or if the road is closed that
-        way the street of the opposite direction."""
+        """Finds the ends of roads where a node can be left, for each node, and the street of each
+        end: that of the arc of least weight, or if the road is closed that way the street of the
+        opposite direction."""
         kept = numpy.flatnonzero(self.roads.road_of != NONE)
         ends = 2 * self.roads.road_of[kept] + self.roads.is_back[kept]
-        self.open_keys = numpy.unique(self.roads.tails[kept] << 32 | ends)
+        tails = self.roads.tails[kept]
+        self.open_keys = numpy.unique(numpy.append(tails << 32 | ends, self.behind_turns(tails, ends)))
         order = numpy.lexsort([kept, self.roads.weights[kept]])[::-1]
         known = numpy.full(len(self.leads), -1)
         known[ends[order]] = self.street_of_arc[kept[order]]
         self.street_of = numpy.where(known < 0, known.reshape(-1, 2)[:, ::-1].reshape(-1), known).clip(0)
+
+    def behind_turns(self, tails: Integers, ends: Integers) -> Integers:
+        """The keys of the nodes where roads end that have nodes of their own, as turns cost time.
+        From such a node arcs along no road lead to the nodes where roads begin: `tails`, which are
+        left by the ends beside them."""
+        roads = self.roads
+        is_tail = numpy.zeros(len(roads.places) + 1, bool)
+        is_tail[tails] = True
+        turns = numpy.flatnonzero((roads.road_of == NONE) & ~is_tail[roads.tails])
+        order = numpy.argsort(tails, kind="stable")
+        firsts = tails[order].searchsorted(roads.heads[turns])
+        counts = tails[order].searchsorted(roads.heads[turns], "right") - firsts
+        behind = ends[order][ranges(firsts, counts)]
+        return numpy.repeat(roads.tails[turns], counts) << 32 | behind
 
     def judge_streets(self) -> None:
         """Finds which streets are rings, ramps, links, fast roads and ferries, and numbers that are equal for streets of the same kind, or with the

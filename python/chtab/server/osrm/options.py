@@ -28,6 +28,8 @@ FORMS = "polyline", "polyline6", "geojson"
 DISTANCE = 8
 # How much longer a leg takes than one without a line: with a line, with steps, and with annotations.
 OF_LINES, OF_STEPS, OF_ANNOTATIONS = {"false": 0.0, "full": 0.5, "simplified": 3.5}, 1.5, 10.0
+# The most alternatives of a route.
+MOST_ALTERNATIVES = 3
 # Queries that were read last are kept, of so many characters and for so many coordinates at most.
 QUERIES_KEPT, LONGEST_KEPT, MOST_KEPT = 1_024, 256, 64
 
@@ -87,8 +89,9 @@ class General(NamedTuple):
 
 
 class Route(NamedTuple):
-    """The options of a route: its lines, whether it has steps, its annotations, whether it goes straight on at its stops, None for the default, and the
-    coordinates between which it has legs, None for all."""
+    """The options of a route: its lines, whether it has steps, its annotations, whether it goes
+    straight on at its stops, None for the default, the coordinates between which it has legs, None
+    for all, and how many alternatives there may be."""
 
     geometries: str
     overview: str
@@ -96,6 +99,7 @@ class Route(NamedTuple):
     annotations: tuple[str, ...]
     is_straight: bool | None = None
     waypoints: tuple[int, ...] | None = None
+    alternatives: int = 0
 
     @property
     def work(self) -> float:
@@ -253,14 +257,29 @@ def bearing_in(text: str) -> tuple[int, int] | None:
 def route(reader: Reader) -> Route:
     if reader.count < 2:
         raise Refusal("InvalidOptions", "a route has at least two coordinates")
-    # One route is a correct answer even if alternatives are asked for, because OSRM doesn't promise any.
-    if not ALTERNATIVES.fullmatch(reader.take("alternatives", "false")):
-        raise Refusal("InvalidQuery", "alternatives: true, false or a number")
+    asked = alternatives(reader)
     straight = reader.choice("continue_straight", "default", "true", "false")
-    found = told_route(reader)._replace(is_straight={"true": True, "false": False}.get(straight), waypoints=waypoints(reader))
+    return without_steps(told_route(reader)._replace(
+        is_straight={"true": True, "false": False}.get(straight), waypoints=waypoints(reader),
+        alternatives=asked,
+    ))
+
+
+def without_steps(found: Route) -> Route:
+    """The options of a route, which has no steps where some of its coordinates are waypoints."""
     if found.waypoints is not None and found.has_steps:
         raise Refusal("InvalidOptions", "waypoints: not supported with steps")
     return found
+
+
+def alternatives(reader: Reader) -> int:
+    """How many alternatives a route may have, as OSRM has them between two coordinates alone."""
+    text = reader.take("alternatives", "false")
+    if not ALTERNATIVES.fullmatch(text):
+        raise Refusal("InvalidQuery", "alternatives: true, false or a number")
+    asked = {"true": 1, "false": 0}.get(text)
+    most = MOST_ALTERNATIVES if reader.count == 2 else 0
+    return min(int(text) if asked is None else asked, most)
 
 
 def waypoints(reader: Reader) -> tuple[int, ...] | None:
@@ -303,8 +322,8 @@ def match(reader: Reader) -> Match:
     if reader.count < 2:
         raise Refusal("InvalidOptions", "a track has at least two coordinates")
     gaps, is_tidied = reader.choice("gaps", "split", "ignore"), reader.boolean("tidy", False)
-    reader.refuse("waypoints")
-    return Match(told_route(reader), timestamps(reader), gaps == "split", is_tidied)
+    found = told_route(reader)._replace(waypoints=waypoints(reader))
+    return Match(without_steps(found), timestamps(reader), gaps == "split", is_tidied)
 
 
 def timestamps(reader: Reader) -> list[int] | None:

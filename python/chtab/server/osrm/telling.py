@@ -9,7 +9,7 @@ from typing import TYPE_CHECKING, Any, NamedTuple
 import numpy
 
 from chtab.roads.legs import Traces
-from chtab.server.osrm import polylines
+from chtab.server.osrm import cells, polylines
 from chtab.server.osrm.drawing import Drawing, Drawn
 from chtab.server.osrm.steps import Lines, Steps, Told
 
@@ -21,6 +21,9 @@ if TYPE_CHECKING:
 # A point of a simplified line is left out where it lies off the line by less than so much of the longer side of the route.
 COARSE = 1 / 1_000
 MILLISECONDS = 1_000
+# The digits behind the point of what annotations have, and from how many numbers on these are written
+# all together.
+DECIMALS, MANY = {"duration": 3, "weight": 3, "distance": 3, "speed": 1}, 24
 # The source of all durations.
 METADATA = {"datasource_names": ["graph"]}
 
@@ -105,45 +108,69 @@ def leg_text(voice: Voice, legs: Legs, which: list[int], options: Route, told: O
     steps, more = told.steps.get(which[0]), ""
     if options.annotations:
         parts = [annotation(told.traces.of(told.places[leg]), options.annotations, voice.numbers) for leg in which]
-        more = f' "annotation": {json.dumps(parts[0] if len(parts) == 1 else together(parts))},'
+        more = f' "annotation": {annotation_text(parts[0] if len(parts) == 1 else together(parts))},'
     summary, listed = (steps.summary, steps.steps) if steps else ('""', "[]")
     return f'{{"distance": {round(metres, 1)}, "duration": {weight}, "weight": {weight}, "summary": {summary},{more} "steps": {listed}}}'
 
 
-def together(parts: Sequence[dict[str, Any]]) -> dict[str, Any]:
-    """The annotations of several legs as those of one. Where one leg ends and the next begins in the middle of a road, there is no node."""
-    found = {name: list(column) if isinstance(column, list) else column for name, column in parts[0].items()}
+def together(parts: Sequence[dict[str, Integers]]) -> dict[str, Integers]:
+    """The annotations of several legs as those of one. Where one leg ends and the next begins in
+    the middle of a road, there is no node."""
+    found = {name: [column] for name, column in parts[0].items()}
     for part in parts[1:]:
         for name, column in part.items():
             if name == "nodes":
                 last = found[name].pop()
-                found[name] += [column[0] if column[0] == last else 0, *column[1:]]
-            elif isinstance(column, list):
-                found[name] += column
+                middle = last[-1:] if last[-1] == column[0] else numpy.zeros(1, numpy.int64)
+                found[name] += [last[:-1], middle, column[1:]]
+            else:
+                found[name].append(column)
+    return {name: numpy.concatenate(columns) for name, columns in found.items()}
+
+
+def annotation(trace: Trace, wanted: Sequence[str], numbers: Integers | None) -> dict[str, Integers]:
+    """What lies between each two places of the full line, in whole numbers with as many of
+    `DECIMALS` behind the point, and the nodes there: one more than lie between, with 0 for bends.
+    What lies between sums up to the whole leg."""
+    found: dict[str, Integers] = {}
+    if "nodes" in wanted:
+        nodes = trace.nodes if len(trace.nodes) > 1 else numpy.repeat(trace.nodes, 2)
+        found["nodes"] = nodes if numbers is None else numpy.where(nodes > 0, numbers[nodes - 1], 0)
+    weights, metres = between(trace.weights), between(trace.metres)
+    if "duration" in wanted:
+        found["duration"] = weights
+    if "weight" in wanted:
+        found["weight"] = weights
+    if "distance" in wanted:
+        found["distance"] = numpy.rint(metres * 10**DECIMALS["distance"]).astype(numpy.int64)
+    if "speed" in wanted:
+        speeds = metres * (MILLISECONDS * 10**DECIMALS["speed"]) / numpy.maximum(weights, 1)
+        found["speed"] = numpy.where(weights > 0, numpy.rint(speeds), 0).astype(numpy.int64)
+    if "datasources" in wanted:
+        found["datasources"] = numpy.zeros(len(weights), numpy.int64)
     return found
 
 
-def annotation(trace: Trace, wanted: Sequence[str], numbers: Integers | None) -> dict[str, Any]:
-    """What lies between each two places of the full line, and the nodes there: one more than lie between, with 0 for bends. What lies between sums up
-    to the whole leg."""
-    found: dict[str, Any] = {}
-    if "nodes" in wanted:
-        nodes = trace.nodes if len(trace.nodes) > 1 else numpy.repeat(trace.nodes, 2)
-        found["nodes"] = (nodes if numbers is None else numpy.where(nodes > 0, numbers[nodes - 1], 0)).tolist()
-    weights, metres = numpy.array(between(trace.weights)), numpy.array(between(trace.metres))
-    durations = (weights / MILLISECONDS).tolist()
-    speeds = numpy.where(weights > 0, metres / numpy.where(weights > 0, weights / MILLISECONDS, 1), 0)
-    columns = {
-        "duration": durations, "weight": durations, "distance": metres.round(3).tolist(), "speed": speeds.round(1).tolist(),
-        "datasources": [0] * len(durations),
-    }
-    found |= {name: column for name, column in columns.items() if name in wanted}
-    return found | ({"metadata": METADATA} if "datasources" in wanted else {})
+def annotation_text(found: Mapping[str, Integers]) -> str:
+    """The text of an annotation."""
+    texts = [f'"{name}": {numbers_text(column, DECIMALS.get(name, 0))}' for name, column in found.items()]
+    if "datasources" in found:
+        texts.append(f'"metadata": {json.dumps(METADATA)}')
+    return f"{{{', '.join(texts)}}}"
 
 
-def between(column: Any) -> list[Any]:
+def numbers_text(column: Integers, digits: int) -> str:
+    """The text of a list of whole numbers, of each of which so many digits lie behind the point."""
+    if not digits:
+        return str(column.tolist())
+    if len(column) < MANY:
+        return str((column / 10**digits).tolist())
+    return cells.rows(column[None], digits, numpy.ones((1, len(column)), bool))[1:-1]
+
+
+def between(column: Any) -> Any:
     """The differences along a line. A line of a single place counts as two."""
-    return (numpy.diff(column) if len(column) > 1 else column).tolist()
+    return column[1:] - column[:-1] if len(column) > 1 else column
 
 
 # How routes lie.

@@ -5,4 +5,5 @@ use Rattle.ch_custom.proofs.topology.made.Goals as goal
 
 pub returns-clause-topology : goal.returns-clause-topology
 returns-clause-topology c =
-    topology_made c.args._graph.now c.args.order.items c.args.levels.items c.args._graph.now.nodes c.args.rows c.requires (omega arith)
+    topology_made c.args._graph.now c.args.order.items c.args.levels.items c.args._graph.now.nodes c.args.rows c.requires.handed
+    (omega arith)

@@ -5,5 +5,5 @@ use Rattle.ch_engine.proofs.path_tree.first_meet.Goals as goal
 
 pub loop-i-preserved : goal.loop-i-preserved
 loop-i-preserved c = λ order. meet_goes_on c.args.ups.now c.args.downs.now c.loop-i.i order c.in-Some.j c.in-Some.ensures.0
-    c.in-Some.ensures.1 c.in-Some-sum_of.cost c.in-Some-sum_of.ensures c.loop-i.found c.first_of-found.result
+    c.in-Some.ensures.1 c.in-Some-checked_plus.cost c.in-Some-checked_plus.ensures c.loop-i.found c.first_of-found.result
     (c.loop-i.invariant order) c.first_of-found.ensures

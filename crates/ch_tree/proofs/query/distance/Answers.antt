@@ -39,24 +39,9 @@ returns-else-least-eq-NEVER-clause-least c =
 
 pub returns-then-least-eq-NEVER-clause-distance : goal.returns-then-least-eq-NEVER-clause-distance
 returns-then-least-eq-NEVER-clause-distance c =
-    weight_is_distance c.args.hierarchy.now c.args.start c.args.end None
-    (least_of_passes c.args.hierarchy.now c.nodes-levelled.ensures.levelled c.requires.kept c.args.parents.now c.args.start c.args.end
-    c.requires.start
-    c.requires.end c.sweep_common-least.new.ups.items c.sweep_common-least.new.downs.items c.sweep_common-least.result
-    c.sweep_common-least.ensures.up
-    c.sweep_common-least.ensures.down c.sweep_to_meeting-meeting.result c.sweep_to_meeting-meeting.ensures.common
-    c.sweep_common-least.ensures.sum
-    None (inr (refl, c.if-least-eq-NEVER.true)))
+    weight_is_distance c.args.hierarchy.now c.args.start c.args.end None (returns-then-least-eq-NEVER-clause-least c)
 
 pub returns-else-least-eq-NEVER-clause-distance : goal.returns-else-least-eq-NEVER-clause-distance
 returns-else-least-eq-NEVER-clause-distance c =
-    let small = c.sweep_common-least.ensures.sum.small in
-    let away = c.if-least-eq-NEVER.false in
     weight_is_distance c.args.hierarchy.now c.args.start c.args.end (Some c.sweep_common-least.result)
-    (least_of_passes c.args.hierarchy.now c.nodes-levelled.ensures.levelled c.requires.kept c.args.parents.now c.args.start c.args.end
-    c.requires.start
-    c.requires.end c.sweep_common-least.new.ups.items c.sweep_common-least.new.downs.items c.sweep_common-least.result
-    c.sweep_common-least.ensures.up
-    c.sweep_common-least.ensures.down c.sweep_to_meeting-meeting.result c.sweep_to_meeting-meeting.ensures.common
-    c.sweep_common-least.ensures.sum
-    (Some c.sweep_common-least.result) (inl (refl, omega arith)))
+    (returns-else-least-eq-NEVER-clause-least c)

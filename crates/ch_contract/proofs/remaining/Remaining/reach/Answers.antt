@@ -3,7 +3,7 @@ use Rattle.std.proofs.Common.{◌≤◌, ◌<◌, sym, subst, ap, ◌∙◌}
 use Rattle.std.specs.Prelude.{OnOk}
 use Rattle.ch_graph.specs.declared.limits.TheConstants.{MOST_NODES}
 use Rattle.ch_contract.specs.Legs.{AreLegsWithin}
-use Rattle.ch_contract.specs.KnownCosts.{IsClean, AreLegsUpTo, known_of}
+use Rattle.ch_contract.specs.KnownCosts.{IsClean, AreLeastCosts, AreLegsUpTo, known_of}
 use Rattle.ch_contract.specs.LegLists.{legs_into}
 use Rattle.ch_contract.specs.Candidates.{IsKnown}
 use Rattle.ch_contract.specs.Remaining.{RemainingLegs, legs_of}
@@ -20,6 +20,7 @@ reach-requires g c =
     let count = c.self.invariant.0.sizes.0 in
     let nodes = ap (λ (m : RemainingLegs). m.nodes) c.self.view_is in
     record {
+      rounds = c.known_legs.ensures.few;
       clean = subst (λ n. IsClean n (known_of g.K.HeldCost.cost c.args.search.now.known)) (sym (count ∙ nodes)) c.requires.clean;
       rows = c.self.invariant.0.rows.0;
       limits = subst (λ n. AreLegsWithin n (legs_into outs)) (sym count) (into_within n outs ins c.self.invariant.0);
@@ -39,6 +40,8 @@ returns g c =
       known = subst (λ (m : RemainingLegs). OnOk c.reach.result
           (IsKnown m c.args.wanted c.args.hops.number (known_of g.K.HeldCost.cost c.reach.new.self.known))) c.self.view_is
           (known_after n outs ins c.self.invariant.0 c.self.inside.outs.aside c.self.inside.ins.aside c.args.wanted c.args.hops.number
-          (known_of g.K.HeldCost.cost c.reach.new.self.known) c.reach.result c.reach.ensures.size c.reach.ensures.least);
+          (known_of g.K.HeldCost.cost c.reach.new.self.known) c.reach.result c.reach.ensures.size
+          (subst (λ k. OnOk c.reach.result (AreLeastCosts (legs_into outs) c.args.wanted k
+          (known_of g.K.HeldCost.cost c.reach.new.self.known))) c.known_legs.ensures.legs c.reach.ensures.least));
       touched = c.reach.ensures.touched;
     }

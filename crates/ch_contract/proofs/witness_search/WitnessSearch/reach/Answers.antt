@@ -1,6 +1,6 @@
 -- One more round makes the least costs of chains of one more leg known, so after all rounds those within the bound are.
 use Rattle.std.proofs.Common.{true, refl, sym, ◌∙◌, ap, subst, arith, length, All, List, map}
-use Rattle.std.specs.Prelude.{◌≡◌, ◌-◌, ◌<◌, ◌≤◌}
+use Rattle.std.specs.Prelude.{◌≡◌, ◌<◌, ◌≤◌}
 use Rattle.ch_graph.specs.declared.limits.TheConstants.{MOST_HOPS}
 use Rattle.ch_hierarchy.specs.Rows.{row}
 use Rattle.ch_contract.specs.KnownCosts.{ChainStart, Lowers, IsOnly, IsOnlyWhere, IsOneMoreOf, IsRoomFor, AreLeastCosts, known_of}
@@ -38,7 +38,7 @@ spread_all-requires g c =
     let n = length lists in
     let u = c.loop-round.invariant in
     let front = c.as_slice.ensures.value ∙ ap (λ v. v.items) c.swap.ensures.x_after in
-    let few : c.loop-round._round ≤ MOST_HOPS = omega (arith, c.saturating_sub-round-end.ensures, c.args.hops.in_range) in
+    let few : c.loop-round._round ≤ MOST_HOPS = omega (arith, c.loop-round-test.true, c.requires.rounds) in
     let room = steps_room limit lists n c.args.wanted c.loop-round._round (known_of cost c.loop-round.self.known).next
     c.requires.rows c.requires.limits c.requires.light c.requires.nodes few c.requires.end.0 c.requires.most u.steps in
     let steps = all_mapped (λ f. (f.node < n) × IsRoomFor limit n (row lists f.node) f) (chain_start_of cost)
@@ -71,7 +71,6 @@ loop-round-preserved g c =
 
 pub returns-clause-least : goal.returns-clause-least
 returns-clause-least g c =
-    let rounds : c.loop-round._round ≡ c.args.hops.number - 2 =
-    omega (arith, c.loop-round-test.false, c.loop-round.auto._round-end, c.saturating_sub-round-end.ensures) in
+    let rounds : c.loop-round._round ≡ c.args.rounds = omega (arith, c.loop-round-test.false, c.loop-round.auto._round-end) in
     subst (λ k. AreLeastCosts (legs_into c.args.lists.now.rows) c.args.wanted k
     (known_of g.K.HeldCost.cost c.loop-round.self.known)) rounds c.loop-round.invariant.least

@@ -3,7 +3,7 @@ use Rattle.std.proofs.Common.{◌≡◌, ◌+◌, ◌<◌, ℕ, List, length, ge
 use Rattle.std.proofs.Math.ListN.{length-set}
 use Rattle.ch_hierarchy.specs.Hierarchy.{nodes_of}
 use Rattle.ch_engine.specs.Flows.{ArePut, IsPut}
-use Rattle.ch_engine.proofs.LineFlows.{head_within, line_by, line_inside, place_first, put_more, put_none, put_past, tail_within}
+use Rattle.ch_engine.proofs.LineFlows.{head_within, line_by, line_inside, place_first, put_more, put_past, tail_within}
 use Rattle.ch_engine.proofs.network.Network.put_flows.Goals.{in-Some, in_default}
 use Rattle.ch_engine.proofs.network.Network.put_flows.Goals as goal
 

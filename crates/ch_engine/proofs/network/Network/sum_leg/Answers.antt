@@ -18,7 +18,7 @@ returns-in-None c = λ known.
     let is : IsLineBy v.0 v.1 (tail_of side node leg.node) (head_of side node leg.node) line =
     subst (λ (l : AnyLeg). IsLineBy v.0 v.1 (tail_of side node l.node) (head_of side node l.node) line) (sym c.requires.leg)
     c.line_of_leg.ensures in
-    subst (λ (n : ℕ). IsRowLegSum side v.0 v.1 c.args.values.now node leg n) (sym c.value_or_none.ensures)
+    subst (λ (n : ℕ). IsRowLegSum side v.0 v.1 c.args.values.now node leg n) (sym c.value_or_zero.ensures)
     (arc_sum v.0 v.1 c.args.values.now (tail_of side node leg.node) (head_of side node leg.node) leg line c.in-None.is is)
 
 pub returns-in-Up : goal.returns-in-Up

@@ -26,7 +26,7 @@ loop-node-init c =
       first.sizes,
       first.nodes ∙ begun.nodes,
       steps_at_start Depth c.args.graph.now c.args.hops.number c.args.given.now c.args.others.now _ _ c.requires.order begun.after ranked,
-      first.ready,
+      first.ready c.args.hops.number begun.ready,
     )
 
 pub contract_alone-requires : goal.contract_alone-requires

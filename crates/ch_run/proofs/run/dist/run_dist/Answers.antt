@@ -19,12 +19,12 @@ returns-in_err-queries g c =
     (loads_serving _ _ _ _ _ _ _ (λ h place. inl (err_as _ _ _ c.from_residual-in_err-queries.ensures.1 ends, refl))
     c.in_ok-loaded.ensures.went) (search rules)
 
-pub returns-in_err-text : goal.returns-in_err-text
-returns-in_err-text g c =
+pub returns-in_err-parts : goal.returns-in_err-parts
+returns-in_err-parts g c =
     let read = rw c.graph.ensures.graph at c.in_ok-queries.ensures.read in
     ended (λ went. (dist_told c.args.options.now went).later.1.delivers)
     (loads_serving _ _ _ _ _ _ _ (λ h place.
-    inr (read.0, _, read.1, read.2, writes_none _ _ _ _ c.from_residual-in_err-text.ensures.1)) c.in_ok-loaded.ensures.went) (search rules)
+    inr (read.0, _, read.1, read.2, writes_none _ _ _ _ c.from_residual-in_err-parts.ensures.1)) c.in_ok-loaded.ensures.went) (search rules)
 
 pub returns : goal.returns
 returns g c =
@@ -36,8 +36,8 @@ returns g c =
     (loads_serving _ _ _ _ _ _ (λ k l. IsInPlaceOf c.writes_routes.result k l saved)
     (λ h place.
     let mine = text_in_place (writes_routes options) options.order options.hops.number network h saved (rw c.writes_routes.ensures at place)
-    _ _ c.in_ok-text.ensures in
-    let wrote = writes_weaker _ _ _ _ _ c.write_text.result (rw c.deref-2.ensures.value (rw c.deref.ensures.value at mine))
-    c.write_text.ensures.wrote in
+    _ _ c.in_ok-parts.ensures.text in
+    let wrote = writes_weaker _ _ _ _ _ c.write_parts.result (rw c.deref-2.ensures.value (rw c.deref.ensures.value at mine))
+    c.write_parts.ensures.wrote in
     inr (read.0, _, read.1, read.2, wrote))
     c.in_ok-loaded.ensures.went) (search rules)

@@ -26,20 +26,20 @@ returns-in_err-targets g c =
     (loads_serving _ _ _ _ _ _ _ (λ h place. sources_on _ _ _ _ _ _ _ from (λ listed same. inl (ends, refl))) c.in_ok-loaded.ensures.went)
     (search rules)
 
-pub returns-in_err-text : goal.returns-in_err-text
-returns-in_err-text g c =
+pub returns-in_err-parts : goal.returns-in_err-parts
+returns-in_err-parts g c =
     let from = rw c.graph.ensures.graph at c.in_ok-sources.ensures.value in
     let to = rw c.graph-2.ensures.graph at c.in_ok-targets.ensures.read in
     ended (λ went. (near_told c.args.options.now _ went).later.1.1.delivers)
     (loads_serving _ _ _ _ _ _ _ (λ h place. sources_on _ _ _ _ _ _ _ from (λ listed same.
-    inr (to.0, _, to.1, to.2, writes_none _ _ _ _ c.from_residual-in_err-text.ensures.1))) c.in_ok-loaded.ensures.went) (search rules)
+    inr (to.0, _, to.1, to.2, writes_none _ _ _ _ c.from_residual-in_err-parts.ensures.1))) c.in_ok-loaded.ensures.went) (search rules)
 
 pub returns : goal.returns
 returns g c =
     let from = rw c.graph.ensures.graph at c.in_ok-sources.ensures.value in
     let to = rw c.graph-2.ensures.graph at c.in_ok-targets.ensures.read in
-    let text = rw c.deref.ensures.value at c.in_ok-text.ensures in
+    let text = rw c.deref.ensures.value at c.in_ok-parts.ensures.text in
     ended (λ went. (near_told c.args.options.now _ went).later.1.1.delivers)
     (loads_serving _ _ _ _ _ _ _ (λ h place. sources_on _ _ _ _ _ _ _ from (λ listed same.
-    let wrote = writes_weaker _ _ _ _ _ c.write_text.result (rw (c.deref-2.ensures.value, same) text) c.write_text.ensures.wrote in
+    let wrote = writes_weaker _ _ _ _ _ c.write_parts.result (rw (c.deref-2.ensures.value, same) text) c.write_parts.ensures.wrote in
     inr (to.0, _, to.1, to.2, wrote))) c.in_ok-loaded.ensures.went) (search rules)

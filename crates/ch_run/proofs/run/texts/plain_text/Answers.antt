@@ -1,10 +1,16 @@
--- The text of the plain distances answers the queries.
-use Rattle.std.proofs.lemmas.Result.{IfOk-weaker}
-use Rattle.ch_text.proofs.GraphTexts.{short_text}
+-- One more query has its answer.
+use Rattle.std.proofs.Common.{[], take, refl, sym, subst}
+use Rattle.std.proofs.lemmas.List.{take_more}
+use Rattle.ch_text.specs.Distances.{IsDistanceText}
 use Rattle.ch_run.proofs.run.texts.plain_text.Goals as goal
 
-pub returns : goal.returns
-returns g c =
-    IfOk-weaker c.answers_text.result _ _ (λ text is.
-    short_text c.args.graph.now c.args.queries.now c.in_ok-answers.answers.items text.items c.in_ok-answers.ensures
-    (rw c.deref.ensures.value at is)) c.answers_text.ensures
+pub loop-place-init : goal.loop-place-init
+loop-place-init g c = rw c.new-text.ensures.items ([], tt, refl)
+
+pub loop-place-preserved : goal.loop-place-preserved
+loop-place-preserved g c =
+    let queries = c.args.queries.now in
+    let i = c.loop-place.place in
+    subst (λ list. IsDistanceText c.args.graph.now list c.push_plain.new.text.items)
+    (sym (take_more queries i (0, 0) c.loop-place-test.true))
+    (c.in_ok-push_plain.ensures (take i queries) c.loop-place.invariant)

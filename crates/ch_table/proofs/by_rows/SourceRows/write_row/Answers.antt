@@ -4,7 +4,7 @@ use Rattle.std.specs.Prelude.{All, slice_index_or}
 use Rattle.std.proofs.lemmas.Result.{on_ok_weaker}
 use Rattle.ch_hierarchy.specs.declared.side.Side.TheVariants.{Down}
 use Rattle.ch_query.specs.Lowered.{AreLowered}
-use Rattle.ch_table.specs.declared.row.TheConstants.{UNREACHED}
+use Rattle.ch_graph.specs.declared.cost.TheConstants.{UNREACHED}
 use Rattle.ch_table.specs.Rows.{Asked, IsSumOf, cell_of}
 use Rattle.ch_table.specs.Sums.{IsEntryAmong}
 use Rattle.ch_table.specs.Table.{IsRowBy}

@@ -1,6 +1,6 @@
 -- A search without weights, keys and touched states is clean.
 use Rattle.std.proofs.Common.{rules, ◌≡◌, ◌*◌, replicate, refl}
-use Rattle.ch_query.specs.declared.weights.search.TheConstants.{UNREACHED}
+use Rattle.ch_graph.specs.declared.cost.TheConstants.{UNREACHED}
 use Rattle.ch_query.proofs.by_weight.Clean.{clean_at_first}
 use Rattle.ch_query.proofs.weights.search.WeightSearch.new.Goals as goal
 

@@ -1,0 +1,7 @@
+-- The queue has nodes.
+use Rattle.std.proofs.Common.{◌≡◌}
+use Rattle.ch_dissect.specs.Rows.{AreBelow}
+use Rattle.ch_dissect.proofs.walk.flood.Given as goal
+
+abbrev pub invariant-loop-place : goal.invariant-loop-place
+invariant-loop-place l = AreBelow l.part.count l.queue.items

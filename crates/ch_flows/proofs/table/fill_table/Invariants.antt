@@ -1,0 +1,17 @@
+-- The cells of the rows before the current one are counted.
+use Rattle.std.proofs.Common.{◌≡◌, ◌*◌, ◌≤◌, ℕ, List, length}
+use Rattle.ch_hierarchy.specs.Hierarchy.{nodes_of}
+use Rattle.ch_flows.specs.Cells.{AreTargetTrees, cell_sources, cell_targets}
+use Rattle.ch_flows.specs.Plans.{AreCounted}
+use Rattle.ch_flows.proofs.table.fill_table.Given as goal
+
+abbrev pub invariant-loop-i : goal.invariant-loop-i
+invariant-loop-i l = record {
+  scratch : l.scratch ≡ nodes_of l.hierarchy;
+  long : length l.flows ≡ length l.plan.parts.items;
+  few : l.missed ≤ l.first;
+  at : l.first ≡ l.i * length l.trees;
+  counted : (targets : List ℕ) → AreTargetTrees targets (length targets) l.trees →
+      AreCounted l.hierarchy l.plan.layout.links.items (cell_sources l.sources targets) (cell_targets l.sources targets) l.demands
+      l.first l.flows l.missed;
+}

@@ -1,0 +1,12 @@
+-- The trees are those of the targets before the current one.
+use Rattle.std.proofs.Common.{◌≡◌}
+use Rattle.ch_hierarchy.specs.Hierarchy.{nodes_of}
+use Rattle.ch_flows.specs.Cells.{AreTargetTrees, AreTreesOfNodes}
+use Rattle.ch_flows.proofs.table.target_trees.Given as goal
+
+abbrev pub invariant-loop-i : goal.invariant-loop-i
+invariant-loop-i l = record {
+  scratch : l.scratch ≡ nodes_of l.hierarchy;
+  trees : AreTargetTrees l.targets l.i l.trees.items;
+  nodes : AreTreesOfNodes l.hierarchy l.layout.links.items l.trees.items;
+}

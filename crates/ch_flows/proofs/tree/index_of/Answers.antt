@@ -1,0 +1,1 @@
+-- At first no entry has a place, and then one more.

@@ -1,0 +1,124 @@
+-- Trees of least paths from a node to higher ones: before each node the one that a route comes from, and the place of the leg
+-- between both.
+use Rattle.std.specs.Prelude.{◌≡◌, ◌≢◌, ℕ, ◌<◌, ◌≤◌, ◌++◌, ◌⊎◌, List, [], ◌∷◌, length, slice_index_or, AllPairs, Contains}
+use Rattle.std.specs.Prelude.{Option, None, Some, MatchOption}
+use Rattle.ch_graph.specs.declared.cost.Cost.{Cost}
+use Rattle.ch_graph.specs.Cost.{cost_sum, no_cost}
+use Rattle.ch_hierarchy.specs.declared.leg.Leg.{Leg}
+use Rattle.ch_hierarchy.specs.Rows.{row}
+use Rattle.ch_hierarchy.specs.Hierarchy.{LevelsAndLegs}
+use Rattle.ch_hierarchy.specs.declared.side.Side.{Side}
+use Rattle.ch_hierarchy.specs.declared.side.Side.TheVariants.{Up}
+use Rattle.ch_hierarchy.specs.Side.{other, rows_of}
+use Rattle.ch_hierarchy.specs.Paths.{IsLeastUpwardPath}
+use Rattle.ch_query.specs.Search.{IsStalled}
+use Rattle.ch_query.specs.Routes.{DescentStep, IsDescent}
+use Rattle.ch_query.specs.Spread.{IsSpread}
+use Rattle.ch_flows.specs.declared.plan.Link.{Link}
+use Rattle.ch_flows.specs.declared.tree.Step.{Step}
+use Rattle.ch_flows.specs.declared.tree.Tree.{Tree}
+use Rattle.ch_flows.specs.declared.tree.RowTree.{RowTree}
+use Rattle.ch_flows.specs.Layouts.{leg_on, link_of}
+use Rattle.ch_flows.specs.Links.{link_at}
+
+-- entry i: a node, and the least cost of a path to it
+abbrev pub entry_at : List (ℕ × Cost) → ℕ → ℕ × Cost
+entry_at entries i = slice_index_or entries i (0, no_cost)
+
+-- entries are in order of node, and each node occurs once
+abbrev pub AreInOrder : List (ℕ × Cost) → Type 0
+AreInOrder entries = AllPairs (λ a b. a.0 < b.0) entries
+
+-- step i, if there is one
+abbrev pub step_at : List (Option Step) → ℕ → Option Step
+step_at steps i = slice_index_or steps i None
+
+-- the cost of entry j and a leg is that of entry i, where the leg leads
+abbrev pub Reaches : List (ℕ × Cost) → ℕ → Leg → ℕ → Type 0
+Reaches entries j leg i = (leg.node ≡ (entry_at entries i).0) × (cost_sum (entry_at entries j).1 leg.cost ≡ (entry_at entries i).1)
+
+-- no leg of the first n entries is the last one of a least path to entry i
+abbrev pub IsReachedByNone : List (List Leg) → List (ℕ × Cost) → ℕ → ℕ → Type 0
+IsReachedByNone rows entries i n =
+    (j : ℕ) (leg : Leg) → j < n → Contains (row rows (entry_at entries j).0) leg → Reaches entries j leg i → ⊥
+
+-- a leg of v stands at a place
+abbrev pub IsLegAt : Side → List Link → ℕ → Leg → ℕ → Type 0
+IsLegAt side links v leg p = (p < length links) × (link_at links p ≡ link_of side v leg)
+
+-- a step to entry i comes from the first entry that has such a leg, with the place of this leg
+pub record IsStep (side : Side) (H : LevelsAndLegs) (links : List Link) (entries : List (ℕ × Cost)) (i : ℕ) (step : Step) : Type 0 where
+  pub leg : Leg
+  pub has : Contains (row (rows_of H side) (entry_at entries step.before).0) leg
+  pub reaches : Reaches entries step.before leg i
+  pub place : IsLegAt side links (entry_at entries step.before).0 leg step.leg_place
+  pub first : IsReachedByNone (rows_of H side) entries i step.before
+
+-- the step to entry i once the legs of the first n entries were taken
+abbrev pub IsSlot : Side → LevelsAndLegs → List Link → List (ℕ × Cost) → ℕ → ℕ → Option Step → Type 0
+IsSlot side H links entries n i None = IsReachedByNone (rows_of H side) entries i n
+IsSlot side H links entries n i (Some step) = (step.before < n) × IsStep side H links entries i step
+
+abbrev pub AreSlots : Side → LevelsAndLegs → List Link → List (ℕ × Cost) → ℕ → List (Option Step) → Type 0
+AreSlots side H links entries n steps = (i : ℕ) → i < length entries → IsSlot side H links entries n i (step_at steps i)
+
+-- the same once the first k legs of entry j were taken too
+abbrev pub IsSlotWithin : Side → LevelsAndLegs → List Link → List (ℕ × Cost) → ℕ → ℕ → ℕ → Option Step → Type 0
+IsSlotWithin side H links entries j k i None = IsReachedByNone (rows_of H side) entries i j
+    × ((m : ℕ) → m < k → Reaches entries j (leg_on (row (rows_of H side) (entry_at entries j).0) m) i → ⊥)
+IsSlotWithin side H links entries j k i (Some step) = (step.before ≤ j) × IsStep side H links entries i step
+
+abbrev pub AreSlotsWithin : Side → LevelsAndLegs → List Link → List (ℕ × Cost) → ℕ → ℕ → List (Option Step) → Type 0
+AreSlotsWithin side H links entries j k steps =
+    (i : ℕ) → i < length entries → IsSlotWithin side H links entries j k i (step_at steps i)
+
+-- a leg of entry j was taken: it gives the step to the entry that it reaches, if there is none yet
+abbrev pub IsTaken : List (ℕ × Cost) → ℕ → Leg → ℕ → ℕ → Option Step → Option Step → Type 0
+IsTaken entries j leg p i old new =
+    ((new ≡ old) × (Reaches entries j leg i → old ≢ None))
+    ⊎ ((old ≡ None) × Reaches entries j leg i × (new ≡ Some (record { before = j; leg_place = p })))
+
+-- these are nodes that s reaches, in order, with least costs: all but those to which a leg back shows a way that costs less
+pub record IsOpenSpread (rows back : List (List Leg)) (s : ℕ) (list : List (ℕ × Cost)) : Type 0 where
+  pub order : AreInOrder list
+  pub sound : (v : ℕ) (c : Cost) → Contains list (v, c) → IsLeastUpwardPath rows s v c
+  pub whole : (v : ℕ) (c : Cost) → IsLeastUpwardPath rows s v c → Contains list (v, c) ⊎ IsStalled rows back s v c
+
+-- the tree of least paths from its source on a side
+pub record IsTree (side : Side) (H : LevelsAndLegs) (links : List Link) (tree : Tree) : Type 0 where
+  pub spread : IsSpread (rows_of H side) None tree.source tree.entries.items
+  pub long : length tree.steps.items ≡ length tree.entries.items
+  pub steps : AreSlots side H links tree.entries.items (length tree.entries.items) tree.steps.items
+  pub kept : IsOpenSpread (rows_of H side) (rows_of H (other side)) tree.source tree.kept.items
+
+-- the places of the legs of a descent
+abbrev pub AreLegsAt : Side → List Link → List DescentStep → List ℕ → Type 0
+AreLegsAt side links [] places = places ≡ []
+AreLegsAt side links (step ∷ steps) [] = ⊥
+AreLegsAt side links (step ∷ steps) (p ∷ places) = IsLegAt side links step.low step.leg p × AreLegsAt side links steps places
+
+-- the places of the legs of the way that a route goes between x and s were appended
+abbrev pub IsWayBack : Side → LevelsAndLegs → List Link → ℕ → ℕ → List ℕ → List ℕ → Type 0
+IsWayBack side H links s x old new = (steps : List DescentStep) × (added : List ℕ) × IsDescent (rows_of H side) s x steps
+    × AreLegsAt side links steps added × (new ≡ old ++ added)
+
+-- the place of the entry of v, if it has one
+abbrev pub place_at : List (Option ℕ) → ℕ → Option ℕ
+place_at places v = slice_index_or places v None
+
+-- these are the places of the first n entries by node
+abbrev pub IsIndex : List (Option ℕ) → List (ℕ × Cost) → ℕ → Type 0
+IsIndex places entries n = (v : ℕ) → MatchOption (place_at places v) ((k : ℕ) → k < n → (entry_at entries k).0 ≢ v)
+    (λ k. (k < n) × ((entry_at entries k).0 ≡ v))
+
+-- an entry is kept of the first n, or a leg back shows a way to it that costs less
+pub record AreKept (rows back : List (List Leg)) (entries kept : List (ℕ × Cost)) (n : ℕ) : Type 0 where
+  pub order : AreInOrder kept
+  pub sound : (k : ℕ) → k < length kept → (j : ℕ) × (j < n) × (entry_at kept k ≡ entry_at entries j)
+  pub whole : (j : ℕ) → j < n → Contains kept (entry_at entries j)
+      ⊎ ((s : ℕ) → IsSpread rows None s entries → IsStalled rows back s (entry_at entries j).0 (entry_at entries j).1)
+
+-- the tree up of a source, with the places of its entries
+pub record IsRowTree (H : LevelsAndLegs) (links : List Link) (row : RowTree) : Type 0 where
+  pub tree : IsTree Up H links row.tree
+  pub index : IsIndex row.places.items row.tree.entries.items (length row.tree.entries.items)

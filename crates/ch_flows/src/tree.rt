@@ -1,0 +1,302 @@
+//! Trees of least paths from a node to higher ones, with the places of the legs that they take.
+ghost use Rattle.std.specs.Prelude.{◌≡◌, ◌≢◌, ◌↔◌, ◌+◌, ◌*◌, ◌<◌, ℕ, List, None, length, IsTrue, IfOk, MatchOption};
+ghost use Rattle.ch_graph.specs.Cost.{IsBelow, cost_sum};
+ghost use Rattle.ch_hierarchy.specs.Side.{other, rows_of};
+ghost use Rattle.ch_query.specs.Search.{IsStalled};
+ghost use Rattle.ch_query.specs.Spread.{IsSpread};
+ghost use Rattle.ch_hierarchy.specs.Hierarchy.{LevelsAndLegs, nodes_of};
+ghost use Rattle.ch_hierarchy.specs.declared.side.Side.{Side as AnySide};
+ghost use Rattle.ch_flows.specs.declared.plan.Link.{Link as AnyLink};
+ghost use Rattle.ch_flows.specs.Layouts.{IsLaid};
+ghost use Rattle.ch_flows.specs.Trees.{AreInOrder, AreKept, AreSlots, IsIndex, IsRowTree, IsTaken, IsTree, IsWayBack, entry_at, step_at};
+ghost use Rattle.ch_query.specs.Distance.{IsKeptForSome};
+
+use crate::meeting::{is_below, sum_of};
+use crate::plan::Layout;
+use ch_graph::Cost;
+use ch_hierarchy::{Hierarchy, Leg, Side};
+use ch_query::{Scratch, Start, spread};
+use std::alloc::{AllocError, Global};
+
+/// The last step of a path to an entry.
+#[derive(Clone, Copy)]
+pub(crate) struct Step {
+    /// The place of the entry that it comes from.
+    before: usize,
+    /// The place of the leg between both in the layout.
+    leg_place: usize,
+}
+
+/// The nodes that a source reaches by legs to higher nodes on one side, and the last step of a least path to each.
+#[derive(Drop)]
+pub(crate) struct Tree {
+    pub(crate) source: u32,
+    /// The nodes in order, with the costs of least paths.
+    pub(crate) entries: Vec<(u32, Cost)>,
+    /// For each entry but the source, the step from the least numbered node before it on a least path.
+    steps: Vec<Option<Step>>,
+    /// The entries but those to which a leg back shows a way that costs less. A route meets at none of these.
+    pub(crate) kept: Vec<(u32, Cost)>,
+}
+
+impl Tree {
+    /// Finds the tree of a source. It takes steps for each node that the source reaches, and for each leg of these.
+    ///
+    /// # Errors
+    /// `AllocError` if there is no memory.
+    pub(crate) fn grow(
+        alloc: Global,
+        hierarchy: &Hierarchy,
+        layout: &Layout,
+        scratch: &mut Scratch,
+        side: Side,
+        source: u32,
+    ) -> Result<Tree, AllocError>
+        requires laid { IsLaid hierarchy.now layout.now.starts.items layout.now.links.items (2 * nodes_of hierarchy.now) }
+        requires scratch { scratch.old ≡ nodes_of hierarchy.now }
+        requires source { source < nodes_of hierarchy.now }
+        ensures tree { IfOk result (λ tree. IsTree side hierarchy.now layout.now.links.items tree) }
+        ensures source { IfOk result (λ tree. tree.source ≡ source) }
+        ensures scratch { scratch.new ≡ scratch.old }
+    {
+        let start = Start {
+            source,
+            side,
+            within: None,
+        };
+        let entries = spread(alloc, hierarchy, scratch, start)?;
+        let mut steps = vec![in alloc; None; entries.len()]?;
+        take_all(hierarchy, layout, side, &entries, steps.as_mut_slice());
+        let kept = kept_of(alloc, hierarchy, side, &entries)?;
+        Ok(Tree {
+            source,
+            entries,
+            steps,
+            kept,
+        })
+    }
+
+    /// Appends the places of the legs on the way between a node and the source, and says whether the way is known.
+    pub(crate) fn push_way_of(&self, node: u32, places: &mut Vec<usize>) -> Result<bool, AllocError>
+        ensures { IfOk result (λ known. IsTrue known → (side : AnySide) (H : LevelsAndLegs) (links : List AnyLink) → IsTree side H links self.now → IsWayBack side H links self.now.source node places.old.items places.new.items) }
+    {
+        match place_of(&self.entries, node) {
+            Some(place) => self.push_way(place, places),
+            None => Ok(false),
+        }
+    }
+
+    /// Appends the places of the legs on the way between an entry and the source, and says whether the way is known.
+    pub(crate) fn push_way(&self, place: usize, places: &mut Vec<usize>) -> Result<bool, AllocError>
+        ensures { IfOk result (λ known. IsTrue known → (side : AnySide) (H : LevelsAndLegs) (links : List AnyLink) → IsTree side H links self.now → IsWayBack side H links self.now.source (entry_at self.now.entries.items place).0 places.old.items places.new.items) }
+    {
+        let mut at = place;
+        for _ in 0..self.entries.len() {
+            if at >= self.entries.len() || at >= self.steps.len() {
+                return Ok(false);
+            }
+            if self.entries[at].0 == self.source {
+                return Ok(true);
+            }
+            let Some(step) = self.steps[at] else {
+                return Ok(false);
+            };
+            places.push(step.leg_place)?;
+            at = step.before;
+        }
+        Ok(false)
+    }
+}
+
+/// The tree up of a source, with the place of its entry for each node.
+#[derive(Drop)]
+pub(crate) struct RowTree {
+    pub(crate) tree: Tree,
+    pub(crate) places: Vec<Option<usize>>,
+}
+
+impl RowTree {
+    /// Finds the tree of a source.
+    ///
+    /// # Errors
+    /// `AllocError` if there is no memory.
+    pub(crate) fn grow(
+        alloc: Global,
+        hierarchy: &Hierarchy,
+        layout: &Layout,
+        scratch: &mut Scratch,
+        source: u32,
+    ) -> Result<RowTree, AllocError>
+        requires kept { IsKeptForSome hierarchy.now }
+        requires laid { IsLaid hierarchy.now layout.now.starts.items layout.now.links.items (2 * nodes_of hierarchy.now) }
+        requires scratch { scratch.old ≡ nodes_of hierarchy.now }
+        requires source { source < nodes_of hierarchy.now }
+        ensures row { IfOk result (λ row. IsRowTree hierarchy.now layout.now.links.items row) }
+        ensures source { IfOk result (λ row. row.tree.source ≡ source) }
+        ensures scratch { scratch.new ≡ scratch.old }
+    {
+        let tree = Tree::grow(alloc, hierarchy, layout, scratch, Side::Up, source)?;
+        let places = index_of(alloc, hierarchy.nodes() as usize, &tree.entries)?;
+        Ok(RowTree { tree, places })
+    }
+}
+
+/// Returns for each node the place of its entry, if it has one.
+fn index_of(
+    alloc: Global,
+    nodes: usize,
+    entries: &[(u32, Cost)],
+) -> Result<Vec<Option<usize>>, AllocError>
+    requires { (k : ℕ) → k < length entries.now → (entry_at entries.now k).0 < nodes }
+    ensures { IfOk result (λ places. IsIndex places.items entries.now (length entries.now)) }
+{
+    let mut places = vec![in alloc; None; nodes]?;
+    for i in 0..entries.len() {
+        places[entries[i].0 as usize] = Some(i);
+    }
+    Ok(places)
+}
+
+/// Returns the place of the entry of a node, if there is one, by binary search.
+fn place_of(entries: &[(u32, Cost)], node: u32) -> Option<usize>
+    ensures { MatchOption result (AreInOrder entries.now → (k : ℕ) → k < length entries.now → (entry_at entries.now k).0 ≢ node) (λ k. (k < length entries.now) × ((entry_at entries.now k).0 ≡ node)) }
+{
+    match entries.binary_search_by_key(&node, |entry| entry.0) {
+        Ok(place) => Some(place),
+        Err(_) => None,
+    }
+}
+
+/// Returns the entries but those to which a leg back shows a way that costs less.
+fn kept_of(
+    alloc: Global,
+    hierarchy: &Hierarchy,
+    side: Side,
+    entries: &[(u32, Cost)],
+) -> Result<Vec<(u32, Cost)>, AllocError>
+    requires order { AreInOrder entries.now }
+    requires nodes { (k : ℕ) → k < length entries.now → (entry_at entries.now k).0 < nodes_of hierarchy.now }
+    ensures { IfOk result (λ kept. AreKept (rows_of hierarchy.now side) (rows_of hierarchy.now (other side)) entries.now kept.items (length entries.now)) }
+{
+    let mut kept = Vec::new(alloc);
+    for i in 0..entries.len() {
+        if !is_stalled(hierarchy, side, entries, i) {
+            kept.push(entries[i])?;
+        }
+    }
+    Ok(kept)
+}
+
+/// Whether a leg back from another entry shows a way to an entry that costs less.
+fn is_stalled(hierarchy: &Hierarchy, side: Side, entries: &[(u32, Cost)], place: usize) -> bool
+    requires place { place < length entries.now }
+    requires node { (entry_at entries.now place).0 < nodes_of hierarchy.now }
+    ensures { IsTrue result → (s : ℕ) → IsSpread (rows_of hierarchy.now side) None s entries.now → IsStalled (rows_of hierarchy.now side) (rows_of hierarchy.now (other side)) s (entry_at entries.now place).0 (entry_at entries.now place).1 }
+{
+    let legs = hierarchy.legs(side.other(), entries[place].0);
+    for k in 0..legs.len() {
+        if is_dearer(entries, entries[place].1, legs[k]) {
+            return true;
+        }
+    }
+    false
+}
+
+/// Whether a cost is more than that of the entry at a leg's higher node and the leg.
+fn is_dearer(entries: &[(u32, Cost)], cost: Cost, leg: Leg) -> bool
+    ensures { IsTrue result → (j : ℕ) × (j < length entries.now) × ((entry_at entries.now j).0 ≡ leg.node) × IsBelow (cost_sum (entry_at entries.now j).1 leg.cost) cost }
+{
+    let Some(j) = place_of(entries, leg.node) else {
+        return false;
+    };
+    let Some(sum) = sum_of(entries[j].1, leg.cost) else {
+        return false;
+    };
+    is_below(sum, cost)
+}
+
+/// Whether the sum of two costs is a third one.
+fn is_sum(a: Cost, b: Cost, sum: Cost) -> bool
+    ensures { IsTrue result ↔ (cost_sum a b ≡ sum) }
+{
+    a.weight <= sum.weight
+        && sum.weight - a.weight == b.weight
+        && a.arcs <= sum.arcs
+        && sum.arcs - a.arcs == b.arcs
+}
+
+/// Takes the legs of all entries, one after the other.
+fn take_all(
+    hierarchy: &Hierarchy,
+    layout: &Layout,
+    side: Side,
+    entries: &[(u32, Cost)],
+    steps: &mut [Option<Step>],
+)
+    requires laid { IsLaid hierarchy.now layout.now.starts.items layout.now.links.items (2 * nodes_of hierarchy.now) }
+    requires order { AreInOrder entries.now }
+    requires nodes { (k : ℕ) → k < length entries.now → (entry_at entries.now k).0 < nodes_of hierarchy.now }
+    requires long { length steps.old ≡ length entries.now }
+    requires none { (k : ℕ) → k < length entries.now → step_at steps.old k ≡ None }
+    ensures long { length steps.new ≡ length steps.old }
+    ensures slots { AreSlots side hierarchy.now layout.now.links.items entries.now (length entries.now) steps.new }
+{
+    for j in 0..entries.len() {
+        take_legs(hierarchy, layout, side, entries, j, steps);
+    }
+}
+
+/// Takes each leg of an entry.
+fn take_legs(
+    hierarchy: &Hierarchy,
+    layout: &Layout,
+    side: Side,
+    entries: &[(u32, Cost)],
+    place: usize,
+    steps: &mut [Option<Step>],
+)
+    requires laid { IsLaid hierarchy.now layout.now.starts.items layout.now.links.items (2 * nodes_of hierarchy.now) }
+    requires order { AreInOrder entries.now }
+    requires place { place < length entries.now }
+    requires node { (entry_at entries.now place).0 < nodes_of hierarchy.now }
+    requires long { length steps.old ≡ length entries.now }
+    ensures long { length steps.new ≡ length steps.old }
+    ensures slots { AreSlots side hierarchy.now layout.now.links.items entries.now place steps.old → AreSlots side hierarchy.now layout.now.links.items entries.now (place + 1) steps.new }
+{
+    let node = entries[place].0;
+    let legs = hierarchy.legs(side, node);
+    for k in 0..legs.len() {
+        let leg_place = layout.spot(hierarchy, side, node, k);
+        take_leg(entries, place, legs[k], leg_place, steps);
+    }
+}
+
+/// Takes a leg of an entry: if it is the last one of a least path to another entry that has no step yet, it gives
+/// this step.
+fn take_leg(
+    entries: &[(u32, Cost)],
+    place: usize,
+    leg: Leg,
+    leg_place: usize,
+    steps: &mut [Option<Step>],
+)
+    requires order { AreInOrder entries.now }
+    requires place { place < length entries.now }
+    requires long { length steps.old ≡ length entries.now }
+    ensures long { length steps.new ≡ length steps.old }
+    ensures taken { (i : ℕ) → i < length entries.now → IsTaken entries.now place leg leg_place i (step_at steps.old i) (step_at steps.new i) }
+{
+    let Some(to) = place_of(entries, leg.node) else {
+        return;
+    };
+    if steps[to].is_some() {
+        return;
+    }
+    if !is_sum(entries[place].1, leg.cost, entries[to].1) {
+        return;
+    }
+    steps[to] = Some(Step {
+        before: place,
+        leg_place,
+    });
+}

@@ -1,0 +1,89 @@
+"""The nodes by which trips leave roads and come to them, with the weights of the way there."""
+from __future__ import annotations
+
+from typing import TYPE_CHECKING, NamedTuple
+
+import numpy
+
+if TYPE_CHECKING:
+    from chtab.typing import Integers, Marks
+
+# No arc leads along a road in this direction, or no trip leaves or arrives by this end.
+NONE = -1
+
+
+class Ways(NamedTuple):
+    """The nodes where trips leave roads, or arrive, and the weights of the whole road: a row for each
+    road, in the order that `Spots` have."""
+
+    nodes: Integers
+    weights: Integers
+
+
+class BothWays(NamedTuple):
+    """The ways out of roads, in the first `outs` columns, and those into them, in the others; and for
+    each column whether its nodes are those of the road's last place."""
+
+    nodes: Integers
+    weights: Integers
+    outs: int
+    is_last: Marks
+
+
+def both_ways(out: Ways, into: Ways) -> BothWays:
+    """The ways out of roads and into them."""
+    widths = out.nodes.shape[1], into.nodes.shape[1]
+    is_last = numpy.concatenate([numpy.arange(width) >= width // 2 for width in widths])
+    nodes, weights = (numpy.ascontiguousarray(numpy.hstack(pair)) for pair in zip(out, into))
+    return BothWays(nodes, weights, widths[0], is_last)
+
+
+def ways_of(
+    roads: Integers, sides: Integers, nodes: Integers, weights: Integers, count: int,
+) -> Ways:
+    """The ways of `count` roads. Each arc is given by its road, the end of this road (0 or 1) at which its node is, the node, and the weight. Of
+    several arcs with one node, the least weight counts."""
+    order = numpy.lexsort([weights, nodes, sides, roads])
+    keys = numpy.column_stack([roads, sides, nodes])[order]
+    is_new = numpy.append(True, (keys[1:] != keys[:-1]).any(axis=1))[:len(keys)]
+    keys, weights = keys[is_new], weights[order][is_new]
+    group = keys[:, 0] * 2 + keys[:, 1]
+    rank = numpy.arange(len(group)) - numpy.searchsorted(group, group)
+    width = int(rank.max(initial=0)) + 1
+    ways = Ways(*numpy.full((2, count, 2 * width), NONE))
+    for column, values in zip(ways, (keys[:, 2], weights)):
+        column[keys[:, 0], keys[:, 1] * width + rank] = values
+    return ways
+
+
+class Few(NamedTuple):
+    """A spot by itself, in plain numbers: where it is, how far from its place, its road, the part of
+    it, and its metres; and the nodes out of it, which are the first `width`, and into it, with what
+    is added there."""
+
+    longitude: float
+    latitude: float
+    metres: float
+    road: int
+    part: float
+    length: float
+    nodes: list[int]
+    weights: list[int]
+    width: int
+
+    @property
+    def outs(self) -> list[tuple[int, int, int]]:
+        """The ways out: the end of the road, 0 or 1, the node and the weight."""
+        return by_ends(self.nodes[:self.width], self.weights[:self.width])
+
+    @property
+    def ins(self) -> list[tuple[int, int, int]]:
+        """The ways in, in the same form."""
+        return by_ends(self.nodes[self.width:], self.weights[self.width:])
+
+
+def by_ends(nodes: list[int], weights: list[int]) -> list[tuple[int, int, int]]:
+    """Nodes and weights with the end of the road, of which the first half are at the first one."""
+    half = len(nodes) // 2
+    pairs = enumerate(zip(nodes, weights))
+    return [(int(place >= half), node, weight) for place, (node, weight) in pairs]
