@@ -15,7 +15,6 @@ from __future__ import annotations
 import importlib
 import typing
 
-from chtab import _moved
 from chtab.errors import ChtabError, DataFault, FileFault, ProgramFault, TimedOut, TooFar
 
 if typing.TYPE_CHECKING:
@@ -51,13 +50,12 @@ LATER = {
 # Hidden from type checkers, so that they find misspelt names.
 if not typing.TYPE_CHECKING:
     def __getattr__(name):
-        """A class of `LATER`, one of the public modules, or a module by the name that it had in
-        version 1.1."""
+        """A class of `LATER`, or one of the public modules."""
         if name in LATER:
             return getattr(importlib.import_module(LATER[name]), name)
         if name in ("files", "typing"):
             return importlib.import_module(f"chtab.{name}")
-        return _moved.attribute(__name__, name)
+        raise AttributeError(f"module {__name__!r} has no attribute {name!r}")
 
 
 def __dir__() -> list[str]:

@@ -97,23 +97,11 @@ def test_versions_of_aiohttp_with_known_faults_are_refused():
 
 
 @needs("python3-numpy")
-def test_names_of_the_last_version_go_on():
-    """What documents of version 1.1 named at another place is found there, is the same, and warns the caller's own line."""
-    text = "import sys, warnings; sys.path.insert(0, sys.argv[1])\nwith warnings.catch_warnings(record=True) as caught:\n    warnings.simplefilter('always')\n"
-    ending = "\nfrom chtab import Near, Routes, Spots\nassert {} is {}\nprint(*{{(each.category.__name__, each.filename) for each in caught}})"
-    for line, old, new in (
-        ("from chtab.routes import Routes as Old", "Old", "Routes"), ("import chtab.accessibility", "chtab.accessibility.Near", "Near"),
-        ("import chtab; old = chtab.routes.Routes", "old", "Routes"), ("import chtab; old = chtab.Network and chtab.roads.Spots", "old", "Spots"),
-        ("from chtab.roads import Spots as Old", "Old", "Spots"),
-    ):
-        script = text + f"    {line}" + ending.format(old, new)
-        done = subprocess.run([PYTHON, "-c", script, ROOT / "python"], capture_output=True, text=True)
-        assert done.stdout == "('DeprecationWarning', '<string>')\n", (line, done)
+def test_a_name_that_is_not_there_is_refused():
     raises(AttributeError, lambda: chtab.nothing, told="module 'chtab' has no attribute 'nothing'")
     raises(ImportError, lambda: __import__("chtab.nothing"))
 
 
-@needs("python3-numpy")
 def public_calls():
     """The calls that users see, each with its name: those of networks, of what these answer, and of files."""
     from chtab.near.found import Nearest

@@ -22,11 +22,3 @@ reached.
 | `reach` | polygons of what is reached |
 | `picture` | drawings of all of these |
 """
-import typing
-
-from chtab import _moved
-
-# Hidden from type checkers, so that they find misspelt names.
-if not typing.TYPE_CHECKING:
-    def __getattr__(name):
-        return _moved.attribute(__name__, name)
