@@ -18,10 +18,10 @@ import typing
 from chtab.errors import ChtabError, DataFault, FileFault, ProgramFault, TimedOut, TooFar
 
 if typing.TYPE_CHECKING:
-    from chtab.near.found import Near
+    from chtab._near.found import Near
     from chtab.network import Network
-    from chtab.roads.routes import Routes
-    from chtab.roads.snapping import Spots
+    from chtab._roads.routes import Routes
+    from chtab._roads.snapping import Spots
 
 __version__ = "1.3"
 __all__ = [
@@ -40,10 +40,10 @@ __all__ = [
 
 # Imported when they are first used, because code that only reads files doesn't need numpy.
 LATER = {
-    "Near": "chtab.near.found",
+    "Near": "chtab._near.found",
     "Network": "chtab.network",
-    "Routes": "chtab.roads.routes",
-    "Spots": "chtab.roads.snapping",
+    "Routes": "chtab._roads.routes",
+    "Spots": "chtab._roads.snapping",
 }
 
 
