@@ -129,7 +129,10 @@ def check_help(tally, path):
 
 FORM = ROOT / "crates" / "ch_words" / "src" / "form.rt"
 FAULTS = ROOT / "crates/ch_run/specs/Fault.antt"
-COMMANDS = ROOT / "python/chtab/cli"
+# The modules of commands: those in a folder, of the maps, and of the service.
+COMMANDS = sorted([
+    *(ROOT / "python/chtab/cli").glob("*.py"), ROOT / "python/chtab_maps/command.py", ROOT / "python/chtab_server/command.py",
+])
 # The constants of limits with the rows that state them, and those that no user meets.
 LIMITS = (
     ("MOST_NODES", "nodes of a graph"), ("MOST_ARCS", "arcs of a graph"), ("MOST_WEIGHT", "number of nodes times the weight of any arc"),
@@ -199,7 +202,7 @@ def check_options(tally):
     for option in found:
         is_told = not option.limits or "from {} to {}".format(*option.limits) in option.help
         tally.expect(is_told, f"the help of --{option.name} does not have its limits {option.limits}")
-    tools = "".join(path.read_text() for path in COMMANDS.glob("*.py"))
+    tools = "".join(path.read_text() for path in COMMANDS)
     names = {name for name, more in re.findall(r'add_argument\(\s*"--([\w-]+)"(.*)', tools) if "SUPPRESS" not in more}
     tally.expect(names, "documents.py finds no options of the tools")
     for name in names:
@@ -319,13 +322,13 @@ def public(body, above=""):
 def check_docstrings(tally):
     """What users of the Python package see has docstrings: its modules, networks, errors, commands, and what `chtab.files` exports."""
     package = ROOT / "python" / "chtab"
-    exported = set(re.findall(r'"(\w+)"', (package / "files" / "__init__.py").read_text()))
-    for path in sorted(package.glob("**/*.py")):
+    exported = set(re.findall(r'"(\w+)"', (package / "files.py").read_text()))
+    for path in sorted((ROOT / "python").glob("chtab*/**/*.py")):
         tree = ast.parse(path.read_text())
         tally.expect(ast.get_docstring(tree), f"{told(path)} has no docstring")
         for name, node in public(tree.body):
-            is_file = path.parent.name == "files" and name.split(".")[0] in exported
-            is_seen = is_file or path.parent == COMMANDS or path in (package / "errors.py", package / "network.py")
+            is_file = path.parent.name == "_files" and name.split(".")[0] in exported
+            is_seen = is_file or path in COMMANDS or path in (package / "errors.py", package / "network.py")
             tally.expect(not is_seen or ast.get_docstring(node), f"{told(path)}: {name} has no docstring")
 
 
@@ -377,7 +380,7 @@ def main():
         check_prose(tally, page)
         most, lines = LONGER.get(page.name, MOST_LINES), len(page.read_text().splitlines())
         tally.expect(lines <= most, f"{told(page)} has {lines} lines")
-    for path in sorted(COMMANDS.glob("*.py")):
+    for path in COMMANDS:
         check_help(tally, path)
     check_proved(tally)
     for edit in sorted([*ROOT.glob("crates/*/must-fail/*.edit"), *ROOT.glob("crates/*/planted/*.edit"), *ROOT.glob("python/planted/*.edit")]):

@@ -190,7 +190,7 @@ def check_found(tally, prefix, folder):
     words = [prefix / "bin" / "chtab-blocks", FIRST[0], "one.ss", "one.ss", "one.csv"]
     found = said(words, folder, SYSTEM)
     tally.expect(found == (0, "1 by 1 cells in one.csv, from 1 blocks\n", ""), f"a tool whose folder is not on the path: {found}")
-    text = "from chtab.engine.program import program_of; print(program_of())"
+    text = "from chtab._engine.program import program_of; print(program_of())"
     found = said([sys.executable, "-c", text], folder, SYSTEM, PYTHONPATH=str(prefix / "lib" / "chtab" / "python"))
     tally.expect(found == (0, f"{prefix}/lib/chtab/chtab\n", ""), f"the program beside the package: {found}")
     found = said([prefix / "bin" / "chtab", "dist", "none.gr", "none.p2p"], folder)
@@ -304,7 +304,7 @@ def check_in_root(tally, root, package):
     tally.expect(found == (0, "9 /usr/lib/python3/dist-packages/chtab/__init__.py\n", ""), f"from Python: {found}")
     found = root.run(["/usr/bin/python3", "-c", by_library(first[0], f"/first/{SAVED.name}")], "nobody")
     tally.expect(found == (0, "9 [1, 2, 3]\n", ""), f"by the library of the package: {found}")
-    text = "from chtab.engine.program import program_of; print(program_of())"
+    text = "from chtab._engine.program import program_of; print(program_of())"
     found = root.run(["env", "PATH=/nowhere", "/usr/bin/python3", "-c", text], "nobody")
     tally.expect(found == (0, "/usr/lib/chtab/chtab\n", ""), f"the program, where its folder is not on the path: {found}")
     tally.expect(root.run(["dpkg", "--verify", "chtab"]) == (0, "", ""), "the files of the package are as they were made")
@@ -432,7 +432,7 @@ def check_environment(tally, folder, wheel):
     tally.expect(said([bin / "chtab", "--version"], "/", elsewhere) == (0, VERSION, ""), "the version of the wheel")
     found = said([bin / "chtab", "dist", "none.gr", "none.p2p"], "/", elsewhere)
     tally.expect(found == (3, "", "chtab: cannot read graph\n"), f"files that are not there: {found}")
-    text = f"import chtab, chtab.engine.program; n = chtab.Network.open('{FIRST[0]}'); print(n.distances([(1, 3)])[0], chtab.engine.program.program_of())"
+    text = f"import chtab, chtab._engine.program; n = chtab.Network.open('{FIRST[0]}'); print(n.distances([(1, 3)])[0], chtab._engine.program.program_of())"
     found = said([bin / "python", "-c", text], "/", elsewhere)
     tally.expect(found[0] == 0 and found[1].startswith("9 ") and found[1].endswith("chtab/bin/chtab\n"), f"from Python, by the wheel: {found}")
     found = said([bin / "python", "-c", by_library(FIRST[0], SAVED)], "/", elsewhere)

@@ -31,8 +31,8 @@ from helpers.running import PROGRAM, ROOT
 from helpers.serving import words_of_library
 from helpers.waiting import PATIENCE, until
 import chtab
-from chtab.roads import snapping
-from chtab.server import queue
+from chtab._roads import snapping
+from chtab_server import queue
 
 FIRST_SAVED = ROOT / "examples" / "first.ch"
 # Seconds between two parts of a request, so that they come one by one.

@@ -21,8 +21,8 @@ from helpers.running import PROGRAM
 from oracles import mapping, telling
 import chtab
 from chtab import files
-from chtab.maps import profiles
-from chtab.server.osrm import answering, drawing, options, passing, url
+from chtab_maps import profiles
+from chtab_server.osrm import answering, drawing, options, passing, url
 
 # A thousandth of a degree is 111.195 m on the equator.
 UNIT = 1_000

@@ -15,14 +15,13 @@ from __future__ import annotations
 import importlib
 import typing
 
-from chtab import _moved
 from chtab.errors import ChtabError, DataFault, FileFault, ProgramFault, TimedOut, TooFar
 
 if typing.TYPE_CHECKING:
-    from chtab.near.found import Near
+    from chtab._near.found import Near
     from chtab.network import Network
-    from chtab.roads.routes import Routes
-    from chtab.roads.snapping import Spots
+    from chtab._roads.routes import Routes
+    from chtab._roads.snapping import Spots
 
 __version__ = "1.3"
 __all__ = [
@@ -41,23 +40,22 @@ __all__ = [
 
 # Imported when they are first used, because code that only reads files doesn't need numpy.
 LATER = {
-    "Near": "chtab.near.found",
+    "Near": "chtab._near.found",
     "Network": "chtab.network",
-    "Routes": "chtab.roads.routes",
-    "Spots": "chtab.roads.snapping",
+    "Routes": "chtab._roads.routes",
+    "Spots": "chtab._roads.snapping",
 }
 
 
 # Hidden from type checkers, so that they find misspelt names.
 if not typing.TYPE_CHECKING:
     def __getattr__(name):
-        """A class of `LATER`, one of the public modules, or a module by the name that it had in
-        version 1.1."""
+        """A class of `LATER`, or one of the public modules."""
         if name in LATER:
             return getattr(importlib.import_module(LATER[name]), name)
         if name in ("files", "typing"):
             return importlib.import_module(f"chtab.{name}")
-        return _moved.attribute(__name__, name)
+        raise AttributeError(f"module {__name__!r} has no attribute {name!r}")
 
 
 def __dir__() -> list[str]:

@@ -26,22 +26,22 @@ import numpy
 from numpy.typing import ArrayLike, NDArray
 
 from chtab import files
-from chtab.engine import deadlines, making, opening
-from chtab.engine.in_process import InProcess
-from chtab.engine.progress import Asked as Progress
-from chtab.engine.walks import NO_WALK
+from chtab._engine import deadlines, making, opening
+from chtab._engine.in_process import InProcess
+from chtab._engine.progress import Asked as Progress
+from chtab._engine.walks import NO_WALK
 from chtab.errors import ChtabError
-from chtab.files import frames, geojson
-from chtab.files.measures import Asked, Limit
-from chtab.files.showing import table_text
-from chtab.near import blocks, questions
-from chtab.near.found import Near, Nearest
-from chtab.roads import equilibrium as traffic, exporting, flows as of_flows, from_arcs, geoframes
-from chtab.roads import pairs as of_pairs, scenarios
-from chtab.roads.layers import layers_of
-from chtab.roads.routes import Routes, TripRoutes
-from chtab.roads.snapping import Roads, Spots, metres_in, places_in, see_that_near
-from chtab.roads.trips import Trips, limits_in
+from chtab._files import frames, geojson
+from chtab._files.measures import Asked, Limit
+from chtab._files.showing import table_text
+from chtab._near import blocks, questions
+from chtab._near.found import Near, Nearest
+from chtab._roads import equilibrium as traffic, exporting, flows as of_flows, from_arcs, geoframes
+from chtab._roads import pairs as of_pairs, scenarios
+from chtab._roads.layers import layers_of
+from chtab._roads.routes import Routes, TripRoutes
+from chtab._roads.snapping import Roads, Spots, metres_in, places_in, see_that_near
+from chtab._roads.trips import Trips, limits_in
 
 if TYPE_CHECKING:
     import distributed
@@ -50,10 +50,10 @@ if TYPE_CHECKING:
     import networkx
     import pandas
     import scipy.sparse
-    from chtab.engine.folders import Folder
-    from chtab.engine.stamps import Stamps
-    from chtab.files.arc_columns import Arcs
-    from chtab.roads.reach import Isochrones
+    from chtab._engine.folders import Folder
+    from chtab._engine.stamps import Stamps
+    from chtab._files.arc_columns import Arcs
+    from chtab._roads.reach import Isochrones
 
 Nodes = ArrayLike | Iterable
 Direction = Literal["to", "from"]
@@ -1436,7 +1436,7 @@ class Network:
         TypeError, ValueError, ProgramFault, TimedOut
             A limit is not above 0; or as `reach` raises them.
         """
-        from chtab.roads.reach import Isochrones
+        from chtab._roads.reach import Isochrones
 
         spot, asked = self._trips.one("spot", spot), limits_in(self._measure, limits)
         areas = self._trips.isochrones(spot, [limit for limit, _ in asked])

@@ -22,7 +22,7 @@ def of_first(**more):
 
 def handle_of(graph=FIRST, saved=FIRST_SAVED):
     """An open handle."""
-    from chtab.engine import library
+    from chtab._engine import library
 
     handle = library.Handle(library.loaded(make()))
     handle.open(pathlib.Path(graph).read_bytes(), pathlib.Path(saved).read_bytes())

@@ -14,7 +14,7 @@ from helpers.running import ROOT
 sys.path.insert(0, str(ROOT / "python"))
 
 from chtab import files  # noqa: E402
-from chtab.maps import converting  # noqa: E402
+from chtab_maps import converting  # noqa: E402
 
 COUNTRY = ROOT / "examples" / "liechtenstein"
 # The files of the town, in a folder that is there as long as this process.

@@ -40,7 +40,7 @@ def dense(near):
 @contextlib.contextmanager
 def small_portions(pairs, swept, together):
     """Calls of the library that give so few pairs, sweeps of so few, and so few sources of a call."""
-    from chtab.near import question
+    from chtab._near import question
 
     names, numbers = ("PAIRS", "SWEPT", "FEW", "TOGETHER"), (pairs, swept, 0, together)
     before = [getattr(question, name) for name in names]
@@ -56,7 +56,7 @@ def small_portions(pairs, swept, together):
 @contextlib.contextmanager
 def small_blocks(length, pairs):
     """Blocks of so few sources and targets, which several threads make where a call has several."""
-    from chtab.near import blocks
+    from chtab._near import blocks
 
     before = blocks.LENGTH, blocks.PAIRS, blocks.SWEPT, blocks.FEW
     blocks.LENGTH, blocks.PAIRS, blocks.SWEPT, blocks.FEW = length, pairs, 0, 0

@@ -1,4 +1,4 @@
-"""The tables of docs/MAPS.md, as they follow from the tables of python/chtab/maps/tables. Run as a program it prints them.
+"""The tables of docs/MAPS.md, as they follow from the tables of python/chtab_maps/tables. Run as a program it prints them.
 
 Each is a Markdown table, as text without its last end of line.
 """
@@ -10,7 +10,7 @@ PYTHON_PATH = pathlib.Path(__file__).resolve().parent.parent.parent / "python"
 if str(PYTHON_PATH) not in sys.path:
     sys.path.insert(0, str(PYTHON_PATH))
 
-from chtab.maps import profiles  # noqa: E402
+from chtab_maps import profiles  # noqa: E402
 
 ALL = [profiles.profile(name) for name in profiles.NAMES]
 WIKI = "https://wiki.openstreetmap.org/wiki/"

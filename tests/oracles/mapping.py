@@ -10,7 +10,7 @@ import tomllib
 import xml.etree.ElementTree
 from fractions import Fraction
 
-TABLES = pathlib.Path(__file__).resolve().parent.parent.parent / "python" / "chtab" / "maps" / "tables"
+TABLES = pathlib.Path(__file__).resolve().parent.parent.parent / "python" / "chtab_maps" / "tables"
 TURNS = {f"no_{turn}" for turn in ("left_turn", "right_turn", "straight_on", "u_turn", "entry", "exit")}
 TURNS |= {f"only_{turn}" for turn in ("left_turn", "right_turn", "straight_on", "u_turn")}
 

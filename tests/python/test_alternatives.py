@@ -13,7 +13,7 @@ from helpers.maps import COUNTRY, town, town_at_a_cost
 from helpers.marks import needs
 from helpers.running import PROGRAM
 import chtab
-from chtab.server.osrm import answering, url
+from chtab_server.osrm import answering, url
 
 LONGER, SHARED, LOCAL = 1.25, 0.8, 0.25
 
@@ -121,8 +121,8 @@ def asked(answers, places, most, query=""):
 
 def compared(out, count, seed, near=0.0005):
     """Compares alternatives on a network; how many there are for how many routes."""
-    from chtab.roads.legs import legs_between
-    from chtab.server.osrm import alternatives
+    from chtab._roads.legs import legs_between
+    from chtab_server.osrm import alternatives
 
     judge, draw, found = Judge(out), random.Random(seed), 0
     with chtab.Network.open(f"{out}.gr", program=PROGRAM) as network:

@@ -320,8 +320,8 @@ def lines_that_run(arcs, kind):
     """How many lines of Python run while a network's arcs are made and written, without the search of the program."""
     import numpy
 
-    from chtab.engine import making, opening
-    from chtab.files import arc_columns
+    from chtab._engine import making, opening
+    from chtab._files import arc_columns
 
     draw, count = numpy.random.default_rng(1), [0]
     tails, heads = draw.integers(0, 1_000, (2, arcs))

@@ -157,7 +157,7 @@ def test_a_crossing_is_one_node_in_all_calls():
     """Where turns are restricted, trips to a crossing end at another node than they start from. Callers name the one, and rows have no copies."""
     import numpy
 
-    from chtab.maps import converting, parts
+    from chtab_maps import converting, parts
 
     write_cross()
     with chtab.Network.open("cross.gr", unit="minutes", program=PROGRAM) as network:
@@ -193,7 +193,7 @@ def test_a_crossing_is_one_node_in_all_calls():
 
 def write_cross():
     """A cross of four roads, of which one turn is forbidden, and its longer way around, as files of a map."""
-    from chtab.maps import converting
+    from chtab_maps import converting
 
     nodes = {1: (0, 0), 2: (0, 1), 3: (1, 0), 4: (0, -1), 5: (-1, 0)}
     ways = [([2, 1], ROAD), ([1, 3], ROAD), ([4, 1], ROAD), ([1, 5], ROAD), ([3, 2], ROAD), ([3, 4], ROAD), ([5, 2], ROAD), ([5, 4], ROAD)]

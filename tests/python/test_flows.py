@@ -7,7 +7,7 @@ from helpers.commands import raises
 from helpers.marks import needs
 from helpers.running import PROGRAM
 import chtab
-from chtab.engine import in_process
+from chtab._engine import in_process
 
 pytestmark = [needs("python3-numpy", "python3-pandas"), pytest.mark.usefixtures("program")]
 

@@ -31,7 +31,7 @@ MOST_GROWTH = 8_192
 def test_a_closed_handle_answers_nothing():
     import numpy
 
-    from chtab.engine import library
+    from chtab._engine import library
 
     one, closed = numpy.array([0], numpy.uint32), library.Handle(library.loaded(make()))
     handle, other = handle_of(), None

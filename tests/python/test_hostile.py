@@ -201,7 +201,7 @@ def test_a_signal_may_close_what_is_asked():
 
 def test_a_question_within_another_spoils_none():
     """The handler of a signal may ask while its thread is in a call: both have their answers."""
-    from chtab.engine import library
+    from chtab._engine import library
 
     handle = library.Handle(library.loaded(make()))
     handle.open(FIRST.read_bytes(), FIRST_SAVED.read_bytes())
@@ -224,7 +224,7 @@ def test_threads_share_one_handle():
     """Calls of several threads by one handle wait for one another: each has its own answer, also while the handle is closed."""
     import numpy
 
-    from chtab.engine import library
+    from chtab._engine import library
 
     handle = library.Handle(library.loaded(make()))
     handle.open(pathlib.Path(GRAPH).read_bytes(), ways.saved_for(GRAPH).read_bytes())
@@ -350,7 +350,7 @@ def test_a_sweep_without_memory_is_left_out():
     """Then the rows come by searches, whatever the samples said of them."""
     import numpy
 
-    from chtab.engine import library
+    from chtab._engine import library
 
     def refused(handle):
         raise chtab.ProgramFault("chtab: out of memory", 3)
@@ -368,7 +368,7 @@ def test_a_sweep_without_memory_is_left_out():
 def test_a_call_of_seconds_hears_ctrl_c(monkeypatch):
     """Each call of the library that may take long is broken off before it ends, and what it leaves behind answers on. It is made by another thread
     than the one that hears signals, because no call of C hears one."""
-    from chtab.engine import in_process, library
+    from chtab._engine import in_process, library
 
     # In a small network calls of a few hundred searches are made at once, because they take some milliseconds.
     monkeypatch.setattr(in_process, "SMALL", 0)
@@ -407,7 +407,7 @@ def test_a_library_that_gives_nothing_is_no_endless_loop():
     """One that opens another number of nodes, or gives no row, is not asked on."""
     import numpy
 
-    from chtab.engine import library
+    from chtab._engine import library
 
     nothing = numpy.zeros(0, numpy.int64)
     for name, other in ("nodes", lambda handle: 4), ("near_rows", lambda handle, sources, pairs: (nothing, nothing, nothing)), \
@@ -434,7 +434,7 @@ def test_what_is_long_hears_ctrl_c():
 def test_time_is_looked_at_between_calls():
     """By a clock that goes on a second with each look: a question of more calls than it has seconds is broken off, by each kind of call; the next
     one is answered. Other networks have no time."""
-    from chtab.engine import deadlines
+    from chtab._engine import deadlines
 
     nodes, clock = list(range(1, 3_001)) * 12, deadlines.time
     with of_country(timeout=4) as network, of_country() as other, small_portions(1 << 20, 0, 1_000):

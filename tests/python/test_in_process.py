@@ -26,7 +26,7 @@ pytestmark = [needs("python3-numpy"), pytest.mark.usefixtures("program")]
 
 def test_numbers_are_those_of_the_header():
     """The version, statuses, kinds of faults and sizes."""
-    from chtab.engine import library
+    from chtab._engine import library
 
     text = HEADER.read_text()
     assert f"#define CHTAB_VERSION {library.VERSION}\n" in text
@@ -40,7 +40,7 @@ def test_numbers_are_those_of_the_header():
 
 def test_calls_are_those_of_the_header():
     """Each call is given as many words as the header says, each of its type."""
-    from chtab.engine import library
+    from chtab._engine import library
 
     one, rows, column = ctypes.POINTER(ctypes.c_uint32), ctypes.POINTER(ctypes.c_uint64), ctypes.c_void_p
     types = {
@@ -64,7 +64,7 @@ def test_what_c_would_misread_is_refused():
     """Arrays of other numbers, of other shapes, in pieces, of different lengths, and what is no array: none of them comes to C."""
     import numpy
 
-    from chtab.engine import library
+    from chtab._engine import library
 
     handle = handle_of()
     right = numpy.array([0, 1], numpy.uint32)
@@ -147,7 +147,7 @@ def test_nodes_are_those_of_the_network():
     """Numbers that C would take for other nodes, which a network's own test of labels doesn't let through either."""
     import numpy
 
-    from chtab.engine import library
+    from chtab._engine import library
 
     assert library.nodes_of(numpy.array([[1, 9], [3, 9]])[:, 0], 3).tolist() == [0, 2] and library.nodes_of([1, 2], 3).flags.c_contiguous
     assert library.nodes_of([], 3).dtype == numpy.uint32 and library.nodes_of(numpy.array([3], numpy.uint8), 3).tolist() == [2]
@@ -164,7 +164,7 @@ def test_nodes_are_those_of_the_network():
 
 def test_a_hierarchy_is_built_where_none_is_saved():
     """Its distances, cells and routes are those of the program by its saved hierarchy, and its text is that of `save --quick`."""
-    from chtab.engine import library
+    from chtab._engine import library
 
     ends = [(1 + 37 * place % 3154, 1 + 101 * place % 3154) for place in range(300)]
     files.write_queries("ends.p2p", ends)
@@ -208,7 +208,7 @@ def test_columns_that_are_no_graph_are_refused():
     """Of a graph that is given as columns: what C would misread, and in the words of the program what is no graph, with the arc."""
     import numpy
 
-    from chtab.engine import library
+    from chtab._engine import library
 
     handle, saved = library.Handle(library.loaded(make())), FIRST_SAVED.read_bytes()
     ends, weights = [numpy.array(column, numpy.uint32) for column in ([0, 1], [1, 2])], numpy.array([4, 5], numpy.uint64)
@@ -232,7 +232,7 @@ def test_columns_that_are_no_graph_are_refused():
 
 def test_networks_of_arcs_are_given_to_the_library_as_columns(monkeypatch):
     """Their graph is written for others, and not read again; the answers are those of the files, also in a forked process and by lines of arcs."""
-    from chtab.engine import in_process
+    from chtab._engine import in_process
 
     read, own = [], in_process.contents_of
 
@@ -299,7 +299,7 @@ def answers(network):
 
 def test_it_is_taken_where_it_is():
     """Beside the program; where there is none, or sources of a checkout are newer, the fault says how it is made."""
-    from chtab.engine import library
+    from chtab._engine import library
 
     for place in "beside", "lib/chtab", "checkout", "checkout/crates/chtab/out", "alone":
         os.makedirs(place)
@@ -332,7 +332,7 @@ def test_it_is_taken_where_it_is():
 
 def test_another_library_is_not_taken():
     """A file that is no library, a library of others, and one of another version."""
-    from chtab.engine import library
+    from chtab._engine import library
 
     other = next(path for path in pathlib.Path("/usr/lib").glob("**/libz.so.1") if path.exists())
     for place, path in enumerate((FIRST, "/dev/null", other, make())):

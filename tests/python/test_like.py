@@ -17,10 +17,10 @@ from helpers.running import PROGRAM, ROOT
 from helpers.scenarios import PLACES, least_of, of_roads, trips_of, with_turns
 from helpers.waiting import PATIENCE
 import chtab
-from chtab.engine import library as calls
-from chtab.engine import making
-from chtab.files import arc_columns
-from chtab.roads import from_arcs, scenarios
+from chtab._engine import library as calls
+from chtab._engine import making
+from chtab._files import arc_columns
+from chtab._roads import from_arcs, scenarios
 
 pytestmark = [needs("python3-numpy"), pytest.mark.usefixtures("program")]
 

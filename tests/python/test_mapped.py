@@ -10,13 +10,13 @@ from helpers.maps import COUNTRY, tool, town, town_at_a_cost
 from helpers.marks import needs
 from helpers.running import PROGRAM
 from chtab.errors import FileFault
-from chtab.server.osrm import url
+from chtab_server.osrm import url
 
 
 def written(path="columns"):
     """A file with columns of each type, and what it has."""
     import numpy
-    from chtab.files import mapped
+    from chtab._files import mapped
 
     columns = {
         "numbers": numpy.arange(1_000), "marks": numpy.arange(7) % 2 == 0, "text": numpy.frombuffer(b"text", numpy.uint8),
@@ -29,7 +29,7 @@ def written(path="columns"):
 
 def fault_of(path, sums):
     """The fault of a file of columns, empty if it is read."""
-    from chtab.files import mapped
+    from chtab._files import mapped
 
     try:
         mapped.read(path, sums)
@@ -40,7 +40,7 @@ def fault_of(path, sums):
 
 @needs("python3-numpy")
 def test_columns_are_those_that_were_written():
-    from chtab.files import mapped
+    from chtab._files import mapped
 
     columns = written()
     found = mapped.read("columns", {"gr": "a"})
@@ -56,7 +56,7 @@ def test_columns_are_those_that_were_written():
 @needs("python3-numpy")
 def test_spoilt_files_are_refused():
     """Each byte of the line and of the columns counts, and so does each length."""
-    from chtab.files import mapped
+    from chtab._files import mapped
 
     columns = written()
     data, draw = pathlib.Path("columns").read_bytes(), random.Random("spoilt")
@@ -101,8 +101,8 @@ def requests(coordinates, seed):
 
 def told(out):
     """What a service of a network answers, and a tile of its map; and whether it reads the text of its graph."""
-    from chtab.server.networks import Named, Networks
-    from chtab.server.service import Choices, Material
+    from chtab_server.networks import Named, Networks
+    from chtab_server.service import Choices, Material
 
     saved = f"{out}.ch" if pathlib.Path(f"{out}.ch").exists() else None
     with Networks([Named("", str(out), saved)], program=PROGRAM, library=None, workers=1, timeout=None, load=False) as networks:

@@ -1,4 +1,4 @@
-"""Tests the making of graphs from maps (python/chtab/maps): each rule of docs/MAPS.md by a map of its own, the forms of files, the
+"""Tests the making of graphs from maps (python/chtab_maps): each rule of docs/MAPS.md by a map of its own, the forms of files, the
 example, and random maps against oracles/mapping.py; turns.py has the turns. What needs pyosmium is left out, and told, where it isn't
 there.
 """
@@ -18,8 +18,8 @@ from helpers.packages import PYTHON
 from helpers.running import ROOT
 from oracles import mapping
 from chtab import files
-from chtab.maps import converting, parts, profiles
-from chtab.roads.sphere import RADIUS
+from chtab_maps import converting, parts, profiles
+from chtab._roads.sphere import RADIUS
 
 
 def test_barriers_leave_dead_ends():
@@ -362,8 +362,8 @@ def test_maps_in_binary():
 
 def told_by_the_way(*words):
     """What the command tells on standard error where each step is told, numbers of seconds aside."""
-    text = "import sys; sys.path.insert(0, sys.argv[1])\nimport chtab.engine.progress\nchtab.engine.progress.SECONDS = 0\n"
-    text += "from chtab.cli import osm_to_gr\nosm_to_gr.main(sys.argv[2:])\n"
+    text = "import sys; sys.path.insert(0, sys.argv[1])\nimport chtab._engine.progress\nchtab._engine.progress.SECONDS = 0\n"
+    text += "from chtab_maps import command\ncommand.main(sys.argv[2:])\n"
     done = subprocess.run([PYTHON, "-c", text, ROOT / "python", *words, "out"], capture_output=True, text=True)
     assert done.returncode == 0, done.stderr
     return re.sub(r" after \d+ s(, some \d+ s left)?", "", done.stderr)

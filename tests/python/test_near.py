@@ -212,8 +212,8 @@ def test_blocks_answer_as_one_run():
 def test_blocks_are_within_their_limits():
     import numpy
 
-    from chtab.near import blocks
-    from chtab.near.question import NearQuestion
+    from chtab._near import blocks
+    from chtab._near.question import NearQuestion
 
     for sources, targets, count, nodes, workers in (
         (200_000, 70_000, None, 10**6, 1), (None, 300, None, 10**6, 1), (None, 500, 3, 10**6, 1), (None, 500, 3, 10**6, 4), (5, 10**6, 1, 10**6, 2),

@@ -18,9 +18,9 @@ from helpers.running import PROGRAM, ROOT
 from helpers.writing import write_graph
 import chtab
 from chtab import files
-from chtab.engine.progress import Progress
-from chtab.near.found import Near
-from chtab.roads.routes import Routes
+from chtab._engine.progress import Progress
+from chtab._near.found import Near
+from chtab._roads.routes import Routes
 
 pytestmark = pytest.mark.usefixtures("program")
 FIRST = ROOT / "examples" / "first.gr"
@@ -97,28 +97,16 @@ def test_versions_of_aiohttp_with_known_faults_are_refused():
 
 
 @needs("python3-numpy")
-def test_names_of_the_last_version_go_on():
-    """What documents of version 1.1 named at another place is found there, is the same, and warns the caller's own line."""
-    text = "import sys, warnings; sys.path.insert(0, sys.argv[1])\nwith warnings.catch_warnings(record=True) as caught:\n    warnings.simplefilter('always')\n"
-    ending = "\nfrom chtab import Near, Routes, Spots\nassert {} is {}\nprint(*{{(each.category.__name__, each.filename) for each in caught}})"
-    for line, old, new in (
-        ("from chtab.routes import Routes as Old", "Old", "Routes"), ("import chtab.accessibility", "chtab.accessibility.Near", "Near"),
-        ("import chtab; old = chtab.routes.Routes", "old", "Routes"), ("import chtab; old = chtab.Network and chtab.roads.Spots", "old", "Spots"),
-        ("from chtab.roads import Spots as Old", "Old", "Spots"),
-    ):
-        script = text + f"    {line}" + ending.format(old, new)
-        done = subprocess.run([PYTHON, "-c", script, ROOT / "python"], capture_output=True, text=True)
-        assert done.stdout == "('DeprecationWarning', '<string>')\n", (line, done)
+def test_a_name_that_is_not_there_is_refused():
     raises(AttributeError, lambda: chtab.nothing, told="module 'chtab' has no attribute 'nothing'")
     raises(ImportError, lambda: __import__("chtab.nothing"))
 
 
-@needs("python3-numpy")
 def public_calls():
     """The calls that users see, each with its name: those of networks, of what these answer, and of files."""
-    from chtab.near.found import Nearest
-    from chtab.roads.reach import Isochrones
-    from chtab.roads.routes import TripRoutes
+    from chtab._near.found import Nearest
+    from chtab._roads.reach import Isochrones
+    from chtab._roads.routes import TripRoutes
 
     for name in filter(lambda name: inspect.isfunction(getattr(files, name)), files.__all__):
         yield f"files.{name}", getattr(files, name)
@@ -243,7 +231,7 @@ def test_a_closed_pipe_is_silent():
 @needs("python3-tqdm")
 def test_signs_of_life():
     """A line now and then where standard error is no terminal, by a clock that the test sets, and a bar where it is one."""
-    head = "import sys, time; sys.path.insert(0, sys.argv[1]); from chtab.engine import progress\n"
+    head = "import sys, time; sys.path.insert(0, sys.argv[1]); from chtab._engine import progress\n"
     clock = "class time:\n now = 0\n monotonic = classmethod(lambda own: own.now)\nprogress.time = time\n"
     steps = "with progress.Progress('blocks', 4, 'blocks', seconds=0.15) as p:\n for _ in range(4): {}; p.step()\n"
     text = head + clock + steps.format("time.now += 0.1")

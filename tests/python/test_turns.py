@@ -12,7 +12,7 @@ import re
 
 from helpers.maps import BLOCK, COUNTRY, ROAD, converted, noted, osm, random_map, tool
 from oracles import mapping
-from chtab.maps import profiles, restrictions
+from chtab_maps import profiles, restrictions
 
 
 def crossroads(restriction, more=(), members=(("way", 1, "from"), ("node", 1, "via"), ("way", 2, "to"))):

@@ -8,7 +8,6 @@ from __future__ import annotations
 import argparse
 import importlib
 import os
-import pathlib
 import re
 import signal
 import sys
@@ -21,8 +20,8 @@ if TYPE_CHECKING:
     from chtab.network import Network
 
 
-# The names of the commands, which are those of the modules in this folder.
-NAMES = sorted(path.stem for path in pathlib.Path(__file__).parent.glob("[!_]*.py"))
+# The names of the commands: those of the modules in this folder, of the maps and of the service.
+NAMES = "blocks", "nearest", "osm_to_gr", "page", "picture", "reach", "to_geojson", "trips"
 SAVED = "read the hierarchy of the graph from FILE, as `chtab save` writes it, and check it; that of another graph is refused, often by " \
     "`chtab: saved line 1: size too large`"
 

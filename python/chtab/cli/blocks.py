@@ -60,8 +60,8 @@ def words_of(arguments: Sequence[str]) -> argparse.Namespace:
 def main(arguments: Sequence[str]) -> None:
     """Makes the table that the arguments ask for, and prints its size."""
     words = words_of(arguments)
-    from chtab.engine import tables
-    from chtab.engine.opening import Running
+    from chtab._engine import tables
+    from chtab._engine.opening import Running
 
     if words.scheduler:
         # A closed client of Dask may leave a future behind, about which asyncio would write a

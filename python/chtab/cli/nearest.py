@@ -23,9 +23,9 @@ import sys
 from collections.abc import Sequence
 
 from chtab import cli, files
-from chtab.engine.progress import Progress
+from chtab._engine.progress import Progress
 from chtab.errors import TooFar
-from chtab.roads import nearest
+from chtab._roads import nearest
 
 # How many places are looked for between two reports of progress.
 MANY = 1_000

@@ -31,7 +31,7 @@ import sys
 from collections.abc import Sequence
 
 from chtab import cli, files
-from chtab.roads import picture
+from chtab._roads import picture
 
 # The files of each kind after OUT, the last of which is optional.
 FILES = {"network": (), "routes": ("TEXT",), "reach": ("TARGETS.ss", "TEXT"), "near": ("TEXT",)}

@@ -21,7 +21,7 @@ from collections.abc import Mapping, Sequence
 from typing import IO, TYPE_CHECKING
 
 from chtab import cli, files
-from chtab.files import geojson
+from chtab._files import geojson
 
 if TYPE_CHECKING:
     from chtab.typing import Path, Source

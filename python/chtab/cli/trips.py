@@ -27,11 +27,11 @@ from collections.abc import Sequence
 from typing import IO, TYPE_CHECKING
 
 from chtab import cli, files
-from chtab.files import geojson
+from chtab._files import geojson
 
 if TYPE_CHECKING:
-    from chtab.roads.routes import Trip
-    from chtab.roads.snapping import Spots
+    from chtab._roads.routes import Trip
+    from chtab._roads.snapping import Spots
     from chtab.typing import Integers
 
 

@@ -1,0 +1,78 @@
+"""Temporary folders that are removed with the object that keeps them, and also when a signal ends the process."""
+from __future__ import annotations
+
+import contextlib
+import os
+import shutil
+import subprocess
+import tempfile
+import weakref
+from typing import IO, cast
+
+from chtab._engine import forks
+
+# Reads a line and ends. If the input ends without a line, because the process that should write it has died, this removes the folder first. Signals
+# that end the process may reach the shell as well, such as those to all processes of a service, so that it ignores them.
+SCRIPT = 'trap "" HUP INT TERM; read -r line || rm -rf -- "$1"'
+
+
+class Folder:
+    """A folder that is removed by `remove`, when this object is no longer used, at the end of the interpreter, and when the process is killed. A
+    forked process leaves it alone.
+
+    For the last case a shell outlives the process. It has a process group of its own, and waits for the end of a pipe, which comes when all processes
+    that could write to the pipe are gone. Forked processes therefore close their end of it.
+
+    Parameters
+    ----------
+    path : str, optional
+        Where to make it; by default among the system's temporary folders.
+    """
+
+    def __init__(self, path: str | None = None) -> None:
+        if path is not None:
+            os.mkdir(path)
+        self.path = tempfile.mkdtemp(prefix="chtab-") if path is None else path
+        self.remove = weakref.finalize(self, remove_in, os.getpid(), self.path, None)
+        with forks.STEADY:
+            watcher = watched(self.path)
+            self.remove.detach()
+            self.remove = weakref.finalize(self, remove_in, os.getpid(), self.path, watcher)
+            self.watcher = watcher
+            forks.follow(self)
+
+    def leave_parent(self) -> None:
+        """Closes this process's end of the pipe that the shell waits for, in a forked process."""
+        if self.watcher is not None:
+            cast(IO[bytes], self.watcher.stdin).close()
+            # The shell is no child of this process, which must not wait for it.
+            self.watcher.returncode = 0
+
+    def __enter__(self) -> str:
+        return self.path
+
+    def __exit__(self, *_: object) -> None:
+        self.remove()
+
+
+def watched(path: str) -> subprocess.Popen[bytes] | None:
+    """Starts the shell that removes a folder when this process is gone; None if none can be started."""
+    words = ["/bin/sh", "-c", SCRIPT, "chtab", path]
+    with contextlib.suppress(OSError):
+        return subprocess.Popen(words, stdin=subprocess.PIPE, stdout=subprocess.DEVNULL, stderr=subprocess.DEVNULL, start_new_session=True)
+    return None
+
+
+def remove_in(owner: int, path: str, watcher: subprocess.Popen[bytes] | None) -> None:
+    """Removes a folder, in the process that made it alone, and ends the shell."""
+    if os.getpid() != owner:
+        return
+    shutil.rmtree(path, ignore_errors=True)
+    if watcher is not None:
+        line = cast(IO[bytes], watcher.stdin)
+        with contextlib.suppress(OSError, ValueError):
+            line.write(b"\n")
+            line.flush()
+        with contextlib.suppress(OSError, ValueError):
+            line.close()
+        watcher.wait()

@@ -1,0 +1,418 @@
+"""Answers by the library for C, in this process: each thread has a handle on the one network in
+memory."""
+from __future__ import annotations
+
+import contextlib
+import os
+import tempfile
+import threading
+import weakref
+from collections.abc import Callable, Iterator, Sequence
+from typing import TYPE_CHECKING, Any
+
+import numpy
+
+from chtab import files
+from chtab._engine import deadlines, forks, library, parts, running
+from chtab._engine.interruptible import LONG, interruptible
+from chtab._engine.walks import Paths
+from chtab.errors import ChtabError, mismatch
+
+if TYPE_CHECKING:
+    from numpy.typing import NDArray
+    from chtab._engine.opening import Setting
+    from chtab._engine.progress import Asked
+    from chtab.typing import Integers
+
+# The most that one call of the library answers: distances, routes, and sources and targets of a
+# table. Hardly any call then takes more than a second. With a time limit a table has smaller
+# blocks.
+PAIRS, ROUTES, SIDE, SHORT = 1 << 13, 1 << 11, 1 << 12, 1 << 10
+# How many cells of a table are worth a further thread, which searches from each target once more.
+WORTH = 1 << 20
+# The most pairs whose flows one call gives. Each call takes steps for all legs of the network, which
+# that many pairs hide.
+FLOWS = 1 << 17
+# How many nodes of routes have room at first.
+ROOM = 1 << 16
+# In a network of fewer nodes than this so many searches take as long as one in a large network.
+SMALL, SEARCHES = 1 << 16, 1 << 4
+# No places: keeping these frees the places that a handle has.
+NO_PLACES = numpy.zeros(0, numpy.uint32)
+
+
+def contents_of(path: str) -> bytes:
+    """The bytes of a file."""
+    with open(path, "rb") as file:
+        return file.read()
+
+
+class OfThread(threading.local):
+    """What belongs to a thread: its handle."""
+
+    handle: library.Handle | None = None
+
+
+class InProcess:
+    """Answers questions about nodes, which count from 1, of any number of threads and forked
+    processes.
+
+    The first question of a thread makes a handle for it. All handles share one network in memory,
+    which the first handle opens. That handle belongs to the first thread that asks, and after the
+    end of this thread to the next new one. Large questions are answered by up to `setting.workers`
+    threads.
+
+    The first question of a forked process opens the network anew, and leaves the handles of its
+    parent alone.
+
+    Parameters
+    ----------
+    setting : opening.Setting
+        The files, and how they are answered from.
+    arcs : sequence of array of int, shape (m,), optional
+        The tails, heads and weights of the arcs that the graph's file has, in its order. The library
+        then takes these, and does not read that file.
+    """
+
+    def __init__(self, setting: Setting, arcs: Sequence[Integers] | None = None) -> None:
+        for path in setting.files():
+            open(path, "rb").close()
+        self.setting, self.stamps = setting, setting.stamps()
+        self.arcs = arcs
+        self.calls = library.loaded(setting.library)
+        self.nodes, self.is_closed, self.room = files.count_nodes(setting.graph), False, ROOM
+        self.leave_parent()
+        forks.follow(self)
+
+    def leave_parent(self) -> None:
+        """Resets to no handles and to a free lock, at first and in each forked process."""
+        self.lock, self.owner, self.begun = threading.RLock(), os.getpid(), 0
+        self.of_thread = OfThread()
+        self.handles: weakref.WeakSet[library.Handle] = weakref.WeakSet()
+        self.first: library.Handle | None = None
+        self.asker: threading.Thread | None = None
+        self.spare: list[library.Handle] = []
+
+    # Handles.
+
+    def load(self) -> None:
+        """Opens the network, so that a refused file is an error now and not later."""
+        self.first_handle()
+
+    def first_handle(self) -> library.Handle:
+        """The first handle, which opens the network."""
+        self.see_that_open()
+        with self.lock:
+            if self.is_closed:
+                raise ChtabError(library.GONE)
+            if self.first is None:
+                with deadlines.uncounted():
+                    self.begin_with(self.opened())
+            assert self.first is not None
+            return self.first
+
+    def see_that_open(self) -> None:
+        """Refuses a network that is closed. A forked process leaves its parent here, too."""
+        if self.is_closed:
+            raise ChtabError(library.GONE)
+        if self.owner != os.getpid():
+            self.leave_parent()
+
+    def opened(self) -> library.Handle:
+        """Opens the first handle."""
+        setting = self.setting
+        graph = contents_of(setting.graph) if self.arcs is None else b""
+        saved = self.built() if setting.saved is None else contents_of(setting.saved)
+        # Checked after reading, so that what was read is what was there at first.
+        self.stamps.see_that_same()
+        handle = library.Handle(self.calls)
+        if self.arcs is None:
+            interruptible(LONG, handle.open, graph, saved)
+        else:
+            columns = library.columns_of(self.nodes, *self.arcs)
+            interruptible(LONG, handle.open_arrays, self.nodes, *columns, saved)
+        if handle.nodes() != self.nodes:
+            raise mismatch()
+        return handle
+
+    def built(self) -> bytes | None:
+        """The hierarchy of a network that has none saved, where several workers of the program
+        build it; None where the library builds it, which starts no threads."""
+        setting = self.setting
+        if setting.workers == 1:
+            return None
+        with tempfile.TemporaryDirectory(prefix="chtab-") as folder:
+            path, words = os.path.join(folder, "built.ch"), ["--quick", "--workers", str(setting.workers)]
+            running.save(setting.program, setting.graph, path, words, None)
+            return contents_of(path)
+
+    def opened_like(self, graph: bytes, fresh: int) -> library.Handle:
+        """A handle in the network of another graph with as many nodes, whose hierarchy is built in
+        the order of this one's: only the last `fresh` per cent of the nodes are ordered afresh.
+        This network goes on answering meanwhile."""
+        giver, handle = self.first_handle().share(), library.Handle(self.calls)
+        # The giver is closed when the call ends, also where the wait for it is broken off.
+        interruptible(LONG, handle.open_like, graph, giver, fresh)
+        return handle
+
+    def begin_with(self, handle: library.Handle) -> None:
+        """Takes a handle that is open in the network of these files as the first one."""
+        with self.lock:
+            self.first = handle
+            self.handles.add(handle)
+            self.begun += 1
+
+    def handle(self) -> library.Handle:
+        """The handle of the current thread."""
+        self.see_that_open()
+        if self.of_thread.handle is None:
+            self.of_thread.handle = self.handle_of_new_thread()
+        return self.of_thread.handle
+
+    def handle_of_new_thread(self) -> library.Handle:
+        """The first handle, if no living thread has it, and otherwise a further one."""
+        with self.lock:
+            first = self.first_handle()
+            if self.asker is None or not self.asker.is_alive():
+                self.asker = threading.current_thread()
+                return first
+        return self.another(first)
+
+    def another(self, first: library.Handle) -> library.Handle:
+        """Makes a further handle. This waits for a call that uses the first one, and holds no lock
+        meanwhile."""
+        made = first.share()
+        with self.lock:
+            if self.is_closed:
+                raise ChtabError(library.GONE)
+            self.handles.add(made)
+        return made
+
+    @contextlib.contextmanager
+    def lent_handle(self) -> Iterator[library.Handle]:
+        """Lends a handle to one question of a thread that is not the caller's, or on near rows, and
+        frees its places afterwards."""
+        handle = self.spare_handle()
+        # A process that is forked meanwhile has a list of its own, and this handle stays with its
+        # parent.
+        spare = self.spare
+        yield handle
+        # A network that was closed meanwhile has answered this question.
+        with contextlib.suppress(ChtabError):
+            handle.keep_places(NO_PLACES)
+            spare.append(handle)
+
+    def spare_handle(self) -> library.Handle:
+        """A handle that no question uses."""
+        self.see_that_open()
+        with self.lock:
+            first = self.first_handle()
+            if self.spare:
+                return self.spare.pop()
+        return self.another(first)
+
+    def living(self) -> int:
+        """1 if the network is open in this process, and 0 otherwise."""
+        return int(self.first is not None)
+
+    @property
+    def runs(self) -> list[library.Handle]:
+        """The handles of this process; none before the network is opened."""
+        with self.lock:
+            return list(self.handles)
+
+    def close(self) -> None:
+        """Closes all handles, each once the call that uses it has ended. A question of another
+        thread fails if it needs further calls."""
+        self.is_closed = True
+        if self.owner != os.getpid():
+            self.leave_parent()
+        with self.lock:
+            handles, self.first = list(self.handles), None
+        for handle in handles:
+            handle.close()
+
+    def __enter__(self) -> InProcess:
+        return self
+
+    def __exit__(self, *_: object) -> None:
+        self.close()
+
+    # Questions.
+
+    def in_parts(
+        self,
+        count: int,
+        most: int,
+        call: Callable[[library.Handle, slice], Any],
+        name: str,
+        things: str,
+        progress: Asked = None,
+        searches: int = 1,
+    ) -> None:
+        """Calls for all parts of `count` items, each of so many searches and at most `most` items.
+        `name` and `things` are what progress says is done."""
+        # Loading is not counted, and comes before the time is.
+        own, caller, timeout = self.handle(), threading.current_thread(), self.setting.timeout
+        scale = 1 if self.nodes >= SMALL else SEARCHES
+        if progress is None and count <= (most if timeout is None else min(most, parts.FIRST)):
+            deadline = deadlines.current(timeout)
+            if count:
+                interruptible(count * searches // scale, call, own, slice(0, count))
+            return deadline.check()
+
+        def work(some: Iterator[slice]) -> None:
+            if threading.current_thread() is caller:
+                for part in some:
+                    interruptible((part.stop - part.start) * searches // scale, call, own, part)
+                return
+            with self.lent_handle() as handle:
+                for part in some:
+                    call(handle, part)
+
+        parts.make(count, most, self.setting.workers, work, name, things, progress, timeout)
+
+    def columns(self, pairs: Integers) -> tuple[library.Nodes, library.Nodes]:
+        """The sources and targets of pairs of nodes, an array (n, 2), as the library takes them."""
+        sources, targets = library.nodes_of(pairs, self.nodes).T.copy()
+        return sources, targets
+
+    def few_distances(self, sources: Sequence[int], targets: Sequence[int]) -> list[int] | None:
+        """The distances of at most `library.FEW` pairs of nodes from 1 to `nodes`, given as two
+        lists; None if this needs arrays."""
+        own = self.handle()
+        return own.few_distances([node - 1 for node in sources], [node - 1 for node in targets])
+
+    def distances(self, pairs: Integers, progress: Asked = None) -> Integers:
+        """The distances of pairs of nodes, an array (n, 2): int64 (n,), -1 where there is no
+        walk."""
+        sources, targets = self.columns(pairs)
+        found = numpy.empty(len(sources), numpy.int64)
+
+        def ask(handle: library.Handle, part: slice) -> None:
+            found[part] = handle.distances(sources[part], targets[part])
+
+        self.in_parts(len(sources), PAIRS, ask, "distances", "pairs", progress)
+        return found
+
+    def table(
+        self,
+        sources: Integers,
+        targets: Integers,
+        within: int | None = None,
+        progress: Asked = None,
+    ) -> Integers:
+        """The distances from each node of one column to each of another, int64 (k, l), -1 where
+        there is no walk, or none of at most `within`."""
+        rows, columns = (library.nodes_of(nodes, self.nodes) for nodes in (sources, targets))
+        found = numpy.empty((len(rows), len(columns)), numpy.int64)
+        limit = library.NO_LIMIT if within is None else within
+
+        def ask(handle: library.Handle, some: tuple[slice, slice]) -> None:
+            found[some] = handle.table(rows[some[0]], columns[some[1]], limit)
+
+        self.in_blocks(len(rows), len(columns), ask, "table", progress)
+        return found
+
+    def in_blocks(
+        self, rows: int, columns: int, call: Callable[[library.Handle, tuple[slice, slice]], None], name: str,
+        progress: Asked = None,
+    ) -> None:
+        """Calls for blocks of a table, which are slices of rows and of columns, until all cells are done."""
+        side = SIDE if self.setting.timeout is None else SHORT
+        height, width = self.height_of(rows, columns, side), max(1, min(columns, side))
+        across = -(-columns // width)
+
+        def ask(handle: library.Handle, part: slice) -> None:
+            for block in range(part.start, part.stop):
+                row, column = block // across * height, block % across * width
+                call(handle, (slice(row, row + height), slice(column, column + width)))
+
+        self.in_parts(-(-rows // height) * across, 1, ask, name, "blocks", progress, height + width)
+
+    def height_of(self, rows: int, columns: int, side: int) -> int:
+        """How many rows of a table are made together, so that several threads have a part of it."""
+        shares = max(1, min(self.setting.workers, rows * columns // WORTH))
+        return max(1, min(side, -(-rows // shares)))
+
+    def paths(self, pairs: Integers, progress: Asked = None) -> Paths:
+        """The routes of pairs of nodes, an array (n, 2)."""
+        sources, targets = self.columns(pairs)
+        made: list[tuple[int, Any]] = []
+
+        def ask(handle: library.Handle, part: slice) -> None:
+            start = part.start
+            while start < part.stop:
+                some = sources[start:part.stop], targets[start:part.stop]
+                weights, ends, _, lines = handle.routes_with_lines(*some, self.room)
+                if not len(weights):
+                    self.make_room()
+                made.append(
+                    (start, (weights, numpy.diff(ends, prepend=0), lines[lines != library.NO_LINE]))
+                )
+                start += len(weights)
+
+        self.in_parts(len(sources), ROUTES, ask, "routes", "pairs", progress)
+        nothing: Any = (0, tuple(numpy.zeros((3, 0), numpy.int64)))
+        columns: Any = zip(
+            *(each for _, each in sorted([nothing, *made], key=lambda each: each[0]))
+        )
+        weights, counts, lines = (numpy.concatenate(column) for column in columns)
+        return Paths(weights, numpy.maximum(counts - 1, 0), lines.astype(numpy.int64))
+
+    def sums(
+        self, pairs: Integers, values: NDArray[numpy.uint64],
+    ) -> tuple[Integers, NDArray[numpy.uint64]]:
+        """The weights of the routes of pairs, -1 where there is no walk, and the sums of the values
+        of their arcs, 0 where there is no walk. `values` has one for each arc of the graph. Raises
+        a `ValueError` if a sum is 2^64 or more."""
+        sources, targets = self.columns(pairs)
+        weights, sums = numpy.empty(len(sources), numpy.int64), numpy.empty(
+            len(sources), numpy.uint64
+        )
+
+        def ask(handle: library.Handle, part: slice) -> None:
+            weights[part], sums[part] = handle.route_sums(sources[part], targets[part], values)
+
+        self.in_parts(len(sources), ROUTES, ask, "routes", "pairs")
+        return weights, sums
+
+    def flows(
+        self, pairs: Integers, demands: NDArray[numpy.uint64], lines: int, progress: Asked = None,
+    ) -> tuple[int, NDArray[numpy.uint64]]:
+        """How many pairs have no walk, and for each of the `lines` of the graph the sum of the demands of
+        the pairs whose routes take it. The sum of all demands is below 2^63."""
+        sources, targets = self.columns(pairs)
+        flows, missed, lock = numpy.zeros(lines, numpy.uint64), [0], threading.Lock()
+
+        def ask(handle: library.Handle, part: slice) -> None:
+            without, more = handle.flows(sources[part], targets[part], demands[part], lines)
+            with lock:
+                missed[0] += without
+                numpy.add(flows, more, out=flows)
+
+        self.in_parts(len(sources), FLOWS, ask, "flows", "pairs", progress)
+        return missed[0], flows
+
+    def flows_table(
+        self, sources: Integers, targets: Integers, demands: NDArray[numpy.uint64], lines: int, progress: Asked = None,
+    ) -> tuple[int, NDArray[numpy.uint64]]:
+        """The same of each source with each target, by demands (k, l)."""
+        rows, columns = (library.nodes_of(nodes, self.nodes) for nodes in (sources, targets))
+        flows, missed, lock = numpy.zeros(lines, numpy.uint64), [0], threading.Lock()
+
+        def ask(handle: library.Handle, some: tuple[slice, slice]) -> None:
+            cells = numpy.ascontiguousarray(demands[some]).reshape(-1)
+            without, more = handle.flows_table(rows[some[0]], columns[some[1]], cells, lines)
+            with lock:
+                missed[0] += without
+                numpy.add(flows, more, out=flows)
+
+        self.in_blocks(len(rows), len(columns), ask, "flows", progress)
+        return missed[0], flows
+
+    def make_room(self) -> None:
+        """Makes twice as much room for the nodes of routes."""
+        if self.room >= max(self.nodes, ROOM):
+            raise mismatch()
+        self.room = 2 * self.room

@@ -1,0 +1,516 @@
+"""The library for C in this process, by ctypes: `include/chtab.h` describes its calls.
+
+C trusts its caller. Everything is therefore checked here before a call: each array is one of numpy, with the right type of numbers, contiguous,
+aligned for these numbers, and as long as the call assumes; outputs are writable; and nodes are numbers of 32 bits.
+"""
+from __future__ import annotations
+
+import ctypes
+import functools
+import glob
+import os
+import threading
+import weakref
+from collections.abc import Callable, Sequence
+from typing import TYPE_CHECKING, Any, NoReturn, TypeAlias
+
+import numpy
+
+from chtab._engine import forks
+from chtab.errors import ChtabError, ProgramFault
+
+if TYPE_CHECKING:
+    from numpy.typing import ArrayLike, DTypeLike, NDArray
+    from chtab.typing import Integers
+
+# The version of the library that this package calls, as `CHTAB_VERSION` of the header has it.
+VERSION = 1_003_000
+NAME = "libchtab.so.1"
+# The statuses of calls, as in `chtab_status` of the header.
+OK, NO_MEMORY, CLOSED, IS_OPEN, NODE_RANGE, LENGTHS, TOO_LARGE, TOO_SHORT, BAD_GRAPH, BAD_SAVED, WRONG_SAVED, NO_PLACES, SUM_TOO_LARGE, \
+    OTHER_NODES, FRESH_RANGE = range(15)
+# The limit that excludes no distance, and the distance where there is no walk, which is -1 as a signed number of 64 bits.
+NO_LIMIT = NO_DISTANCE = 2**64 - 1
+# The number of places of a near row that excludes none, and the line for a node that no arc leads to.
+ALL = NO_LINE = 2**32 - 1
+# The faults of files, by the number of `chtab_fault_kind`, in the words of the program.
+KINDS = (
+    "", "unknown line", "bad problem line", "second problem line", "no problem line", "bad line", "node out of range", "weight too large",
+    "size too large", "too many lines", "too few lines", "order", "pair", "bound", "base", "middle", "arc", "lower",
+)
+GONE = "the network is closed"
+# How many nodes of a route have room at first.
+ROOM = 1_024
+# Up to this many pairs are asked for without arrays.
+FEW = 16
+
+
+# Nodes as the library counts them, from 0 on; and unsigned numbers.
+Nodes: TypeAlias = "NDArray[numpy.uint32]"
+Unsigned: TypeAlias = "NDArray[numpy.uint64]"
+
+
+class Block(ctypes.Structure):
+    """`struct chtab`: 16 bytes, whose meaning only the library knows."""
+
+    _fields_ = [("is_open", ctypes.c_uint64), ("engine", ctypes.c_void_p)]
+
+
+class Fault(ctypes.Structure):
+    """`struct chtab_fault`."""
+
+    _fields_ = [("line", ctypes.c_uint64), ("place", ctypes.c_uint64), ("kind", ctypes.c_uint32)]
+
+
+class Found(ctypes.Structure):
+    """`struct chtab_found`."""
+
+    _fields_ = [("weight", ctypes.c_uint64), ("nodes", ctypes.c_uint64)]
+
+
+ARRAY = ctypes.c_void_p, ctypes.c_size_t
+HANDLE = ctypes.POINTER(Block)
+# The arguments of each call. `CDLL` lets other threads run during a call.
+CALLS = {
+    "chtab_open": (HANDLE, ctypes.c_char_p, ctypes.c_size_t, ctypes.c_char_p, ctypes.c_size_t, ctypes.POINTER(Fault)),
+    "chtab_open_arrays": (
+        HANDLE, ctypes.c_uint32, *ARRAY, *ARRAY, *ARRAY, ctypes.c_char_p, ctypes.c_size_t,
+        ctypes.POINTER(Fault),
+    ),
+    "chtab_open_quick": (HANDLE, ctypes.c_char_p, ctypes.c_size_t, ctypes.POINTER(Fault)),
+    "chtab_open_like": (HANDLE, ctypes.c_char_p, ctypes.c_size_t, HANDLE, ctypes.c_uint32, ctypes.POINTER(Fault)),
+    "chtab_share": (HANDLE, HANDLE),
+    "chtab_close": (HANDLE,),
+    "chtab_nodes": (HANDLE, ctypes.POINTER(ctypes.c_uint32)),
+    "chtab_save": (HANDLE, ctypes.POINTER(ctypes.c_uint64), *ARRAY),
+    "chtab_distances": (HANDLE, *ARRAY, *ARRAY, *ARRAY),
+    "chtab_table": (HANDLE, *ARRAY, *ARRAY, ctypes.c_uint64, *ARRAY),
+    "chtab_route": (HANDLE, ctypes.c_uint32, ctypes.c_uint32, ctypes.POINTER(Found), *ARRAY),
+    "chtab_routes": (HANDLE, *ARRAY, *ARRAY, ctypes.POINTER(ctypes.c_uint64), *ARRAY, *ARRAY, *ARRAY, *ARRAY),
+    "chtab_route_sums": (HANDLE, *ARRAY, *ARRAY, *ARRAY, ctypes.POINTER(ctypes.c_uint64), *ARRAY, *ARRAY),
+    "chtab_flows_table": (HANDLE, *ARRAY, *ARRAY, *ARRAY, ctypes.POINTER(ctypes.c_uint64), *ARRAY),
+    "chtab_flows": (HANDLE, *ARRAY, *ARRAY, *ARRAY, ctypes.POINTER(ctypes.c_uint64), *ARRAY),
+    "chtab_near_places": (HANDLE, ctypes.c_uint32, *ARRAY, ctypes.c_uint64, ctypes.c_uint32),
+    "chtab_near_sweep": (HANDLE,),
+    "chtab_near_rows": (HANDLE, *ARRAY, ctypes.POINTER(ctypes.c_uint64), *ARRAY, *ARRAY, *ARRAY),
+    "chtab_near_sums": (HANDLE, *ARRAY, *ARRAY, *ARRAY, ctypes.POINTER(ctypes.c_uint64), *ARRAY),
+}
+
+
+def beside(program: str) -> str | None:
+    """The library beside a program; None if there is none.
+
+    It is in the folder of the program (in a wheel); where `packaging/library` puts it in a checkout, unless sources of the crates are newer; or where
+    `./install` puts it, in the folder `lib` whose folder `chtab` has the program.
+    """
+    folder = os.path.dirname(os.path.realpath(program))
+    places = [folder] if os.path.basename(folder) != "chtab" else [folder, os.path.dirname(folder)]
+    found = [path for path in (os.path.join(place, NAME) for place in places) if os.path.isfile(path)]
+    # The program is that of a checkout itself, or what it builds.
+    own = os.path.join("crates", "chtab", "out")
+    checkout = folder.removesuffix(os.sep + own) if folder.endswith(own) else folder
+    made = os.path.join(checkout, "out", "library", "lib", NAME)
+    return (found + [made] * is_up_to_date(made, checkout) + [None])[0]
+
+
+def is_up_to_date(made: str, checkout: str) -> bool:
+    """Whether the library of a checkout exists, and no source of its crates is newer."""
+    if not os.path.isfile(made):
+        return False
+    files = glob.iglob(os.path.join(glob.escape(checkout), "crates", "*", "src", "**", "*.rt"), recursive=True)
+    # Crates of tests are in no library.
+    sources = (path for path in files if f"_checks{os.sep}" not in path.removeprefix(checkout))
+    return max(map(os.path.getmtime, sources), default=0) <= os.path.getmtime(made)
+
+
+@functools.cache
+def loaded(path: str) -> ctypes.CDLL:
+    """The calls of the library at a path. Raises a `ChtabError` if it can't be loaded, or has another version."""
+    try:
+        with forks.STEADY:
+            calls = ctypes.CDLL(path)
+        for name, words in CALLS.items():
+            call = getattr(calls, name)
+            call.argtypes, call.restype = words, ctypes.c_uint32
+        calls.chtab_version.argtypes, calls.chtab_version.restype = (), ctypes.c_uint32
+        version = calls.chtab_version()
+    except (OSError, AttributeError) as fault:
+        raise ChtabError(f"{path} is not chtab's library for C: {fault}") from None
+    if version != VERSION:
+        raise ChtabError(f"{path} is of another version than this package: {version}, not {VERSION}")
+    return calls
+
+
+def address(array: NDArray[Any], kind: DTypeLike, is_written: bool = False) -> int:
+    """The address of the numbers of an array. An array that C would misread is refused."""
+    if type(array) is not numpy.ndarray or array.dtype != kind or array.ndim != 1 or not (array.flags.c_contiguous and array.flags.aligned):
+        what = f"{array.dtype} of shape {array.shape}" if isinstance(array, numpy.ndarray) else type(array).__name__
+        raise TypeError(f"the library takes a column of {numpy.dtype(kind)} in one piece, not {what}")
+    if is_written and not array.flags.writeable:
+        raise TypeError("the library writes to an array that may be written to")
+    found = array.ctypes.data
+    if not found:
+        raise ValueError("an array has no place in memory")
+    return found
+
+
+def nodes_of(numbers: ArrayLike, count: int) -> Nodes:
+    """The nodes of numbers from 1 to `count`, as the library counts them from 0 on: uint32, contiguous. Any other number is refused."""
+    numbers = numpy.asarray(numbers)
+    if numbers.dtype != numpy.int64:
+        if numbers.size and numbers.dtype.kind not in "iu":
+            raise TypeError(f"nodes are whole numbers, not {numbers.dtype}")
+        numbers = numbers.astype(numpy.int64)
+    lowered = numbers - 1
+    # As unsigned numbers, those below 0 are the largest.
+    if lowered.size and lowered.view(numpy.uint64).max() >= count:
+        raise ValueError(f"a node is not from 1 to {count:,}")
+    return lowered.astype(numpy.uint32, order="C")
+
+
+def columns_of(
+    count: int, tails: ArrayLike, heads: ArrayLike, weights: ArrayLike,
+) -> tuple[Nodes, Nodes, Unsigned]:
+    """The columns of arcs as the library takes them: nodes from 1 to `count` as it counts them, and
+    weights of uint64."""
+    unsigned = numpy.asarray(weights).astype(numpy.uint64, order="C")
+    return nodes_of(tails, count), nodes_of(heads, count), unsigned
+
+
+def close(call: Callable[[Any], int], block: Block, owner: int) -> None:
+    """Closes an open handle, unless this process was forked from its owner."""
+    if os.getpid() == owner:
+        call(ctypes.byref(block))
+
+
+class Handle:
+    """A network in this process, with scratch space for one question at a time; calls of several threads wait for one another.
+
+    It is closed by `close`, and when it is no longer used. It can't be copied or pickled.
+    """
+
+    def __init__(self, calls: ctypes.CDLL) -> None:
+        self.calls, self.block, self.lock = calls, Block(), threading.RLock()
+        self.at, self.room = ctypes.byref(self.block), ROOM
+        # Scratch space for few distances, for one question at a time.
+        self.sources, self.targets, self.weights = (ctypes.c_uint32 * FEW)(), (ctypes.c_uint32 * FEW)(), (ctypes.c_int64 * FEW)()
+        self.rooms = ctypes.addressof(self.sources), ctypes.addressof(self.targets), ctypes.addressof(self.weights)
+        self.is_asked = False
+        # From here on the handle is closed, whatever breaks this off, but not at the end of the interpreter, when threads may still be in a call.
+        weakref.finalize(self, close, calls.chtab_close, self.block, os.getpid()).atexit = False
+
+    def __reduce__(self) -> NoReturn:
+        raise TypeError("a handle is neither copied nor pickled")
+
+    def open(self, graph: bytes, saved: bytes | None = None) -> None:
+        """Opens the network of a graph and its saved hierarchy, given as the bytes of both files. Without `saved` the library builds a hierarchy,
+        in an order that takes little time to find.
+
+        Raises a `ProgramFault` if a file is refused.
+        """
+        if type(graph) is not bytes or saved is not None and type(saved) is not bytes:
+            raise TypeError("files are bytes")
+        given, fault = given_bytes(saved), Fault()
+        with self.lock:
+            if saved is None:
+                status = self.calls.chtab_open_quick(self.at, graph, len(graph), ctypes.byref(fault))
+            else:
+                words = graph, len(graph), given, len(given), ctypes.byref(fault)
+                status = self.calls.chtab_open(self.at, *words)
+        see_that_opened(status, fault, saved)
+
+    def open_arrays(
+        self, nodes: int, tails: Nodes, heads: Nodes, weights: Unsigned, saved: bytes | None = None,
+    ) -> None:
+        """Opens the network of a graph that is given as columns, and of its saved hierarchy, as
+        `open` takes it: arc k leads from `tails[k]` to `heads[k]`, nodes from 0 on, and weighs
+        `weights[k]`.
+
+        Raises a `ProgramFault` if the graph or the file is refused.
+        """
+        if saved is not None and type(saved) is not bytes:
+            raise TypeError("files are bytes")
+        are_long = len(tails) == len(heads) == len(weights)
+        if type(nodes) is not int or not 0 <= nodes < 2**32 or not are_long:
+            raise ValueError("a graph has a number of nodes, and columns of one length")
+        ends = address(tails, numpy.uint32), len(tails), address(heads, numpy.uint32), len(heads)
+        columns = *ends, address(weights, numpy.uint64), len(weights)
+        given, fault = given_bytes(saved), Fault()
+        words = *columns, given, len(given), ctypes.byref(fault)
+        with self.lock:
+            status = self.calls.chtab_open_arrays(self.at, nodes, *words)
+        see_that_opened(status, fault, saved)
+
+    def open_like(self, graph: bytes, other: Handle, fresh: int) -> None:
+        """Opens the network of a graph with as many nodes as that of another handle, whose hierarchy is built in the order of that one's. Only the
+        last `fresh` per cent of the nodes, from 0 to 100, are ordered afresh. The other handle can't be asked meanwhile, and keeps its network.
+
+        What is wrong with the graph is a `ProgramFault`, and another number of nodes a `ValueError`.
+        """
+        if type(graph) is not bytes:
+            raise TypeError("files are bytes")
+        if other is self or not 0 <= fresh < 2**32:
+            raise ValueError("a network is opened in the order of another handle, with a per cent from 0 to 100 afresh")
+        fault = Fault()
+        # In one order, so that two calls never wait for each other.
+        first, second = sorted((self.lock, other.lock), key=id)
+        with first, second:
+            status = self.calls.chtab_open_like(self.at, graph, len(graph), other.at, fresh, ctypes.byref(fault))
+        if status:
+            raise fault_of(status, fault)
+
+    def share(self) -> Handle:
+        """Makes another handle on the same network, for another thread."""
+        other = Handle(self.calls)
+        with self.lock:
+            status = self.calls.chtab_share(self.at, other.at)
+        see_that_done(status)
+        return other
+
+    def close(self) -> None:
+        """Closes the handle, once the call that is under way has ended. Further calls are refused."""
+        with self.lock:
+            self.calls.chtab_close(self.at)
+
+    def nodes(self) -> int:
+        """How many nodes the network has."""
+        count = ctypes.c_uint32()
+        with self.lock:
+            see_that_done(self.calls.chtab_nodes(self.at, ctypes.byref(count)))
+        return count.value
+
+    def save(self, room: int = 0) -> bytes:
+        """The hierarchy, the bytes that `chtab save` writes for it. They are made once if they fit into a room of so many bytes, and otherwise twice."""
+        size, text = ctypes.c_uint64(), numpy.empty(room, numpy.uint8)
+        with self.lock:
+            status = self.write_text(size, text)
+            if status == TOO_SHORT:
+                text = numpy.empty(size.value, numpy.uint8)
+                status = self.write_text(size, text)
+        see_that_done(status)
+        return text[:size.value].tobytes()
+
+    def write_text(self, size: ctypes.c_uint64, text: NDArray[numpy.uint8]) -> int:
+        return self.calls.chtab_save(self.at, ctypes.byref(size), address(text, numpy.uint8, True), len(text))
+
+    def distances(self, sources: Nodes, targets: Nodes) -> Integers:
+        """The distances from each source to the target beside it, columns of uint32, nodes from 0 on: int64, -1 where there is no walk."""
+        out = numpy.empty(len(sources), numpy.int64)
+        places = address(sources, numpy.uint32), address(targets, numpy.uint32), address(out, numpy.int64, True)
+        with self.lock:
+            status = self.calls.chtab_distances(self.at, places[0], len(sources), places[1], len(targets), places[2], len(out))
+        see_that_done(status)
+        return out
+
+    def few_distances(self, sources: Sequence[int], targets: Sequence[int]) -> list[int] | None:
+        """The same for at most `FEW` pairs, in lists of numbers from 0 to 2^32 - 1, in a tenth of the time, because it makes and checks no array.
+        Returns None to the handler of a signal that asks in the middle of such a question, which has to use arrays."""
+        count = len(sources)
+        with self.lock:
+            if self.is_asked:
+                return None
+            try:
+                self.is_asked = True
+                self.sources[:count], self.targets[:count] = list(sources), list(targets)
+                status = self.calls.chtab_distances(self.at, self.rooms[0], count, self.rooms[1], count, self.rooms[2], count)
+                found = self.weights[:count]
+            finally:
+                self.is_asked = False
+        if status:
+            see_that_done(status)
+        return found
+
+    def table(self, sources: Nodes, targets: Nodes, limit: int = NO_LIMIT) -> Integers:
+        """The distances from each source to each target (k, l), -1 where there is no walk, or none of at most `limit`."""
+        if not 0 <= limit <= NO_LIMIT:
+            raise ValueError("a limit is a number of 64 bits")
+        out = numpy.empty(len(sources) * len(targets), numpy.int64)
+        places = address(sources, numpy.uint32), address(targets, numpy.uint32), address(out, numpy.int64, True)
+        with self.lock:
+            status = self.calls.chtab_table(self.at, places[0], len(sources), places[1], len(targets), limit, places[2], len(out))
+        see_that_done(status)
+        return out.reshape(len(sources), len(targets))
+
+    def route(self, source: int, target: int) -> tuple[int, Nodes]:
+        """The weight of a route between two nodes, from 0 on, and its nodes, uint32; -1 and no nodes where there is no walk."""
+        if not (0 <= source < 2**32 and 0 <= target < 2**32):
+            raise ValueError("a node is a number of 32 bits")
+        # The output belongs to this call, because the handler of a signal may ask before it is read.
+        found, nodes = Found(), numpy.empty(self.room, numpy.uint32)
+        with self.lock:
+            status = self.find(source, target, found, nodes)
+            if status == TOO_SHORT:
+                self.room = max(found.nodes, 2 * self.room)
+                nodes = numpy.empty(self.room, numpy.uint32)
+                status = self.find(source, target, found, nodes)
+        see_that_done(status)
+        return -1 if found.weight == NO_DISTANCE else found.weight, nodes[:found.nodes].copy()
+
+    def find(self, source: int, target: int, found: Found, nodes: Nodes) -> int:
+        """Writes the route, if its nodes fit."""
+        at = address(nodes, numpy.uint32, True)
+        return self.calls.chtab_route(self.at, source, target, ctypes.byref(found), at, len(nodes))
+
+    def routes(self, sources: Nodes, targets: Nodes, room: int) -> tuple[Integers, Integers, Nodes]:
+        """The routes from each source to the target beside it, columns of uint32, nodes from 0 on: of as many of the first pairs as fit into `room`
+        nodes. Returns their weights, int64, -1 where there is no walk; the ends of their nodes, int64; and the nodes, uint32."""
+        return self.find_many(sources, targets, numpy.empty(room, numpy.uint32), numpy.empty(0, numpy.uint32))[:3]
+
+    def routes_with_lines(self, sources: Nodes, targets: Nodes, room: int) -> tuple[Integers, Integers, Nodes, Nodes]:
+        """The same, and for each node the line of the arc that leads to it, uint32: its place among the arcs of the graph's file, from 0 on. For the
+        first node of a route it is `NO_LINE`."""
+        return self.find_many(sources, targets, numpy.empty(room, numpy.uint32), numpy.empty(room, numpy.uint32))
+
+    def find_many(self, sources: Nodes, targets: Nodes, nodes: Nodes, lines: Nodes) -> tuple[Integers, Integers, Nodes, Nodes]:
+        """Writes the routes of the first pairs, as many as fit."""
+        count = ctypes.c_uint64()
+        weights, ends = numpy.empty(len(sources), numpy.int64), numpy.empty(len(sources), numpy.int64)
+        given: list[Any] = [address(sources, numpy.uint32), len(sources), address(targets, numpy.uint32), len(targets), ctypes.byref(count)]
+        columns: list[tuple[NDArray[Any], type]] = [(weights, numpy.int64), (ends, numpy.int64), (nodes, numpy.uint32), (lines, numpy.uint32)]
+        for array, kind in columns:
+            given += [address(array, kind, True), len(array)]
+        with self.lock:
+            status = self.calls.chtab_routes(self.at, *given)
+        see_that_done(OK if status == TOO_SHORT else status)
+        ends = ends[:count.value]
+        end = ends[-1] if len(ends) else 0
+        return weights[:count.value], ends, nodes[:end], lines[:end]
+
+    def route_sums(self, sources: Nodes, targets: Nodes, values: Unsigned) -> tuple[Integers, Unsigned]:
+        """The weights of the routes from each source to the target beside it, columns of uint32, nodes from 0 on: int64, -1 where there is no walk;
+        and the sums of the values on the lines of their arcs, uint64, 0 where there is no walk. `values` has one for each arc of the graph's file.
+        Raises a `ValueError` if a sum is 2^64 or more."""
+        count = ctypes.c_uint64()
+        weights, sums = numpy.empty(len(sources), numpy.int64), numpy.empty(len(sources), numpy.uint64)
+        given: list[Any] = []
+        columns: list[tuple[NDArray[Any], type]] = [(sources, numpy.uint32), (targets, numpy.uint32), (values, numpy.uint64)]
+        for array, kind in columns:
+            given += [address(array, kind), len(array)]
+        given += [ctypes.byref(count), address(weights, numpy.int64, True), len(weights), address(sums, numpy.uint64, True), len(sums)]
+        with self.lock:
+            status = self.calls.chtab_route_sums(self.at, *given)
+        see_that_done(status)
+        return weights, sums
+
+    def flows(self, sources: Nodes, targets: Nodes, demands: Unsigned, lines: int) -> tuple[int, Unsigned]:
+        """The number of pairs without a walk, of the sources and the targets beside them, columns of uint32, nodes from 0 on; and the flow on each of
+        the `lines` of the graph's file, uint64: the sum of the demands of the pairs whose routes take its arc. Raises a `ValueError` if a flow is more
+        than 2^63."""
+        return self.flows_by(self.calls.chtab_flows, sources, targets, demands, lines)
+
+    def flows_table(self, sources: Nodes, targets: Nodes, demands: Unsigned, lines: int) -> tuple[int, Unsigned]:
+        """The same of each source with each target, by the demands of all cells, uint64, row after row."""
+        return self.flows_by(self.calls.chtab_flows_table, sources, targets, demands, lines)
+
+    def flows_by(self, call: Callable[..., int], sources: Nodes, targets: Nodes, demands: Unsigned, lines: int) -> tuple[int, Unsigned]:
+        """What a call of the library gives of flows."""
+        missed, flows = ctypes.c_uint64(), numpy.empty(lines, numpy.uint64)
+        given: list[Any] = []
+        columns: list[tuple[NDArray[Any], type]] = [(sources, numpy.uint32), (targets, numpy.uint32), (demands, numpy.uint64)]
+        for array, kind in columns:
+            given += [address(array, kind), len(array)]
+        given += [ctypes.byref(missed), address(flows, numpy.uint64, True), len(flows)]
+        with self.lock:
+            status = call(self.at, *given)
+        if status == SUM_TOO_LARGE:
+            raise ValueError("a flow is more than 2^63")
+        see_that_done(status)
+        return missed.value, flows
+
+    def keep_places(self, places: Nodes, limit: int = NO_LIMIT, count: int = ALL, is_from: bool = False) -> None:
+        """Searches from places, a column of uint32, nodes from 0 on, and keeps the result in place of an earlier one: for rows of at most `count`
+        places, within `limit`, by the distances to the places or from them."""
+        if not (0 <= limit <= NO_LIMIT and 0 <= count <= ALL):
+            raise ValueError("a limit is a number of 64 bits, and a count one of 32")
+        at = address(places, numpy.uint32)
+        with self.lock:
+            status = self.calls.chtab_near_places(self.at, int(is_from), at, len(places), limit, count)
+        see_that_done(status)
+
+    def sweep(self) -> None:
+        """Makes the rows of all nodes to the kept places, and keeps these rows too."""
+        with self.lock:
+            status = self.calls.chtab_near_sweep(self.at)
+        see_that_done(status)
+
+    def near_rows(self, sources: Nodes, pairs: int) -> tuple[Integers, Integers, Integers]:
+        """The rows of the first sources, a column of uint32, nodes from 0 on, to the kept places: of as many sources as fit into this many pairs.
+        Returns the end of each row, its weights and its places, int64."""
+        rows, ends = ctypes.c_uint64(), numpy.empty(len(sources), numpy.int64)
+        weights, places = numpy.empty(pairs, numpy.int64), numpy.empty(pairs, numpy.uint32)
+        given: list[Any] = [address(sources, numpy.uint32), len(sources), ctypes.byref(rows)]
+        columns: list[tuple[NDArray[Any], type]] = [(ends, numpy.int64), (weights, numpy.int64), (places, numpy.uint32)]
+        for array, kind in columns:
+            given += [address(array, kind, True), len(array)]
+        with self.lock:
+            status = self.calls.chtab_near_rows(self.at, *given)
+        see_that_done(OK if status == TOO_SHORT else status)
+        ends = ends[:rows.value]
+        end = ends[-1] if len(ends) else 0
+        return ends, weights[:end], places[:end].astype(numpy.int64)
+
+    def near_sums(self, sources: Nodes, values: Unsigned, limits: Unsigned) -> Unsigned:
+        """The sums over the rows of sources, a column of uint32, nodes from 0 on, to the kept places: for each source and each limit the sum of the
+        values of the places within the limit, uint64 (n, m). Raises a `ValueError` if a sum is 2^64 or more."""
+        count, sums = ctypes.c_uint64(), numpy.empty(len(sources) * len(limits), numpy.uint64)
+        given: list[int] = []
+        columns: list[tuple[NDArray[Any], type]] = [(sources, numpy.uint32), (values, numpy.uint64), (limits, numpy.uint64)]
+        for array, kind in columns:
+            given += [address(array, kind), len(array)]
+        with self.lock:
+            status = self.calls.chtab_near_sums(self.at, *given, ctypes.byref(count), address(sums, numpy.uint64, True), len(sums))
+        see_that_done(status)
+        return sums.reshape(len(sources), len(limits))
+
+
+def see_that_done(status: int) -> None:
+    """Raises the error of a call that did nothing."""
+    if status == CLOSED:
+        raise ChtabError(GONE)
+    if status == NO_MEMORY:
+        raise ProgramFault("chtab: out of memory", 3)
+    if status == NODE_RANGE:
+        raise ValueError("a node is not one of the network")
+    if status == LENGTHS:
+        raise ValueError("the lengths of columns don't fit")
+    if status == TOO_LARGE:
+        raise ValueError("a table has at most 65,536 sources and as many targets, and so many places are kept")
+    if status == NO_PLACES:
+        raise ValueError("no places are kept")
+    if status == SUM_TOO_LARGE:
+        raise ValueError("a sum is 2^64 or more")
+    if status == OTHER_NODES:
+        raise ValueError("the graph has another number of nodes")
+    if status == FRESH_RANGE:
+        raise ValueError("more than 100 per cent of the nodes would be ordered afresh")
+    if status:
+        raise ProgramFault(f"chtab's library answered {status}", 0)
+
+
+def given_bytes(saved: bytes | None) -> bytes:
+    """The bytes of a saved hierarchy, as the library takes them; none where it builds one. An empty
+    file has to be a fault, and without any bytes the library would build a hierarchy. So it gets an
+    empty line in its place."""
+    return b"" if saved is None else saved or b"\n"
+
+
+def see_that_opened(status: int, fault: Fault, saved: bytes | None) -> None:
+    """Raises the fault of a graph and a saved hierarchy that the library refuses."""
+    if status == BAD_SAVED and not saved:
+        fault.line = 1
+    if status:
+        raise fault_of(status, fault)
+
+
+def fault_of(status: int, fault: Fault) -> ProgramFault:
+    """The fault of files that the library refuses, in the words of the program."""
+    kind = KINDS[fault.kind] if fault.kind < len(KINDS) else str(fault.kind)
+    if status not in (BAD_GRAPH, BAD_SAVED, WRONG_SAVED):
+        see_that_done(status)
+    if status == WRONG_SAVED:
+        return ProgramFault(f"chtab: saved hierarchy refused: {kind}", 1, kind=kind, place=fault.place)
+    if status == BAD_GRAPH and not fault.line:
+        text = f"chtab: graph arc {fault.place}: {kind}"
+        return ProgramFault(text, 1, kind=kind, place=fault.place)
+    which = "graph" if status == BAD_GRAPH else "saved"
+    return ProgramFault(f"chtab: {which} line {fault.line}: {kind}", 1, line=fault.line, kind=kind)

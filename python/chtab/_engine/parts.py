@@ -1,0 +1,99 @@
+"""Long questions in parts: by one thread or several, within a time limit, and with progress."""
+from __future__ import annotations
+
+import concurrent.futures
+import threading
+import time
+from collections.abc import Callable, Iterator
+from typing import TYPE_CHECKING
+
+from chtab._engine import deadlines
+from chtab._engine.progress import progress_of
+
+if TYPE_CHECKING:
+    from chtab._engine.progress import Asked, Progress
+
+# With a time limit a part takes about so many seconds; the first one has so many items, and the
+# next one has at most so many times as many.
+SECONDS, FIRST, GROWTH = 0.02, 64, 4
+
+
+class Parts:
+    """Slices of so many items, for several threads. Each item is in one of them.
+
+    Parameters
+    ----------
+    count, most : int
+        How many items there are, and how many a part has at most.
+    deadline : deadlines.Deadline
+        Until when all have to be made. Where it has an end, parts are as short as `SECONDS`.
+    progress : Progress
+        Counts the items that are done.
+    """
+
+    def __init__(
+        self, count: int, most: int, deadline: deadlines.Deadline, progress: Progress
+    ) -> None:
+        self.count, self.most, self.deadline, self.progress = count, most, deadline, progress
+        self.begun, self.is_stopped, self.lock = 0, False, threading.Lock()
+        self.size = most if deadline.is_open else min(most, FIRST)
+
+    def __iter__(self) -> Iterator[slice]:
+        """Yields the next parts, and counts each once the next one is asked for."""
+        while (part := self.next_part()) is not None:
+            begun = time.monotonic()
+            yield part
+            self.end(part.stop - part.start, time.monotonic() - begun)
+
+    def next_part(self) -> slice | None:
+        """The next part; None if there is none."""
+        with self.lock:
+            if self.begun >= self.count or self.is_stopped:
+                return None
+            self.deadline.check()
+            first = self.begun
+            self.begun = min(self.count, first + self.size)
+            return slice(first, self.begun)
+
+    def end(self, done: int, seconds: float) -> None:
+        """Counts a part, and fits the size of the next ones to the time that it took."""
+        with self.lock:
+            self.progress.step(done)
+            if not self.deadline.is_open:
+                share = min(GROWTH, SECONDS / max(seconds, 1e-6))
+                self.size = max(1, min(self.most, int(done * share)))
+
+    def stop(self) -> None:
+        """Ends all threads after the parts that they make."""
+        self.is_stopped = True
+
+
+def make(
+    count: int, most: int, workers: int, work: Callable[[Iterator[slice]], None],
+    name: str, things: str, progress: Asked, seconds: float | None,
+) -> None:
+    """Makes all parts of `count` items, by `work`, which makes those that it is given.
+
+    Up to `workers` threads do so, each by its own call. Whatever one of them raises ends the
+    others. Raises `TimedOut` after so many seconds of the call that this thread is making.
+    """
+    deadline = deadlines.current(seconds)
+    with progress_of(progress, name, count, things, False) as counted:
+        parts = Parts(count, most, deadline, counted)
+        threads = min(workers, -(-count // most))
+        if threads > 1:
+            by_threads(parts, threads, work)
+        else:
+            work(iter(parts))
+    deadline.check()
+
+
+def by_threads(parts: Parts, count: int, work: Callable[[Iterator[slice]], None]) -> None:
+    """Makes parts by so many threads."""
+    with concurrent.futures.ThreadPoolExecutor(count) as threads:
+        made = [threads.submit(work, iter(parts)) for _ in range(count)]
+        try:
+            for each in concurrent.futures.as_completed(made):
+                each.result()
+        finally:
+            parts.stop()

@@ -1,0 +1,282 @@
+"""The labels of the nodes of a network. The program numbers nodes from 1 on; callers may have their
+own labels."""
+from __future__ import annotations
+
+import collections
+import itertools
+from collections.abc import Iterable, Sequence
+from typing import TYPE_CHECKING, Any, TypeAlias
+
+import numpy
+
+from chtab.errors import DataFault
+from chtab._files import columns
+from chtab._files.columns import GREATEST, INTEGERS, LEAST, TUPLES, row_of, quoted
+
+if TYPE_CHECKING:
+    from numpy.typing import NDArray
+    import pandas
+    from chtab.typing import Column, Integers, LabelArray
+
+Label: TypeAlias = int | str
+
+
+def fixed(column: Any) -> Any:
+    """The values of a column in an array that can't be written to."""
+    found = numpy.asarray(column)
+    found.flags.writeable = False
+    return found
+
+
+class Numbers:
+    """Nodes that are called by their numbers, from 1 to `count`, as in a network of files."""
+
+    def __init__(self, count: int) -> None:
+        self.count = count
+        self.known: LabelArray | None = None
+
+    @property
+    def values(self) -> LabelArray:
+        """The labels, in order of the nodes."""
+        if self.known is None:
+            self.known = fixed(numpy.arange(1, self.count + 1))
+        return self.known
+
+    def nodes_of(self, name: str, given: Any) -> Integers:
+        """The nodes of an array of numbers, of any shape. Numbers out of range are refused; whole
+        floats are taken."""
+        if isinstance(given, numpy.ma.MaskedArray):
+            given = columns.array_of(name, given)
+        column = numpy.asarray(given)
+        if column.size and not (
+            column.dtype.kind in "iu" or column.dtype.kind == "f" and is_whole(column)
+        ):
+            raise no_number(name, column, given)
+        outside = columns.first_of((column < 1) | (column > self.count))
+        if outside is not None:
+            row = row_of(column, outside)
+            raise columns.refused(
+                name, row, f"node {column.flat[outside]:.17g} is not from 1 to {self.count:,}"
+            )
+        return column.astype(numpy.int64)
+
+    def few(self, labels: Iterable[Any]) -> list[int] | None:
+        """The nodes of a short list of labels, as a list; None if one of them needs a closer
+        look."""
+        labels = [int(label) if type(label) is numpy.int64 else label for label in labels]
+        return (
+            labels
+            if all(type(label) is int and 0 < label <= self.count for label in labels)
+            else None
+        )
+
+    def of(self, nodes: Integers) -> LabelArray:
+        """The labels of an array of nodes."""
+        return nodes
+
+    def index_of(self, name: str, given: Any) -> pandas.Index:
+        """An index of pandas with a caller's labels."""
+        import pandas
+
+        return pandas.Index(given, name=name)
+
+    def listed(self, nodes: list[int]) -> list[int]:
+        """The labels of a list of nodes, as a list."""
+        return nodes
+
+
+def is_whole(column: NDArray[Any]) -> bool:
+    """Whether all numbers of a column of decimal numbers are whole."""
+    return bool(numpy.isfinite(column).all() and (column == numpy.floor(column)).all())
+
+
+def no_number(name: str, column: NDArray[Any], given: Any) -> DataFault:
+    """The fault of the first value that is no number of a node."""
+    values = (
+        column
+        if column.dtype != object and not isinstance(given, list | tuple)
+        else numpy.array(given, object)
+    )
+    place = columns.first_of([not is_node(value) for value in values.reshape(-1).tolist()]) or 0
+    return columns.refused(
+        name,
+        row_of(values, place),
+        f"{quoted(values.reshape(-1).tolist()[place])} is no node: a node is a whole number",
+    )
+
+
+def is_node(value: object) -> bool:
+    """Whether a value is a whole number."""
+    return (
+        columns.is_integer(type(value))
+        or isinstance(value, float | numpy.floating)
+        and float(value).is_integer()
+    )
+
+
+class Labels:
+    """The labels of a caller: node k has `values[k - 1]`, int64, or objects that are all `int`, all
+    `str` or all tuples. No two are equal.
+
+    The index of the labels is made when it is first needed, and twice if two threads need it at a
+    time. A lock would be held for ever in a process that is forked while a thread holds it.
+    """
+
+    def __init__(self, values: LabelArray) -> None:
+        self.values = fixed(values.copy())
+        self.in_order: tuple[LabelArray, Integers] | None = None
+        self.by_label: dict[Label, int] | None = None
+        self.count = len(values)
+        self.kind = columns.kind_of(type(values[0])) if len(values) else INTEGERS
+
+    @property
+    def sorted(self) -> tuple[LabelArray, Integers]:
+        """The labels in order and the node of each, for integers of 64 bits."""
+        if self.in_order is None:
+            order = numpy.argsort(self.values, kind="stable")
+            self.in_order = self.values[order], order + 1
+        return self.in_order
+
+    @property
+    def numbers(self) -> dict[Label, int]:
+        """The node of each label, for all other labels."""
+        if self.by_label is None:
+            self.by_label = dict(zip(self.values.tolist(), range(1, len(self.values) + 1)))
+        return self.by_label
+
+    def nodes_of(self, name: str, given: Any) -> Integers:
+        """The nodes of labels, an array of int64 in the shape of the argument. Raises a `DataFault`
+        if no node has a label."""
+        labels = (
+            self.tuples_of(name, given) if self.kind == TUPLES else columns.labels_in(name, given)
+        )
+        nodes = self.found(labels)
+        place = columns.first_of(nodes == 0)
+        if place is not None:
+            row, label = row_of(labels, place), labels.reshape(-1)[place:place + 1].tolist()[0]
+            raise DataFault(
+                f"{name}[{row}]: no node has the label {quoted(label)}; labels are {self.kind}",
+                name,
+                row,
+            )
+        return nodes
+
+    def tuples_of(self, name: str, given: Any) -> LabelArray:
+        """Tuples in the shape of the argument: a column of labels, or rows of them."""
+        items = list(given)
+        if all(
+            isinstance(item, tuple) and not (item and isinstance(item[0], tuple)) for item in items
+        ):
+            return columns.tuples_in(name, items)
+        rows = [columns.tuples_in(name, row) for row in items]
+        if len({len(row) for row in rows}) != 1:
+            raise DataFault(f"{name} has rows of several lengths", name)
+        return numpy.stack(rows)
+
+    def found(self, labels: LabelArray) -> Integers:
+        """The nodes of labels; 0 if no node has a label."""
+        if self.values.dtype == object or labels.dtype == object:
+            found = map(self.numbers.get, labels.reshape(-1).tolist(), [0] * labels.size)
+            return numpy.fromiter(found, numpy.int64, labels.size).reshape(labels.shape)
+        values, nodes = self.sorted
+        if not len(values):
+            return numpy.zeros(labels.shape, numpy.int64)
+        place = numpy.minimum(numpy.searchsorted(values, labels), len(values) - 1)
+        return numpy.where(values[place] == labels, nodes[place], 0)
+
+    def few(self, labels: Iterable[Any]) -> list[int] | None:
+        """The nodes of a short list of labels, as a list; None if one of them needs a closer
+        look."""
+        labels = [int(label) if type(label) is numpy.int64 else label for label in labels]
+        if self.values.dtype == object:
+            found = [
+                self.numbers.get(label, 0) if type(label) in (int, str) else 0 for label in labels
+            ]
+            return None if 0 in found else found
+        if not all(type(label) is int and LEAST <= label <= GREATEST for label in labels):
+            return None
+        values, nodes = self.sorted
+        places = values.searchsorted(labels).tolist()
+        is_there = all(
+            place < len(values) and values[place] == label for place, label in zip(places, labels)
+        )
+        return [int(nodes[place]) for place in places] if is_there else None
+
+    def of(self, nodes: Integers) -> LabelArray:
+        """The labels of an array of nodes."""
+        return self.values[nodes - 1]
+
+    def index_of(self, name: str, given: Any) -> pandas.Index:
+        """An index of pandas with a caller's labels. Tuples make one column, not several."""
+        import pandas
+
+        return (
+            pandas.Index(columns.objects_of(list(given)), name=name, tupleize_cols=False)
+            if self.kind == TUPLES
+            else pandas.Index(given, name=name)
+        )
+
+    def listed(self, nodes: list[int]) -> list[Label]:
+        """The labels of a list of nodes, as a list."""
+        return self.values[numpy.array(nodes, numpy.int64) - 1].tolist()
+
+
+def labels_of_nodes(name: str, column: Column) -> Labels:
+    """The labels of a column, which have to differ."""
+    values = columns.column_labels_in(name, column)
+    count = len(set(values.tolist())) if values.dtype == object else len(numpy.unique(values))
+    if count < len(values):
+        raise doubled(name, values.tolist())
+    return Labels(values)
+
+
+def doubled(name: str, labels: Sequence[Label]) -> DataFault:
+    """The fault of a column that has a label twice."""
+    known: dict[Label, int] = {}
+    for row, label in enumerate(labels):
+        if known.setdefault(label, row) != row:
+            return columns.refused(
+                name, row, f"the label {quoted(label)} is in row {known[label]} already"
+            )
+    raise AssertionError("no label is repeated")
+
+
+def labels_of_ends(
+    names: Sequence[str], sources: LabelArray, targets: LabelArray
+) -> tuple[Labels, Integers]:
+    """The labels in either of two columns, in ascending order, and the nodes of both columns, int64
+    (2, m)."""
+    kinds = [
+        columns.kind_of(type(values[:1].tolist()[0]))
+        for values in (sources, targets)
+        if len(values)
+    ]
+    if len(set(kinds)) > 1:
+        raise columns.refused(
+            names[1],
+            0,
+            f"the label {quoted(targets[:1].tolist()[0])} is not one of {kinds[0]}, as those of "
+            f"{names[0]}",
+        )
+    if sources.dtype == targets.dtype == numpy.int64:
+        values, places = numpy.unique(numpy.concatenate([sources, targets]), return_inverse=True)
+    else:
+        values, places = ordered([*sources.tolist(), *targets.tolist()])
+    return Labels(values), places.reshape(2, -1) + 1
+
+
+def ordered(labels: Sequence[Label]) -> tuple[LabelArray, Integers]:
+    """The different labels of a list in ascending order, as an array of objects, and the place of
+    each item of the list among them."""
+    numbers: dict[Label, int] = collections.defaultdict(itertools.count().__next__)
+    found = numpy.fromiter(map(numbers.__getitem__, labels), numpy.int64, len(labels))
+    known = list(numbers)
+    try:
+        order = numpy.array(sorted(range(len(known)), key=known.__getitem__), numpy.int64)
+    except TypeError:
+        raise DataFault(
+            "labels have no order, because their parts are of several kinds: give `nodes`", "nodes"
+        ) from None
+    places = numpy.empty(len(known), numpy.int64)
+    places[order] = numpy.arange(len(known))
+    return columns.objects_like(places, known)[order], places[found]

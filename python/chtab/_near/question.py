@@ -1,0 +1,149 @@
+"""Questions on near rows, and their rows from one handle of the library for C."""
+from __future__ import annotations
+
+from collections.abc import Iterator, Sequence
+from dataclasses import dataclass
+from typing import TYPE_CHECKING
+
+import numpy
+
+from chtab._engine import library
+from chtab._engine.interruptible import LONG, interruptible
+from chtab.errors import ProgramFault, mismatch
+from chtab._near.rows import Rows
+
+if TYPE_CHECKING:
+    from numpy.typing import NDArray
+    from chtab._engine.deadlines import Deadline
+    from chtab.typing import Floats, Integers
+
+# The most that one call of the library gives: pairs, and the rows that it copies with them.
+PAIRS = 1 << 20
+# The most rows of a call that searches from each source; and with a time limit, as long as searches
+# take.
+TOGETHER, SHORT = 1 << 13, 1 << 9
+# A sweep may have this many pairs of 16 bytes each, or this many for each node. A call therefore
+# takes much more than a second only in networks of many millions of nodes.
+SWEPT, FEW = 1 << 24, 4
+# From this share of the nodes as sources on, all rows are swept, because a sweep takes as long as
+# that many searches.
+SHARE = 1 / 4
+# How many sources are sampled to estimate the pairs of all rows.
+SAMPLE = 64
+
+
+@dataclass(frozen=True)
+class NearQuestion:
+    """Which targets are near some sources.
+
+    Parameters
+    ----------
+    sources : array of int64, optional
+        Nodes, which count from 1; None: all nodes.
+    targets : array of int64
+        Nodes.
+    count : int, optional
+        The most targets of a row, from 1 on.
+    within : int, optional
+        The largest weight of a target, from 0 to 2^60.
+    is_from : bool
+        Whether weights are those from the targets to the sources.
+    """
+
+    sources: Integers | None
+    targets: Integers
+    count: int | None = None
+    within: int | None = None
+    is_from: bool = False
+
+    def height(self, nodes: int) -> int:
+        """How many rows the answer has, on a network with this many nodes."""
+        return nodes if self.sources is None else len(self.sources)
+
+    def most(self) -> int:
+        """The most pairs of a row."""
+        return len(self.targets) if self.count is None else min(self.count, len(self.targets))
+
+    def limit(self) -> int:
+        """The limit, as the library takes it."""
+        return library.NO_LIMIT if self.within is None else self.within
+
+
+class NearRows:
+    """The rows of a question, which a handle makes. The handle keeps the targets meanwhile.
+
+    Parameters
+    ----------
+    handle : library.Handle
+        The handle.
+    question : NearQuestion
+        At most 65,536 targets.
+    nodes : int
+        How many nodes the network has.
+    deadline : deadlines.Deadline
+        Until when rows have to be there.
+    """
+
+    def __init__(
+        self, handle: library.Handle, question: NearQuestion, nodes: int, deadline: Deadline,
+    ) -> None:
+        self.handle, self.question, self.nodes, self.deadline = handle, question, nodes, deadline
+        targets = library.nodes_of(question.targets, nodes)
+        if question.sources is None:
+            self.sources = numpy.arange(nodes, dtype=numpy.uint32)
+        else:
+            self.sources = library.nodes_of(question.sources, nodes)
+        count = library.ALL if question.count is None else min(question.count, library.ALL)
+        words = targets, question.limit(), count, question.is_from
+        interruptible(len(targets), handle.keep_places, *words)
+        deadline.check()
+        self.together = PAIRS if self.is_swept() else TOGETHER if deadline.is_open else SHORT
+
+    def is_swept(self) -> bool:
+        """Whether the rows of all nodes are made at once."""
+        if len(self.sources) < SHARE * self.nodes or not self.has_few():
+            return False
+        try:
+            interruptible(LONG, self.handle.sweep)
+        except ProgramFault:
+            # Memory is too short. The sample may have had fewer pairs than most rows.
+            return False
+        return True
+
+    def has_few(self) -> bool:
+        """Whether the rows of all nodes have few enough pairs for a sweep. If the bound of a row is
+        too large, a sample of nodes decides."""
+        enough, most = max(SWEPT, FEW * self.nodes), self.question.most()
+        if self.nodes * most <= enough:
+            return True
+        some = numpy.linspace(0, self.nodes - 1, SAMPLE, dtype=numpy.uint32)
+        ends, _, _ = self.handle.near_rows(some, max(most, PAIRS))
+        return self.nodes * int(ends[-1]) <= enough * len(ends)
+
+    def portions(self) -> Iterator[tuple[int, Rows]]:
+        """Yields the rows in portions, each with the place of its first row."""
+        start, most = 0, self.question.most()
+        while start < len(self.sources):
+            self.deadline.check()
+            some = self.sources[start:start + self.together]
+            room = min(len(some) * most, max(most, PAIRS))
+            ends, weights, places = interruptible(len(some), self.handle.near_rows, some, room)
+            if not len(ends):
+                raise mismatch()
+            yield start, Rows(numpy.append(0, ends), places, weights)
+            start += len(ends)
+
+    def sums(self, values: NDArray[numpy.uint64], limits: Sequence[int]) -> Floats:
+        """For each source, column and limit the sum of the values of the targets within the limit,
+        float64 (n, c, m). The values are whole numbers, uint64 (l, c), and the sum of each column
+        is small enough to be exact as a float."""
+        columns = [numpy.ascontiguousarray(column) for column in values.T]
+        within = numpy.array(limits, numpy.uint64)
+        found = numpy.zeros((len(self.sources), len(columns), len(limits)))
+        for start in range(0, len(self.sources), self.together):
+            some = self.sources[start:start + self.together]
+            for place, column in enumerate(columns):
+                self.deadline.check()
+                sums = interruptible(len(some), self.handle.near_sums, some, column, within)
+                found[start:start + len(some), place] = sums
+        return found

@@ -1,0 +1,359 @@
+"""Aggregates of values over near rows, such as sums and means, for several limits and columns of
+values at once."""
+from __future__ import annotations
+
+from collections.abc import Callable, Iterable, Sequence
+from typing import TYPE_CHECKING, Any, NamedTuple, TypeAlias
+
+import numpy
+
+from chtab.errors import DataFault
+from chtab._files import columns, row_index
+from chtab._files.measures import EXACT
+from chtab._near import blocks
+from chtab._near import rows as near_rows
+from chtab._near.question import NearQuestion
+
+if TYPE_CHECKING:
+    from numpy.typing import NDArray
+
+    from chtab._files.measures import Measure
+    from chtab._engine.in_process import InProcess
+    from chtab._near.blocks import Question
+    from chtab.typing import Floats, Integers, Weights
+
+LINEAR, EXPONENTIAL = "linear", "exponential"
+# The decay as callers give it; the shares of values at weights within a limit; and the state of an
+# aggregate.
+Decay: TypeAlias = str | Callable[[Any], Any] | None
+Share: TypeAlias = Callable[[Any, Any], Any]
+State: TypeAlias = "Sequence[NDArray[Any]]"
+Portions: TypeAlias = "Iterable[tuple[int, near_rows.Rows]]"
+KINDS = "sum", "mean", "median", "count", "std", "min", "max"
+# The aggregates that may have a decay.
+DECAYING = "sum", "mean", "count", "std"
+
+
+class Asked(NamedTuple):
+    """The question of an aggregate.
+
+    Attributes
+    ----------
+    kind : str
+        One of `KINDS`.
+    values : array of float64, shape (l, c)
+        The values of each target, one for each column.
+    limits : list of int
+        The limits, in the unit of the graph.
+    given : list of number
+        The limits, in the unit of the caller.
+    share : callable, optional
+        The share of a value that counts at each of some weights within a limit, both in the unit of
+        the caller; None: all of it.
+    measure : measures.Measure
+        The unit of the caller.
+    """
+
+    kind: str
+    values: Floats
+    limits: list[int]
+    given: list[Any]
+    share: Share | None
+    measure: Measure
+
+    def of(self, some: slice) -> Asked:
+        """The same question for some of the targets."""
+        return self._replace(values=self.values[some])
+
+    def shape(self, height: int) -> tuple[int, int, int]:
+        """The shape of aggregates for this many sources."""
+        return height, self.values.shape[1], len(self.limits)
+
+
+def share_by(decay: Decay, kind: str, limits: Sequence[Any]) -> Share | None:
+    """A function that gives the share of a value that counts at each of some weights within a
+    limit."""
+    if decay is not None and kind not in DECAYING:
+        raise ValueError(f"the {kind} has no decay; {', '.join(DECAYING)} have one")
+    if decay in (LINEAR, EXPONENTIAL) and 0 in limits:
+        raise ValueError("a limit is above 0 where the decay divides by it")
+    if decay is None:
+        return None
+    if decay == LINEAR:
+        return lambda weights, limit: 1.0 - weights / float(limit)
+    if decay == EXPONENTIAL:
+        return lambda weights, limit: numpy.exp(-weights / float(limit))
+    if not callable(decay):
+        raise ValueError(f"decay is None, 'linear', 'exponential' or a call, not {decay!r}")
+    own = decay
+    return lambda weights, limit: shares_of(own, weights)
+
+
+def shares_of(decay: Callable[[Any], Any], weights: Weights) -> Floats:
+    """The shares that a caller's own decay gives, a number for each weight."""
+    shares = numpy.asarray(decay(weights), float)
+    if shares.shape not in ((), weights.shape):
+        raise ValueError(
+            f"decay gave the shape {shares.shape} for weights of the shape {weights.shape}"
+        )
+    place = columns.first_of(~((shares >= 0) & (shares < numpy.inf)))
+    if place is not None:
+        weight = numpy.broadcast_to(weights, shares.shape or weights.shape).flat[place]
+        raise ValueError(
+            f"decay gave {shares.flat[place]} for the weight {weight}: a share is a number from 0 "
+            "on"
+        )
+    return numpy.broadcast_to(shares, weights.shape)
+
+
+# Values as callers give them.
+
+
+def values_in(
+    values: Any,
+    targets: Any,
+    nodes_of: Callable[[str, Any], Integers],
+    all_nodes: Integers,
+    with_zeros: bool = False,
+) -> tuple[Integers, Floats, list[Any] | None]:
+    """The targets and their values: nodes (l,) and float64 (l, c), with the names of the columns,
+    or None if they have no names.
+
+    `nodes_of` gives the nodes of labels. Without targets, the index of a Series, frame or dict has
+    the labels, and an array has a value for each of all nodes.
+    """
+    if targets is not None:
+        values, targets = row_index.matched(("values", "targets"), (values, targets))
+    if targets is None and hasattr(values, "keys"):
+        targets, values = (
+            (values.index, values)
+            if hasattr(values, "index")
+            else ([*values.keys()], [*values.values()])
+        )
+    nodes = all_nodes if targets is None else nodes_of("targets", targets)
+    if numpy.ndim(values) == 0:
+        one = values[()] if isinstance(values, numpy.ndarray) else values
+        values = numpy.repeat(columns.numbers_in("values", [one], True), len(nodes))
+    names = list(values.columns) if hasattr(values, "columns") else None
+    found = numpy.column_stack(
+        [
+            numpy.zeros((len(nodes), 0)),
+            *(column_in(*each, nodes, targets is None) for each in columns_of(values, names)),
+        ]
+    )
+    if targets is not None or with_zeros:
+        return nodes, found, names
+    is_some = (found != 0).any(axis=1)
+    return nodes[is_some], found[is_some], names
+
+
+def columns_of(values: Any, names: list[Any] | None) -> list[tuple[str, Any]]:
+    """The columns of values, each with its name for errors."""
+    if names is not None:
+        return [(f"values[{name!r}]", values.iloc[:, place]) for place, name in enumerate(names)]
+    if numpy.ndim(values) == 2:
+        rows = (
+            numpy.array(values, object)
+            if isinstance(values, list | tuple)
+            else numpy.asarray(values)
+        )
+        return [(f"values[:, {place}]", rows[:, place]) for place in range(rows.shape[1])]
+    return [("values", values)]
+
+
+def column_in(name: str, column: Any, nodes: Integers, are_all: bool) -> Floats:
+    """The finite numbers of one column, float64."""
+    found = columns.numbers_in(name, column, True).astype(float)
+    place = columns.first_of(~numpy.isfinite(found))
+    if place is not None:
+        raise columns.refused(name, place, f"{found[place]} is no value")
+    if len(found) != len(nodes):
+        raise DataFault(
+            f"{name} has {len(found):,} rows, and there are {len(nodes):,} "
+            f"{'nodes' if are_all else 'targets'}",
+            name,
+        )
+    return found
+
+
+# Aggregates of rows.
+
+
+def aggregates(
+    engine: InProcess, question: Question, asked: Asked, workers: Any = 1, progress: Any = None
+) -> Floats:
+    """The aggregates of the values of targets for each source, column and limit, float64 (n, c, m).
+    The limit of the question itself is the largest of these. Where no target is near, a sum and a
+    count are 0, and the others NaN."""
+    height = question.height(engine.nodes)
+    if asked.kind == "median":
+        return medians(engine, question, asked, workers, progress)
+    if (
+        isinstance(question, NearQuestion)
+        and workers == 1
+        and progress is None
+        and are_counted(question, asked)
+    ):
+        return blocks.sums(engine, question, asked.values.astype(numpy.uint64), asked.limits)
+
+    def make(block: blocks.Block, portions: Portions) -> State:
+        own, of_block = asked.of(
+            slice(block.column, block.column + len(block.question.targets))
+        ), block.question.height(engine.nodes)
+        state = begun(asked.kind, asked.shape(of_block))
+        for start, rows in portions:
+            for place, part in enumerate(state_of(rows, own)):
+                state[place][start:start + len(rows)] = part
+        return state
+
+    whole = begun(asked.kind, asked.shape(height))
+    for block, state in blocks.values(engine, question, make, workers, progress):
+        some = slice(block.row, block.row + len(state[0]))
+        for part, joined in zip(whole, JOINED[asked.kind]([part[some] for part in whole], state)):
+            part[some] = joined
+    return ENDED[asked.kind](*whole)
+
+
+def are_counted(question: Question, asked: Asked) -> bool:
+    """Whether values are summed as whole numbers: none is below 0, and the sum of all is small
+    enough to be exact as a float."""
+    values = asked.values
+    is_plain = (
+        asked.kind == "sum" and asked.share is None and 0 < len(question.targets) <= blocks.LENGTH
+    )
+    return is_plain and bool(
+        (values >= 0).all() and (values == numpy.floor(values)).all() and values.sum() <= EXACT
+    )
+
+
+def begun(kind: str, shape: tuple[int, ...]) -> State:
+    """The state of an aggregate over no target."""
+    if kind in ("min", "max"):
+        return [numpy.full(shape, numpy.inf if kind == "min" else -numpy.inf)]
+    return [numpy.zeros(shape) for _ in range({"sum": 1, "count": 1, "mean": 2, "std": 3}[kind])]
+
+
+def state_of(rows: near_rows.Rows, asked: Asked) -> State:
+    """The state of an aggregate over some rows: arrays (rows, c, m)."""
+    owners, state = rows.owners(), begun(asked.kind, asked.shape(len(rows)))
+    weights = asked.measure.in_unit(rows.weights)
+    for place, (limit, given) in enumerate(zip(asked.limits, asked.given)):
+        is_near = rows.weights <= limit
+        near, values = owners[is_near], asked.values[rows.places[is_near]]
+        if asked.kind in ("min", "max"):
+            extremes(
+                state[0][:, :, place],
+                near,
+                values,
+                numpy.minimum if asked.kind == "min" else numpy.maximum,
+            )
+            continue
+        shares = (
+            numpy.ones(len(near)) if asked.share is None else asked.share(weights[is_near], given)
+        )
+        for column in range(values.shape[1]):
+            parts = PARTS[asked.kind](near, values[:, column], shares, len(rows))
+            for array, part in zip(state, parts):
+                array[:, column, place] = part
+    return state
+
+
+def extremes(out: Floats, owners: Integers, values: Floats, least: Any) -> None:
+    """Writes the least or greatest value of each owner. The owners are in order."""
+    firsts = numpy.flatnonzero(numpy.diff(owners, prepend=-1))
+    if len(firsts):
+        out[owners[firsts]] = least.reduceat(values, firsts, axis=0)
+
+
+def moments(owners: Integers, values: Floats, shares: Floats, count: int) -> State:
+    """The shares, the mean, and the sum of squares about it, of each owner."""
+    total = numpy.bincount(owners, shares, count)
+    mean = quotient(numpy.bincount(owners, values * shares, count), total, 0.0)
+    return total, mean, numpy.bincount(owners, shares * (values - mean[owners]) ** 2, count)
+
+
+def joined_moments(first: State, second: State) -> State:
+    """The moments of two lists of targets together (Chan, Golub and LeVeque 1979)."""
+    (total, mean, squares), (other, other_mean, other_squares) = first, second
+    whole = total + other
+    apart = other_mean - mean
+    return (
+        whole,
+        mean + quotient(apart * other, whole, 0.0),
+        squares + other_squares + quotient(apart**2 * total * other, whole, 0.0),
+    )
+
+
+def quotient(above: NDArray[Any], below: NDArray[Any], otherwise: float = numpy.nan) -> Floats:
+    """The quotient where the divisor is not 0."""
+    return numpy.divide(
+        above, below, out=numpy.full(numpy.shape(above), otherwise), where=below != 0
+    )
+
+
+def added(first: State, second: State) -> State:
+    return [one + other for one, other in zip(first, second)]
+
+
+# How each aggregate is made from values with their shares, joined from two states, and finished.
+PARTS: dict[str, Callable[..., State]] = {
+    "sum": lambda owners, values, shares, count: [numpy.bincount(owners, values * shares, count)],
+    "count": lambda owners, values, shares, count: [numpy.bincount(owners, shares, count)],
+    "mean": lambda owners, values, shares, count: [
+        numpy.bincount(owners, values * shares, count),
+        numpy.bincount(owners, shares, count),
+    ],
+    "std": moments,
+}
+JOINED: dict[str, Callable[[State, State], State]] = {
+    "sum": added,
+    "count": added,
+    "mean": added,
+    "std": joined_moments,
+    "min": lambda first, second: [numpy.minimum(first[0], second[0])],
+    "max": lambda first, second: [numpy.maximum(first[0], second[0])],
+}
+ENDED: dict[str, Callable[..., Any]] = {
+    "sum": lambda sums: sums,
+    "count": lambda counts: counts,
+    "mean": quotient,
+    "std": lambda total, mean, squares: numpy.sqrt(quotient(squares, total)),
+    "min": lambda least: numpy.where(numpy.isinf(least), numpy.nan, least),
+    "max": lambda most: numpy.where(numpy.isinf(most), numpy.nan, most),
+}
+
+
+def medians(
+    engine: InProcess, question: Question, asked: Asked, workers: Any, progress: Any
+) -> Floats:
+    """The medians, which need all targets of a source at once."""
+    found = numpy.full(asked.shape(question.height(engine.nodes)), numpy.nan)
+    if len(question.targets) > blocks.LENGTH:
+        medians_of(found, blocks.rows(engine, question, workers, progress), asked)
+        return found
+
+    def make(block: blocks.Block, portions: Portions) -> Floats:
+        own = numpy.full(asked.shape(block.question.height(engine.nodes)), numpy.nan)
+        for start, rows in portions:
+            medians_of(own[start:start + len(rows)], rows, asked)
+        return own
+
+    for block, own in blocks.values(engine, question, make, workers, progress):
+        found[block.row:block.row + len(own)] = own
+    return found
+
+
+def medians_of(out: Floats, rows: near_rows.Rows, asked: Asked) -> None:
+    """Writes the medians of some rows (rows, c, m)."""
+    owners = rows.owners()
+    for place, limit in enumerate(asked.limits):
+        is_near = rows.weights <= limit
+        near, counts = owners[is_near], numpy.bincount(owners[is_near], minlength=len(rows))
+        firsts, is_some = numpy.cumsum(counts) - counts, counts > 0
+        for column in range(asked.values.shape[1]):
+            values = asked.values[rows.places[is_near], column]
+            values = values[numpy.lexsort([values, near])]
+            low, high = (
+                firsts[is_some] + step // 2 for step in (counts[is_some] - 1, counts[is_some])
+            )
+            out[is_some, column, place] = (values[low] + values[high]) / 2

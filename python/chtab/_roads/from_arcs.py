@@ -1,0 +1,172 @@
+"""Makes the arcs of a network of a caller's arrays, frames, graphs and matrices."""
+from __future__ import annotations
+
+import contextlib
+import dataclasses
+import warnings
+from collections.abc import Iterator
+from typing import TYPE_CHECKING, Any
+
+import numpy
+
+from chtab.errors import ChtabError, DataFault
+from chtab._files import arc_columns, columns, row_index
+
+if TYPE_CHECKING:
+    from numpy.typing import NDArray
+    from chtab.network import Network
+
+
+def arcs_of_arrays(
+    ends: tuple[Any, Any, Any], places: tuple[Any, Any, Any], scale: float | None, unit: str | None,
+    both_ways: Any, geometry: Any, like: Network | None,
+) -> arc_columns.Arcs:
+    """The arcs of columns: sources, targets and weights, and the labels, longitudes and latitudes
+    of nodes or None."""
+    names = *arc_columns.NAMES, "both_ways", "geometry"
+    rows = row_index.matched(names, [listed(column) for column in (*ends, both_ways, geometry)])
+    index = next(filter(lambda own: own is not None, map(row_index.index_of, rows)), None)
+    nodes, x, y = nodes_in_order(*places)
+    given = arc_columns.Columns(
+        rows[0], rows[1], rows[2], nodes, x, y, scale, unit, rows[3], rows[4], index=index)
+    return arcs_like(given, like)
+
+
+def arcs_of_sparse(
+    matrix: Any,
+    places: tuple[Any, Any, Any],
+    scale: float | None,
+    unit: str | None,
+    both_ways: bool,
+    like: Network | None,
+) -> arc_columns.Arcs:
+    """The arcs of a sparse matrix of scipy."""
+    if not hasattr(matrix, "tocsr") or matrix.ndim != 2 or matrix.shape[0] != matrix.shape[1]:
+        raise DataFault("matrix is a sparse matrix of scipy with as many rows as columns", "matrix")
+    rows, (nodes, x, y) = matrix.tocsr(copy=True), nodes_in_order(*places)
+    rows.sum_duplicates()
+    stored, is_like = rows.tocoo(), like is not None and nodes is None
+    if like is not None and nodes is None:
+        nodes = like.labels
+    known = columns.column_labels_in(
+        "nodes", numpy.arange(rows.shape[0]) if nodes is None else nodes
+    )
+    if len(known) != rows.shape[0]:
+        text = f"nodes has {len(known):,} rows, and the matrix {rows.shape[0]:,}"
+        raise DataFault(text, "nodes")
+    labels = None if is_like else known
+    given = arc_columns.Columns(
+        known[stored.row], known[stored.col], stored.data, labels, x, y, scale, unit, both_ways)
+    return arcs_like(given, like)
+
+
+def arcs_like(given: arc_columns.Columns, like: Network | None) -> arc_columns.Arcs:
+    """The arcs of columns, between the nodes of a network where these name none."""
+    return arc_columns.arcs_of(with_nodes_of(given, like))
+
+
+def listed(column: Any) -> Any:
+    """A column itself, or a list of the items of an iterator, such as a generator."""
+    return list(column) if hasattr(column, "__next__") else column
+
+
+def nodes_in_order(nodes: Any, x: Any, y: Any) -> list[Any]:
+    """The labels and places of nodes. Columns of pandas are put into the order of the first one's
+    index, or of the labels if these are an Index."""
+    nodes, x, y = row_index.matched(
+        ("nodes", "x", "y"), [listed(column) for column in (nodes, x, y)]
+    )
+    if hasattr(nodes, "get_indexer") and nodes.is_unique:
+        x, y = (
+            column.iloc[column.index.get_indexer(nodes)] if is_of_labels(column, nodes) else column
+            for column in (x, y)
+        )
+    return [nodes, x, y]
+
+
+def is_of_labels(column: Any, labels: Any) -> bool:
+    """Whether the index of a column has just these labels, in any order."""
+    index = row_index.index_of(column)
+    return (
+        index is not None
+        and len(index) == len(labels)
+        and index.is_unique
+        and bool(index.isin(labels).all())
+    )
+
+
+@contextlib.contextmanager
+def known_to_be_closed(network: Any) -> Iterator[None]:
+    """Raises the fault of a closed network where its files are gone because it was closed
+    meanwhile."""
+    try:
+        yield
+    except FileNotFoundError:
+        if network is None or not network._engine.is_closed:
+            raise
+        raise ChtabError("the network is closed") from None
+
+
+def see_that_same_nodes(labels: NDArray[Any], own: NDArray[Any]) -> None:
+    """Refuses labels that are not those of the network that they are given with."""
+    if own is labels or numpy.array_equal(own, labels):
+        return
+    if len(own) != len(labels):
+        raise DataFault(f"like has {len(labels):,} nodes, and there are {len(own):,} here", "nodes")
+    apart = next(
+        row for row, (one, other) in enumerate(zip(own.tolist(), labels.tolist())) if one != other
+    )
+    raise DataFault(
+        f"node {columns.quoted(own[apart])} is {columns.quoted(labels[apart])} in like: both "
+        "networks have the same nodes",
+        "nodes",
+        apart,
+    )
+
+
+def with_nodes_of(given: arc_columns.Columns, like: Any) -> arc_columns.Columns:
+    """The same columns with the nodes of a network, where they name none: its labels, and its
+    places where these are not given."""
+    if like is None or given.nodes is not None:
+        return given
+    given = dataclasses.replace(given, nodes=like.labels)
+    if like._layers.paths["coordinates"] is None or given.x is not None or given.y is not None:
+        return given
+    with known_to_be_closed(like):
+        places = like.coordinates
+    return dataclasses.replace(given, x=places.longitudes, y=places.latitudes)
+
+
+def with_turns_of(arcs: arc_columns.Arcs, like: Any) -> arc_columns.Arcs:
+    """The same arcs with what a network says of nodes where turns are restricted: which of them are
+    one crossing, and where trips end. Arcs that don't lead to where trips end are refused."""
+    if (
+        arcs.places is None
+        or like._layers.paths["coordinates"] is None
+        or not like.coordinates.turns()
+    ):
+        return arcs
+    ends = like._layers.ends
+    is_met = numpy.zeros(len(ends), bool)
+    is_met[arcs.tails[arcs.heads == ends[arcs.tails]]] = True
+    apart = columns.first_of((ends > 0) & ~is_met)
+    if apart is not None:
+        labels = like.labels[[apart - 1, int(ends[apart]) - 1]].tolist()
+        text = (
+            "turns are restricted in like, where trips to the node {} end at the node {}, and no "
+            "arc leads there from it here: give the arcs of "
+            "`like.graph` with other weights, or leave `like` out"
+        )
+        raise DataFault(text.format(*map(columns.quoted, labels)), "targets")
+    return dataclasses.replace(arcs, turns=like.coordinates.turns())
+
+
+def warn_of_scale(scale: float, level: int) -> None:
+    """Warns that limits and answers are whole numbers, as in version 1.1, and not in the unit of
+    the weights that were given."""
+    text = (
+        f"weights were multiplied by {scale:g}, and limits and answers are these whole numbers; "
+        "name the unit of your weights, as unit='minutes', "
+        "for limits and answers in it, as later versions will have them, or give raw=True"
+    )
+    warnings.warn(text, FutureWarning, stacklevel=level)
