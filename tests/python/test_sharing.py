@@ -23,6 +23,7 @@ from helpers.running import PROGRAM, ROOT
 from helpers.waiting import PATIENCE, until
 import chtab
 from chtab import files
+from chtab._files import node_labels
 
 pytestmark = [needs("python3-numpy", "python3-scipy"), pytest.mark.usefixtures("program")]
 FIRST = ROOT / "examples" / "first.gr"
@@ -144,7 +145,7 @@ def test_processes_are_forked_while_threads_ask():
 
 def test_a_process_is_forked_while_routes_are_computed(monkeypatch):
     """A forked process waits for nothing that a thread of its parent computes at that moment, such as the list of routes."""
-    kind = files.node_labels.Numbers
+    kind = node_labels.Numbers
     parent, computing, over, of = os.getpid(), threading.Event(), threading.Event(), kind.of
 
     def of_slowly(self, nodes):
