@@ -47,6 +47,7 @@ RUNS = [
     (["dist", "--plain", "nodes.gr", "queries.p2p"], ["reading", "answering"]),
     (["dist", "--piece", "1", "--saved", "nodes.ch", "nodes.gr", "queries.p2p"], ["reading", "checking the saved hierarchy", "answering"]),
     (["table", "--piece", "1", "nodes.gr", "list.ss", "list.ss"], ["reading", "building", "searching", "answering"]),
+    (["near", "--piece", "1", "--all", "nodes.gr", "list.ss"], ["reading", "building", "searching", "answering"]),
 ]
 FILES = {
     "three.gr": "p sp 3 0\n",

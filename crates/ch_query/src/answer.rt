@@ -1,7 +1,7 @@
 //! Answers to many queries.
 
 pub(crate) mod one;
-mod query_job;
+pub(crate) mod query_job;
 
 ghost use Rattle.std.specs.Prelude.{◌≡◌, ◌≤◌, length, All, IfOk};
 ghost use Rattle.std.specs.List.{AllZip};

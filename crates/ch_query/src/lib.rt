@@ -24,7 +24,6 @@
 
 mod answer;
 mod checking;
-mod costs;
 pub mod laws;
 mod routes;
 mod scratch;
@@ -33,6 +32,7 @@ mod start;
 mod weights;
 
 pub use answer::one::{answer_one, answer_with_route};
+pub use answer::query_job::QueryJob;
 pub use answer::{Answer, answer_all, answer_all_in};
 pub use checking::{check, check_alone, check_watched};
 pub use routes::Route;

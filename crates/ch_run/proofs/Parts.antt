@@ -22,7 +22,7 @@ use Rattle.ch_run.specs.Story.{Writes}
 abbrev pub bytes_of : List (Vec ℕ Global) → List ℕ
 bytes_of parts = flat_map (λ (part : Vec ℕ Global). part.items) parts
 
--- parts whose number of bytes can be told have fewer than 2^64
+-- parts with a number of bytes below 2^64 - 1, as a capped sum gives it, have fewer than 2^64
 pub fewer : (parts : List (Vec ℕ Global)) (count : ℕ) → count ≡ min (sum_by vec_len parts) (2 ^ 64 - 1) → (count ≡ 2 ^ 64 - 1 → ⊥) →
     length (bytes_of parts) < 2 ^ 64
 fewer parts count is other =

@@ -11,11 +11,13 @@ use ch_work::ListJob;
 use std::alloc::{AllocError, Global};
 use std::marker::Model;
 
-/// The job that answers queries, with routes or without.
+/// The job that answers queries by a hierarchy, with routes or without.
 #[derive(Drop)]
-pub(super) struct QueryJob<'a> {
-    pub(super) hierarchy: &'a Hierarchy,
-    pub(super) routes: bool,
+pub struct QueryJob<'a> {
+    /// The hierarchy by which the queries are answered.
+    pub hierarchy: &'a Hierarchy,
+    /// Whether the answers have the arcs of their routes.
+    pub routes: bool,
 }
 
 impl<'a> Model for QueryJob<'a> {

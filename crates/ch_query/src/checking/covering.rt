@@ -11,8 +11,8 @@ ghost use Rattle.ch_query.specs.ByNode.{IsSomeRank};
 ghost use Rattle.ch_query.specs.Underway.{count_unsettled_in, IsSameSearch, IsUnderway, IsClean};
 ghost use Rattle.ch_query.specs.Covering.{is_connected, is_settled, IsPastCost, AreConnected, AreApart};
 
-use crate::costs::most_within;
 use crate::sides::search::Search;
+use crate::start::most_within;
 use ch_graph::Cost;
 use ch_hierarchy::Hierarchy;
 use ch_queue::KeyQueue;

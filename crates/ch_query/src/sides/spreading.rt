@@ -8,9 +8,8 @@ ghost use Rattle.ch_query.specs.Underway.{IsSameSearch, IsUnderway, IsClean};
 ghost use Rattle.ch_query.specs.Spread.{IsSpread, AreReached, entry};
 
 use super::search::Search;
-use crate::costs::most_within;
 use crate::scratch::Scratch;
-use crate::start::Start;
+use crate::start::{Start, most_within};
 use ch_graph::Cost;
 use ch_hierarchy::{Hierarchy, Side};
 use std::alloc::{AllocError, Global};

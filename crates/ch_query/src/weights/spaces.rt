@@ -8,9 +8,8 @@ ghost use Rattle.ch_query.specs.SearchSpace.{IsRankedSpace};
 ghost use Rattle.ch_query.specs.Weights.{side_keys, source_of, IsSameWeighing, IsWeighingOn, HasBegunOn, AreUnstalledOn, IsCleanFor};
 
 use super::search::WeightSearch;
-use crate::costs::most_within;
 use crate::scratch::Scratch;
-use crate::start::Start;
+use crate::start::{Start, most_within};
 use ch_hierarchy::{Hierarchy, Side};
 use std::alloc::{AllocError, Global};
 

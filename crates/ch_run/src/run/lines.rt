@@ -50,6 +50,12 @@ pub(crate) trait LineJob: Sync {
         ensures clean { OnOk result (clean self.now room.new) };
 }
 
+/// Reports to the gate that answering begins, with the pieces of `count` items.
+pub(crate) fn begin_answering<R: Threads + Sync, G: Gate>(crew: &Crew<'_, R, G>, count: u32) {
+    crew.gate
+        .watch(Stage::Answering, 0, crew.plan.pieces(count));
+}
+
 /// Returns the lines of all items, in order, in parts: one of each piece. The workers share the pieces, and each takes one of the
 /// rooms, as [`run_pieces_in`] says. The parts have fewer than 2^64 bytes.
 ///
@@ -69,17 +75,15 @@ pub(crate) fn lines_by<R: Threads + Sync, G: Gate, J: LineJob>(
     ensures clean { All (J.clean job.now) rooms.new.items }
 {
     let count = items.len() as u32;
-    crew.gate
-        .watch(Stage::Answering, 0, crew.plan.pieces(count));
     let parts = run_pieces_in(crew, count, rooms, &LinePieces { job, items })?;
-    told(parts)
+    checked_length(parts)
 }
 
-/// Returns these parts of a text, if the number of their bytes can be told.
+/// Returns these parts of a text if their length is less than 2^64 - 1 bytes.
 ///
 /// # Errors
-/// `AllocError` if they have 2^64 - 1 bytes or more, which no memory has.
-pub(crate) fn told(parts: Vec<Vec<u8>>) -> Result<Vec<Vec<u8>>, AllocError>
+/// `AllocError` otherwise. No memory holds so many bytes.
+pub(crate) fn checked_length(parts: Vec<Vec<u8>>) -> Result<Vec<Vec<u8>>, AllocError>
     ensures same { IfOk result (λ all. all.items ≡ parts.items) }
     ensures length { IfOk result (λ all. length (flat_map (λ part. part.items) all.items) < 2 ^ 64) }
 {
@@ -99,7 +103,7 @@ pub(crate) fn one_part(alloc: Global, text: Vec<u8>) -> Result<Vec<Vec<u8>>, All
 {
     let mut parts = Vec::with_capacity(alloc, 1)?;
     parts.push(text)?;
-    told(parts)
+    checked_length(parts)
 }
 
 /// The items of a list, as a job of ranges.

@@ -5,7 +5,6 @@ ghost use Rattle.ch_graph.specs.Graph.{Network, IsWithinLimits};
 ghost use Rattle.ch_hierarchy.specs.Hierarchy.{nodes_of};
 ghost use Rattle.ch_hierarchy.specs.Kept.{IsKept};
 ghost use Rattle.ch_near.specs.Near.{wanted_within};
-ghost use Rattle.ch_near.specs.Sweep.{AreNodeRows};
 ghost use Rattle.ch_query.specs.Distance.{IsKeptForSome};
 ghost use Rattle.ch_query.specs.Limits.{IsWithin};
 ghost use Rattle.ch_run.specs.NearRun.{AreFewSources, AreNodeLists, nodes_of_sources};
@@ -13,12 +12,12 @@ ghost use Rattle.ch_run.specs.NearRows.{HasNearRows};
 ghost use Rattle.ch_run.specs.Text.{IsNearTextFor};
 ghost use Rattle.ch_text.specs.NearText.{nodes_in_order};
 
-use super::lines::lines_by;
+use super::lines::{begin_answering, lines_by};
 use super::near_lines::{SearchedLines, SweptLines};
-use crate::plan::{Crew, Gate, Stage};
+use crate::plan::{Crew, Gate};
 use ch_contract::Hierarchy;
 use ch_job::{Options, Sources};
-use ch_near::{NearRoom, NearTargets, NodeRows};
+use ch_near::{NearRoom, NearTargets};
 use std::alloc::{AllocError, Global};
 use std::marker::Model;
 use std::thread::Threads;
@@ -69,6 +68,7 @@ impl<'a> NearSearch<'a> {
         ensures length { IfOk result (λ parts. length (flat_map (λ part. part.items) parts.items) < 2 ^ 64) }
         ensures same { self.new ≡ self.old }
     {
+        begin_answering(crew, sources.len() as u32);
         let near = &self.targets;
         lines_by(
             crew,
@@ -124,7 +124,8 @@ fn all_nodes(alloc: Global, nodes: u32) -> Result<Vec<u32>, AllocError>
     Ok(all)
 }
 
-/// Returns the text of the near rows of these sources, from the rows of all nodes, in parts. The workers share the sources.
+/// Returns the text of the near rows of these sources, from the rows of all nodes, in parts. One worker makes the rows by a sweep,
+/// and then the workers share the sources. Both are reported as one stage.
 fn swept_text<R: Threads + Sync, G: Gate>(
     crew: &Crew<'_, R, G>,
     near: &NearTargets<'_>,
@@ -135,18 +136,8 @@ fn swept_text<R: Threads + Sync, G: Gate>(
     ensures text { IfOk result (λ parts. HasNearRows near.now sources.now (flat_map (λ part. part.items) parts.items)) }
     ensures length { IfOk result (λ parts. length (flat_map (λ part. part.items) parts.items) < 2 ^ 64) }
 {
-    let rows = swept(crew, near)?;
+    begin_answering(crew, sources.len() as u32);
+    let rows = near.node_rows(crew.alloc)?;
     let mut rooms = Vec::new(crew.alloc);
     lines_by(crew, sources, &mut rooms, &SweptLines { near, rows: &rows })
-}
-
-/// Returns the near rows of all nodes, by a sweep. One worker makes them.
-fn swept<'a, R: Threads + Sync, G: Gate>(
-    crew: &Crew<'_, R, G>,
-    near: &NearTargets<'a>,
-) -> Result<NodeRows<'a>, AllocError>
-    ensures { IfOk result (AreNodeRows near.now) }
-{
-    crew.gate.watch(Stage::Answering, 0, 1);
-    near.node_rows(crew.alloc)
 }

@@ -11,12 +11,12 @@ ghost use Rattle.ch_run.specs.Text.{IsTextBy};
 ghost use Rattle.ch_text.specs.TableText.{IsTableText};
 ghost use Rattle.ch_run.specs.Lists.{AreLists};
 
-use super::lines::{lines_by, told};
-use super::workers::{AnswerLines, RouteLines, RowTexts};
+use super::lines::{begin_answering, checked_length, lines_by};
+use super::workers::{RouteLines, RowTexts};
 use crate::plan::{Crew, Gate, Stage};
 use ch_contract::Hierarchy;
 use ch_graph::{Graph, plain_distance};
-use ch_query::{Answer, Scratch};
+use ch_query::{Answer, QueryJob, Scratch};
 use ch_table::gather_rows;
 use ch_text::push_answer;
 use ch_work::joined;
@@ -38,12 +38,13 @@ pub(crate) fn answers_by<R: Threads + Sync, G: Gate>(
         IsTextBy routes g (λ H. H ≡ hierarchy.now) queries.now (flat_map (λ part. part.items) parts.items)) }
     ensures length { IfOk result (λ parts. length (flat_map (λ part. part.items) parts.items) < 2 ^ 64) }
 {
+    begin_answering(crew, queries.len() as u32);
     if routes {
         let mut rooms = Vec::new(crew.alloc);
         return lines_by(crew, queries, &mut rooms, &RouteLines { hierarchy });
     }
     let mut scratches = Vec::new(crew.alloc);
-    let job = AnswerLines { hierarchy, routes };
+    let job = QueryJob { hierarchy, routes };
     lines_by(crew, queries, &mut scratches, &job)
 }
 
@@ -63,7 +64,8 @@ pub(crate) fn answers_in<R: Threads + Sync, G: Gate>(
         IsTextBy routes g (λ H. H ≡ hierarchy.now) queries.now text.items) }
     ensures scratches { All (λ scratch. scratch ≡ nodes_of hierarchy.now) scratches.new.items }
 {
-    let job = AnswerLines { hierarchy, routes };
+    begin_answering(crew, queries.len() as u32);
+    let job = QueryJob { hierarchy, routes };
     let parts = lines_by(crew, queries, scratches, &job)?;
     joined(crew.alloc, parts)
 }
@@ -144,5 +146,5 @@ pub(crate) fn table_parts_by<R: Threads + Sync, G: Gate>(
     ensures length { IfOk result (λ parts. length (flat_map (λ part. part.items) parts.items) < 2 ^ 64) }
 {
     let parts = gather_rows(crew, hierarchy, sources, targets, within, &RowTexts)?;
-    told(parts)
+    checked_length(parts)
 }

@@ -1,31 +1,14 @@
 //! The jobs by which workers write answers and the rows of a table. Each line is written by the worker that found what it says.
 use super::lines::LineJob;
 use ch_contract::Hierarchy;
-use ch_query::{Scratch, Sides, answer_one, answer_with_route};
+use ch_query::{QueryJob, Scratch, Sides, answer_one, answer_with_route};
 use ch_table::RowJob;
 use ch_text::{push_answer, push_row};
 use std::alloc::{AllocError, Global};
 use std::marker::Model;
 
-/// The job that writes the answers to queries, with their routes if `routes`.
-#[derive(Drop)]
-pub(crate) struct AnswerLines<'a> {
-    pub(crate) hierarchy: &'a Hierarchy,
-    pub(crate) routes: bool,
-}
-
-impl<'a> Model for AnswerLines<'a> {
-    ghost use Rattle.ch_query.specs.Distance.{IsKeptForSome};
-    ghost use Rattle.ch_query.specs.Tasks.{Task};
-
-    ghost Value = { Task };
-
-    ghost view = { λ job. record { hierarchy = job.hierarchy.now; routes = job.routes } };
-
-    ghost invariant = { λ job. IsKeptForSome job.hierarchy.now };
-}
-
-impl LineJob for AnswerLines<'_> {
+/// The job that writes the answers to queries, with routes or without.
+impl LineJob for QueryJob<'_> {
     ghost use Rattle.std.specs.Prelude.{◌≡◌, ◌<◌};
     ghost use Rattle.ch_hierarchy.specs.Hierarchy.{nodes_of};
     ghost use Rattle.ch_run.specs.Lines.{AreReplyLines};

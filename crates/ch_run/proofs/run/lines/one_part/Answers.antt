@@ -8,6 +8,6 @@ use Rattle.ch_run.proofs.run.lines.one_part.Goals as goal
 
 pub returns-clause-same : goal.returns-clause-same
 returns-clause-same c =
-    IfOk-weaker c.told.result _ _ (λ parts same. ap bytes_of (same ∙ c.in_ok-push.ensures.items
+    IfOk-weaker c.checked_length.result _ _ (λ parts same. ap bytes_of (same ∙ c.in_ok-push.ensures.items
     ∙ ap (λ (l : List (Vec ℕ Global)). l ++ c.args.text ∷ []) c.in_ok-parts.ensures.items) ∙ append-nil c.args.text.items)
-    c.told.ensures.same
+    c.checked_length.ensures.same

@@ -9,6 +9,6 @@ pub returns-clause-text : goal.returns-clause-text
 returns-clause-text g c =
     let a = c.args in
     let rows = gathered_texts a.hierarchy.now a.within a.targets.now a.sources.now c.in_ok-parts.parts.items c.in_ok-parts.ensures in
-    IfOk-weaker c.told.result _ _ (λ parts same network limits kept. rw same
+    IfOk-weaker c.checked_length.result _ _ (λ parts same network limits kept. rw same
     (rows_table network a.hierarchy.now limits kept a.within a.sources.now a.targets.now (bytes_of c.in_ok-parts.parts.items) rows))
-    c.told.ensures.same
+    c.checked_length.ensures.same

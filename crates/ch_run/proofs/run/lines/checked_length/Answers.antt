@@ -1,8 +1,8 @@
--- Parts whose number of bytes can be told have fewer than 2^64.
+-- Parts whose length passes the check have fewer than 2^64 bytes.
 use Rattle.std.proofs.Common.{ℕ, ◌<◌, ◌^◌, List, Vec, length, subst}
 use Rattle.std.specs.declared.alloc.Global.{Global}
 use Rattle.ch_run.proofs.Parts.{bytes_of, fewer}
-use Rattle.ch_run.proofs.run.lines.told.Goals as goal
+use Rattle.ch_run.proofs.run.lines.checked_length.Goals as goal
 
 pub returns-clause-length : goal.returns-clause-length
 returns-clause-length c =
