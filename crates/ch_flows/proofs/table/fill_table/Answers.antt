@@ -6,7 +6,7 @@ use Rattle.std.specs.List.{slice_range}
 use Rattle.ch_flows.specs.Cells.{IsRowAt, cell_sources, cell_targets}
 use Rattle.ch_flows.specs.Plans.{AreCounted}
 use Rattle.ch_flows.proofs.Cells.{cells_count}
-use Rattle.ch_flows.proofs.CellPairs.{row_at, row_fits, row_size}
+use Rattle.ch_flows.proofs.CellPairs.{all_counted, row_at, row_fits, row_size}
 use Rattle.ch_flows.proofs.Results.{if_err-map, if_ok-map}
 use Rattle.ch_flows.proofs.table.fill_table.Goals as goal
 
@@ -69,30 +69,20 @@ pub returns-clause-flows : goal.returns-clause-flows
 returns-clause-flows c =
     let args = c.args in
     let l = c.loop-i in
+    let H = args.hierarchy.now in
     let sources = args.sources.now in
     let end : l.i ≡ length sources = omega (arith, c.loop-i-test.false, l.auto.i-end) in
-    let first : l.first ≡ length sources * length args.columns.now.trees.items = l.invariant.at ∙ ap (λ (k : ℕ). k * length args.columns.now.trees.items) end in
-    if_ok-map c.finish.result (λ all made targets are.
-    let starts = cell_sources sources targets in
-    let stops = cell_targets sources targets in
-    let count : l.first ≡ length starts =
-    first ∙ ap (λ (n : ℕ). length sources * n) are.0 ∙ sym (cells_count targets sources) in
-    made args.hierarchy.now starts stops args.demands.now c.requires.plan
-    (subst (λ (k : ℕ). AreCounted args.hierarchy.now args.plan.now.layout.links.items starts stops args.demands.now k l.flows l.missed)
-    count (l.invariant.counted targets are))) c.finish.ensures.flows
+    if_ok-map c.finish.result (λ all made targets are. made H (cell_sources sources targets) (cell_targets sources targets)
+    args.demands.now c.requires.plan (all_counted H args.plan.now.layout.links.items sources targets args.demands.now l.flows l.i l.first
+    l.missed args.columns.now.trees.items are end l.invariant.at (l.invariant.counted targets are))) c.finish.ensures.flows
 
 pub returns-clause-refused : goal.returns-clause-refused
 returns-clause-refused c =
     let args = c.args in
     let l = c.loop-i in
+    let H = args.hierarchy.now in
     let sources = args.sources.now in
     let end : l.i ≡ length sources = omega (arith, c.loop-i-test.false, l.auto.i-end) in
-    let first : l.first ≡ length sources * length args.columns.now.trees.items = l.invariant.at ∙ ap (λ (k : ℕ). k * length args.columns.now.trees.items) end in
-    if_err-map c.finish.result (λ error made targets are.
-    let starts = cell_sources sources targets in
-    let stops = cell_targets sources targets in
-    let count : l.first ≡ length starts =
-    first ∙ ap (λ (n : ℕ). length sources * n) are.0 ∙ sym (cells_count targets sources) in
-    made args.hierarchy.now starts stops args.demands.now c.requires.plan
-    (subst (λ (k : ℕ). AreCounted args.hierarchy.now args.plan.now.layout.links.items starts stops args.demands.now k l.flows l.missed)
-    count (l.invariant.counted targets are))) c.finish.ensures.refused
+    if_err-map c.finish.result (λ error made targets are. made H (cell_sources sources targets) (cell_targets sources targets)
+    args.demands.now c.requires.plan (all_counted H args.plan.now.layout.links.items sources targets args.demands.now l.flows l.i l.first
+    l.missed args.columns.now.trees.items are end l.invariant.at (l.invariant.counted targets are))) c.finish.ensures.refused
