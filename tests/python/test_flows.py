@@ -335,17 +335,18 @@ def test_braess_has_its_equilibrium(method):
 
 
 def objective(rows, flows):
-    """What an equilibrium makes least (Beckmann, McGuire and Winsten 1956): for each road the area under its time, from no flow to its own."""
+    """What an equilibrium makes least: for each road the area under its time (Beckmann, McGuire and Winsten 1956)."""
     return sum(own * flow + more * flow**2 / 2 for (*_, own, more), flow in zip(rows, flows))
 
 
 @pytest.mark.parametrize("method", ["frank-wolfe", "bi-conjugate"])
 def test_steps_lead_down_to_the_least_objective(method):
-    """No step raises the objective, and the last one leaves it within five digits of the least, which is 386 with the road in the middle and 399 without."""
+    """No step raises the objective. In the end it has five digits of the least: 386 with the road in the middle, 399 without."""
     for rows, least in (BRAESS, 386), (BRAESS[:4], 399):
         network, times = braess(rows)
         with network:
-            after = [network.assign(["s"], ["t"], [6.0], times=times, method=method, gap=0, steps=steps, scale=1000) for steps in (*range(1, 9), 60)]
+            assigned = partial(network.assign, ["s"], ["t"], [6.0], times=times, method=method, gap=0, scale=1000)
+            after = [assigned(steps=steps) for steps in (*range(1, 9), 60)]
         values = [objective(rows, found.flows) for found in after]
         assert all(new <= old * (1 + 1e-9) for old, new in zip(values, values[1:])), (method, values)
         assert abs(values[-1] / least - 1) < 5e-6 and min(values) > least * (1 - 1e-6), (method, values)

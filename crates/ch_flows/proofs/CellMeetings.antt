@@ -1,5 +1,5 @@
 -- The trees of a table's targets, and where the tree of a source meets them.
-use Rattle.std.proofs.Common.{◌≡◌, ℕ, ◌<◌, ◌≤◌, List, [], ◌∷◌, length, map, get_or, All, inl, inr, sym, ◌∙◌, ap, subst, arith}
+use Rattle.std.proofs.Common.{◌≡◌, ℕ, ◌<◌, List, [], ◌∷◌, length, map, get_or, All, inl, inr, sym, ◌∙◌, ap, subst, arith}
 use Rattle.std.proofs.lemmas.Bool.{cases_lt}
 use Rattle.std.proofs.lemmas.List.{get_or-map, get_or_past, length-map}
 use Rattle.std.proofs.lemmas.List.Elements.{Contains-get_or}
@@ -71,5 +71,7 @@ module _ (H : LevelsAndLegs) (links : List Link) (columns : Columns) (is : IsCol
       let here = made lists size order (lists_ordered H links trees is.trees) is.stops c (omega (arith, low, size)) in
       let list : list_at lists c ≡ tree.kept.items = list_is H links trees is.trees c tree low ∙ sym (ap kept_of at) in
       let one = subst (λ (l : List (ℕ × Cost)). IsMeetingSoFar l (list_at lists c) (length l) (get_or meetings c Meeting.Unknown)) e here in
-      let two = subst (λ (l : List (ℕ × Cost)). IsMeetingSoFar row.kept.items l (length row.kept.items) (get_or meetings c Meeting.Unknown)) list one in
+      let two =
+      subst (λ (l : List (ℕ × Cost)). IsMeetingSoFar row.kept.items l (length row.kept.items) (get_or meetings c Meeting.Unknown)) list
+      one in
       subst (IsMeetingSoFar row.kept.items tree.kept.items (length row.kept.items)) (sym read) two

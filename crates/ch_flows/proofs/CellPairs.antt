@@ -54,7 +54,8 @@ row_at sources targets demands r first source trees are low at is room c d less 
 pub all_counted : (H : LevelsAndLegs) (links : List Link) (sources targets demands flows : List ℕ) (r first missed : ℕ)
     (trees : List Tree) → AreTargetTrees targets (length targets) trees → r ≡ length sources → first ≡ r * length trees →
     AreCounted H links (cell_sources sources targets) (cell_targets sources targets) demands first flows missed →
-    AreCounted H links (cell_sources sources targets) (cell_targets sources targets) demands (length (cell_sources sources targets)) flows missed
+    AreCounted H links (cell_sources sources targets) (cell_targets sources targets) demands (length (cell_sources sources targets))
+    flows missed
 all_counted H links sources targets demands flows r first missed trees are end at counted =
     let count : first ≡ length (cell_sources sources targets) =
     at ∙ ap (λ (n : ℕ). n * length trees) end ∙ ap (λ (n : ℕ). length sources * n) are.0 ∙ sym (cells_count targets sources) in

@@ -1,12 +1,13 @@
 -- The stops of trees, and the trees that are met at the stops of a node.
-use Rattle.std.proofs.Common.{◌≡◌, ◌≢◌, ℕ, ◌+◌, ◌<◌, ◌≤◌, List, [], ◌∷◌, ◌++◌, length, map, get_or, set, All, Contains, inl, inr, refl, sym}
+use Rattle.std.proofs.Common.{◌≡◌, ℕ, ◌+◌, ◌<◌, List, [], ◌++◌, length, get_or, set, All, Contains, inl, inr, refl, sym}
 use Rattle.std.proofs.Common.{◌∙◌, ap, subst, arith}
 use Rattle.std.specs.Prelude.{◌==◌}
 use Rattle.std.specs.List.{filter}
 use Rattle.std.proofs.lemmas.Bool.{cases_eq, cases_lt, eqb-true}
 use Rattle.std.proofs.lemmas.Bool.Decides.{nat_tests}
 use Rattle.std.proofs.lemmas.List.{get_or-set_other, get_or-set_same, get_or_default}
-use Rattle.std.proofs.lemmas.List.Elements.{All-contains, Contains-append_cases, Contains-append_left, Contains-append_right, Contains-get_or}
+use Rattle.std.proofs.lemmas.List.Elements.{All-contains, Contains-append_cases, Contains-append_left, Contains-append_right}
+use Rattle.std.proofs.lemmas.List.Elements.{Contains-get_or}
 use Rattle.ch_graph.specs.declared.cost.Cost.{Cost}
 use Rattle.ch_graph.specs.Cost.{cost_sum, no_cost}
 use Rattle.ch_graph.specs.Rows.{AreRowsOf, pairs_at}
@@ -40,8 +41,10 @@ module _ (lists : List (List (ℕ × Cost))) where
               let at : n ≡ c = ap (λ (e : ℕ × (ℕ × Cost)). e.1.0) r.2 in
               let key : r.0.0 ≡ v = ap (λ (e : ℕ × (ℕ × Cost)). e.0) r.2 in
               let value : r.0.1 ≡ cost = ap (λ (e : ℕ × (ℕ × Cost)). e.1.1) r.2 in
-              let entry : r.0 ≡ (v, cost) = λ i. (key i, value i) in
-              (omega (arith, at), subst (λ (m : ℕ). Contains (list_at lists m) (v, cost)) at (subst (Contains (list_at lists n)) entry r.1)))
+              let entry : r.0 ≡ (v, cost) = λ i. (key i, value i) in (
+                omega (arith, at),
+                subst (λ (m : ℕ). Contains (list_at lists m) (v, cost)) at (subst (Contains (list_at lists n)) entry r.1),
+              ))
         ];
         whole = λ v c cost low has. elim (cases_lt c n) [
           | inl less ↦ Contains-append_left pairs here (v, (c, cost)) (are.whole v c cost less has)
@@ -80,8 +83,9 @@ module _ (lists : List (List (ℕ × Cost))) where
               (let e : v ≡ v = refl in grind (arith, nat_tests))));
         }
 
-module _ (ups : List (ℕ × Cost)) (lists : List (List (ℕ × Cost))) (n node : ℕ) (cost : Cost) (stops : List (ℕ × Cost)) (low : n < length ups)
-    (entry : entry_at ups n ≡ (node, cost)) (order : AreInOrder ups) (orders : All AreInOrder lists) (are : AreStopsAt lists node stops) where
+module _ (ups : List (ℕ × Cost)) (lists : List (List (ℕ × Cost))) (n node : ℕ) (cost : Cost) (stops : List (ℕ × Cost))
+    (low : n < length ups) (entry : entry_at ups n ≡ (node, cost)) (order : AreInOrder ups) (orders : All AreInOrder lists)
+    (are : AreStopsAt lists node stops) where
   -- before the first stop
   pub met_none : (meetings : List Meeting) → AreMeetings ups lists n meetings → (c : ℕ) → c < length lists →
       IsMetBefore ups (list_at lists c) n stops 0 c (get_or meetings c Meeting.Unknown)

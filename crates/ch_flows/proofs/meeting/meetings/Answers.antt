@@ -1,7 +1,6 @@
 -- The trees that have an entry of one more node are met.
-use Rattle.std.proofs.Common.{◌≡◌, ◌+◌, ℕ, List, length, ap, refl, sym, subst, ◌∙◌}
+use Rattle.std.proofs.Common.{◌≡◌, ◌+◌, length, ap, refl, sym, subst, ◌∙◌}
 use Rattle.std.proofs.lemmas.List.{with_items_is}
-use Rattle.ch_flows.specs.declared.meeting.Meeting.{Meeting as AnyMeeting}
 use Rattle.ch_flows.specs.Meetings.{AreMeetings, AreStopsAt}
 use Rattle.ch_flows.specs.Trees.{entry_at}
 use Rattle.ch_flows.proofs.meeting.meetings.Goals as goal

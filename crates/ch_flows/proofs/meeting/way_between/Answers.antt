@@ -1,5 +1,5 @@
 -- The way over the node where both meet is that of the route, and where they do not meet there is none.
-use Rattle.std.proofs.Common.{ℕ, List, length, subst}
+use Rattle.std.proofs.Common.{length, subst}
 use Rattle.ch_hierarchy.specs.declared.side.Side.TheVariants.{Up as UpSide, Down as DownSide}
 use Rattle.ch_flows.specs.Meetings.{IsMeetingSoFar}
 use Rattle.ch_flows.proofs.Meetings.{meets, never, no_way, way_over}

@@ -10,7 +10,8 @@ pub stops_of-requires : goal.stops_of-requires
 stops_of-requires c =
     let H = c.args.hierarchy.now in
     let trees = c.in_ok-trees.trees.items in
-    let Low : List AnyTree → ℕ → Type 0 = λ ts n. All (λ (list : List (ℕ × AnyCost)). All (λ (e : ℕ × AnyCost). e.0 < n) list) (map kept_of ts) in
+    let Low : List AnyTree → ℕ → Type 0 = λ ts n.
+    All (λ (list : List (ℕ × AnyCost)). All (λ (e : ℕ × AnyCost). e.0 < n) list) (map kept_of ts) in
     subst (λ (ts : List AnyTree). Low ts c.nodes.result) (sym c.deref.ensures.value)
     (subst (Low trees) (sym c.nodes.ensures.nodes)
     (lists_low H c.args.layout.now.links.items trees c.in_ok-trees.ensures.nodes c.nodes.ensures.levelled))
