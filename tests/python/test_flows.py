@@ -334,6 +334,25 @@ def test_braess_has_its_equilibrium(method):
         assert (numpy.array(found.gaps) > -1e-6).all() and best[-1] < best[0] / 100
 
 
+def objective(rows, flows):
+    """What an equilibrium makes least: for each road the area under its time (Beckmann, McGuire and Winsten 1956)."""
+    return sum(own * flow + more * flow**2 / 2 for (*_, own, more), flow in zip(rows, flows))
+
+
+@pytest.mark.parametrize("method", ["frank-wolfe", "bi-conjugate"])
+def test_steps_lead_down_to_the_least_objective(method):
+    """No step raises the objective. In the end it has five digits of the least: 386 with the road in the middle, 399 without."""
+    for rows, least in (BRAESS, 386), (BRAESS[:4], 399):
+        network, times = braess(rows)
+        with network:
+            assigned = partial(network.assign, ["s"], ["t"], [6.0], times=times, method=method, gap=0, scale=1000)
+            after = [assigned(steps=steps) for steps in (*range(1, 9), 60)]
+        values = [objective(rows, found.flows) for found in after]
+        assert all(new <= old * (1 + 1e-9) for old, new in zip(values, values[1:])), (method, values)
+        assert abs(values[-1] / least - 1) < 5e-6 and min(values) > least * (1 - 1e-6), (method, values)
+        assert all(found.gaps[: len(old.gaps)] == old.gaps for old, found in zip(after, after[1:]))
+
+
 @needs("python3-scipy")
 def test_two_routes_have_equal_times():
     """By BPR: the flows at which the times of two routes are equal, by scipy's root, with tolls and without."""

@@ -10,8 +10,10 @@ pub mod RouteLegs
 pub mod Trees
 pub mod TreeWays
 pub mod Meetings
+pub mod Stops
 pub mod Cells
 pub mod KeptEntries
 pub mod CellPairs
+pub mod CellMeetings
 pub mod Served
 pub mod Unplaced

@@ -1,5 +1,5 @@
 -- Two trees meet where a route does, and the ways back from there make the route.
-use Rattle.std.proofs.Common.{◌≡◌, ℕ, ◌+◌, ◌<◌, ◌≤◌, List, [], ◌++◌, length, get_or, Contains, Option, Some, None, true, false}
+use Rattle.std.proofs.Common.{◌≡◌, ℕ, ◌+◌, ◌<◌, ◌≤◌, List, [], ◌++◌, length, get_or, Contains, Some, None, true, false, Option}
 use Rattle.std.proofs.Common.{inl, inr, refl, sym, ◌∙◌, ap, subst, arith}
 use Rattle.std.proofs.lemmas.Bool.{cases_lt}
 use Rattle.std.proofs.lemmas.List.{get_or_default}
@@ -17,14 +17,14 @@ use Rattle.ch_query.specs.Search.{IsStalled}
 use Rattle.ch_query.specs.SearchSpace.{IsTight}
 use Rattle.ch_query.proofs.one_side.End.{least_reached}
 use Rattle.ch_query.proofs.one_side.Expanding.{reached_by_leg}
-use Rattle.ch_query.proofs.one_side.TightNodes.{sum_walk, tight_down}
+use Rattle.ch_query.proofs.one_side.TightNodes.{sum_walk, tight_down, tight_up}
 use Rattle.ch_hierarchy.specs.declared.side.Side.TheVariants.{Up, Down}
 use Rattle.ch_query.specs.declared.routes.Route.{Route}
-use Rattle.ch_query.specs.Spread.{IsSpread}
 use Rattle.ch_flows.specs.declared.handing.Halves.{Halves}
 use Rattle.ch_flows.specs.declared.meeting.Meet.{Meet}
 use Rattle.ch_flows.specs.declared.plan.Link.{Link}
-use Rattle.ch_flows.specs.Meetings.{AreShared, IsFirstMeet, IsFirstOf, IsMeetSoFar, shared_cost}
+use Rattle.ch_flows.specs.declared.meeting.Meeting.{Meeting}
+use Rattle.ch_flows.specs.Meetings.{AreShared, IsFirstMeet, IsFirstOf, IsMeetingSoFar, shared_cost}
 use Rattle.ch_flows.specs.Plans.{IsPlan, IsWay, IsWayFound}
 use Rattle.ch_flows.specs.Trees.{AreInOrder, IsOpenSpread, IsWayBack, entry_at}
 use Rattle.ch_flows.proofs.TreeWays.{down_way, up_way}
@@ -41,63 +41,112 @@ one_entry entries order i j low below same = elim (cases_lt i j) [
   ]
 ]
 
-module _ (downs ups : List (ℕ × Cost)) (n : ℕ) where
-  -- an entry whose node the other list has
-  module _ (order : AreInOrder ups) (k : ℕ) (low : k < length ups) (node : (entry_at ups k).0 ≡ (entry_at downs n).0) (cost : Cost)
-      (sum : cost ≡ cost_sum (entry_at ups k).1 (entry_at downs n).1) where
+module _ (ups downs : List (ℕ × Cost)) (n : ℕ) (rise : AreInOrder ups) (order : AreInOrder downs) (low : n < length ups) where
+  -- an entry of the other list at the node of entry n
+  module _ (k : ℕ) (inside : k < length downs) (node : (entry_at downs k).0 ≡ (entry_at ups n).0) where
     abbrev pub new : Meet
-    new = record { node = (entry_at downs n).0; down = n; up = k; cost = cost }
+    new = record { node = (entry_at ups n).0; cost = shared_cost ups downs n k }
 
-    -- the entry is the only one at this place
-    own : (i j : ℕ) → AreShared downs ups (n + 1) i j → n ≤ i → (i ≡ n) × (j ≡ k)
+    -- it is the only one at this node
+    own : (i j : ℕ) → AreShared ups downs (n + 1) i j → n ≤ i → (i ≡ n) × (j ≡ k)
     own i j shared more =
         let same : i ≡ n = omega (arith, more, shared.0) in
-        (same, one_entry ups order j k shared.1 low (sym shared.2 ∙ ap (λ (m : ℕ). (entry_at downs m).0) same ∙ sym node))
+        (same, one_entry downs order j k shared.1 inside (sym shared.2 ∙ ap (λ (m : ℕ). (entry_at ups m).0) same ∙ sym node))
 
-    own_cost : (i j : ℕ) → (i ≡ n) × (j ≡ k) → shared_cost downs ups i j ≡ cost
+    own_cost : (i j : ℕ) → (i ≡ n) × (j ≡ k) → shared_cost ups downs i j ≡ new.cost
     own_cost i j is =
-        ap (λ (m : ℕ). cost_sum (entry_at ups j).1 (entry_at downs m).1) is.0
-        ∙ ap (λ (m : ℕ). cost_sum (entry_at ups m).1 (entry_at downs n).1) is.1 ∙ sym sum
+        ap (λ (m : ℕ). cost_sum (entry_at ups m).1 (entry_at downs j).1) is.0
+        ∙ ap (λ (m : ℕ). cost_sum (entry_at ups n).1 (entry_at downs m).1) is.1
 
-    pub meet_goes_on : (old result : Option Meet) → IsMeetSoFar downs ups n old → IsFirstOf old new result →
-        IsMeetSoFar downs ups (n + 1) result
-    meet_goes_on None result before is = subst (IsMeetSoFar downs ups (n + 1)) (sym is) (record {
-      is = (omega arith, low, sym node);
+    own_node : (i : ℕ) → i ≡ n → (entry_at ups i).0 ≡ new.node
+    own_node i same = ap (λ (m : ℕ). (entry_at ups m).0) same
+
+    -- it was not seen before
+    pub meet_goes_on : (old result : Meeting) → IsMeetingSoFar ups downs n old → IsFirstOf old new result →
+        IsMeetingSoFar ups downs (n + 1) result
+    meet_goes_on Meeting.Unknown result before is = subst (IsMeetingSoFar ups downs (n + 1)) (sym is) tt
+    meet_goes_on Meeting.Nowhere result before is = subst (IsMeetingSoFar ups downs (n + 1)) (sym is) (record {
+      here = n;
+      there = k;
+      is = (omega arith, inside, sym node);
       node = refl;
-      cost = sum;
+      cost = refl;
       least = λ i j shared. elim (cases_lt i n) [
         | inl less ↦ absurd (before i j (less, shared.1, shared.2))
-        | inr more ↦ (let at = own i j shared more in
-            (subst (IsAtMost cost) (sym (own_cost i j at)) (IsAtMost_refl cost), λ same. omega (arith, more)))
+        | inr more ↦ (
+            let at = own i j shared more in
+            (subst (IsAtMost new.cost) (sym (own_cost i j at)) (IsAtMost_refl new.cost), λ same. omega (arith, own_node i at.0)))
       ];
     })
-    meet_goes_on (Some old) result before (inl is) = subst (IsMeetSoFar downs ups (n + 1)) (sym is.0) (record {
-      is = (omega arith, low, sym node);
+    meet_goes_on (Meeting.At old) result before (inl is) = subst (IsMeetingSoFar ups downs (n + 1)) (sym is.0) (record {
+      here = n;
+      there = k;
+      is = (omega arith, inside, sym node);
       node = refl;
-      cost = sum;
+      cost = refl;
       least = λ i j shared. elim (cases_lt i n) [
         | inl less ↦ (
             let most = before.least i j (less, shared.1, shared.2) in (
-              IsAtMost_trans cost old.cost (shared_cost downs ups i j) (IsBelow-IsAtMost cost old.cost is.1) most.0,
-              λ same. absurd (IsBelow_not cost old.cost is.1 (subst (IsAtMost old.cost) same most.0)),
+              IsAtMost_trans new.cost old.cost (shared_cost ups downs i j) (IsBelow-IsAtMost new.cost old.cost is.1) most.0,
+              λ same. absurd (IsBelow_not new.cost old.cost is.1 (subst (IsAtMost old.cost) same most.0)),
             ))
-        | inr more ↦ (let at = own i j shared more in
-            (subst (IsAtMost cost) (sym (own_cost i j at)) (IsAtMost_refl cost), λ same. omega (arith, more)))
+        | inr more ↦ (
+            let at = own i j shared more in
+            (subst (IsAtMost new.cost) (sym (own_cost i j at)) (IsAtMost_refl new.cost), λ same. omega (arith, own_node i at.0)))
       ];
     })
-    meet_goes_on (Some old) result before (inr is) = subst (IsMeetSoFar downs ups (n + 1)) (sym is.0) (record {
+    meet_goes_on (Meeting.At old) result before (inr is) = subst (IsMeetingSoFar ups downs (n + 1)) (sym is.0) (record {
+      here = before.here;
+      there = before.there;
       is = (omega (arith, before.is.0), before.is.1, before.is.2);
       node = before.node;
       cost = before.cost;
       least = λ i j shared. elim (cases_lt i n) [
         | inl less ↦ before.least i j (less, shared.1, shared.2)
-        | inr more ↦ (let at = own i j shared more in
-            (subst (IsAtMost old.cost) (sym (own_cost i j at)) is.1, λ same. omega (arith, more, before.is.0)))
+        | inr more ↦ (
+            let at = own i j shared more in
+            let lower : (entry_at ups before.here).0 < (entry_at ups n).0 = rise before.here n (0, no_cost) before.is.0 low in (
+              subst (IsAtMost old.cost) (sym (own_cost i j at)) is.1,
+              λ same. omega (arith, own_node i at.0, before.node, lower),
+            ))
       ];
     })
 
-module _ (H : LevelsAndLegs) (k : IsKeptForSome H) (s t : ℕ) (downs ups : List (ℕ × Cost)) (down : IsOpenSpread H.down H.up t downs)
-    (up : IsSpread H.up None s ups) where
+    -- it was seen before
+    pub meet_again : (old result : Meeting) → IsMeetingSoFar ups downs (n + 1) old → IsFirstOf old new result →
+        IsMeetingSoFar ups downs (n + 1) result
+    meet_again Meeting.Unknown result before is = subst (IsMeetingSoFar ups downs (n + 1)) (sym is) tt
+    meet_again Meeting.Nowhere result before is = absurd (before n k (omega arith, inside, sym node))
+    meet_again (Meeting.At old) result before (inl is) =
+        absurd (IsBelow_not new.cost old.cost is.1 (before.least n k (omega arith, inside, sym node)).0)
+    meet_again (Meeting.At old) result before (inr is) = subst (IsMeetingSoFar ups downs (n + 1)) (sym is.0) before
+
+  -- the other list has no entry at the node of entry n
+  pub meet_stays : ((j : ℕ) → j < length downs → (entry_at downs j).0 ≡ (entry_at ups n).0 → ⊥) → (old : Meeting) →
+      IsMeetingSoFar ups downs n old → IsMeetingSoFar ups downs (n + 1) old
+  meet_stays none Meeting.Unknown before = tt
+  meet_stays none Meeting.Nowhere before = λ i j shared. elim (cases_lt i n) [
+    | inl less ↦ before i j (less, shared.1, shared.2)
+    | inr more ↦ (
+        let same : i ≡ n = omega (arith, more, shared.0) in
+        none j shared.1 (sym shared.2 ∙ ap (λ (m : ℕ). (entry_at ups m).0) same))
+  ]
+  meet_stays none (Meeting.At meet) before = record {
+    here = before.here;
+    there = before.there;
+    is = (omega (arith, before.is.0), before.is.1, before.is.2);
+    node = before.node;
+    cost = before.cost;
+    least = λ i j shared. elim (cases_lt i n) [
+      | inl less ↦ before.least i j (less, shared.1, shared.2)
+      | inr more ↦ absurd (
+          let same : i ≡ n = omega (arith, more, shared.0) in
+          none j shared.1 (sym shared.2 ∙ ap (λ (m : ℕ). (entry_at ups m).0) same))
+    ];
+  }
+
+module _ (H : LevelsAndLegs) (k : IsKeptForSome H) (s t : ℕ) (ups downs : List (ℕ × Cost)) (up : IsOpenSpread H.up H.down s ups)
+    (down : IsOpenSpread H.down H.up t downs) where
   -- least meetings are distances
   law : MeetingsAreDistances k.0 H
   law = meetings_are_distances k.0 H k.1 k.2
@@ -106,27 +155,33 @@ module _ (H : LevelsAndLegs) (k : IsKeptForSome H) (s t : ℕ) (downs ups : List
   record AreAt (m : ℕ) (a b : Cost) : Type 0 where
     i : ℕ
     j : ℕ
-    shared : AreShared downs ups (length downs) i j
-    node : (entry_at downs i).0 ≡ m
-    cost : shared_cost downs ups i j ≡ cost_sum a b
+    shared : AreShared ups downs (length ups) i j
+    node : (entry_at ups i).0 ≡ m
+    cost : shared_cost ups downs i j ≡ cost_sum a b
 
-  at_node : (m : ℕ) (a b : Cost) → Contains downs (m, b) → Contains ups (m, a) → AreAt m a b
-  at_node m a b there here =
+  at_node : (m : ℕ) (a b : Cost) → Contains ups (m, a) → Contains downs (m, b) → AreAt m a b
+  at_node m a b here there =
       let e : entry_at downs there.0 ≡ (m, b) = get_or_default downs there.0 (0, no_cost) (m, b) there.1 ∙ there.2 in
       let f : entry_at ups here.0 ≡ (m, a) = get_or_default ups here.0 (0, no_cost) (m, a) here.1 ∙ here.2 in
-      let node : (entry_at downs there.0).0 ≡ m = ap (λ (p : ℕ × Cost). p.0) e in
-      let next : (entry_at ups here.0).0 ≡ m = ap (λ (p : ℕ × Cost). p.0) f in
+      let next : (entry_at downs there.0).0 ≡ m = ap (λ (p : ℕ × Cost). p.0) e in
+      let node : (entry_at ups here.0).0 ≡ m = ap (λ (p : ℕ × Cost). p.0) f in
       record {
-        i = there.0;
-        j = here.0;
-        shared = (there.1, here.1, node ∙ sym next);
+        i = here.0;
+        j = there.0;
+        shared = (here.1, there.1, node ∙ sym next);
         node = node;
         cost = ap (λ (p : ℕ × Cost). cost_sum p.1 (entry_at downs there.0).1) f ∙ ap (λ (p : ℕ × Cost). cost_sum a p.1) e;
       }
 
   -- a tight node is not stalled
-  not_stalled : (m : ℕ) (b : Cost) → IsTight H Down t m b → IsStalled H.down H.up t m b → ⊥
-  not_stalled m b tight is =
+  not_stalled_up : (m : ℕ) (a : Cost) → IsTight H Up s m a → IsStalled H.up H.down s m a → ⊥
+  not_stalled_up m a tight is =
+      let walk = sum_walk H k s m is.leg.node is.cost is.leg.cost is.reached (reached_by_leg H k.2.levelled Down m is.leg is.has) in
+      let least = (law.least s m a).1 tight.1 in
+      IsBelow_not (cost_sum is.cost is.leg.cost) a is.below (IsLeast-IsAtMost k.0 s m a (cost_sum is.cost is.leg.cost) least walk)
+
+  not_stalled_down : (m : ℕ) (b : Cost) → IsTight H Down t m b → IsStalled H.down H.up t m b → ⊥
+  not_stalled_down m b tight is =
       let walk = sum_walk H k m t is.leg.node is.leg.cost is.cost (reached_by_leg H k.2.levelled Up m is.leg is.has) is.reached in
       let least = (law.least m t b).1 tight.1 in
       let below : IsBelow (cost_sum is.leg.cost is.cost) b =
@@ -136,11 +191,17 @@ module _ (H : LevelsAndLegs) (k : IsKeptForSome H) (s t : ℕ) (downs ups : List
   -- where paths meet at the least cost there are entries
   at_least : (c : Cost) → IsLeastMeeting H s t c → (m : ℕ) (meeting : IsMeeting H s t m c) → AreAt m meeting.0 meeting.1
   at_least c h m (a, b, rise, fall, sum) =
-      let tight = tight_down H k s t m a b c h (least_reached H.up s m a rise) (least_reached H.down t m b fall) sum in
-      elim (down.whole m b fall) [
-        | inl there ↦ at_node m a b there (up.whole m a rise tt)
-        | inr stalled ↦ absurd (not_stalled m b tight stalled)
-      ]
+      let upward = least_reached H.up s m a rise in
+      let downward = least_reached H.down t m b fall in
+      let here : Contains ups (m, a) = elim (up.whole m a rise) [
+        | inl has ↦ has
+        | inr stalled ↦ absurd (not_stalled_up m a (tight_up H k s t m a b c h upward downward sum) stalled)
+      ] in
+      let there : Contains downs (m, b) = elim (down.whole m b fall) [
+        | inl has ↦ has
+        | inr stalled ↦ absurd (not_stalled_down m b (tight_down H k s t m a b c h upward downward sum) stalled)
+      ] in
+      at_node m a b here there
 
   -- where paths meet at all, some meet at the least cost
   some_least : (m : ℕ) (d : Cost) → IsMeeting H s t m d → (c : Cost) × IsLeastMeeting H s t c
@@ -150,24 +211,24 @@ module _ (H : LevelsAndLegs) (k : IsKeptForSome H) (s t : ℕ) (downs ups : List
   ]
 
   -- without shared entries no paths meet
-  pub never : IsMeetSoFar downs ups (length downs) None → NeverMeets H s t
+  pub never : IsMeetingSoFar ups downs (length ups) Meeting.Nowhere → NeverMeets H s t
   never apart m d meeting =
       let c = some_least m d meeting in
       let at = at_least c.0 c.1 c.1.meets.0 c.1.meets.1 in
       apart at.i at.j at.shared
 
-  -- the first entries of least cost at one node are where the route meets
-  pub meets : (meet : Meet) → IsFirstMeet downs ups (length downs) meet → IsMeet H s t (entry_at downs meet.down).0 meet.cost
+  -- the least numbered node of least cost that both have is where the route meets
+  pub meets : (meet : Meet) → IsFirstMeet ups downs (length ups) meet → IsMeet H s t meet.node meet.cost
   meets meet first =
-      let x = (entry_at downs meet.down).0 in
-      let a = entry_at ups meet.up in
-      let b = entry_at downs meet.down in
+      let x = (entry_at ups first.here).0 in
+      let a = entry_at ups first.here in
+      let b = entry_at downs first.there in
+      let has : Contains ups (x, a.1) =
+      (first.here, first.is.0, get_or_default ups first.here (get_or ups first.here (0, no_cost)) (0, no_cost) first.is.0) in
       let there : Contains downs (b.0, b.1) =
-      (meet.down, first.is.0, get_or_default downs meet.down (get_or downs meet.down (0, no_cost)) (0, no_cost) first.is.0) in
-      let here : Contains ups (a.0, a.1) =
-      (meet.up, first.is.1, get_or_default ups meet.up (get_or ups meet.up (0, no_cost)) (0, no_cost) first.is.1) in
-      let has : Contains ups (x, a.1) = subst (λ (n : ℕ). Contains ups (n, a.1)) (sym first.is.2) here in
-      let own : IsMeeting H s t x meet.cost = (a.1, b.1, (up.sound x a.1 has).0, down.sound x b.1 there, sym first.cost) in
+      (first.there, first.is.1, get_or_default downs first.there (get_or downs first.there (0, no_cost)) (0, no_cost) first.is.1) in
+      let other : Contains downs (x, b.1) = subst (λ (n : ℕ). Contains downs (n, b.1)) (sym first.is.2) there in
+      let own : IsMeeting H s t x meet.cost = (a.1, b.1, up.sound x a.1 has, down.sound x b.1 other, sym first.cost) in
       let c = some_least x meet.cost own in
       let best = at_least c.0 c.1 c.1.meets.0 c.1.meets.1 in
       let most : IsAtMost meet.cost c.0 =
@@ -175,20 +236,14 @@ module _ (H : LevelsAndLegs) (k : IsKeptForSome H) (s t : ℕ) (downs ups : List
       let same : c.0 ≡ meet.cost = IsAtMost_antisymm c.0 meet.cost (c.1.least x meet.cost own) most in
       let least : IsLeastMeeting H s t meet.cost = subst (IsLeastMeeting H s t) same c.1 in
       record {
-        meets = own;
+        meets = subst (λ (n : ℕ). IsMeeting H s t n meet.cost) (sym first.node) own;
         least = λ m d meeting. (
           least.least m d meeting,
           λ equal.
               let at = at_least d (subst (IsLeastMeeting H s t) (sym equal) least) m meeting in
-              let is : shared_cost downs ups at.i at.j ≡ d = at.cost ∙ meeting.4 in
+              let is : shared_cost ups downs at.i at.j ≡ d = at.cost ∙ meeting.4 in
               let before = (first.least at.i at.j at.shared).1 (is ∙ equal) in
-              elim (cases_lt meet.down at.i) [
-                | inl less ↦ (let rise = down.order meet.down at.i (0, no_cost) less at.shared.0 in omega (arith, rise, at.node))
-                | inr more ↦ (
-                    let place : meet.down ≡ at.i = omega (arith, before, more) in
-                    let one = ap (λ (n : ℕ). (entry_at downs n).0) place in
-                    omega (arith, one, at.node))
-              ],
+              omega (arith, before, at.node),
         );
       }
 

@@ -1,5 +1,5 @@
 -- One more pair is served.
-use Rattle.std.proofs.Common.{◌≡◌, ℕ, ◌+◌, List, [], ◌∷◌, ◌++◌, get_or, Option, Some, None, true, false}
+use Rattle.std.proofs.Common.{◌≡◌, ℕ, ◌+◌, Bool, List, [], ◌∷◌, ◌++◌, get_or, Option, Some, None, true, false}
 use Rattle.std.proofs.Common.{true≢false, refl, sym, ◌∙◌, ap, subst, arith, inl, inr, length-append}
 use Rattle.std.specs.Prelude.{is_some}
 use Rattle.std.proofs.lemmas.Bool.{cases_lt}
@@ -7,7 +7,9 @@ use Rattle.std.proofs.lemmas.List.Sums.{sum_by_push}
 use Rattle.std.proofs.lemmas.List.{get_or_append_left, get_or_push}
 use Rattle.ch_hierarchy.specs.Hierarchy.{LevelsAndLegs}
 use Rattle.ch_query.specs.declared.routes.Route.{Route}
-use Rattle.ch_flows.specs.Flows.{AreServed, IsAnswer, missing, without_route}
+use Rattle.ch_flows.specs.declared.plan.Link.{Link}
+use Rattle.ch_flows.specs.Flows.{AreServed, IsAnswer, arcs_of, missing, without_route}
+use Rattle.ch_flows.specs.Plans.{AreCounted, IsPairAt, IsTally, IsWay}
 
 pub served_none : (H : LevelsAndLegs) (sources targets demands : List ℕ) → AreServed H sources targets demands 0 []
 served_none H sources targets demands = record {
@@ -57,3 +59,17 @@ pub missed_more : (served : List (ℕ × Option Route)) (demand : ℕ) (answer :
     new ≡ old + missing answer → new ≡ without_route (served ++ (demand, answer) ∷ [])
 missed_more served demand answer old new before is =
     omega (arith, before, is, sum_by_push (λ (p : ℕ × Option Route). missing p.1) served (demand, answer))
+
+-- one more pair is counted, if its demand is added along its way
+pub counted_pair : (H : LevelsAndLegs) (links : List Link) (sources targets demands : List ℕ) (n : ℕ) (way : List ℕ) (found : Bool)
+    (demand : ℕ) (pair : IsPairAt H links sources targets demands n way found demand) (flows new : List ℕ) (missed more : ℕ)
+    (counted : AreCounted H links sources targets demands n flows missed) (places : List ℕ) →
+    (IsWay H links places (arcs_of pair.0.0) → IsTally H links (counted.0 ++ (demand, pair.0.0) ∷ []) new) → places ≡ way →
+    missing pair.0.0 ≡ more → AreCounted H links sources targets demands (n + 1) new (missed + more)
+counted_pair H links sources targets demands n way found demand pair flows new missed more counted places added same missed_is =
+    let answer = pair.0.0 in (
+      counted.0 ++ (demand, answer) ∷ [],
+      served_more H sources targets demands n counted.0 demand answer counted.1 (sym pair.1) pair.0.2,
+      added (subst (λ (l : List ℕ). IsWay H links l (arcs_of answer)) (sym same) pair.0.3),
+      missed_more counted.0 demand answer missed (missed + more) counted.3 (omega (arith, missed_is)),
+    )

@@ -1,13 +1,13 @@
 -- Trees of least paths: what one more leg changes, and the step to an entry.
-use Rattle.std.proofs.Common.{◌≡◌, ℕ, ◌+◌, ◌*◌, ◌<◌, ◌≤◌, List, [], ◌∷◌, length, get_or, set, Contains, Option, Some, None}
+use Rattle.std.proofs.Common.{◌≡◌, ℕ, ◌+◌, ◌*◌, ◌<◌, ◌≤◌, List, [], ◌∷◌, length, get_or, Contains, Option, Some, None}
 use Rattle.std.proofs.Common.{inl, inr, refl, sym, ◌∙◌, ap, subst, arith}
-use Rattle.std.specs.Prelude.{◌≢◌, is_some, MatchOption}
-use Rattle.std.proofs.lemmas.Bool.{cases_eq, cases_lt, false≢true}
-use Rattle.std.proofs.lemmas.List.{get_or-set_other, get_or-set_same, get_or_default}
+use Rattle.std.specs.Prelude.{All, is_some}
+use Rattle.std.proofs.lemmas.Bool.{cases_lt, false≢true}
+use Rattle.std.proofs.lemmas.List.{get_or_default}
 use Rattle.ch_graph.specs.declared.cost.Cost.{Cost}
 use Rattle.ch_graph.specs.Cost.{cost_sum, no_cost}
 use Rattle.ch_hierarchy.specs.declared.leg.Leg.{Leg}
-use Rattle.std.proofs.lemmas.List.Elements.{All-contains}
+use Rattle.std.proofs.lemmas.List.Elements.{All-contains, Contains-get_or}
 use Rattle.ch_hierarchy.specs.Hierarchy.{AreLegsUp, IsLegUp, IsLevelled, LevelsAndLegs, nodes_of}
 use Rattle.ch_hierarchy.specs.Paths.{IsLeastUpwardPath, IsUpwardPath}
 use Rattle.ch_hierarchy.specs.Rows.{row}
@@ -20,8 +20,9 @@ use Rattle.ch_query.specs.Spread.{IsSpread}
 use Rattle.ch_query.proofs.one_side.Parents.{least_same}
 use Rattle.ch_flows.specs.declared.plan.Link.{Link}
 use Rattle.ch_flows.specs.declared.tree.Step.{Step}
+use Rattle.ch_flows.specs.declared.tree.Tree.{Tree}
 use Rattle.ch_flows.specs.Layouts.{IsLaid, IsSpot, leg_on, place_of}
-use Rattle.ch_flows.specs.Trees.{AreInOrder, IsLegAt, IsSlot, IsSlotWithin, IsIndex, IsStep, IsTaken, Reaches, entry_at, place_at}
+use Rattle.ch_flows.specs.Trees.{AreInOrder, IsLegAt, IsSlot, IsSlotWithin, IsStep, IsTaken, IsTree, Reaches, entry_at}
 use Rattle.ch_flows.proofs.Parts.{leg_in}
 
 module _ (side : Side) (H : LevelsAndLegs) (links : List Link) (entries : List (ℕ × Cost)) (j i : ℕ) where
@@ -139,30 +140,10 @@ pub leg_spot : (side : Side) (H : LevelsAndLegs) (starts : List ℕ) (links : Li
 leg_spot side H starts links laid v k p spot e =
     subst (IsLegAt side links v (leg_on (row (rows_of H side) v) k)) (sym e) (laid.within side v k spot, laid.each side v k spot)
 
--- the place of one more entry
-pub index_more : (places new : List (Option ℕ)) (entries : List (ℕ × Cost)) (i : ℕ) → IsIndex places entries i →
-    (entry_at entries i).0 < length places → new ≡ set places (entry_at entries i).0 (Some i) → IsIndex new entries (i + 1)
-index_more places new entries i before low is v =
-    subst (λ (l : List (Option ℕ)). MatchOption (place_at l v) ((k : ℕ) → k < i + 1 → (entry_at entries k).0 ≢ v)
-    (λ k. (k < i + 1) × ((entry_at entries k).0 ≡ v))) (sym is) (elim (cases_eq v (entry_at entries i).0) [
-      | inl same ↦ (
-          let at : place_at (set places (entry_at entries i).0 (Some i)) v ≡ Some i =
-          ap (place_at (set places (entry_at entries i).0 (Some i))) same
-          ∙ get_or-set_same places (entry_at entries i).0 (Some i) None low in
-          subst (λ (p : Option ℕ). MatchOption p ((k : ℕ) → k < i + 1 → (entry_at entries k).0 ≢ v)
-          (λ k. (k < i + 1) × ((entry_at entries k).0 ≡ v))) (sym at) (omega arith, sym same))
-      | inr other ↦ (
-          let at : place_at (set places (entry_at entries i).0 (Some i)) v ≡ place_at places v =
-          get_or-set_other places (entry_at entries i).0 v (Some i) None other in
-          subst (λ (p : Option ℕ). MatchOption p ((k : ℕ) → k < i + 1 → (entry_at entries k).0 ≢ v)
-          (λ k. (k < i + 1) × ((entry_at entries k).0 ≡ v))) (sym at) (goes_on (place_at places v) other (before v)))
-    ])
-  where
-    goes_on : (p : Option ℕ) → v ≢ (entry_at entries i).0 →
-        MatchOption p ((k : ℕ) → k < i → (entry_at entries k).0 ≢ v) (λ k. (k < i) × ((entry_at entries k).0 ≡ v)) →
-        MatchOption p ((k : ℕ) → k < i + 1 → (entry_at entries k).0 ≢ v) (λ k. (k < i + 1) × ((entry_at entries k).0 ≡ v))
-    goes_on None other none = λ k less same. elim (cases_lt k i) [
-      | inl fewer ↦ none k fewer same
-      | inr more ↦ (let at : k ≡ i = omega (arith, less, more) in other (sym same ∙ ap (λ (n : ℕ). (entry_at entries n).0) at))
-    ]
-    goes_on (Some k) other some = (omega (arith, some.0), some.1)
+-- the entries of a tree that are kept are nodes
+pub kept_low : (H : LevelsAndLegs) → IsLevelled H → (side : Side) (links : List Link) (tree : Tree) → tree.source < nodes_of H →
+    IsTree side H links tree → All (λ (e : ℕ × Cost). e.0 < nodes_of H) tree.kept.items
+kept_low H levelled side links tree low is k d inside =
+    let e = get_or tree.kept.items k d in
+    let path = (is.kept.sound e.0 e.1 (Contains-get_or tree.kept.items k d inside)).path in
+    path_end H (rows_of H side) (legs_up H levelled side) tree.source e.0 path.0 low path.1

@@ -1,30 +1,78 @@
--- Where trees from both ends meet: at the first entries of least cost that have one node.
-use Rattle.std.specs.Prelude.{◌≡◌, ℕ, ◌<◌, ◌≤◌, ◌⊎◌, List, length, Option, None, Some}
+-- Where the tree of a source meets the trees of targets: at the least numbered node of least cost that both have.
+use Rattle.std.specs.Prelude.{◌≡◌, ◌≢◌, ℕ, ◌+◌, ◌<◌, ◌≤◌, ◌⊎◌, ⊤, List, [], length, slice_index_or, Contains}
 use Rattle.ch_graph.specs.declared.cost.Cost.{Cost}
-use Rattle.ch_graph.specs.Cost.{IsAtMost, IsBelow, cost_sum}
+use Rattle.ch_graph.specs.Cost.{IsAtMost, IsBelow, cost_sum, no_cost}
 use Rattle.ch_flows.specs.declared.meeting.Meet.{Meet}
+use Rattle.ch_flows.specs.declared.meeting.Meeting.{Meeting}
+use Rattle.ch_flows.specs.declared.tree.Tree.{Tree}
 use Rattle.ch_flows.specs.Trees.{entry_at}
+
+-- the entries of a tree that are kept
+abbrev pub kept_of : Tree → List (ℕ × Cost)
+kept_of tree = tree.kept.items
+
+-- the entries of tree c
+abbrev pub list_at : List (List (ℕ × Cost)) → ℕ → List (ℕ × Cost)
+list_at lists c = slice_index_or lists c []
 
 -- the entries with one node in both lists, among the first n of the first list
 abbrev pub AreShared : List (ℕ × Cost) → List (ℕ × Cost) → ℕ → ℕ → ℕ → Type 0
-AreShared downs ups n i j = (i < n) × (j < length ups) × ((entry_at downs i).0 ≡ (entry_at ups j).0)
+AreShared ups downs n i j = (i < n) × (j < length downs) × ((entry_at ups i).0 ≡ (entry_at downs j).0)
 
 abbrev pub shared_cost : List (ℕ × Cost) → List (ℕ × Cost) → ℕ → ℕ → Cost
-shared_cost downs ups i j = cost_sum (entry_at ups j).1 (entry_at downs i).1
+shared_cost ups downs i j = cost_sum (entry_at ups i).1 (entry_at downs j).1
 
--- of these the first of least cost
-pub record IsFirstMeet (downs ups : List (ℕ × Cost)) (n : ℕ) (meet : Meet) : Type 0 where
-  pub is : AreShared downs ups n meet.down meet.up
-  pub node : meet.node ≡ (entry_at downs meet.down).0
-  pub cost : meet.cost ≡ shared_cost downs ups meet.down meet.up
-  pub least : (i j : ℕ) → AreShared downs ups n i j →
-      IsAtMost meet.cost (shared_cost downs ups i j) × (shared_cost downs ups i j ≡ meet.cost → meet.down ≤ i)
+-- of these the least numbered node of least cost
+pub record IsFirstMeet (ups downs : List (ℕ × Cost)) (n : ℕ) (meet : Meet) : Type 0 where
+  pub here : ℕ
+  pub there : ℕ
+  pub is : AreShared ups downs n here there
+  pub node : meet.node ≡ (entry_at ups here).0
+  pub cost : meet.cost ≡ shared_cost ups downs here there
+  pub least : (i j : ℕ) → AreShared ups downs n i j →
+      IsAtMost meet.cost (shared_cost ups downs i j) × (shared_cost ups downs i j ≡ meet.cost → meet.node ≤ (entry_at ups i).0)
 
-abbrev pub IsMeetSoFar : List (ℕ × Cost) → List (ℕ × Cost) → ℕ → Option Meet → Type 0
-IsMeetSoFar downs ups n None = (i j : ℕ) → AreShared downs ups n i j → ⊥
-IsMeetSoFar downs ups n (Some meet) = IsFirstMeet downs ups n meet
+-- where the first n entries of the first list and the second list meet, if that is known
+abbrev pub IsMeetingSoFar : List (ℕ × Cost) → List (ℕ × Cost) → ℕ → Meeting → Type 0
+IsMeetingSoFar ups downs n Meeting.Nowhere = (i j : ℕ) → AreShared ups downs n i j → ⊥
+IsMeetingSoFar ups downs n (Meeting.At meet) = IsFirstMeet ups downs n meet
+IsMeetingSoFar ups downs n Meeting.Unknown = ⊤
+
+-- the same of each of the other lists
+abbrev pub AreMeetings : List (ℕ × Cost) → List (List (ℕ × Cost)) → ℕ → List Meeting → Type 0
+AreMeetings ups lists n meetings = (c : ℕ) → c < length lists →
+    IsMeetingSoFar ups (list_at lists c) n (slice_index_or meetings c Meeting.Unknown)
+
+-- stop j
+abbrev pub stop_at : List (ℕ × Cost) → ℕ → ℕ × Cost
+stop_at stops j = slice_index_or stops j (0, no_cost)
+
+-- list c was met at entry n of the first list, or it is none of the first j stops
+abbrev pub IsMetBefore : List (ℕ × Cost) → List (ℕ × Cost) → ℕ → List (ℕ × Cost) → ℕ → ℕ → Meeting → Type 0
+IsMetBefore ups downs n stops j c meeting = IsMeetingSoFar ups downs (n + 1) meeting
+    ⊎ (((k : ℕ) → k < j → (stop_at stops k).0 ≢ c) × IsMeetingSoFar ups downs n meeting)
 
 -- of an old meet and a new one the one that costs less, and the old one if both cost the same
-abbrev pub IsFirstOf : Option Meet → Meet → Option Meet → Type 0
-IsFirstOf None new result = result ≡ Some new
-IsFirstOf (Some old) new result = ((result ≡ Some new) × IsBelow new.cost old.cost) ⊎ ((result ≡ Some old) × IsAtMost old.cost new.cost)
+abbrev pub IsFirstOf : Meeting → Meet → Meeting → Type 0
+IsFirstOf Meeting.Nowhere new result = result ≡ Meeting.At new
+IsFirstOf (Meeting.At old) new result =
+    ((result ≡ Meeting.At new) × IsBelow new.cost old.cost) ⊎ ((result ≡ Meeting.At old) × IsAtMost old.cost new.cost)
+IsFirstOf Meeting.Unknown new result = result ≡ Meeting.Unknown
+
+-- that, if it is known
+abbrev pub IsNearer : Meeting → Meet → Meeting → Type 0
+IsNearer old new result = (result ≡ Meeting.Unknown) ⊎ IsFirstOf old new result
+
+-- for each entry of the first n lists a pair of its node and a stop
+pub record ArePairs (lists : List (List (ℕ × Cost))) (n : ℕ) (pairs : List (ℕ × (ℕ × Cost))) : Type 0 where
+  pub sound : (v c : ℕ) (cost : Cost) → Contains pairs (v, (c, cost)) → (c < n) × Contains (list_at lists c) (v, cost)
+  pub whole : (v c : ℕ) (cost : Cost) → c < n → Contains (list_at lists c) (v, cost) → Contains pairs (v, (c, cost))
+
+-- the lists that have an entry of v, each with its cost
+pub record AreStopsAt (lists : List (List (ℕ × Cost))) (v : ℕ) (stops : List (ℕ × Cost)) : Type 0 where
+  pub sound : (c : ℕ) (cost : Cost) → Contains stops (c, cost) → (c < length lists) × Contains (list_at lists c) (v, cost)
+  pub whole : (c : ℕ) (cost : Cost) → c < length lists → Contains (list_at lists c) (v, cost) → Contains stops (c, cost)
+
+-- the same for each node
+abbrev pub AreStops : List (List (ℕ × Cost)) → List (List (ℕ × Cost)) → Type 0
+AreStops stops lists = (v : ℕ) → v < length stops → AreStopsAt lists v (slice_index_or stops v [])

@@ -1,14 +1,13 @@
 -- Trees of least paths from a node to higher ones: before each node the one that a route comes from, and the place of the leg
 -- between both.
-use Rattle.std.specs.Prelude.{◌≡◌, ◌≢◌, ℕ, ◌<◌, ◌≤◌, ◌++◌, ◌⊎◌, List, [], ◌∷◌, length, slice_index_or, AllPairs, Contains}
-use Rattle.std.specs.Prelude.{Option, None, Some, MatchOption}
+use Rattle.std.specs.Prelude.{◌≡◌, ◌≢◌, ℕ, ◌<◌, ◌≤◌, ◌++◌, ◌⊎◌, List, [], ◌∷◌, length, slice_index, slice_index_or, AllPairs, Contains}
+use Rattle.std.specs.Prelude.{Option, None, Some}
 use Rattle.ch_graph.specs.declared.cost.Cost.{Cost}
 use Rattle.ch_graph.specs.Cost.{cost_sum, no_cost}
 use Rattle.ch_hierarchy.specs.declared.leg.Leg.{Leg}
 use Rattle.ch_hierarchy.specs.Rows.{row}
 use Rattle.ch_hierarchy.specs.Hierarchy.{LevelsAndLegs}
 use Rattle.ch_hierarchy.specs.declared.side.Side.{Side}
-use Rattle.ch_hierarchy.specs.declared.side.Side.TheVariants.{Up}
 use Rattle.ch_hierarchy.specs.Side.{other, rows_of}
 use Rattle.ch_hierarchy.specs.Paths.{IsLeastUpwardPath}
 use Rattle.ch_query.specs.Search.{IsStalled}
@@ -17,7 +16,6 @@ use Rattle.ch_query.specs.Spread.{IsSpread}
 use Rattle.ch_flows.specs.declared.plan.Link.{Link}
 use Rattle.ch_flows.specs.declared.tree.Step.{Step}
 use Rattle.ch_flows.specs.declared.tree.Tree.{Tree}
-use Rattle.ch_flows.specs.declared.tree.RowTree.{RowTree}
 use Rattle.ch_flows.specs.Layouts.{leg_on, link_of}
 use Rattle.ch_flows.specs.Links.{link_at}
 
@@ -102,14 +100,10 @@ abbrev pub IsWayBack : Side → LevelsAndLegs → List Link → ℕ → ℕ → 
 IsWayBack side H links s x old new = (steps : List DescentStep) × (added : List ℕ) × IsDescent (rows_of H side) s x steps
     × AreLegsAt side links steps added × (new ≡ old ++ added)
 
--- the place of the entry of v, if it has one
-abbrev pub place_at : List (Option ℕ) → ℕ → Option ℕ
-place_at places v = slice_index_or places v None
-
--- these are the places of the first n entries by node
-abbrev pub IsIndex : List (Option ℕ) → List (ℕ × Cost) → ℕ → Type 0
-IsIndex places entries n = (v : ℕ) → MatchOption (place_at places v) ((k : ℕ) → k < n → (entry_at entries k).0 ≢ v)
-    (λ k. (k < n) × ((entry_at entries k).0 ≡ v))
+-- the place of each of the first n entries is written at its node
+abbrev pub ArePlaced : List (ℕ × Cost) → ℕ → List ℕ → Type 0
+ArePlaced entries n places = (k : ℕ) → k < n →
+    ((entry_at entries k).0 < length places) × (slice_index places (entry_at entries k).0 ≡ k)
 
 -- an entry is kept of the first n, or a leg back shows a way to it that costs less
 pub record AreKept (rows back : List (List Leg)) (entries kept : List (ℕ × Cost)) (n : ℕ) : Type 0 where
@@ -117,8 +111,3 @@ pub record AreKept (rows back : List (List Leg)) (entries kept : List (ℕ × Co
   pub sound : (k : ℕ) → k < length kept → (j : ℕ) × (j < n) × (entry_at kept k ≡ entry_at entries j)
   pub whole : (j : ℕ) → j < n → Contains kept (entry_at entries j)
       ⊎ ((s : ℕ) → IsSpread rows None s entries → IsStalled rows back s (entry_at entries j).0 (entry_at entries j).1)
-
--- the tree up of a source, with the places of its entries
-pub record IsRowTree (H : LevelsAndLegs) (links : List Link) (row : RowTree) : Type 0 where
-  pub tree : IsTree Up H links row.tree
-  pub index : IsIndex row.places.items row.tree.entries.items (length row.tree.entries.items)

@@ -1,31 +1,38 @@
-//! Where the tree of a source and the tree of a target meet, and the way of the route over this node.
-ghost use Rattle.std.specs.Prelude.{◌≡◌, ◌↔◌, [], ℕ, List, Option, ⊤, length, IsTrue, IfOk, MatchOption};
+//! Where the tree of a source and the trees of targets meet, and the way of the route over this node.
+ghost use Rattle.std.specs.Prelude.{◌≡◌, ◌↔◌, ◌+◌, ◌++◌, ◌<◌, [], ℕ, List, Option, ⊤, length, map, slice_index_or, All, IsTrue, IfOk, OnOk, MatchOption};
+ghost use Rattle.ch_graph.specs.declared.cost.Cost.{Cost as AnyCost};
 ghost use Rattle.ch_graph.specs.Cost.{IsBelow, cost_sum};
+ghost use Rattle.ch_graph.specs.Rows.{pairs_at};
 ghost use Rattle.ch_hierarchy.specs.Hierarchy.{LevelsAndLegs};
 ghost use Rattle.ch_hierarchy.specs.declared.side.Side.TheVariants.{Up as UpSide, Down as DownSide};
 ghost use Rattle.ch_flows.specs.declared.handing.Halves.{Halves as AnyHalves};
 ghost use Rattle.ch_flows.specs.declared.plan.Link.{Link as AnyLink};
 ghost use Rattle.ch_query.specs.Distance.{IsKeptForSome};
-ghost use Rattle.ch_flows.specs.Meetings.{IsFirstOf, IsMeetSoFar};
+ghost use Rattle.ch_flows.specs.Meetings.{AreMeetings, AreStops, AreStopsAt, IsMeetingSoFar, IsNearer, kept_of};
 ghost use Rattle.ch_flows.specs.Plans.{IsPlan, IsWayFound};
-ghost use Rattle.ch_flows.specs.Trees.{AreInOrder, IsIndex, IsTree, place_at};
+ghost use Rattle.ch_flows.specs.Trees.{AreInOrder, IsTree, entry_at};
 
-use crate::tree::{RowTree, Tree};
-use ch_graph::Cost;
-use std::alloc::AllocError;
+use crate::tree::Tree;
+use ch_graph::{Cost, Rows};
+use std::alloc::{AllocError, Global};
 
-/// The entries of two trees at one node, and the sum of their costs.
+/// A node where two trees meet, and the sum of their costs there.
 #[derive(Clone, Copy)]
 pub(crate) struct Meet {
     node: u32,
-    down: usize,
-    up: usize,
     cost: Cost,
 }
 
-/// The sum of two costs is too large for words.
+/// What is known of where two trees meet.
 #[derive(Clone, Copy)]
-pub(crate) struct TooFar;
+pub(crate) enum Meeting {
+    /// They do not meet.
+    Nowhere,
+    /// The least numbered node of those with the least sum of costs.
+    At(Meet),
+    /// A sum is too large for words.
+    Unknown,
+}
 
 /// Appends the places of the legs of the way between the sources of two trees, one up and one down, to none, and says whether
 /// there is a way. It is `None` if that is not known.
@@ -33,20 +40,19 @@ pub(crate) struct TooFar;
 /// # Errors
 /// `AllocError` if there is no memory.
 pub(crate) fn way_between(
-    row: &RowTree,
+    ups: &Tree,
     downs: &Tree,
+    meeting: Meeting,
     places: &mut Vec<usize>,
 ) -> Result<Option<bool>, AllocError>
-    requires { IsIndex row.now.places.items row.now.tree.entries.items (length row.now.tree.entries.items) }
-    ensures { IfOk result (λ known. MatchOption known ⊤ (λ found. (H : LevelsAndLegs) (links : List AnyLink) (parts : List (Option AnyHalves)) → IsKeptForSome H → IsPlan H links parts → IsTree UpSide H links row.now.tree → IsTree DownSide H links downs.now → places.old.items ≡ [] → IsWayFound H links row.now.tree.source downs.now.source places.new.items found)) }
+    ensures { IfOk result (λ known. MatchOption known ⊤ (λ found. (H : LevelsAndLegs) (links : List AnyLink) (parts : List (Option AnyHalves)) → IsKeptForSome H → IsPlan H links parts → IsTree UpSide H links ups.now → IsTree DownSide H links downs.now → IsMeetingSoFar ups.now.kept.items downs.now.kept.items (length ups.now.kept.items) meeting → places.old.items ≡ [] → IsWayFound H links ups.now.source downs.now.source places.new.items found)) }
 {
-    let Ok(found) = first_meet(&downs.kept, &row.tree.entries, &row.places) else {
-        return Ok(None);
+    let meet = match meeting {
+        Meeting::Unknown => return Ok(None),
+        Meeting::Nowhere => return Ok(Some(false)),
+        Meeting::At(meet) => meet,
     };
-    let Some(meet) = found else {
-        return Ok(Some(false));
-    };
-    let has_rise = row.tree.push_way_of(meet.node, places)?;
+    let has_rise = ups.push_way_of(meet.node, places)?;
     let has_fall = downs.push_way_of(meet.node, places)?;
     if has_rise && has_fall {
         return Ok(Some(true));
@@ -54,64 +60,93 @@ pub(crate) fn way_between(
     Ok(None)
 }
 
-/// Returns the first entry of the first list at whose node the second list has an entry too, of those with the
-/// least sum of both costs, if there is one. The places are those of the entries of the second list by node.
+/// Returns for each node the trees that keep an entry there, by their places, each with the cost.
 ///
 /// # Errors
-/// `TooFar` if a sum is too large.
-fn first_meet(
-    downs: &[(u32, Cost)],
-    ups: &[(u32, Cost)],
-    places: &[Option<usize>],
-) -> Result<Option<Meet>, TooFar>
-    requires { IsIndex places.now ups.now (length ups.now) }
-    ensures { IfOk result (λ found. AreInOrder ups.now → IsMeetSoFar downs.now ups.now (length downs.now) found) }
+/// `AllocError` if there is no memory.
+pub(crate) fn stops_of(
+    alloc: Global,
+    nodes: u32,
+    trees: &[Tree],
+) -> Result<Rows<(usize, Cost)>, AllocError>
+    requires { All (λ list. All (λ entry. entry.0 < nodes) list) (map kept_of trees.now) }
+    ensures count { IfOk result (λ stops. length stops ≡ nodes) }
+    ensures stops { IfOk result (λ stops. AreStops stops (map kept_of trees.now)) }
 {
-    let mut found = None;
-    for i in 0..downs.len() {
-        let Some(j) = place_in(places, downs[i].0) else {
-            continue;
-        };
-        let Some(cost) = sum_of(ups[j].1, downs[i].1) else {
-            return Err(TooFar);
-        };
-        found = first_of(
-            found,
-            Meet {
-                node: downs[i].0,
-                down: i,
-                up: j,
-                cost,
-            },
-        );
+    let mut pairs = Vec::new(alloc);
+    for c in 0..trees.len() {
+        push_stops(c, &trees[c].kept, &mut pairs)?;
     }
-    Ok(found)
+    Rows::build(alloc, nodes, &pairs)
 }
 
-/// Returns the place of the entry of a node, if it has one.
-#[inline]
-fn place_in(places: &[Option<usize>], node: u32) -> Option<usize>
-    ensures { result ≡ place_at places.now node }
+/// Appends the entries of a tree at this place, each after its node.
+fn push_stops(
+    place: usize,
+    kept: &[(u32, Cost)],
+    pairs: &mut Vec<(u32, (usize, Cost))>,
+) -> Result<(), AllocError>
+    ensures { OnOk result (pairs.new.items ≡ pairs.old.items ++ pairs_at place kept.now) }
 {
-    let node = node as usize;
-    if node < places.len() {
-        places[node]
-    } else {
-        None
+    for (node, cost) in kept {
+        pairs.push((*node, (place, *cost)))?;
+    }
+    Ok(())
+}
+
+/// Returns for each of some trees where it meets the tree with these entries. The stops are those of the trees.
+///
+/// # Errors
+/// `AllocError` if there is no memory.
+pub(crate) fn meetings(
+    alloc: Global,
+    kept: &[(u32, Cost)],
+    stops: &Rows<(usize, Cost)>,
+    trees: usize,
+) -> Result<Vec<Meeting>, AllocError>
+    requires nodes { (k : ℕ) → k < length kept.now → (entry_at kept.now k).0 < length stops.now }
+    requires trees { (v : ℕ) → All (λ stop. stop.0 < trees) (slice_index_or stops.now v []) }
+    ensures long { IfOk result (λ meetings. length meetings.items ≡ trees) }
+    ensures meetings { IfOk result (λ meetings. (lists : List (List (ℕ × AnyCost))) → length lists ≡ trees → AreInOrder kept.now → All AreInOrder lists → AreStops stops.now lists → AreMeetings kept.now lists (length kept.now) meetings.items) }
+{
+    let mut meetings = vec![in alloc; Meeting::Nowhere; trees]?;
+    for k in 0..kept.len() {
+        let (node, cost) = kept[k];
+        meet_at(node, cost, stops.row(node), meetings.as_mut_slice());
+    }
+    Ok(meetings)
+}
+
+/// Goes on with the trees that have entries at a node, where another tree has one at this cost.
+fn meet_at(node: u32, cost: Cost, stops: &[(usize, Cost)], meetings: &mut [Meeting])
+    requires { All (λ stop. stop.0 < length meetings.old) stops.now }
+    ensures long { length meetings.new ≡ length meetings.old }
+    ensures met { (ups : List (ℕ × AnyCost)) (lists : List (List (ℕ × AnyCost))) (n : ℕ) → n < length ups → entry_at ups n ≡ (node, cost) → length lists ≡ length meetings.old → AreInOrder ups → All AreInOrder lists → AreStopsAt lists node stops.now → AreMeetings ups lists n meetings.old → AreMeetings ups lists (n + 1) meetings.new }
+{
+    for j in 0..stops.len() {
+        let (tree, other) = stops[j];
+        let old = meetings[tree];
+        meetings[tree] = nearer(old, node, cost, other);
     }
 }
 
-/// Returns the meet that costs less, and the old one if both cost the same.
-fn first_of(old: Option<Meet>, new: Meet) -> Option<Meet>
-    ensures { IsFirstOf old new result }
+/// Returns where two trees meet after one more node that both have, at these costs.
+fn nearer(old: Meeting, node: u32, up: Cost, down: Cost) -> Meeting
+    ensures { IsNearer old (record { node = node; cost = cost_sum up down }) result }
 {
-    let Some(meet) = old else {
-        return Some(new);
+    let Some(cost) = sum_of(up, down) else {
+        return Meeting::Unknown;
     };
-    if is_below(new.cost, meet.cost) {
-        return Some(new);
+    match old {
+        Meeting::Nowhere => Meeting::At(Meet { node, cost }),
+        Meeting::Unknown => Meeting::Unknown,
+        Meeting::At(meet) => {
+            if is_below(cost, meet.cost) {
+                return Meeting::At(Meet { node, cost });
+            }
+            old
+        }
     }
-    old
 }
 
 /// Whether `a` costs less than `b`.

@@ -2,19 +2,20 @@
 ghost use Rattle.std.specs.Prelude.{◌≡◌, [], ◌<◌, ◌≤◌, ◌+◌, ◌*◌, ℕ, List, length, All, Option, IfErr, IfOk, OnOk};
 ghost use Rattle.ch_graph.specs.declared.arc.InArc.{InArc as AnyArc};
 ghost use Rattle.ch_hierarchy.specs.Hierarchy.{LevelsAndLegs, nodes_of};
-ghost use Rattle.ch_hierarchy.specs.declared.side.Side.TheVariants.{Down as DownSide};
+ghost use Rattle.ch_hierarchy.specs.declared.side.Side.TheVariants.{Down as DownSide, Up as UpSide};
 ghost use Rattle.ch_query.specs.Distance.{IsKeptForSome};
 ghost use Rattle.ch_query.specs.Unpacking.{ArePending, ArePendingArcs};
 ghost use Rattle.ch_flows.specs.Handing.{AreParts};
 ghost use Rattle.ch_flows.specs.Layouts.{IsLaid};
+ghost use Rattle.ch_flows.specs.Meetings.{IsMeetingSoFar};
 ghost use Rattle.ch_flows.specs.Plans.{AreCounted, AreFlowsOf, IsPairAt, IsPlanOf, IsRefusal, IsTally, IsWay, IsWayFound};
-ghost use Rattle.ch_flows.specs.Trees.{IsRowTree, IsTree};
+ghost use Rattle.ch_flows.specs.Trees.{IsTree};
 ghost use Rattle.ch_flows.specs.declared.plan.Plan.{Plan as AnyPlan};
 
-use crate::meeting::way_between;
+use crate::meeting::{Meeting, way_between};
 use crate::plan::{Layout, Plan};
 use crate::tally::{add_pair, no_flows, take_down};
-use crate::tree::{RowTree, Tree};
+use crate::tree::Tree;
 use ch_hierarchy::Hierarchy;
 use ch_query::{PendingLeg, Scratch, route_legs};
 use std::alloc::{AllocError, Global};
@@ -174,37 +175,39 @@ impl Way {
         Ok(is_found)
     }
 
-    /// Finds the places of the legs of the way between the sources of two trees, and says whether there is one. Where the trees
-    /// do not have it, it is searched.
+    /// Finds the places of the legs of the way between the sources of two trees, which meet there, and says whether there is
+    /// one. Where that is not known, it is searched.
     pub(crate) fn find_in(
         &mut self,
         alloc: Global,
         hierarchy: &Hierarchy,
         plan: &Plan,
         scratch: &mut Scratch,
-        row: &RowTree,
+        ups: &Tree,
         downs: &Tree,
+        meeting: Meeting,
     ) -> Result<bool, AllocError>
         requires kept { IsKeptForSome hierarchy.now }
         requires plan { IsPlanOf hierarchy.now plan.now }
         requires scratch { scratch.old ≡ nodes_of hierarchy.now }
-        requires row { IsRowTree hierarchy.now plan.now.layout.links.items row.now }
+        requires ups { IsTree UpSide hierarchy.now plan.now.layout.links.items ups.now }
         requires downs { IsTree DownSide hierarchy.now plan.now.layout.links.items downs.now }
-        requires source { row.now.tree.source < nodes_of hierarchy.now }
+        requires source { ups.now.source < nodes_of hierarchy.now }
         requires target { downs.now.source < nodes_of hierarchy.now }
-        ensures way { IfOk result (IsWayFound hierarchy.now plan.now.layout.links.items row.now.tree.source downs.now.source self.new.places.items) }
+        requires meeting { IsMeetingSoFar ups.now.kept.items downs.now.kept.items (length ups.now.kept.items) meeting }
+        ensures way { IfOk result (IsWayFound hierarchy.now plan.now.layout.links.items ups.now.source downs.now.source self.new.places.items) }
         ensures scratch { scratch.new ≡ scratch.old }
     {
         let places = &mut self.places;
         places.clear();
-        match way_between(row, downs, places)? {
+        match way_between(ups, downs, meeting, places)? {
             Some(is_found) => Ok(is_found),
             None => self.find(
                 alloc,
                 hierarchy,
                 &plan.layout,
                 scratch,
-                row.tree.source,
+                ups.source,
                 downs.source,
             ),
         }

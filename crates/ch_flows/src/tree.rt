@@ -8,8 +8,7 @@ ghost use Rattle.ch_hierarchy.specs.Hierarchy.{LevelsAndLegs, nodes_of};
 ghost use Rattle.ch_hierarchy.specs.declared.side.Side.{Side as AnySide};
 ghost use Rattle.ch_flows.specs.declared.plan.Link.{Link as AnyLink};
 ghost use Rattle.ch_flows.specs.Layouts.{IsLaid};
-ghost use Rattle.ch_flows.specs.Trees.{AreInOrder, AreKept, AreSlots, IsIndex, IsRowTree, IsTaken, IsTree, IsWayBack, entry_at, step_at};
-ghost use Rattle.ch_query.specs.Distance.{IsKeptForSome};
+ghost use Rattle.ch_flows.specs.Trees.{AreInOrder, AreKept, ArePlaced, AreSlots, IsTaken, IsTree, IsWayBack, entry_at, step_at};
 
 use crate::meeting::{is_below, sum_of};
 use crate::plan::Layout;
@@ -49,15 +48,18 @@ impl Tree {
         hierarchy: &Hierarchy,
         layout: &Layout,
         scratch: &mut Scratch,
+        places: &mut [usize],
         side: Side,
         source: u32,
     ) -> Result<Tree, AllocError>
         requires laid { IsLaid hierarchy.now layout.now.starts.items layout.now.links.items (2 * nodes_of hierarchy.now) }
         requires scratch { scratch.old ≡ nodes_of hierarchy.now }
+        requires places { length places.old ≡ nodes_of hierarchy.now }
         requires source { source < nodes_of hierarchy.now }
         ensures tree { IfOk result (λ tree. IsTree side hierarchy.now layout.now.links.items tree) }
         ensures source { IfOk result (λ tree. tree.source ≡ source) }
         ensures scratch { scratch.new ≡ scratch.old }
+        ensures places { length places.new ≡ length places.old }
     {
         let start = Start {
             source,
@@ -65,9 +67,17 @@ impl Tree {
             within: None,
         };
         let entries = spread(alloc, hierarchy, scratch, start)?;
+        write_places(&entries, places);
         let mut steps = vec![in alloc; None; entries.len()]?;
-        take_all(hierarchy, layout, side, &entries, steps.as_mut_slice());
-        let kept = kept_of(alloc, hierarchy, side, &entries)?;
+        take_all(
+            hierarchy,
+            layout,
+            side,
+            &entries,
+            places,
+            steps.as_mut_slice(),
+        );
+        let kept = kept_of(alloc, hierarchy, side, &entries, places)?;
         Ok(Tree {
             source,
             entries,
@@ -80,7 +90,7 @@ impl Tree {
     pub(crate) fn push_way_of(&self, node: u32, places: &mut Vec<usize>) -> Result<bool, AllocError>
         ensures { IfOk result (λ known. IsTrue known → (side : AnySide) (H : LevelsAndLegs) (links : List AnyLink) → IsTree side H links self.now → IsWayBack side H links self.now.source node places.old.items places.new.items) }
     {
-        match place_of(&self.entries, node) {
+        match search_place(&self.entries, node) {
             Some(place) => self.push_way(place, places),
             None => Ok(false),
         }
@@ -108,57 +118,36 @@ impl Tree {
     }
 }
 
-/// The tree up of a source, with the place of its entry for each node.
-#[derive(Drop)]
-pub(crate) struct RowTree {
-    pub(crate) tree: Tree,
-    pub(crate) places: Vec<Option<usize>>,
-}
-
-impl RowTree {
-    /// Finds the tree of a source.
-    ///
-    /// # Errors
-    /// `AllocError` if there is no memory.
-    pub(crate) fn grow(
-        alloc: Global,
-        hierarchy: &Hierarchy,
-        layout: &Layout,
-        scratch: &mut Scratch,
-        source: u32,
-    ) -> Result<RowTree, AllocError>
-        requires kept { IsKeptForSome hierarchy.now }
-        requires laid { IsLaid hierarchy.now layout.now.starts.items layout.now.links.items (2 * nodes_of hierarchy.now) }
-        requires scratch { scratch.old ≡ nodes_of hierarchy.now }
-        requires source { source < nodes_of hierarchy.now }
-        ensures row { IfOk result (λ row. IsRowTree hierarchy.now layout.now.links.items row) }
-        ensures source { IfOk result (λ row. row.tree.source ≡ source) }
-        ensures scratch { scratch.new ≡ scratch.old }
-    {
-        let tree = Tree::grow(alloc, hierarchy, layout, scratch, Side::Up, source)?;
-        let places = index_of(alloc, hierarchy.nodes() as usize, &tree.entries)?;
-        Ok(RowTree { tree, places })
-    }
-}
-
-/// Returns for each node the place of its entry, if it has one.
-fn index_of(
-    alloc: Global,
-    nodes: usize,
-    entries: &[(u32, Cost)],
-) -> Result<Vec<Option<usize>>, AllocError>
-    requires { (k : ℕ) → k < length entries.now → (entry_at entries.now k).0 < nodes }
-    ensures { IfOk result (λ places. IsIndex places.items entries.now (length entries.now)) }
+/// Writes the place of each entry at its node.
+fn write_places(entries: &[(u32, Cost)], places: &mut [usize])
+    requires order { AreInOrder entries.now }
+    requires nodes { (k : ℕ) → k < length entries.now → (entry_at entries.now k).0 < length places.old }
+    ensures long { length places.new ≡ length places.old }
+    ensures placed { ArePlaced entries.now (length entries.now) places.new }
 {
-    let mut places = vec![in alloc; None; nodes]?;
     for i in 0..entries.len() {
-        places[entries[i].0 as usize] = Some(i);
+        places[entries[i].0 as usize] = i;
     }
-    Ok(places)
+}
+
+/// Returns the place of the entry of a node, if there is one. It may be written at the node.
+fn place_of(entries: &[(u32, Cost)], places: &[usize], node: u32) -> Option<usize>
+    ensures { MatchOption result (ArePlaced entries.now (length entries.now) places.now → (k : ℕ) → k < length entries.now → (entry_at entries.now k).0 ≢ node) (λ k. (k < length entries.now) × ((entry_at entries.now k).0 ≡ node)) }
+{
+    let node_place = node as usize;
+    if node_place >= places.len() {
+        return None;
+    }
+    let place = places[node_place];
+    if place < entries.len() && entries[place].0 == node {
+        Some(place)
+    } else {
+        None
+    }
 }
 
 /// Returns the place of the entry of a node, if there is one, by binary search.
-fn place_of(entries: &[(u32, Cost)], node: u32) -> Option<usize>
+fn search_place(entries: &[(u32, Cost)], node: u32) -> Option<usize>
     ensures { MatchOption result (AreInOrder entries.now → (k : ℕ) → k < length entries.now → (entry_at entries.now k).0 ≢ node) (λ k. (k < length entries.now) × ((entry_at entries.now k).0 ≡ node)) }
 {
     match entries.binary_search_by_key(&node, |entry| entry.0) {
@@ -173,6 +162,7 @@ fn kept_of(
     hierarchy: &Hierarchy,
     side: Side,
     entries: &[(u32, Cost)],
+    places: &[usize],
 ) -> Result<Vec<(u32, Cost)>, AllocError>
     requires order { AreInOrder entries.now }
     requires nodes { (k : ℕ) → k < length entries.now → (entry_at entries.now k).0 < nodes_of hierarchy.now }
@@ -180,7 +170,7 @@ fn kept_of(
 {
     let mut kept = Vec::new(alloc);
     for i in 0..entries.len() {
-        if !is_stalled(hierarchy, side, entries, i) {
+        if !is_stalled(hierarchy, side, entries, places, i) {
             kept.push(entries[i])?;
         }
     }
@@ -188,14 +178,20 @@ fn kept_of(
 }
 
 /// Whether a leg back from another entry shows a way to an entry that costs less.
-fn is_stalled(hierarchy: &Hierarchy, side: Side, entries: &[(u32, Cost)], place: usize) -> bool
+fn is_stalled(
+    hierarchy: &Hierarchy,
+    side: Side,
+    entries: &[(u32, Cost)],
+    places: &[usize],
+    place: usize,
+) -> bool
     requires place { place < length entries.now }
     requires node { (entry_at entries.now place).0 < nodes_of hierarchy.now }
     ensures { IsTrue result → (s : ℕ) → IsSpread (rows_of hierarchy.now side) None s entries.now → IsStalled (rows_of hierarchy.now side) (rows_of hierarchy.now (other side)) s (entry_at entries.now place).0 (entry_at entries.now place).1 }
 {
     let legs = hierarchy.legs(side.other(), entries[place].0);
     for k in 0..legs.len() {
-        if is_dearer(entries, entries[place].1, legs[k]) {
+        if is_dearer(entries, places, entries[place].1, legs[k]) {
             return true;
         }
     }
@@ -203,10 +199,10 @@ fn is_stalled(hierarchy: &Hierarchy, side: Side, entries: &[(u32, Cost)], place:
 }
 
 /// Whether a cost is more than that of the entry at a leg's higher node and the leg.
-fn is_dearer(entries: &[(u32, Cost)], cost: Cost, leg: Leg) -> bool
+fn is_dearer(entries: &[(u32, Cost)], places: &[usize], cost: Cost, leg: Leg) -> bool
     ensures { IsTrue result → (j : ℕ) × (j < length entries.now) × ((entry_at entries.now j).0 ≡ leg.node) × IsBelow (cost_sum (entry_at entries.now j).1 leg.cost) cost }
 {
-    let Some(j) = place_of(entries, leg.node) else {
+    let Some(j) = place_of(entries, places, leg.node) else {
         return false;
     };
     let Some(sum) = sum_of(entries[j].1, leg.cost) else {
@@ -231,10 +227,12 @@ fn take_all(
     layout: &Layout,
     side: Side,
     entries: &[(u32, Cost)],
+    places: &[usize],
     steps: &mut [Option<Step>],
 )
     requires laid { IsLaid hierarchy.now layout.now.starts.items layout.now.links.items (2 * nodes_of hierarchy.now) }
     requires order { AreInOrder entries.now }
+    requires placed { ArePlaced entries.now (length entries.now) places.now }
     requires nodes { (k : ℕ) → k < length entries.now → (entry_at entries.now k).0 < nodes_of hierarchy.now }
     requires long { length steps.old ≡ length entries.now }
     requires none { (k : ℕ) → k < length entries.now → step_at steps.old k ≡ None }
@@ -242,7 +240,7 @@ fn take_all(
     ensures slots { AreSlots side hierarchy.now layout.now.links.items entries.now (length entries.now) steps.new }
 {
     for j in 0..entries.len() {
-        take_legs(hierarchy, layout, side, entries, j, steps);
+        take_legs(hierarchy, layout, side, entries, places, j, steps);
     }
 }
 
@@ -252,11 +250,13 @@ fn take_legs(
     layout: &Layout,
     side: Side,
     entries: &[(u32, Cost)],
+    places: &[usize],
     place: usize,
     steps: &mut [Option<Step>],
 )
     requires laid { IsLaid hierarchy.now layout.now.starts.items layout.now.links.items (2 * nodes_of hierarchy.now) }
     requires order { AreInOrder entries.now }
+    requires placed { ArePlaced entries.now (length entries.now) places.now }
     requires place { place < length entries.now }
     requires node { (entry_at entries.now place).0 < nodes_of hierarchy.now }
     requires long { length steps.old ≡ length entries.now }
@@ -267,7 +267,7 @@ fn take_legs(
     let legs = hierarchy.legs(side, node);
     for k in 0..legs.len() {
         let leg_place = layout.spot(hierarchy, side, node, k);
-        take_leg(entries, place, legs[k], leg_place, steps);
+        take_leg(entries, places, place, legs[k], leg_place, steps);
     }
 }
 
@@ -275,18 +275,20 @@ fn take_legs(
 /// this step.
 fn take_leg(
     entries: &[(u32, Cost)],
+    places: &[usize],
     place: usize,
     leg: Leg,
     leg_place: usize,
     steps: &mut [Option<Step>],
 )
     requires order { AreInOrder entries.now }
+    requires placed { ArePlaced entries.now (length entries.now) places.now }
     requires place { place < length entries.now }
     requires long { length steps.old ≡ length entries.now }
     ensures long { length steps.new ≡ length steps.old }
     ensures taken { (i : ℕ) → i < length entries.now → IsTaken entries.now place leg leg_place i (step_at steps.old i) (step_at steps.new i) }
 {
-    let Some(to) = place_of(entries, leg.node) else {
+    let Some(to) = place_of(entries, places, leg.node) else {
         return;
     };
     if steps[to].is_some() {

@@ -26,8 +26,8 @@ if TYPE_CHECKING:
 METHODS = MSA, FRANK_WOLFE, BI_CONJUGATE = "msa", "frank-wolfe", "bi-conjugate"
 # A step of at least this length ends the memory of earlier directions, because they have no part in the flows any more.
 WHOLE_STEP = 0.999_999
-# How often the interval of a step's length is halved, and the part of a flow that a derivative is taken over.
-HALVINGS, DIFFERENCE = 60, 1e-6
+# How near the bounds of a step's length come to each other, and the part of a flow that a derivative is taken over.
+NEAR, DIFFERENCE = 1e-13, 1e-6
 
 
 class Equilibrium(NamedTuple):
@@ -255,13 +255,31 @@ class Search:
         def slope(length: float) -> float:
             return float(self.costs(numpy.maximum(0.0, self.flows + length * direction)) @ direction)
 
-        if slope(1.0) <= 0:
-            return 1.0
-        low, high = 0.0, 1.0
-        for _ in range(HALVINGS):
+        below, above = slope(0.0), slope(1.0)
+        return 1.0 if above <= 0 else root(slope, below, above)
+
+
+def root(slope: Callable[[float], float], below: float, above: float) -> float:
+    """Where a slope passes 0 that is below it at 0, above it at 1, and never falls.
+
+    It is found by false positions (the Illinois method), and each third time by halves. The slope at the answer is at most 0.
+    """
+    low, high, last, step = 0.0, 1.0, 0, 0
+    while high - low > NEAR:
+        middle = (low + high) / 2 if step % 3 == 2 or below >= 0 else low + (high - low) * below / (below - above)
+        if not low < middle < high:
             middle = (low + high) / 2
-            low, high = (low, middle) if slope(middle) > 0 else (middle, high)
-        return low
+            if not low < middle < high:
+                break
+        value, step = slope(middle), step + 1
+        if value > 0:
+            high, above, below = middle, value, below / 2 if last > 0 else below
+        else:
+            low, below, above = middle, value, above / 2 if last < 0 else above
+        last = 1 if value > 0 else -1
+        if value == 0:
+            break
+    return low
 
 
 def part(value: float, whole_value: float) -> float:

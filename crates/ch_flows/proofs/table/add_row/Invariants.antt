@@ -11,7 +11,7 @@ invariant-loop-c l = record {
   long : length l.flows ≡ length l.plan.parts.items;
   few : l.missed ≤ l.c;
   counted : (sources targets demands : List ℕ) (first missed : ℕ) →
-      IsRowAt sources targets demands first l.row.tree.source l.trees l.cells →
+      IsRowAt sources targets demands first l.row.source l.columns.trees.items l.cells →
       AreCounted l.hierarchy l.plan.layout.links.items sources targets demands first l.fn.flows missed →
       AreCounted l.hierarchy l.plan.layout.links.items sources targets demands (first + l.c) l.flows (missed + l.missed);
 }

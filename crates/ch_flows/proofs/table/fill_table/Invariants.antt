@@ -8,10 +8,11 @@ use Rattle.ch_flows.proofs.table.fill_table.Given as goal
 abbrev pub invariant-loop-i : goal.invariant-loop-i
 invariant-loop-i l = record {
   scratch : l.scratch ≡ nodes_of l.hierarchy;
+  places : length l.places.items ≡ nodes_of l.hierarchy;
   long : length l.flows ≡ length l.plan.parts.items;
   few : l.missed ≤ l.first;
-  at : l.first ≡ l.i * length l.trees;
-  counted : (targets : List ℕ) → AreTargetTrees targets (length targets) l.trees →
+  at : l.first ≡ l.i * length l.columns.trees.items;
+  counted : (targets : List ℕ) → AreTargetTrees targets (length targets) l.columns.trees.items →
       AreCounted l.hierarchy l.plan.layout.links.items (cell_sources l.sources targets) (cell_targets l.sources targets) l.demands
       l.first l.flows l.missed;
 }

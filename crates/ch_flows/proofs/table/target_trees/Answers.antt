@@ -1,7 +1,7 @@
 -- One more target has its tree.
 use Rattle.std.proofs.Common.{◌≡◌, ◌+◌, ◌<◌, [], ◌∷◌, ℕ, List, length, get_or, ap, sym, subst, ◌∙◌, arith, inl, inr}
 use Rattle.std.proofs.lemmas.Bool.{cases_lt}
-use Rattle.std.proofs.lemmas.List.{get_or_append_left, get_or_push, length-append}
+use Rattle.std.proofs.lemmas.List.{get_or_append_left, get_or_push, length-append, with_items_is}
 use Rattle.ch_hierarchy.specs.Hierarchy.{nodes_of}
 use Rattle.ch_hierarchy.specs.declared.side.Side.TheVariants.{Down as DownSide}
 use Rattle.ch_flows.specs.declared.tree.Tree.{Tree as AnyTree}
@@ -17,6 +17,7 @@ loop-i-preserved c =
     let i = c.loop-i.i in
     let old = c.loop-i.trees.items in
     let made = c.in_ok-tree.ensures {u = tt} in
+    let same : length c.grow.new.places ≡ length c.loop-i.places.items = made.places ∙ ap length c.as_mut_slice.ensures.value in
     let tree = c.in_ok-tree.tree in
     let new = (c.in_ok-push.ensures {u = tt}).items in
     let one : List AnyTree = tree ∷ [] in
@@ -37,6 +38,7 @@ loop-i-preserved c =
     ]) in
     record {
       scratch = made.scratch ∙ inv.scratch;
+      places = ap length (with_items_is c.loop-i.places c.grow.new.places (same ∙ sym c.loop-i.places.ok.0)) ∙ same ∙ inv.places;
       trees = (size, λ n d less. (each n d less).0);
       nodes = λ n d less. (let is = each n d (omega (arith, less, size)) in (is.1, is.2));
     }

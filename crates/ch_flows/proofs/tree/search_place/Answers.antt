@@ -4,7 +4,7 @@ use Rattle.std.proofs.lemmas.List.Sorted.{answers_always}
 use Rattle.ch_graph.specs.declared.cost.Cost.{Cost}
 use Rattle.ch_graph.specs.Cost.{no_cost}
 use Rattle.ch_graph.proofs.BinarySearch.{found_number, number_not_missed}
-use Rattle.ch_flows.proofs.tree.place_of.Goals as goal
+use Rattle.ch_flows.proofs.tree.search_place.Goals as goal
 
 pub returns-in-Ok : goal.returns-in-Ok
 returns-in-Ok c =

@@ -1,1 +1,0 @@
--- At first no entry has a place, and then one more.
