@@ -17,3 +17,4 @@ pub mod Growing
 pub mod Triangles
 pub mod Ancestors
 pub mod Numbering
+pub mod Pruned

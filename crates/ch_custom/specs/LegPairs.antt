@@ -1,5 +1,5 @@
 -- The legs of the pairs of a topology, in both directions.
-use Rattle.std.specs.Prelude.{◌≡◌, ℕ, ◌+◌, ◌<◌, ◌==◌, ◌&&◌, nat_lt, if◌then◌else◌, List, [], map, All, slice_index_or, Option, Some, None}
+use Rattle.std.specs.Prelude.{◌≡◌, ℕ, ◌+◌, ◌==◌, ◌&&◌, nat_lt, if◌then◌else◌, List, [], map, All, slice_index_or, Option, Some, None}
 use Rattle.ch_graph.specs.declared.limits.TheConstants.{MOST_WEIGHT}
 use Rattle.ch_hierarchy.specs.declared.leg.Leg.{Leg}
 use Rattle.ch_hierarchy.specs.declared.side.Side.{Side}
@@ -11,7 +11,7 @@ use Rattle.ch_custom.specs.declared.leg_pair.LegPair.{LegPair}
 use Rattle.ch_custom.specs.declared.leg_pair.TheConstants.{NO_MIDDLE}
 use Rattle.ch_custom.specs.Customizing.{leg_over}
 use Rattle.ch_custom.specs.Metric.{held_leg, IsHeld, AreLoweredOver}
-use Rattle.ch_custom.specs.Topologies.{AreRelaxed, AreRelaxedTo}
+use Rattle.ch_custom.specs.Topologies.{AreRelaxed}
 
 -- the middle of a leg, which NO_MIDDLE says that it has none of
 abbrev pub middle_of : ℕ → Option ℕ

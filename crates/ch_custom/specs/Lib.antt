@@ -7,4 +7,5 @@ pub mod Numbering
 pub mod Topologies
 pub mod Opening
 pub mod Pairs
+pub mod Pruning
 pub mod Triangles

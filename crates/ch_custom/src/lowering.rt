@@ -28,7 +28,7 @@ fn lower(nodes: u32, middle: u32, first: Held, second: Held, leg: &mut Held)
         weight: leg.weight,
         arcs: u64::from(leg.arcs),
     };
-    if cost.weight <= MOST_WEIGHT && cost.arcs < u64::from(nodes) && cost < before {
+    if cost < before && cost.weight <= MOST_WEIGHT && cost.arcs < u64::from(nodes) {
         leg.weight = cost.weight;
         leg.arcs = cost.arcs as u32;
         leg.middle = middle;
@@ -51,28 +51,47 @@ fn lower_pair(nodes: u32, middle: u32, one: &LegPair, other: &LegPair, pair: &mu
     lower(nodes, middle, one.up, other.down, &mut pair.down);
 }
 
-/// Returns the first place from `next` on whose pair has at least this node, or the length of the row.
+/// Returns the first place from `from` on whose pair has at least this node, or the length of the row.
 #[inline]
-fn first_from(others: &[LegPair], next: usize, node: u32) -> usize
-    requires next { next ≤ length others.now }
-    requires before { (k : ℕ) (d : AnyPair) → k < next → (slice_index_or others.now k d).node < node }
-    ensures within { result ≤ length others.now }
-    ensures before { (k : ℕ) (d : AnyPair) → k < result → (slice_index_or others.now k d).node < node }
-    ensures after { (d : AnyPair) → result < length others.now → node ≤ (slice_index_or others.now result d).node }
+fn first_from(row: &[LegPair], from: usize, node: u32) -> usize
+    requires from { from ≤ length row.now }
+    ensures later { from ≤ result }
+    ensures within { result ≤ length row.now }
+    ensures before { (k : ℕ) (d : AnyPair) → from ≤ k → k < result → (slice_index_or row.now k d).node < node }
+    ensures after { (d : AnyPair) → result < length row.now → node ≤ (slice_index_or row.now result d).node }
 {
-    let mut place = next;
-    while place < others.len() && others[place].node < node {
+    let mut place = from;
+    while place < row.len() && row[place].node < node {
         place += 1;
     }
     place
 }
 
+/// Returns the place of the others after `from` if the row has later nodes alone, and else 0: the pairs before it lower
+/// nothing.
+#[inline]
+fn first_lowering(others: &[LegPair], from: usize, row: &[LegPair]) -> usize
+    requires others { IsReady others.now }
+    requires row { IsReady row.now }
+    ensures within { result ≤ length others.now }
+    ensures before { (k j : ℕ) (d e : AnyPair) → k < result → j < length row.now →
+        (slice_index_or others.now k d).node < (slice_index_or row.now j e).node }
+{
+    if from < others.len() && !row.is_empty() && others[from].node < row[0].node {
+        from + 1
+    } else {
+        0
+    }
+}
+
 /// Lowers each leg of a row over `middle`, in both directions: to the sum of the leg of `one` and the leg of `others`
-/// to the same node, if there is one. Both rows are walked once, until one of them ends.
+/// to the same node, if there is one. Both rows are walked once. Where nodes are numbered by the order, the walk of the
+/// others begins after `from`, the place of `one`.
 pub(crate) fn lower_row(
     nodes: u32,
     middle: u32,
     one: &LegPair,
+    from: usize,
     others: &[LegPair],
     row: &mut [LegPair],
 )
@@ -83,14 +102,14 @@ pub(crate) fn lower_row(
     ensures lowered { ArePairsLowered nodes middle one.now others.now row.old row.new }
     ensures held { (side : AnySide) → All IsHeld (row_of side row.new) }
 {
-    let mut next = 0;
+    let first = first_lowering(others, from, row);
     let mut place = 0;
-    while place < row.len() && next < others.len() {
-        let node = row[place].node;
-        next = first_from(others, next, node);
-        if next < others.len() && others[next].node == node {
+    for next in first..others.len() {
+        let node = others[next].node;
+        place = first_from(row, place, node);
+        if place < row.len() && row[place].node == node {
             lower_pair(nodes, middle, one, &others[next], &mut row[place]);
+            place += 1;
         }
-        place += 1;
     }
 }

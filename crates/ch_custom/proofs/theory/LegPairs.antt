@@ -1,6 +1,6 @@
 -- Pairs of legs, and the legs of them in one direction.
-use Rattle.std.proofs.Common.{◌≡◌, ℕ, ◌+◌, ◌<◌, ◌≤◌, Bool, true, false, cond, List, [], ◌∷◌, length, get_or, set, Contains, refl, sym}
-use Rattle.std.proofs.Common.{◌∙◌, ap, subst, arith}
+use Rattle.std.proofs.Common.{◌≡◌, ℕ, ◌<◌, Bool, true, false, cond, List, [], ◌∷◌, length, get_or, set, refl, sym}
+use Rattle.std.proofs.Common.{◌∙◌, ap}
 use Rattle.std.specs.Prelude.{◌==◌, ◌&&◌, nat_lt, map}
 use Rattle.std.proofs.lemmas.List.{get_or-map, length-map, map-set, set-get_or}
 use Rattle.ch_hierarchy.specs.declared.leg.Leg.{Leg}
@@ -8,7 +8,6 @@ use Rattle.ch_hierarchy.specs.declared.side.Side.{Side}
 use Rattle.ch_hierarchy.specs.declared.side.Side.TheVariants.{Up, Down}
 use Rattle.ch_hierarchy.specs.Side.{other}
 use Rattle.ch_hierarchy.specs.Rows.{row}
-use Rattle.ch_custom.specs.declared.leg_pair.Held.{Held}
 use Rattle.ch_custom.specs.declared.leg_pair.LegPair.{LegPair}
 use Rattle.ch_custom.specs.declared.leg_pair.TheConstants.{NO_MIDDLE}
 use Rattle.ch_custom.specs.LegPairs.{leg_of, row_of, rows_at, pairs_row, no_pair, lightened_pair}

@@ -1,21 +1,20 @@
 -- Rows of pairs that are lowered over a node in both directions.
-use Rattle.std.proofs.Common.{◌≡◌, ℕ, ◌+◌, ◌<◌, ◌≤◌, List, [], length, get_or, set, Contains, refl, sym, ◌∙◌, ap, subst, arith, inl, inr}
+use Rattle.std.proofs.Common.{◌≡◌, ℕ, ◌+◌, ◌<◌, ◌≤◌, List, length, get_or, set, sym, ◌∙◌, ap, subst, arith, inl, inr}
 use Rattle.std.proofs.Common.{length-set}
-use Rattle.std.specs.Prelude.{All, map}
+use Rattle.std.specs.Prelude.{All}
 use Rattle.std.proofs.lemmas.Bool.{cases_eq, cases_lt}
 use Rattle.std.proofs.lemmas.List.{get_or_default, map-set}
 use Rattle.ch_hierarchy.specs.declared.leg.Leg.{Leg}
 use Rattle.ch_hierarchy.specs.declared.side.Side.{Side}
-use Rattle.ch_hierarchy.specs.declared.side.Side.TheVariants.{Up}
 use Rattle.ch_hierarchy.specs.Side.{other}
 use Rattle.ch_hierarchy.specs.Rows.{row, IsRow}
 use Rattle.ch_custom.specs.declared.leg_pair.LegPair.{LegPair}
 use Rattle.ch_custom.specs.Customizing.{leg_over}
 use Rattle.ch_custom.specs.Metric.{held_leg, IsHeld, AreLoweredOver, AreLoweredTo}
 use Rattle.ch_custom.specs.Topologies.{AreRelaxedTo}
-use Rattle.ch_custom.specs.LegPairs.{leg_of, row_of, rows_at, pairs_row, AreHeld, IsReady}
+use Rattle.ch_custom.specs.LegPairs.{leg_of, row_of, rows_at, pairs_row, AreHeld}
 use Rattle.ch_custom.proofs.theory.LegPairs.{leg_node, leg_here, row_size, node_here, row_at, rows_size}
-use Rattle.ch_custom.proofs.theory.Metric.{lowered_none, lowered_now, lowered_skip, lowered_rest}
+use Rattle.ch_custom.proofs.theory.Metric.{lowered_now, lowered_rest, lowered_to}
 use Rattle.ch_custom.proofs.theory.Relaxing.{node_of}
 use Rattle.ch_custom.proofs.theory.RelaxedRows.{relaxed_more, still}
 
@@ -24,6 +23,50 @@ pub held_here : (xs : List LegPair) (k : ℕ) (d : LegPair) → ((side : Side) �
     AreHeld (get_or xs k d)
 held_here xs k d held lt side =
     subst IsHeld (leg_here side xs k d (leg_of side d) lt) (held side k (leg_of side d) (subst (λ z. k < z) (sym (row_size side xs)) lt))
+
+-- the nodes of a row rise
+pub row_rises : (side : Side) (xs : List LegPair) → IsRow (row_of side xs) → (k j : ℕ) (d e : LegPair) → k < j → j < length xs →
+    (get_or xs k d).node < (get_or xs j e).node
+row_rises side xs is k j d e lt inside =
+    let size = row_size side xs in
+    let two = is k j (leg_of side e) lt (omega arith) in
+    let first = node_here side xs k d (leg_of side e) (omega arith) in
+    let last = node_here side xs j e (leg_of side e) inside in
+    omega arith
+
+-- the nodes of a row do not fall
+row_grows : (side : Side) (xs : List LegPair) → IsRow (row_of side xs) → (k j : ℕ) (d e : LegPair) → k ≤ j → j < length xs →
+    (get_or xs k d).node ≤ (get_or xs j e).node
+row_grows side xs is k j d e le inside = elim (cases_eq k j) [
+  | inl same ↦
+      let its : (get_or xs k d).node ≡ (get_or xs j e).node = ap (λ z. (get_or xs z d).node) same
+      ∙ ap (λ (z : LegPair). z.node) (get_or_default xs j d e inside) in
+      omega arith
+  | inr apart ↦ let up = row_rises side xs is k j d e (omega arith) inside in omega arith
+]
+
+-- a pair whose node is less than that of the first of a row comes, with those before it, before that row
+pub rows_apart : (side : Side) (others before : List LegPair) (from : ℕ) (f : LegPair) → IsRow (row_of side others) →
+    IsRow (row_of side before) → from < length others → (get_or others from f).node < (get_or before 0 f).node →
+    (k j : ℕ) (d e : LegPair) → k < from + 1 → j < length before → (get_or others k d).node < (get_or before j e).node
+rows_apart side others before from f one two inside less k j d e lt below =
+    let low = row_grows side others one k from d f (omega arith) inside in
+    let high = row_grows side before two 0 j f e (omega arith) below in
+    omega arith
+
+-- one more of the others is less than the rest of a row
+pub less_more : (others before : List LegPair) (place next end : ℕ) (f : LegPair) → next < length others → place ≤ end →
+    ((k j : ℕ) (d e : LegPair) → k < next → place ≤ j → j < length before → (get_or others k d).node < (get_or before j e).node) →
+    ((j : ℕ) (e : LegPair) → end ≤ j → j < length before → (get_or others next f).node < (get_or before j e).node) →
+    (k j : ℕ) (d e : LegPair) → k < next + 1 → end ≤ j → j < length before → (get_or others k d).node < (get_or before j e).node
+less_more others before place next end f inside le less last k j d e lt past below = elim (cases_eq k next) [
+  | inl same ↦
+      let its : (get_or others k d).node ≡ (get_or others next f).node = ap (λ z. (get_or others z d).node) same
+      ∙ ap (λ (z : LegPair). z.node) (get_or_default others next d f inside) in
+      let more = last j e past below in
+      omega arith
+  | inr apart ↦ less k j d e (omega arith) (omega arith) below
+]
 
 module _ (side : Side) (n v : ℕ) (one : LegPair) (others before : List LegPair) (place : ℕ) (after : List LegPair)
     (a : AreLoweredTo n v (leg_of (other side) one) (row_of side others) (row_of side before) place (row_of side after)) where
@@ -48,19 +91,72 @@ module _ (side : Side) (n v : ℕ) (one : LegPair) (others before : List LegPair
       blank : Leg → LegPair
       blank l = record { node = 0; up = record { weight = 0; arcs = 0; middle = 0 }; down = record { weight = 0; arcs = 0; middle = 0 } }
 
+  -- the node of a place is as it was
+  pub same_node : (k : ℕ) (e f : LegPair) → k < length before → (get_or after k e).node ≡ (get_or before k f).node
+  same_node k e f inside =
+      sym (node_here side after k e (leg_of side e) (subst (λ z. k < z) (sym same_size) inside))
+      ∙ a.nodes k (leg_of side e) (subst (λ z. k < z) (sym (row_size side before)) inside)
+      ∙ node_here side before k f (leg_of side e) inside
+
+  -- the pairs up to a later place, which lie between two of the others, have no pair to be lowered with
+  pub pairs_to : (next : ℕ) (f : LegPair) (end : ℕ) → IsRow (row_of side others) → next < length others → place ≤ end →
+      ((k j : ℕ) (d e : LegPair) → k < next → place ≤ j → j < length before → (get_or others k d).node < (get_or before j e).node) →
+      ((k : ℕ) (d : LegPair) → place ≤ k → k < end → (get_or after k d).node < (get_or others next f).node) →
+      AreLoweredTo n v (leg_of (other side) one) (row_of side others) (row_of side before) end (row_of side after)
+  pairs_to next f end is here le less low = lowered_to n v _ _ _ place _ a end le (λ l k d c past lt inside same.
+      let q = c.0 in
+      let within : q < length others = subst (λ z. q < z) (row_size side others) c.1 in
+      let there : k < length before = subst (λ z. k < z) (row_size side before) inside in
+      let its : (get_or others q (blank l)).node ≡ l.node = sym (node_here side others q (blank l) l within) ∙ ap node_of c.2 in
+      let mine : (get_or (row_of side before) k d).node ≡ (get_or before k (blank l)).node = node_here side before k (blank l) d there in
+      let now = same_node k (blank l) (blank l) there in
+      let below = low k (blank l) past lt in
+      elim (cases_lt q next) [
+        | inl first ↦ let lower = less q k (blank l) (blank l) first past there in omega arith
+        | inr later ↦ elim (cases_eq q next) [
+          | inl at ↦
+              let its_next : (get_or others next (blank l)).node ≡ l.node = subst (λ z. (get_or others z (blank l)).node ≡ l.node) at its in
+              let swap : (get_or others next f).node ≡ (get_or others next (blank l)).node =
+              ap node_in (get_or_default others next f (blank l) here) in
+              omega arith
+          | inr apart ↦ let up = row_rises side others is next q f (blank l) (omega arith) within in omega arith
+        ]
+      ])
+    where
+      node_in : LegPair → ℕ
+      node_in p = p.node
+
+      blank : Leg → LegPair
+      blank l = record { node = 0; up = record { weight = 0; arcs = 0; middle = 0 }; down = record { weight = 0; arcs = 0; middle = 0 } }
+
+  -- a node that the pair at this place has is less than those of the later pairs
+  pub here_less : (y : ℕ) (g : LegPair) → IsRow (row_of side before) → place < length before → (get_or after place g).node ≡ y →
+      (j : ℕ) (e : LegPair) → place + 1 ≤ j → j < length before → y < (get_or before j e).node
+  here_less y g is inside node j e past below =
+      let now = same_node place g g inside in
+      let up = row_rises side before is place j g e (omega arith) below in
+      omega arith
+
+  -- a node that is less than that of the pair at this place is less than those of the later pairs
+  pub next_less : (y : ℕ) (g : LegPair) → IsRow (row_of side before) → (place < length before → y < (get_or after place g).node) →
+      (j : ℕ) (e : LegPair) → place ≤ j → j < length before → y < (get_or before j e).node
+  next_less y g is more j e past below =
+      let here = more (omega arith) in
+      let now = same_node place g g (omega arith) in
+      elim (cases_eq j place) [
+        | inl same ↦
+            let its : (get_or before j e).node ≡ (get_or before place g).node = ap (λ z. (get_or before z e).node) same
+            ∙ ap (λ (z : LegPair). z.node) (get_or_default before place e g (omega arith)) in
+            omega arith
+        | inr apart ↦ let up = row_rises side before is place j g e (omega arith) below in omega arith
+      ]
+
   module _ (inside : place < length before) where
     there : place < length after
     there = subst (λ z. place < z) (sym same_size) inside
 
     within : place < length (row_of side before)
     within = subst (λ z. place < z) (sym (row_size side before)) inside
-
-    -- the node of this place is as it was
-    pub same_place : (e f : LegPair) → (get_or after place e).node ≡ (get_or before place f).node
-    same_place e f =
-        sym (node_here side after place e (leg_of side e) there)
-        ∙ ap node_of (a.later place (leg_of side e) (omega arith) within)
-        ∙ node_here side before place f (leg_of side e) inside
 
     -- one more pair is lowered
     pub pairs_now : (next : ℕ) (r d e : LegPair) (new : List LegPair) → IsRow (row_of side others) → next < length others →
@@ -83,19 +179,6 @@ module _ (side : Side) (n v : ℕ) (one : LegPair) (others before : List LegPair
         held
         (ap (row_of side) eq ∙ map-set (leg_of side) after place r)
 
-    -- a pair that no other can lower
-    pub pairs_skip : (next : ℕ) (e : LegPair) (new : List LegPair) → IsRow (row_of side others) → next ≤ length others →
-        ((k : ℕ) (d : LegPair) → k < next → (get_or others k d).node < (get_or after place e).node) →
-        ((d : LegPair) → next < length others → (get_or after place e).node < (get_or others next d).node) → new ≡ after →
-        AreLoweredTo n v (leg_of (other side) one) (row_of side others) (row_of side before) (place + 1) (row_of side new)
-    pairs_skip next e new is few less more eq =
-        let mine = node_here side after place e (leg_of side e) there in
-        lowered_skip n v _ _ _ place _ a within next (leg_of side e) (row_of side new) is
-        (λ k d lt. let its = node_here side others k e d (omega arith) in let low = less k e lt in omega arith)
-        (λ d lt. let small : next < length others = subst (λ z. next < z) (row_size side others) lt in let its =
-        node_here side others next e d small in let low = more e small in omega arith)
-        (ap (row_of side) eq)
-
 -- a node that is at least x, and not x, is greater
 pub pairs_greater : (others : List LegPair) (next x : ℕ) (d e : LegPair) → next < length others → x ≤ (get_or others next d).node →
     ((get_or others next e).node ≡ x → ⊥) →
@@ -107,21 +190,6 @@ pairs_greater others next x d e lt le ne =
       | inl is ↦ absurd (ne is)
       | inr apart ↦ omega arith
     ]
-
--- the other pairs that were passed have lesser nodes than all later ones of the row
-pub pairs_passed : (n v : ℕ) (one : LegPair) (others before : List LegPair) (place : ℕ) (after : List LegPair) →
-    AreLoweredTo n v (leg_of (other Up) one) (row_of Up others) (row_of Up before) place (row_of Up after) → place < length before →
-    (next : ℕ) (f : LegPair) → IsRow (row_of Up before) →
-    ((k : ℕ) (d : LegPair) → k < next → (get_or others k d).node < (get_or after place f).node) → (k j : ℕ) (d e : LegPair) →
-    k < next → place + 1 ≤ j → j < length before → (get_or others k d).node < (get_or before j e).node
-pairs_passed n v one others before place after a inside next f is less k j d e lt past below =
-    let low = less k d lt in
-    let same = same_place Up n v one others before place after a inside f e in
-    let size = row_size Up before in
-    let two = is place j (leg_of Up e) (omega arith) (omega arith) in
-    let first = node_here Up before place e (leg_of Up e) inside in
-    let last = node_here Up before j e (leg_of Up e) below in
-    omega arith
 
 module _ (side : Side) (n v : ℕ) (taken : List LegPair) (place : ℕ) (old now : List (List LegPair))
     (r : AreRelaxedTo n v (row_of (other side) taken) (row_of side taken) place (rows_at side old) (rows_at side now))

@@ -36,6 +36,23 @@ lowered_rest n v one others before place after a less = record {
   kept = a.kept;
 }
 
+-- the legs of the row up to a later place have no leg to be lowered with
+pub lowered_to : (n v : ℕ) (one : Leg) (others before : List Leg) (place : ℕ) (after : List Leg) →
+    AreLoweredTo n v one others before place after → (end : ℕ) → place ≤ end →
+    ((l : Leg) (k : ℕ) (d : Leg) → Contains others l → place ≤ k → k < end → k < length before → l.node ≡ (get_or before k d).node → ⊥) →
+    AreLoweredTo n v one others before end after
+lowered_to n v one others before place after a end le none = record {
+  size = a.size;
+  nodes = a.nodes;
+  lowered = λ k d l lt inside c e. elim (cases_lt k place) [
+    | inl first ↦ a.lowered k d l first inside c e
+    | inr past ↦ absurd (none l k d c past lt inside e)
+  ];
+  kept = a.kept;
+  later = λ k d past inside. a.later k d (omega arith) inside;
+  held = a.held;
+}
+
 -- a leg of a row is the one at the place with its node
 at_node : (others : List Leg) (next : ℕ) (l d : Leg) → IsRow others → next < length others → Contains others l →
     l.node ≡ (get_or others next d).node → l ≡ get_or others next d
@@ -49,37 +66,8 @@ at_node others next l d row lt c e = elim (cases_eq c.0 next) [
       ]
 ]
 
--- no leg of a row has this node if those before a place have lesser ones, and the one there a greater one
-pub none_there : (others : List Leg) (next x : ℕ) → IsRow others → ((k : ℕ) (d : Leg) → k < next → (get_or others k d).node < x) →
-    ((d : Leg) → next < length others → x < (get_or others next d).node) → (l : Leg) → Contains others l → l.node ≡ x → ⊥
-none_there others next x row before after l c e =
-    let here : (get_or others c.0 l).node ≡ x = ap (λ (z : Leg). z.node) c.2 ∙ e in
-    elim (cases_lt c.0 next) [
-      | inl first ↦ let less = before c.0 l first in omega arith
-      | inr le ↦ elim (cases_eq c.0 next) [
-        | inl same ↦ let more = after l (omega (arith, c.1, same)) in let at : (get_or others next l).node ≡ x =
-            subst (λ k. (get_or others k l).node ≡ x) same here in omega arith
-        | inr ne ↦ let inside = c.1 in let more = after l (omega arith) in let less = row next c.0 l (omega arith) c.1 in omega arith
-      ]
-    ]
-
 module _ (n v : ℕ) (one : Leg) (others before : List Leg) (place : ℕ) (after : List Leg)
     (a : AreLoweredTo n v one others before place after) (inside : place < length before) where
-  -- the leg at this place has no leg to be lowered with
-  pub lowered_past : ((l : Leg) (d : Leg) → Contains others l → l.node ≡ (get_or before place d).node → ⊥) →
-      AreLoweredTo n v one others before (place + 1) after
-  lowered_past none = record {
-    size = a.size;
-    nodes = a.nodes;
-    lowered = λ k d l first lt c e. elim (cases_eq k place) [
-      | inl same ↦ absurd (none l d c (subst (λ z. l.node ≡ (get_or before z d).node) same e))
-      | inr ne ↦ a.lowered k d l (omega arith) lt c e
-    ];
-    kept = a.kept;
-    later = λ k d le lt. a.later k d (omega arith) lt;
-    held = a.held;
-  }
-
   -- the leg at this place is lowered with the one of the same node
   pub lowered_here : (next : ℕ) (r d : Leg) → IsRow others → next < length others →
       (get_or others next d).node ≡ (get_or before place d).node → r.node ≡ (get_or before place d).node →
@@ -135,14 +123,3 @@ module _ (n v : ℕ) (one : Leg) (others before : List Leg) (place : ℕ) (after
       (low ∙ ap (λ (z : Leg). leg_over n v (held_leg one) (held_leg z) (held_leg (get_or after place e))) swap
       ∙ ap (λ (z : Leg). leg_over n v (held_leg one) (held_leg (get_or others next e)) (held_leg z)) same)
       held)
-
-  -- no other leg has the node of this place
-  pub lowered_skip : (next : ℕ) (e : Leg) (row : List Leg) → IsRow others →
-      ((k : ℕ) (d : Leg) → k < next → (get_or others k d).node < (get_or after place e).node) →
-      ((d : Leg) → next < length others → (get_or after place e).node < (get_or others next d).node) → row ≡ after →
-      AreLoweredTo n v one others before (place + 1) row
-  lowered_skip next e row is less more eq =
-      let same : get_or after place e ≡ get_or before place e = a.later place e (omega arith) inside in
-      subst (AreLoweredTo n v one others before (place + 1)) (sym eq)
-      (lowered_past (λ l d c at. none_there others next (get_or after place e).node is less more l c (at
-      ∙ ap (λ (z : Leg). z.node) (get_or_default before place d e inside ∙ sym same))))

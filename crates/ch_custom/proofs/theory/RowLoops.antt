@@ -1,15 +1,15 @@
 -- Loops over the rows of arrays.
 use Rattle.std.proofs.Common.{◌≡◌, ℕ, suc, ◌+◌, ◌<◌, ◌≤◌, Bool, true, false, cond, List, [], ◌∷◌, ◌++◌, length, get_or, set, take, refl}
-use Rattle.std.proofs.Common.{sym, ◌∙◌, ap, arith, inl, inr, length-set, get_or-set_same, get_or-set_other, None}
+use Rattle.std.proofs.Common.{sym, ◌∙◌, ap, arith, inl, inr, length-set, get_or-set_same, get_or-set_other}
 use Rattle.std.specs.Prelude.{map, filter}
 use Rattle.std.specs.List.{insert}
 use Rattle.std.proofs.lemmas.Bool.{cases_eq}
-use Rattle.std.proofs.lemmas.List.{get_or-map, length-map, ext_get_or, set-set, set-get_or, map-append}
+use Rattle.std.proofs.lemmas.List.{get_or-map, length-map, ext_get_or, set-set, set-get_or}
 use Rattle.std.proofs.lemmas.List.Edits.{insert_end}
 use Rattle.std.proofs.lemmas.List.Elements.{filter-append}
 use Rattle.std.proofs.Math.Seq.{take-suc}
 use Rattle.ch_hierarchy.specs.declared.leg.Leg.{Leg}
-use Rattle.ch_custom.specs.Opening.{no_leg, is_live}
+use Rattle.ch_custom.specs.Opening.{is_live}
 
 -- one more element of a prefix
 pub take_more : {X : Type 0} (xs : List X) (k : ℕ) (d : X) → k < length xs → take (k + 1) xs ≡ take k xs ++ get_or xs k d ∷ []

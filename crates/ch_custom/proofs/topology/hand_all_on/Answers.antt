@@ -1,8 +1,8 @@
 -- With the triangles of one more place there are too many.
-use Rattle.std.proofs.Common.{◌≡◌, ◌+◌, ◌<◌, length, take, ◌∙◌, ap, arith}
+use Rattle.std.proofs.Common.{◌≡◌, ◌+◌, ◌<◌, length, ◌∙◌, ap, arith}
 use Rattle.std.specs.Prelude.{slice_index}
 use Rattle.ch_custom.specs.Pairs.{nodes_row}
-use Rattle.ch_custom.specs.Triangles.{pairs_among, triangles_over}
+use Rattle.ch_custom.specs.Triangles.{pairs_among}
 use Rattle.ch_custom.proofs.theory.Triangles.{counted_more, all_have_more}
 use Rattle.ch_custom.proofs.topology.hand_all_on.Goals as goal
 

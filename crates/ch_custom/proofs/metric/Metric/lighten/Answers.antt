@@ -1,10 +1,10 @@
 -- The row that is lent is lightened, and the others stay.
-use Rattle.std.proofs.Common.{◌≡◌, ◌+◌, ◌<◌, ◌≤◌, ℕ, List, length, ◌-◌, All, set, sym, ◌∙◌, ap, subst, arith, slice_range, slice_set}
+use Rattle.std.proofs.Common.{◌≤◌, length, set, ◌∙◌, ap, subst, arith}
 use Rattle.std.specs.Prelude.{map}
 use Rattle.std.proofs.lemmas.List.{length-map}
 use Rattle.ch_graph.specs.Rows.{AreOrdered}
 use Rattle.ch_graph.proofs.RowsBetween.{row_within}
-use Rattle.ch_custom.specs.LegPairs.{no_pair, lightened_pair, pairs_row, IsReady}
+use Rattle.ch_custom.specs.LegPairs.{no_pair, lightened_pair}
 use Rattle.ch_custom.proofs.theory.Flat.{bounds, lent_range, range_lent, row_put}
 use Rattle.ch_custom.proofs.metric.Metric.lighten.Goals as goal
 

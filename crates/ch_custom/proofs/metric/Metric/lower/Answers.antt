@@ -1,15 +1,13 @@
 -- The row that is lent is lowered, and the others stay.
-use Rattle.std.proofs.Common.{◌≡◌, ◌+◌, ◌++◌, take, drop, ◌<◌, ◌≤◌, ℕ, List, length, ◌-◌, All, set, sym, ◌∙◌, ap, subst, arith}
-use Rattle.std.proofs.Common.{slice_range, slice_set}
-use Rattle.std.specs.Prelude.{map}
-use Rattle.std.proofs.lemmas.List.{length-map}
+use Rattle.std.proofs.Common.{◌≡◌, ◌++◌, take, drop, ◌≤◌, length, ◌-◌, All, set, sym, ◌∙◌, ap, subst, arith}
+use Rattle.std.proofs.Common.{slice_range}
 use Rattle.ch_graph.specs.Rows.{AreOrdered, rows_between}
 use Rattle.ch_graph.proofs.RowsBetween.{row_within}
-use Rattle.ch_custom.specs.LegPairs.{no_pair, lightened_pair, pairs_row, IsReady}
+use Rattle.ch_custom.specs.LegPairs.{no_pair, pairs_row, IsReady}
 use Rattle.ch_custom.proofs.theory.Flat.{bounds, lent_range, range_lent, row_put, put_row}
 use Rattle.ch_hierarchy.specs.declared.side.Side.TheVariants.{Up}
 use Rattle.ch_custom.specs.Metric.{IsHeld, AreLoweredOver}
-use Rattle.ch_custom.specs.LegPairs.{row_of, leg_of, ArePairsLowered}
+use Rattle.ch_custom.specs.LegPairs.{row_of, leg_of}
 use Rattle.ch_custom.proofs.theory.LegPairs.{row_size}
 use Rattle.ch_hierarchy.specs.Side.{other}
 use Rattle.ch_custom.proofs.metric.Metric.lower.Goals as goal

@@ -1,11 +1,10 @@
 -- The row of one more node is lowered.
 use Rattle.ch_custom.specs.declared.leg_pair.LegPair.{LegPair}
-use Rattle.std.proofs.Common.{◌≡◌, ◌<◌, ◌≤◌, length, get_or, All, sym, ◌∙◌, ap, subst, arith}
+use Rattle.std.proofs.Common.{get_or, All, sym, subst, arith}
 use Rattle.std.proofs.lemmas.List.Elements.{Contains-get_or}
 use Rattle.ch_hierarchy.specs.declared.side.Side.TheVariants.{Up}
 use Rattle.ch_hierarchy.specs.Rows.{IsRow}
 use Rattle.ch_custom.specs.Metric.{IsHeld}
-use Rattle.ch_custom.proofs.theory.LegPairs.{row_size}
 use Rattle.ch_custom.proofs.theory.LoweredPairs.{held_here, many_rows, still_pairs, more_pairs}
 use Rattle.ch_custom.proofs.theory.RelaxedRows.{relaxed_none}
 use Rattle.ch_custom.proofs.metric.Metric.relax.Goals as goal

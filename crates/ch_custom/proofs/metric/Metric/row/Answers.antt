@@ -1,10 +1,8 @@
 -- The pairs from a start to the next are a row.
-use Rattle.std.proofs.Common.{◌≡◌, ◌+◌, ◌<◌, ◌≤◌, ℕ, List, length, All, set, sym, ◌∙◌, ap, subst, arith, slice_range, slice_set}
-use Rattle.std.specs.Prelude.{map}
-use Rattle.std.proofs.lemmas.List.{length-map}
+use Rattle.std.proofs.Common.{◌≤◌, length, ap, subst, arith}
 use Rattle.ch_graph.specs.Rows.{AreOrdered}
 use Rattle.ch_graph.proofs.RowsBetween.{row_within}
-use Rattle.ch_custom.specs.LegPairs.{no_pair, lightened_pair, pairs_row, IsReady}
+use Rattle.ch_custom.specs.LegPairs.{no_pair}
 use Rattle.ch_custom.proofs.theory.Flat.{bounds, lent_range}
 use Rattle.ch_custom.proofs.metric.Metric.row.Goals as goal
 
