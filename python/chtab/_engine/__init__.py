@@ -1,4 +1,5 @@
-"""What builds the hierarchy of a network, the program, and what answers, the library for C in this process.
+"""What builds the hierarchy of a network, the program, and what answers, the library for C in this
+process.
 
 | module | what it holds |
 |---|---|

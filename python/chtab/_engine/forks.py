@@ -1,8 +1,9 @@
 """Forked processes: what a process has to give up after it was forked.
 
-A forked process has copies of all that its parent holds. Among these are the pipes of the parent's runs, and locks that are held by threads of the
-parent, which don't exist in the forked process and would never release them. An object that keeps such things calls `follow`, and its
-`leave_parent` is then called in each forked process.
+A forked process has copies of all that its parent holds. Among these are the pipes of the parent's
+runs, and locks that are held by threads of the parent, which don't exist in the forked process and
+would never release them. An object that keeps such things calls `follow`, and its `leave_parent` is
+then called in each forked process.
 """
 from __future__ import annotations
 
@@ -18,13 +19,15 @@ class Followed(Protocol):
         """Gives up what belongs to the parent."""
 
 
-# Held while a run is started. No process is forked meanwhile, because it would inherit pipes that nothing in it knows of.
+# Held while a run is started. No process is forked meanwhile, because it would inherit pipes that
+# nothing in it knows of.
 STEADY = threading.RLock()
 FOLLOWED: weakref.WeakSet[Followed] = weakref.WeakSet()
 
 
 def follow(thing: Followed) -> None:
-    """Calls `thing.leave_parent()` in each process that is forked from this one, as long as the object exists."""
+    """Calls `thing.leave_parent()` in each process that is forked from this one, as long as the
+    object exists."""
     FOLLOWED.add(thing)
 
 
@@ -34,4 +37,5 @@ def leave_parents() -> None:
         thing.leave_parent()
 
 
-os.register_at_fork(before=STEADY.acquire, after_in_parent=STEADY.release, after_in_child=leave_parents)
+os.register_at_fork(
+    before=STEADY.acquire, after_in_parent=STEADY.release, after_in_child=leave_parents)

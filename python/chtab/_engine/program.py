@@ -13,7 +13,8 @@ from chtab.errors import ChtabError
 if TYPE_CHECKING:
     from chtab.typing import Path
 
-# The package, and the folder that it is in: `python` of a checkout or of an installation by `install`, or a folder of Python's packages.
+# The package, and the folder that it is in: `python` of a checkout or of an installation by
+# `install`, or a folder of Python's packages.
 PACKAGE = pathlib.Path(__file__).parent.parent
 ABOVE = PACKAGE.resolve().parent
 LACKING = "the program chtab is neither beside this package nor beside the script that runs nor on the path; " \
@@ -23,8 +24,9 @@ LACKING = "the program chtab is neither beside this package nor beside the scrip
 def program_of(path: Path | None = None) -> str:
     """The path of the program.
 
-    These are tried in order: the one that the caller names; that of the checkout or installation that the package is in; the one that pip or Debian's
-    package installed along with the package; the one beside the running script; `chtab` on the path.
+    These are tried in order: the one that the caller names; that of the checkout or installation
+    that the package is in; the one that pip or Debian's package installed along with the package;
+    the one beside the running script; `chtab` on the path.
 
     Parameters
     ----------

@@ -1,4 +1,5 @@
-"""Progress of long calls on standard error: a bar of tqdm if that is a terminal and tqdm is installed, and otherwise a line now and then."""
+"""Progress of long calls on standard error: a bar of tqdm if that is a terminal and tqdm is
+installed, and otherwise a line now and then."""
 from __future__ import annotations
 
 import sys
@@ -21,30 +22,37 @@ Told: TypeAlias = Callable[[int, int], Any]
 ASKED_SECONDS = 1.0
 
 
-def progress_of(asked: Asked, name: str, total: int | None, things: str, is_told: bool = True) -> Progress:
-    """The progress of a call of a network, by its argument `progress`: None means `is_told`, and a callable gets the counts."""
+def progress_of(
+    asked: Asked, name: str, total: int | None, things: str, is_told: bool = True,
+) -> Progress:
+    """The progress of a call of a network, by its argument `progress`: None means `is_told`, and a
+    callable gets the counts."""
     if callable(asked):
         return Progress(name, total, things, is_told=False, call=asked)
     if asked is not None and not isinstance(asked, bool):
         raise TypeError(f"progress is True, False or a call, not {asked!r}")
-    return Progress(name, total, things, ASKED_SECONDS if asked else None, is_told if asked is None else asked)
+    return Progress(
+        name, total, things, ASKED_SECONDS if asked else None, is_told if asked is None else asked)
 
 
 Item = TypeVar("Item")
 
 
 class Progress:
-    """Counts what is done of `total` things (None if their number isn't known). Nothing is reported of what ends within `seconds` (`SECONDS`), nor if
-    `is_told` is false. A `call`, if there is one, gets the count and the total at each step instead.
+    """Counts what is done of `total` things (None if their number isn't known). Nothing is reported
+    of what ends within `seconds` (`SECONDS`), nor if `is_told` is false. A `call`, if there is one,
+    gets the count and the total at each step instead.
 
         with Progress("blocks", 49, "blocks") as progress:
             progress.step()
     """
 
     def __init__(
-        self, name: str, total: int | None, things: str, seconds: float | None = None, is_told: bool = True, call: Told | None = None,
+        self, name: str, total: int | None, things: str, seconds: float | None = None,
+        is_told: bool = True, call: Told | None = None,
     ) -> None:
-        self.name, self.total, self.things, self.is_told, self.call = name, total, things, is_told, call
+        self.name, self.total, self.things, self.is_told, self.call = (
+            name, total, things, is_told, call)
         self.seconds = SECONDS if seconds is None else seconds
         self.done, self.begun = 0, time.monotonic()
         self.told = self.begun
@@ -56,7 +64,9 @@ class Progress:
         except ImportError:
             return None
         is_scaled = self.total is None or self.total > MANY
-        return tqdm.tqdm(desc=self.name, total=self.total, unit=f" {self.things}", unit_scale=is_scaled, delay=1, leave=False)
+        return tqdm.tqdm(
+            desc=self.name, total=self.total, unit=f" {self.things}", unit_scale=is_scaled, delay=1,
+            leave=False)
 
     def step(self, count: int = 1) -> None:
         """Counts that many more as done."""

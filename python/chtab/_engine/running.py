@@ -28,8 +28,7 @@ def see_to(program: str) -> None:
     with the library, and reports that on standard error."""
     try:
         done = subprocess.run(
-            [program, "--help"], stdin=subprocess.DEVNULL, stdout=subprocess.DEVNULL
-        )
+            [program, "--help"], stdin=subprocess.DEVNULL, stdout=subprocess.DEVNULL)
     except OSError as fault:
         raise ChtabError(f"{program} can't be run: {fault.strerror}") from None
     if done.returncode:

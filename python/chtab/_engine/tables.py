@@ -86,8 +86,7 @@ def on_threads(
         engine.load()
         with concurrent.futures.ThreadPoolExecutor(choices.threads) as threads:
             begun = {
-                threads.submit(cells_of, engine, each, choices.within): each for each in blocks
-            }
+                threads.submit(cells_of, engine, each, choices.within): each for each in blocks}
             try:
                 for future in concurrent.futures.as_completed(list(begun)):
                     yield begun.pop(future), future.result()
@@ -156,10 +155,7 @@ def make(setting: Setting, sources: Any, targets: Any, out: Path, choices: Choic
 
 
 def fill(
-    made: NDArray[numpy.int64],
-    call: Any,
-    setting: Setting,
-    blocks: Sequence[Block],
+    made: NDArray[numpy.int64], call: Any, setting: Setting, blocks: Sequence[Block],
     choices: Choices,
 ) -> None:
     """Puts the cells of all blocks into a table."""

@@ -85,8 +85,7 @@ def arcs_of(given: Columns) -> Arcs:
     """Makes arcs from columns. Whatever the program would refuse is refused here, with its row."""
     sources, targets = (
         columns.column_labels_in(name, column)
-        for name, column in zip(given.names, (given.sources, given.targets))
-    )
+        for name, column in zip(given.names, (given.sources, given.targets)))
     weights, factor, scale, unit = weights_in(given)
     columns.see_that_long(given.names, [sources, targets, weights])
     labels, (tails, heads) = nodes_of(given, sources, targets)
@@ -94,8 +93,7 @@ def arcs_of(given: Columns) -> Arcs:
     back = rows_back(given.both_ways, rows)
     see_that_in_limits(len(labels.values), rows + len(back))
     weights, rounding = whole_weights(
-        given.names[2], weights, factor, MOST_WEIGHT // len(labels.values)
-    )
+        given.names[2], weights, factor, MOST_WEIGHT // len(labels.values))
     lines = edge_lines.lines_in("geometry", given.geometry, rows)
     places = places_in(given, len(labels.values))
     if places is None and lines is not None:
@@ -103,32 +101,16 @@ def arcs_of(given: Columns) -> Arcs:
     bends = {} if lines is None else edge_lines.bends_of(lines, tails, heads, places)
     if len(back):
         bends |= {
-            rows + place: bends[row][::-1]
-            for place, row in enumerate(back.tolist())
-            if row in bends
-        }
-        tails, heads = numpy.concatenate([tails, heads[back]]), numpy.concatenate(
-            [heads, tails[back]]
-        )
+            rows + place: bends[row][::-1] for place, row in enumerate(back.tolist())
+            if row in bends}
+        tails, heads = (
+            numpy.concatenate([tails, heads[back]]), numpy.concatenate([heads, tails[back]]))
         weights = numpy.concatenate([weights, weights[back]])
     of_arcs = None if len(back) in (0, rows) else numpy.append(numpy.arange(rows), back)
     return Arcs(
-        labels,
-        tails,
-        heads,
-        weights,
-        scale,
-        rounding,
-        unit,
-        places,
-        bends,
-        rows,
-        of_arcs,
-        given.keys,
-        given.ways,
-        measures.base_of(unit, scale),
-        index=row_index.kept(given.index, rows),
-    )
+        labels, tails, heads, weights, scale, rounding, unit, places, bends, rows, of_arcs,
+        given.keys, given.ways, measures.base_of(unit, scale),
+        index=row_index.kept(given.index, rows))
 
 
 def rows_back(both_ways: Any, rows: int) -> Integers:
@@ -138,21 +120,17 @@ def rows_back(both_ways: Any, rows: int) -> Integers:
         return numpy.arange(rows if both_ways else 0)
     if isinstance(both_ways, str):
         raise DataFault(
-            f"both_ways is True, False, or a column of these, not {quoted(both_ways)}", "both_ways"
-        )
+            f"both_ways is True, False, or a column of these, not {quoted(both_ways)}", "both_ways")
     marks = columns.array_of("both_ways", both_ways)
     place = columns.first_of(
-        [not isinstance(value, bool | numpy.bool_) for value in marks.reshape(-1).tolist()]
-    )
+        [not isinstance(value, bool | numpy.bool_) for value in marks.reshape(-1).tolist()])
     if place is not None or marks.ndim != 1:
         what = quoted(both_ways) if place is None else quoted(marks.reshape(-1)[place])
         raise DataFault(
-            f"both_ways is True, False, or a column of these, not {what}", "both_ways", place
-        )
+            f"both_ways is True, False, or a column of these, not {what}", "both_ways", place)
     if len(marks) != rows:
         raise DataFault(
-            f"both_ways has {len(marks):,} rows, and there are {rows:,} rows of arcs", "both_ways"
-        )
+            f"both_ways has {len(marks):,} rows, and there are {rows:,} rows of arcs", "both_ways")
     return numpy.flatnonzero(marks.astype(bool))
 
 
@@ -173,9 +151,7 @@ def weights_in(given: Columns) -> tuple[NDArray[Any], float | None, float | None
     if scale is not None or unit not in measures.TIMES:
         raise DataFault(
             "durations have a unit of their own: leave `scale` out, and `unit` is one of "
-            f"{', '.join(measures.TIMES)}",
-            "scale",
-        )
+            f"{', '.join(measures.TIMES)}", "scale")
     return durations, 1, measures.TIMES[unit], unit
 
 
@@ -195,9 +171,7 @@ def see_that_in_limits(nodes: int, arcs: int) -> None:
     if nodes > MOST_NODES or arcs > MOST_ARCS:
         raise DataFault(
             f"{nodes:,} nodes and {arcs:,} arcs: a graph has at most {MOST_NODES:,} nodes and "
-            f"{MOST_ARCS:,} arcs",
-            "nodes",
-        )
+            f"{MOST_ARCS:,} arcs", "nodes")
 
 
 def scale_in(scale: float | None) -> float | None:
@@ -205,19 +179,14 @@ def scale_in(scale: float | None) -> float | None:
     if scale is None:
         return None
     if (
-        isinstance(scale, bool)
-        or not isinstance(scale, numbers.Real)
-        or not (math.isfinite(scale) and scale > 0)
-    ):
+        isinstance(scale, bool) or not isinstance(scale, numbers.Real)
+        or not (math.isfinite(scale) and scale > 0)):
         raise DataFault(f"scale is a number above 0, not {quoted(scale)}", "scale")
     return int(scale) if int(scale) == scale else float(scale)
 
 
 def whole_weights(
-    name: str,
-    weights: NDArray[Any],
-    scale: float | None,
-    most: int,
+    name: str, weights: NDArray[Any], scale: float | None, most: int,
     hint: str = "; `unit` or `scale` says how it becomes one",
 ) -> tuple[Integers, float]:
     """The weights of a graph, int64, none above `most`, and the largest difference between one of
@@ -243,10 +212,8 @@ def see_that_weights(name: str, weights: NDArray[Any]) -> None:
     place = columns.first_of(~((weights >= 0) & (weights < numpy.inf)))
     if place is not None:
         raise refused(
-            name,
-            place,
-            f"{weights[place]} is {'below 0' if -numpy.inf < weights[place] < 0 else 'no weight'}",
-        )
+            name, place,
+            f"{weights[place]} is {'below 0' if -numpy.inf < weights[place] < 0 else 'no weight'}")
 
 
 def see_that_small(name: str, weights: NDArray[Any], is_small: Marks) -> None:
@@ -254,11 +221,9 @@ def see_that_small(name: str, weights: NDArray[Any], is_small: Marks) -> None:
     place = columns.first_of(~is_small)
     if place is not None:
         raise refused(
-            name,
-            place,
+            name, place,
             f"{weights[place]} is too large: as in the graph, times the number of nodes, it is "
-            "more than 2^60",
-        )
+            "more than 2^60")
 
 
 def places_in(given: Columns, count: int) -> tuple[Floats, Floats] | None:

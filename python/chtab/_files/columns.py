@@ -89,10 +89,7 @@ def see_that_long(names: Sequence[str], columns: Sequence[Sized]) -> None:
             short, row = (name, count) if count < rows else (names[0], rows)
             raise DataFault(
                 f"{names[0]} has {rows:,} rows and {name} has {count:,}: row {row} of {short} is "
-                "missing",
-                short,
-                row,
-            )
+                "missing", short, row)
 
 
 # Labels.
@@ -105,14 +102,8 @@ def is_integer(kind: type) -> bool:
 def kind_of(kind: type) -> str | None:
     """The kind of labels that values of a type are; None if they are no labels."""
     return (
-        STRINGS
-        if issubclass(kind, str)
-        else TUPLES
-        if issubclass(kind, tuple)
-        else INTEGERS
-        if is_integer(kind)
-        else None
-    )
+        STRINGS if issubclass(kind, str) else TUPLES if issubclass(kind, tuple) else INTEGERS
+        if is_integer(kind) else None)
 
 
 def are_whole(column: NDArray[Any]) -> Marks:
@@ -182,17 +173,13 @@ def tuples_in(name: str, column: Iterable[Any]) -> LabelArray:
             part != part for part in value
         ):
             raise refused(
-                name,
-                row,
+                name, row,
                 f"{quoted(value)} is no label; the parts of a tuple are integers, floats and "
-                "strings",
-            )
+                "strings")
     return objects_of(
         [
             tuple(part.item() if isinstance(part, numpy.generic) else part for part in value)
-            for value in values
-        ]
-    )
+            for value in values])
 
 
 def whole_as_integer(value: Any) -> Any:
@@ -211,10 +198,8 @@ def no_label(name: str, array: NDArray[Any]) -> DataFault:
         place = first_of(~are_whole(array)) if place is None else place
     value = array.reshape(-1)[place or 0]
     return refused(
-        name,
-        row_of(array, place or 0),
-        f"{quoted(value)} is no label; a label is an integer, a string or a tuple",
-    )
+        name, row_of(array, place or 0),
+        f"{quoted(value)} is no label; a label is an integer, a string or a tuple")
 
 
 def see_that_labels(name: str, values: Sequence[object], width: int = 1) -> set[type]:
@@ -226,21 +211,15 @@ def see_that_labels(name: str, values: Sequence[object], width: int = 1) -> set[
         return types
     first = kind_of(type(values[0]))
     place = (
-        0
-        if first is None
-        else next(place for place, value in enumerate(values) if kind_of(type(value)) != first)
-    )
+        0 if first is None
+        else next(place for place, value in enumerate(values) if kind_of(type(value)) != first))
     if kind_of(type(values[place])) is None:
         raise refused(
-            name,
-            place // width,
-            f"{quoted(values[place])} is no label; a label is an integer, a string or a tuple",
-        )
+            name, place // width,
+            f"{quoted(values[place])} is no label; a label is an integer, a string or a tuple")
     raise refused(
-        name,
-        place // width,
-        f"the label {quoted(values[place])} is not one of {first}, as those before it",
-    )
+        name, place // width,
+        f"the label {quoted(values[place])} is not one of {first}, as those before it")
 
 
 def objects_like(array: NDArray[Any], values: Iterable[object]) -> LabelArray:
@@ -267,14 +246,11 @@ def integers_like(name: str, array: NDArray[Any], values: Iterable[Any]) -> Labe
     with contextlib.suppress(OverflowError):
         return numpy.array(values, numpy.int64).reshape(array.shape)
     place = next(
-        (place for place, value in enumerate(values) if value.bit_length() > MOST_BITS), None
-    )
+        (place for place, value in enumerate(values) if value.bit_length() > MOST_BITS), None)
     if place is not None:
         raise refused(
-            name,
-            row_of(array, place),
-            f"{quoted(values[place])} is no label; one has at most {MOST_BITS:,} bits",
-        )
+            name, row_of(array, place),
+            f"{quoted(values[place])} is no label; one has at most {MOST_BITS:,} bits")
     return objects_like(array, values)
 
 
@@ -286,11 +262,8 @@ def durations_in(name: str, column: Column) -> Any:
     column."""
     array = array_of(name, column)
     if (
-        array.dtype == object
-        and array.ndim == 1
-        and array.size
-        and isinstance(array[0], datetime.timedelta | numpy.timedelta64)
-    ):
+        array.dtype == object and array.ndim == 1 and array.size
+        and isinstance(array[0], datetime.timedelta | numpy.timedelta64)):
         for row, value in enumerate(array.tolist()):
             if not isinstance(value, datetime.timedelta | numpy.timedelta64 | int) or isinstance(
                 value, bool
@@ -337,12 +310,9 @@ def numbers_of_objects(name: str, values: Sequence[Any]) -> NDArray[Any]:
     if not all(map(is_number, kinds)):
         place = next(place for place, value in enumerate(values) if not is_number(type(value)))
         raise refused(
-            name,
-            place,
-            "there is none"
-            if values[place] is None
-            else f"{quoted(values[place])} is neither an integer nor a float",
-        )
+            name, place,
+            "there is none" if values[place] is None
+            else f"{quoted(values[place])} is neither an integer nor a float")
     if kinds == {float}:
         return numpy.array(values).astype(numpy.longdouble)
     if all(map(is_integer, kinds)):
@@ -350,18 +320,12 @@ def numbers_of_objects(name: str, values: Sequence[Any]) -> NDArray[Any]:
             return numpy.array([*map(int, values)], numpy.int64)
     large = next(
         (
-            place
-            for place, value in enumerate(values)
-            if is_integer(type(value)) and not LEAST <= int(value) <= GREATEST
-        ),
-        None,
-    )
+            place for place, value in enumerate(values)
+            if is_integer(type(value)) and not LEAST <= int(value) <= GREATEST), None)
     if large is not None:
         raise refused(
-            name,
-            large,
-            f"{quoted(values[large])} is {'too large' if values[large] > 0 else 'below 0'}",
-        )
+            name, large,
+            f"{quoted(values[large])} is {'too large' if values[large] > 0 else 'below 0'}")
     return numpy.array([*map(numpy.longdouble, values)], numpy.longdouble)
 
 

@@ -20,11 +20,9 @@ def ways_in(column: Iterable[Any]) -> list[list[int]] | None:
     numbers."""
     ways = [
         list(way) if isinstance(way, list | tuple | set | numpy.ndarray) else [way]
-        for way in column
-    ]
+        for way in column]
     if not all(
-        columns.is_integer(kind) for kind in {type(number) for way in ways for number in way}
-    ):
+        columns.is_integer(kind) for kind in {type(number) for way in ways for number in way}):
         return None
     return [list(map(int, way)) for way in ways]
 
@@ -38,14 +36,10 @@ def column_of(frame: Any, name: str) -> Any:
     known = ", ".join(
         map(
             repr,
-            [*frame.columns, *filter(None, getattr(getattr(frame, "index", None), "names", ()))],
-        )
-    )
+            [*frame.columns, *filter(None, getattr(getattr(frame, "index", None), "names", ()))]))
     raise DataFault(
         f"the frame has no column {name!r}; it has {known}; reset_index() makes columns of an "
-        "index without a name",
-        str(name),
-    )
+        "index without a name", str(name))
 
 
 def columns_of_frame(
@@ -54,8 +48,7 @@ def columns_of_frame(
     """The columns with these names, and further ones of `arc_columns.Columns`."""
     if not hasattr(frame, "columns"):
         raise TypeError(
-            f"the frame is a DataFrame, as pandas.read_csv reads one, not {quoted(frame)}"
-        )
+            f"the frame is a DataFrame, as pandas.read_csv reads one, not {quoted(frame)}")
     lines = None if geometry is None else column_of(frame, geometry)
     sources, targets, weights = (column_of(frame, name) for name in names)
     index = getattr(frame, "index", None)
@@ -74,12 +67,8 @@ def marks_of(frame: Any, both_ways: Any) -> Any:
 
 
 def arcs_of_networkx(
-    graph: Any,
-    weight: str,
-    scale: float | str | None,
-    unit: str | None,
-    places: tuple[str | None, str | None],
-    geometry: str | None,
+    graph: Any, weight: str, scale: float | str | None, unit: str | None,
+    places: tuple[str | None, str | None], geometry: str | None,
 ) -> arc_columns.Arcs:
     """The arcs of a graph, with the weights of an attribute of its edges, and with places and lines
     if its nodes and edges have them."""
@@ -88,10 +77,8 @@ def arcs_of_networkx(
     sources, targets, weights = (list(column) for column in zip(*edges)) if edges else ([], [], [])
     x, y = places_of(graph, nodes, places)
     lines = (
-        None
-        if geometry is None or x is None
-        else [line for _, _, line in graph.edges(data=geometry)]
-    )
+        None if geometry is None or x is None
+        else [line for _, _, line in graph.edges(data=geometry)])
     # Without a unit these are the seconds and metres of osmnx, in thousandths.
     own = 1000 if unit is None else None
     if not isinstance(scale, str) or scale != "auto":
@@ -101,20 +88,8 @@ def arcs_of_networkx(
     keys = known if known and all(type(key) in (int, str) for key in known) else None
     ways = ways_in(way for _, _, way in graph.edges(data=WAYS))
     given = arc_columns.Columns(
-        sources,
-        targets,
-        weights,
-        nodes,
-        x,
-        y,
-        own,
-        unit,
-        not graph.is_directed(),
-        lines,
-        names,
-        keys,
-        ways,
-    )
+        sources, targets, weights, nodes, x, y, own, unit, not graph.is_directed(), lines, names,
+        keys, ways)
     try:
         return arc_columns.arcs_of(given)
     except DataFault as fault:
@@ -142,12 +117,9 @@ def located(fault: DataFault, graph: Any, nodes: Sequence[Any], edges: Sequence[
         where = "the edge from {} to {}".format(*map(quoted, edges[fault.row][:2]))
     hint = ""
     if (
-        fault.column in ("x", "y", "geometry")
-        and "crs" in graph.graph
-        and "4326" not in str(graph.graph["crs"])
-    ):
+        fault.column in ("x", "y", "geometry") and "crs" in graph.graph
+        and "4326" not in str(graph.graph["crs"])):
         hint = (
             f"; the graph's places are of {graph.graph['crs']}: `osmnx.project_graph(graph, "
-            "to_crs=4326)` gives degrees"
-        )
+            "to_crs=4326)` gives degrees")
     return DataFault(f"{fault}, of {where}{hint}", fault.column, fault.row)

@@ -1,4 +1,5 @@
-"""Routes as GeoJSON (RFC 7946): a line for each, with its ends, its weight and its number of arcs."""
+"""Routes as GeoJSON (RFC 7946): a line for each, with its ends, its weight and its number of
+arcs."""
 from __future__ import annotations
 
 import itertools
@@ -12,15 +13,23 @@ if TYPE_CHECKING:
     from chtab.typing import Geojson, Point, Source
 
 
-def feature(line: Sequence[Any] | None, properties: Mapping[str, Any], kind: str = "LineString") -> Geojson:
-    """A feature, without a geometry if `line` is None. A line of one point has it twice, because the format wants two."""
+def feature(
+    line: Sequence[Any] | None, properties: Mapping[str, Any], kind: str = "LineString",
+) -> Geojson:
+    """A feature, without a geometry if `line` is None. A line of one point has it twice, because
+    the format wants two."""
     if kind == "LineString" and line is not None and len(line) == 1:
         line = [*line, *line]
-    return {"type": "Feature", "properties": properties, "geometry": line and {"type": kind, "coordinates": line}}
+    return {
+        "type": "Feature",
+        "properties": properties,
+        "geometry": line and {"type": kind, "coordinates": line},
+    }
 
 
 def line_text(line: Sequence[Point] | None, properties: Mapping[str, Any]) -> str:
-    """The text of a feature with a line of places in millionths of a degree, made in a third of the time that `json` takes."""
+    """The text of a feature with a line of places in millionths of a degree, made in a third of the
+    time that `json` takes."""
     if not line:
         return json.dumps(feature(None, properties))
     if len(line) == 1:
@@ -35,26 +44,47 @@ def collection(features: Iterable[Geojson]) -> Geojson:
 
 
 def route_feature(answer: files.Answer, line: Sequence[Point], names: Mapping[Any, str]) -> Geojson:
-    """A route of `files.read_routes` along a line of places, with the names of its first and last node if `names` has them."""
-    properties = {"from": answer.source, "to": answer.target, "weight": answer.weight, "arcs": len(answer.nodes or ()) - 1}
+    """A route of `files.read_routes` along a line of places, with the names of its first and last
+    node if `names` has them."""
+    properties = {
+        "from": answer.source,
+        "to": answer.target,
+        "weight": answer.weight,
+        "arcs": len(answer.nodes or ()) - 1,
+    }
     return feature(line, named(properties, answer, names))
 
 
-def query_feature(query: int, answer: files.Answer, line: Sequence[Point] | None, names: Mapping[Any, str]) -> Geojson:
-    """The answer to the query at a place of the list, along a line of places; None if no path leads there."""
+def query_feature(
+    query: int, answer: files.Answer, line: Sequence[Point] | None, names: Mapping[Any, str],
+) -> Geojson:
+    """The answer to the query at a place of the list, along a line of places; None if no path leads
+    there."""
     properties = {"query": query, "source": answer.source, "target": answer.target}
-    properties |= {"from": answer.source, "to": answer.target, "weight": answer.weight, "arcs": answer.nodes and len(answer.nodes) - 1}
+    properties |= {
+        "from": answer.source,
+        "to": answer.target,
+        "weight": answer.weight,
+        "arcs": answer.nodes and len(answer.nodes) - 1,
+    }
     return feature(line, named(properties, answer, names))
 
 
-def named(properties: dict[str, Any], answer: files.Answer, names: Mapping[Any, str]) -> dict[str, Any]:
+def named(
+    properties: dict[str, Any], answer: files.Answer, names: Mapping[Any, str],
+) -> dict[str, Any]:
     """Properties, together with the names of the first and last node if they have names."""
-    own = {key: names[node] for key, node in (("from_name", answer.source), ("to_name", answer.target)) if names.get(node)}
+    own = {
+        key: names[node] for key, node in (("from_name", answer.source), ("to_name", answer.target))
+        if names.get(node)}
     return {**properties, **own}
 
 
-def write_routes(source: Source, coordinates: files.Coordinates, names: Mapping[int, str], out: IO[str]) -> None:
-    """Writes the routes of a text, one feature in each line, and holds no more than one at a time."""
+def write_routes(
+    source: Source, coordinates: files.Coordinates, names: Mapping[int, str], out: IO[str],
+) -> None:
+    """Writes the routes of a text, one feature in each line, and holds no more than one at a
+    time."""
     between = '{"type": "FeatureCollection", "features": [\n'
     for answer in files.read_routes(source):
         line = [coordinates.of(node) for node in answer.nodes or ()]

@@ -10,15 +10,7 @@ from typing import TYPE_CHECKING, Any, NamedTuple
 
 from chtab.errors import FileFault
 from chtab._files.forms import (
-    ROWS_AT_ONCE,
-    columns,
-    comments_of,
-    name_of,
-    write_columns,
-    write_comments,
-    write_rows,
-    writing,
-)
+    ROWS_AT_ONCE, columns, comments_of, name_of, write_columns, write_comments, write_rows, writing)
 
 if TYPE_CHECKING:
     from chtab.typing import Path, Point, Source, Target
@@ -68,24 +60,20 @@ class Coordinates(NamedTuple):
         """The nodes where trips end whose target is a node with restricted turns: {target: node}.
         All other trips end at their target."""
         return {
-            int(found[1]): int(found[2]) for found in map(END.fullmatch, self.comments) if found
-        }
+            int(found[1]): int(found[2]) for found in map(END.fullmatch, self.comments) if found}
 
     def copies(self) -> dict[int, int]:
         """The copies of nodes with restricted turns, those where trips end among them: {copy:
         node}."""
         found = {
-            int(found[1]): int(found[2]) for found in map(COPY.fullmatch, self.comments) if found
-        }
+            int(found[1]): int(found[2]) for found in map(COPY.fullmatch, self.comments) if found}
         return found | {end: node for node, end in self.ends().items()}
 
     def turns(self) -> list[str]:
         """The comments from which `ends` and `copies` are read."""
         return [
-            comment
-            for comment in self.comments
-            if END.fullmatch(comment) or COPY.fullmatch(comment)
-        ]
+            comment for comment in self.comments
+            if END.fullmatch(comment) or COPY.fullmatch(comment)]
 
     def known(self) -> list[int]:
         """The nodes that have a place, in order."""
@@ -96,8 +84,7 @@ def are_equal(one: tuple[Any, ...], other: tuple[Any, ...]) -> bool:
     """Whether the parts of two tuples are equal, among which there may be arrays of any kind."""
     return all(
         list(part) == list(its) if hasattr(part, "tolist") else part == its
-        for part, its in zip(one, other)
-    )
+        for part, its in zip(one, other))
 
 
 def read_graph(source: Source) -> Graph:
@@ -160,10 +147,8 @@ def read_unit(path: Path) -> str:
 def unit_of(lines: Iterable[bytes]) -> str:
     """The unit that comments among some lines name; empty if none does."""
     told = [
-        comment.split()[-1].strip(".")
-        for comment in comments_of(lines)
-        if comment.startswith("Weights are ")
-    ]
+        comment.split()[-1].strip(".") for comment in comments_of(lines)
+        if comment.startswith("Weights are ")]
     return told[0] if told and told[0] in UNITS else ""
 
 
@@ -215,21 +200,15 @@ def counts_in(path: Path) -> tuple[int, int]:
         for line in file:
             words = line.split()
             if (
-                words[:2] == [b"p", b"sp"]
-                and len(words) == 4
-                and words[2].isdigit()
-                and words[3].isdigit()
-            ):
+                words[:2] == [b"p", b"sp"] and len(words) == 4 and words[2].isdigit()
+                and words[3].isdigit()):
                 return int(words[2]), int(words[3])
     raise FileFault(f"{path}: not a graph, whose problem line is `p sp N M`")
 
 
 def write_graph(
-    target: Target,
-    nodes: int,
-    arcs: Sequence[tuple[int, int, float]],
-    comments: Iterable[str] = (),
-    scale: float | None = None,
+    target: Target, nodes: int, arcs: Sequence[tuple[int, int, float]],
+    comments: Iterable[str] = (), scale: float | None = None,
 ) -> None:
     """Writes a graph (`.gr`).
 
@@ -256,8 +235,7 @@ def write_graph(
         comments = [*comments, scale_comment(scale)]
         arcs = [
             (tail, head, scaled(place, weight, scale))
-            for place, (tail, head, weight) in enumerate(arcs)
-        ]
+            for place, (tail, head, weight) in enumerate(arcs)]
     see_that_whole(arcs)
     with writing(target) as file:
         write_comments(file, comments)
@@ -358,10 +336,8 @@ def read_turns(path: Path) -> Coordinates:
     """
     with open(path, "rb") as file:
         return Coordinates(
-            array.array("d"),
-            array.array("d"),
-            comments_of(itertools.takewhile(lambda line: line[:1] != b"v", file)),
-        )
+            array.array("d"), array.array("d"),
+            comments_of(itertools.takewhile(lambda line: line[:1] != b"v", file)))
 
 
 def scaled(place: int, weight: float, scale: float) -> int:
@@ -384,8 +360,7 @@ def see_that_whole(arcs: Sequence[tuple[int, int, float]]) -> None:
                 if not is_whole(value):
                     raise FileFault(
                         f"arcs[{place}]: {value} is not a whole number; `scale` multiplies weights "
-                        "and rounds them"
-                    )
+                        "and rounds them")
 
 
 def is_whole(value: Any) -> bool:
@@ -396,11 +371,8 @@ def is_whole(value: Any) -> bool:
 
 
 def write_coordinates(
-    target: Target,
-    places: Sequence[Point],
-    comments: Iterable[str] = (),
-    ends: Iterable[tuple[int, int]] = (),
-    copies: Iterable[tuple[int, int]] = (),
+    target: Target, places: Sequence[Point], comments: Iterable[str] = (),
+    ends: Iterable[tuple[int, int]] = (), copies: Iterable[tuple[int, int]] = (),
 ) -> None:
     """Writes the nodes' places (`.co`).
 
@@ -427,14 +399,11 @@ def write_coordinates(
         write_comments(file, (f"Trips to node {node} end at node {end}." for node, end in ends))
         write_comments(
             file,
-            (f"Node {copy} is node {node}, as some turns come to it." for copy, node in copies),
-        )
+            (f"Node {copy} is node {node}, as some turns come to it." for copy, node in copies))
         file.write(f"p aux sp co {len(places)}\n")
         write_rows(
-            file,
-            "v %d %d %d\n",
-            ((node, round(x * 1e6), round(y * 1e6)) for node, (x, y) in enumerate(places, 1)),
-        )
+            file, "v %d %d %d\n",
+            ((node, round(x * 1e6), round(y * 1e6)) for node, (x, y) in enumerate(places, 1)))
 
 
 def write_coordinate_columns(
@@ -461,8 +430,7 @@ def write_coordinate_columns(
         write_comments(file, comments)
         file.write(f"p aux sp co {count}\n")
         write_columns(
-            file, "v %d %d %d\n", [array.array("q", range(1, count + 1)), *columns_of_places]
-        )
+            file, "v %d %d %d\n", [array.array("q", range(1, count + 1)), *columns_of_places])
 
 
 def read_bends(source: Source) -> dict[int, list[Point]]:
@@ -516,5 +484,4 @@ def write_bends(
         file.write(f"p aux sp bends {sum(map(len, bends.values()))}\n")
         points = ((arc + 1, *place) for arc, places in sorted(bends.items()) for place in places)
         write_rows(
-            file, "b %d %d %d\n", ((arc, round(x * 1e6), round(y * 1e6)) for arc, x, y in points)
-        )
+            file, "b %d %d %d\n", ((arc, round(x * 1e6), round(y * 1e6)) for arc, x, y in points))

@@ -1,4 +1,5 @@
-"""The labels that the owner of a network gave its nodes, and how its weights were rounded: a file of JSON (RFC 8259)."""
+"""The labels that the owner of a network gave its nodes, and how its weights were rounded: a file
+of JSON (RFC 8259)."""
 from __future__ import annotations
 
 import itertools
@@ -14,15 +15,19 @@ if TYPE_CHECKING:
 
 
 class Labelling(NamedTuple):
-    """The labels of nodes 1, 2, ..: a list of `int`, of `str` or of tuples, no two equal; and where the weights of the graph are from.
+    """The labels of nodes 1, 2, ..: a list of `int`, of `str` or of tuples, no two equal; and where
+    the weights of the graph are from.
 
-    The caller's weights were multiplied by `scale` (None: they were whole), and rounded by at most `rounding`. `graph` is the SHA-256 of the graph's
-    file, in hexadecimal. `unit` is the unit of the caller's weights, or None.
+    The caller's weights were multiplied by `scale` (None: they were whole), and rounded by at most
+    `rounding`. `graph` is the SHA-256 of the graph's file, in hexadecimal. `unit` is the unit of
+    the caller's weights, or None.
 
-    If the labels are None, nodes are called by their numbers. `rows` is the number of the caller's rows. `arcs` has the row of each arc, unless that
-    is its number modulo `rows`. `keys` has the key of each row, for a graph with several edges between two nodes, and `ways` the numbers of the ways
-    of OpenStreetMap that each row is part of. `row_labels` has those of the first rows in the caller's frame: integers, strings or tuples. It is None
-    if these are 0, 1, .., and empty if they are not known.
+    If the labels are None, nodes are called by their numbers. `rows` is the number of the caller's
+    rows. `arcs` has the row of each arc, unless that is its number modulo `rows`. `keys` has the
+    key of each row, for a graph with several edges between two nodes, and `ways` the numbers of the
+    ways of OpenStreetMap that each row is part of. `row_labels` has those of the first rows in the
+    caller's frame: integers, strings or tuples. It is None if these are 0, 1, .., and empty if they
+    are not known.
     """
 
     labels: Any
@@ -80,7 +85,8 @@ def read_labels(source: Source) -> Labelling:
             found = Labelling(**json.load(file))
         except (ValueError, TypeError, RecursionError):
             raise FileFault(f"{name_of(source)}: not the labels of a network") from None
-    found = found._replace(labels=with_tuples(found.labels), row_labels=with_tuples(found.row_labels))
+    found = found._replace(
+        labels=with_tuples(found.labels), row_labels=with_tuples(found.row_labels))
     if is_right(found if found.labels is not None else found._replace(labels=[1])):
         return found
     raise FileFault(f"{name_of(source)}: not the labels of a network")
@@ -88,24 +94,39 @@ def read_labels(source: Source) -> Labelling:
 
 def with_tuples(labels: Any) -> Any:
     """A list of labels as it was written. JSON has lists in place of tuples."""
-    return [tuple(label) if type(label) is list else label for label in labels] if isinstance(labels, list) else labels
+    return (
+        [tuple(label) if type(label) is list else label for label in labels]
+        if isinstance(labels, list) else labels)
 
 
 def are_labels(labels: Any) -> bool:
-    """Whether labels are in a list, and all integers, all strings, or all tuples of integers, strings and floats."""
+    """Whether labels are in a list, and all integers, all strings, or all tuples of integers,
+    strings and floats."""
     if not isinstance(labels, list):
         return False
     kinds = set(map(type, labels))
-    return kinds in ({int}, {str}) or kinds == {tuple} and set(map(type, itertools.chain(*labels))) <= {int, str, float}
+    return (
+        kinds in ({int}, {str})
+        or kinds == {tuple} and set(map(type, itertools.chain(*labels))) <= {int, str, float})
 
 
 def is_right(found: Labelling) -> bool:
     """Whether each part has the right type, and no two labels are equal."""
-    if not are_labels(found.labels) or not (found.row_labels in (None, []) or are_labels(found.row_labels)):
+    if (
+            not are_labels(found.labels)
+            or not (found.row_labels in (None, []) or are_labels(found.row_labels))):
         return False
-    is_scaled = found.scale is None or type(found.scale) in (int, float) and math.isfinite(found.scale) and found.scale > 0
+    is_scaled = (
+        found.scale is None
+        or type(found.scale) in (int, float) and math.isfinite(found.scale) and found.scale > 0)
     is_rounded = type(found.rounding) in (int, float) and found.rounding >= 0
-    is_named = isinstance(found.graph, str) and isinstance(found.unit, str | None) and type(found.rows) in (int, type(None))
-    is_named &= all(each is None or isinstance(each, list) for each in (found.arcs, found.keys, found.ways)) and set(map(type, found.arcs or ())) <= {int}
-    is_named &= set(map(type, found.ways or ())) <= {list} and {type(number) for way in found.ways or () for number in way} <= {int}
+    is_named = (
+        isinstance(found.graph, str) and isinstance(found.unit, str | None)
+        and type(found.rows) in (int, type(None)))
+    is_named &= (
+        all(each is None or isinstance(each, list) for each in (found.arcs, found.keys, found.ways))
+        and set(map(type, found.arcs or ())) <= {int})
+    is_named &= (
+        set(map(type, found.ways or ())) <= {list}
+        and {type(number) for way in found.ways or () for number in way} <= {int})
     return is_scaled and is_rounded and is_named and len(set(found.labels)) == len(found.labels)

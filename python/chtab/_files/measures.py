@@ -85,8 +85,7 @@ class Measure:
         if not 0 <= value <= most:
             raise ValueError(
                 f"{name} is {given!r}: a limit is from 0 to "
-                f"{most:g}{' ' * bool(self.unit)}{self.unit}"
-            )
+                f"{most:g}{' ' * bool(self.unit)}{self.unit}")
         weight = math.floor(Fraction(value) * Fraction(self.factor))
         while weight < EXACT and (weight + 1) / self.factor <= value:
             weight += 1
@@ -100,8 +99,7 @@ class Measure:
             if self.unit not in TIMES:
                 raise TypeError(
                     f"{name} is a duration, and the network's unit is {self.unit or 'not known'}: "
-                    f"{', '.join(TIMES)} are units of time"
-                )
+                    f"{', '.join(TIMES)} are units of time")
             return Fraction(microseconds(given), 1_000 * TIMES[self.unit])
         if isinstance(given, bool | numpy.bool_) or not isinstance(
             given, numbers.Real | decimal.Decimal | numpy.integer | numpy.floating
@@ -119,14 +117,11 @@ class Measure:
             return weights
         is_missing = weights < 0
         if (
-            self.is_whole
-            and isinstance(missing, int | numpy.integer)
-            and not isinstance(missing, bool)
-        ):
+            self.is_whole and isinstance(missing, int | numpy.integer)
+            and not isinstance(missing, bool)):
             return numpy.where(is_missing, numpy.int64(missing), weights)
         return numpy.where(
-            is_missing, numpy.nan if missing is None else float(missing), weights / self.factor
-        )
+            is_missing, numpy.nan if missing is None else float(missing), weights / self.factor)
 
     def one(self, weight: float | None) -> float | None:
         """The answer of one weight; None for None."""
@@ -135,10 +130,8 @@ class Measure:
     def listed(self, weights: list[Any] | None) -> list[Any] | None:
         """The answers of a list of weights; None for None."""
         return (
-            weights
-            if weights is None or self.is_whole
-            else [weight / self.factor for weight in weights]
-        )
+            weights if weights is None or self.is_whole
+            else [weight / self.factor for weight in weights])
 
     def series(self, weights: Integers) -> pandas.Series:
         """The answers as a column of pandas, `Int64` or float64, with NA where there is no walk."""
@@ -147,8 +140,7 @@ class Measure:
         if not self.is_whole:
             return pandas.Series(self.in_unit(weights))
         return pandas.Series(
-            pandas.arrays.IntegerArray(numpy.array(weights, numpy.int64), weights < 0)
-        )
+            pandas.arrays.IntegerArray(numpy.array(weights, numpy.int64), weights < 0))
 
 
 def microseconds(duration: Any) -> Fraction:
@@ -159,10 +151,8 @@ def microseconds(duration: Any) -> Fraction:
         return Fraction(int(duration.astype("timedelta64[ns]").astype(numpy.int64)), 1_000)
     nanoseconds = getattr(duration, "value", None)
     return (
-        Fraction(nanoseconds, 1_000)
-        if nanoseconds is not None
-        else Fraction(duration // datetime.timedelta(microseconds=1))
-    )
+        Fraction(nanoseconds, 1_000) if nanoseconds is not None
+        else Fraction(duration // datetime.timedelta(microseconds=1)))
 
 
 def whole_limit(name: str, limit: Any) -> int:
@@ -197,19 +187,12 @@ def base_of(unit: str | None, scale: float | None) -> str:
     `BASES`, or empty."""
     return next(
         (
-            base
-            for base, units in BASES.items()
-            if scale is not None and unit in units and units[unit] == scale
-        ),
-        "",
-    )
+            base for base, units in BASES.items()
+            if scale is not None and unit in units and units[unit] == scale), "")
 
 
 def asked_for(
-    unit: str | None,
-    scale: float | None,
-    base: str,
-    own_unit: str | None = None,
+    unit: str | None, scale: float | None, base: str, own_unit: str | None = None,
     own_scale: float | None = None,
 ) -> Measure:
     """The measure for a caller's unit, on a graph whose comments name `base`, or which was made of
@@ -236,13 +219,10 @@ def asked_for(
     if base:
         raise DataFault(
             f"the graph's weights are {base}, so that a unit is one of {', '.join(BASES[base])}; "
-            f"{unit!r} needs `scale`",
-            "unit",
-        )
+            f"{unit!r} needs `scale`", "unit")
     text = (
         f"nothing says how many of the graph's weights make one of {unit!r}: give `scale`, or a "
-        f"graph with `c Weights are {TIME}.` or `c Weights are {LENGTH}.`"
-    )
+        f"graph with `c Weights are {TIME}.` or `c Weights are {LENGTH}.`")
     raise DataFault(text, "unit")
 
 
@@ -250,6 +230,4 @@ def unknown(unit: str) -> DataFault:
     """The fault of a unit that is not known and has no scale."""
     return DataFault(
         f"{unit!r} is not one of {', '.join([*TIMES, *LENGTHS])}: any other unit needs `scale`, "
-        "such as scale=1 for whole weights",
-        "unit",
-    )
+        "such as scale=1 for whole weights", "unit")

@@ -56,8 +56,7 @@ class Numbers:
         if outside is not None:
             row = row_of(column, outside)
             raise columns.refused(
-                name, row, f"node {column.flat[outside]:.17g} is not from 1 to {self.count:,}"
-            )
+                name, row, f"node {column.flat[outside]:.17g} is not from 1 to {self.count:,}")
         return column.astype(numpy.int64)
 
     def few(self, labels: Iterable[Any]) -> list[int] | None:
@@ -65,10 +64,8 @@ class Numbers:
         look."""
         labels = [int(label) if type(label) is numpy.int64 else label for label in labels]
         return (
-            labels
-            if all(type(label) is int and 0 < label <= self.count for label in labels)
-            else None
-        )
+            labels if all(type(label) is int and 0 < label <= self.count for label in labels)
+            else None)
 
     def of(self, nodes: Integers) -> LabelArray:
         """The labels of an array of nodes."""
@@ -93,25 +90,19 @@ def is_whole(column: NDArray[Any]) -> bool:
 def no_number(name: str, column: NDArray[Any], given: Any) -> DataFault:
     """The fault of the first value that is no number of a node."""
     values = (
-        column
-        if column.dtype != object and not isinstance(given, list | tuple)
-        else numpy.array(given, object)
-    )
+        column if column.dtype != object and not isinstance(given, list | tuple)
+        else numpy.array(given, object))
     place = columns.first_of([not is_node(value) for value in values.reshape(-1).tolist()]) or 0
     return columns.refused(
-        name,
-        row_of(values, place),
-        f"{quoted(values.reshape(-1).tolist()[place])} is no node: a node is a whole number",
-    )
+        name, row_of(values, place),
+        f"{quoted(values.reshape(-1).tolist()[place])} is no node: a node is a whole number")
 
 
 def is_node(value: object) -> bool:
     """Whether a value is a whole number."""
     return (
         columns.is_integer(type(value))
-        or isinstance(value, float | numpy.floating)
-        and float(value).is_integer()
-    )
+        or isinstance(value, float | numpy.floating) and float(value).is_integer())
 
 
 class Labels:
@@ -148,17 +139,14 @@ class Labels:
         """The nodes of labels, an array of int64 in the shape of the argument. Raises a `DataFault`
         if no node has a label."""
         labels = (
-            self.tuples_of(name, given) if self.kind == TUPLES else columns.labels_in(name, given)
-        )
+            self.tuples_of(name, given) if self.kind == TUPLES else columns.labels_in(name, given))
         nodes = self.found(labels)
         place = columns.first_of(nodes == 0)
         if place is not None:
             row, label = row_of(labels, place), labels.reshape(-1)[place:place + 1].tolist()[0]
             raise DataFault(
                 f"{name}[{row}]: no node has the label {quoted(label)}; labels are {self.kind}",
-                name,
-                row,
-            )
+                name, row)
         return nodes
 
     def tuples_of(self, name: str, given: Any) -> LabelArray:
@@ -190,16 +178,14 @@ class Labels:
         labels = [int(label) if type(label) is numpy.int64 else label for label in labels]
         if self.values.dtype == object:
             found = [
-                self.numbers.get(label, 0) if type(label) in (int, str) else 0 for label in labels
-            ]
+                self.numbers.get(label, 0) if type(label) in (int, str) else 0 for label in labels]
             return None if 0 in found else found
         if not all(type(label) is int and LEAST <= label <= GREATEST for label in labels):
             return None
         values, nodes = self.sorted
         places = values.searchsorted(labels).tolist()
         is_there = all(
-            place < len(values) and values[place] == label for place, label in zip(places, labels)
-        )
+            place < len(values) and values[place] == label for place, label in zip(places, labels))
         return [int(nodes[place]) for place in places] if is_there else None
 
     def of(self, nodes: Integers) -> LabelArray:
@@ -212,9 +198,7 @@ class Labels:
 
         return (
             pandas.Index(columns.objects_of(list(given)), name=name, tupleize_cols=False)
-            if self.kind == TUPLES
-            else pandas.Index(given, name=name)
-        )
+            if self.kind == TUPLES else pandas.Index(given, name=name))
 
     def listed(self, nodes: list[int]) -> list[Label]:
         """The labels of a list of nodes, as a list."""
@@ -236,8 +220,7 @@ def doubled(name: str, labels: Sequence[Label]) -> DataFault:
     for row, label in enumerate(labels):
         if known.setdefault(label, row) != row:
             return columns.refused(
-                name, row, f"the label {quoted(label)} is in row {known[label]} already"
-            )
+                name, row, f"the label {quoted(label)} is in row {known[label]} already")
     raise AssertionError("no label is repeated")
 
 
@@ -247,17 +230,13 @@ def labels_of_ends(
     """The labels in either of two columns, in ascending order, and the nodes of both columns, int64
     (2, m)."""
     kinds = [
-        columns.kind_of(type(values[:1].tolist()[0]))
-        for values in (sources, targets)
-        if len(values)
-    ]
+        columns.kind_of(type(values[:1].tolist()[0])) for values in (sources, targets)
+        if len(values)]
     if len(set(kinds)) > 1:
         raise columns.refused(
-            names[1],
-            0,
+            names[1], 0,
             f"the label {quoted(targets[:1].tolist()[0])} is not one of {kinds[0]}, as those of "
-            f"{names[0]}",
-        )
+            f"{names[0]}")
     if sources.dtype == targets.dtype == numpy.int64:
         values, places = numpy.unique(numpy.concatenate([sources, targets]), return_inverse=True)
     else:

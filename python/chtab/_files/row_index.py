@@ -66,18 +66,13 @@ def matched(names: Sequence[str], given: Sequence[Any]) -> list[Any]:
         if other is index or other.equals(index):
             continue
         if not (
-            len(other) == len(index)
-            and other.is_unique
-            and index.is_unique
-            and other.isin(index).all()
-        ):
+            len(other) == len(index) and other.is_unique and index.is_unique
+            and other.isin(index).all()):
             text = (
                 f"the rows of {names[place]} and of {names[own[0]]} have other labels, so that "
-                "nothing says which go together"
-            )
+                "nothing says which go together")
             raise DataFault(
                 f"{text}: give columns of one frame, or arrays, as `to_numpy()` gives them",
-                names[place],
-            )
+                names[place])
         found[place] = given[place].iloc[other.get_indexer(index)]
     return found

@@ -22,7 +22,8 @@ DEGREES = "EPSG:4326"
 
 
 class OnMap:
-    """An answer that can be shown on a map. `to_geojson` returns its features, and `shown_by` names the property that colours them."""
+    """An answer that can be shown on a map. `to_geojson` returns its features, and `shown_by` names
+    the property that colours them."""
 
     shown_by = ""
 
@@ -40,7 +41,8 @@ class OnMap:
         Returns
         -------
         geopandas.GeoDataFrame
-            A row for each feature with its properties, and its shape in degrees (EPSG:4326), or None.
+            A row for each feature with its properties, and its shape in degrees (EPSG:4326), or
+            None.
 
         Raises
         ------
@@ -82,12 +84,14 @@ class OnMap:
         Parameters
         ----------
         **style
-            Options of the lines and polygons of Leaflet, such as `weight`, `color` or `fillOpacity`.
+            Options of the lines and polygons of Leaflet, such as `weight`, `color` or
+            `fillOpacity`.
 
         Returns
         -------
         folium.Map
-            The map, whose background tiles a browser loads from OpenStreetMap. Features without a geometry are not shown.
+            The map, whose background tiles a browser loads from OpenStreetMap. Features without a
+            geometry are not shown.
 
         Raises
         ------
@@ -110,7 +114,9 @@ class OnMap:
 
 def table_text(title: str, rows: list[dict]) -> str:
     """The HTML of a table of rows with the same keys. Their values are escaped."""
-    cells = "".join("<tr>" + "".join(f"<td>{html.escape(str(value))}</td>" for value in row.values()) + "</tr>" for row in rows)
+    cells = "".join(
+        "<tr>" + "".join(f"<td>{html.escape(str(value))}</td>" for value in row.values()) + "</tr>"
+        for row in rows)
     heads = "".join(f"<th>{html.escape(str(name))}</th>" for name in (rows[0] if rows else ()))
     return f"<p>{html.escape(title)}</p><table><thead><tr>{heads}</tr></thead><tbody>{cells}</tbody></table>"
 
@@ -121,19 +127,24 @@ def values_of(features: Sequence[Geojson], name: str) -> Floats:
 
 
 def drawn(features: Sequence[Geojson], name: str, ax: Any, style: Mapping[str, Any]) -> Any:
-    """Draws features in axes of matplotlib, with one collection each for points, lines and polygons."""
+    """Draws features in axes of matplotlib, with one collection each for points, lines and
+    polygons."""
     from matplotlib import pyplot
 
     if ax is None:
         ax = pyplot.figure().add_subplot()
     values = values_of(features, name)
-    for kind, draw in (("Point", draw_points), ("LineString", draw_lines), ("MultiPolygon", draw_polygons)):
+    for kind, draw in (
+        ("Point", draw_points), ("LineString", draw_lines), ("MultiPolygon", draw_polygons)):
         which = [place for place, each in enumerate(features) if each["geometry"]["type"] == kind]
         if which:
-            draw(ax, [features[place]["geometry"]["coordinates"] for place in which], values[which], {"cmap": COLOURS, **style})
+            draw(
+                ax, [features[place]["geometry"]["coordinates"] for place in which], values[which],
+                {"cmap": COLOURS, **style})
     ax.autoscale_view()
     low, high = ax.get_ylim()
-    ax.set_aspect(1 / max(numpy.cos(numpy.radians((low + high) / 2)), 0.01) if abs(low + high) < 180 else 1)
+    ax.set_aspect(
+        1 / max(numpy.cos(numpy.radians((low + high) / 2)), 0.01) if abs(low + high) < 180 else 1)
     ax.set(xlabel="longitude", ylabel="latitude")
     return ax
 
@@ -145,7 +156,8 @@ def draw_points(ax: Any, points: Sequence[Any], values: Floats, style: Mapping[s
 def draw_lines(ax: Any, lines: Sequence[Any], values: Floats, style: Mapping[str, Any]) -> None:
     from matplotlib.collections import LineCollection
 
-    ax.add_collection(LineCollection([numpy.array(line, float) for line in lines], array=values, **style))
+    ax.add_collection(
+        LineCollection([numpy.array(line, float) for line in lines], array=values, **style))
 
 
 def draw_polygons(ax: Any, areas: Sequence[Any], values: Floats, style: Mapping[str, Any]) -> None:
@@ -153,8 +165,9 @@ def draw_polygons(ax: Any, areas: Sequence[Any], values: Floats, style: Mapping[
     from matplotlib.path import Path
 
     paths = [
-        Path.make_compound_path(*(Path(numpy.array(ring, float), closed=True) for polygon in area for ring in polygon)) for area in areas
-    ]
+        Path.make_compound_path(
+            *(Path(numpy.array(ring, float), closed=True) for polygon in area for ring in polygon))
+        for area in areas]
     ax.add_collection(PathCollection(paths, array=values, **{"alpha": 0.5, **style}))
 
 
@@ -164,29 +177,41 @@ def explored(features: Sequence[Geojson], name: str, style: Mapping[str, Any]) -
     from matplotlib import colormaps, colors
 
     values = values_of(features, name)
-    scale = colors.Normalize(numpy.nanmin(values), numpy.nanmax(values)) if numpy.isfinite(values).any() else (lambda value: 0.0)
+    scale = colors.Normalize(numpy.nanmin(values), numpy.nanmax(values)) if numpy.isfinite(
+        values).any() else (lambda value: 0.0)
     shown = folium.Map()
     bounds = []
     for feature, value in zip(features, values):
-        colour = colors.to_hex(colormaps[COLOURS](float(scale(value)) if numpy.isfinite(value) else 0.0))
+        colour = colors.to_hex(
+            colormaps[COLOURS](float(scale(value)) if numpy.isfinite(value) else 0.0))
         whole = {"color": colour, "weight": 4, **style}
-        text = "<br>".join(f"{html.escape(str(key))}: {html.escape(str(told))}" for key, told in feature["properties"].items())
-        marker = folium.CircleMarker(radius=3, **whole) if feature["geometry"]["type"] == "Point" else None
+        text = "<br>".join(
+            f"{html.escape(str(key))}: {html.escape(str(told))}"
+            for key, told in feature["properties"].items())
+        marker = (
+            folium.CircleMarker(radius=3, **whole) if feature["geometry"]["type"] == "Point"
+            else None)
         item = folium.GeoJson(feature, style_function=lambda _, whole=whole: whole, marker=marker)
         item.add_child(folium.Tooltip(text))
         item.add_to(shown)
         bounds.append(item.get_bounds())
     if bounds:
-        shown.fit_bounds([[min(each[0][axis] for each in bounds) for axis in (0, 1)], [max(each[1][axis] for each in bounds) for axis in (0, 1)]])
+        shown.fit_bounds(
+            [
+                [min(each[0][axis] for each in bounds) for axis in (0, 1)],
+                [max(each[1][axis] for each in bounds) for axis in (0, 1)]])
     return shown
 
 
 def geodataframe(collection: dict) -> geopandas.GeoDataFrame:
-    """The features of a collection of GeoJSON as rows, in longitudes and latitudes, with None for a missing geometry."""
+    """The features of a collection of GeoJSON as rows, in longitudes and latitudes, with None for a
+    missing geometry."""
     import geopandas
     from shapely.geometry import shape
 
-    rows = [{**each["properties"], "geometry": each["geometry"] and shape(each["geometry"])} for each in collection["features"]]
+    rows = [
+        {**each["properties"], "geometry": each["geometry"] and shape(each["geometry"])}
+        for each in collection["features"]]
     columns = [*rows[0]] if rows else ["geometry"]
     return geopandas.GeoDataFrame(rows, columns=columns, geometry="geometry", crs=DEGREES)
 
@@ -195,4 +220,5 @@ def with_geometry(frame: pandas.DataFrame, shapes: Sequence[Any]) -> geopandas.G
     """A frame with shapes in degrees as its geometry."""
     import geopandas
 
-    return geopandas.GeoDataFrame(frame, geometry=geopandas.GeoSeries(shapes, index=frame.index, crs=DEGREES))
+    return geopandas.GeoDataFrame(
+        frame, geometry=geopandas.GeoSeries(shapes, index=frame.index, crs=DEGREES))

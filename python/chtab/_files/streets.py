@@ -17,8 +17,9 @@ SIDE = "Driving side: "
 
 
 class Street(NamedTuple):
-    """What travellers read about a road in one direction: its kind (`highway` of OpenStreetMap, or `ferry`), `roundabout` or `circular` if it is a
-    ring, its name, its number, and the destinations on its signs; each may be empty."""
+    """What travellers read about a road in one direction: its kind (`highway` of OpenStreetMap, or
+    `ferry`), `roundabout` or `circular` if it is a ring, its name, its number, and the destinations
+    on its signs; each may be empty."""
 
     highway: str = ""
     junction: str = ""
@@ -28,8 +29,8 @@ class Street(NamedTuple):
 
 
 class Streets(NamedTuple):
-    """The streets of a graph. `of_arcs` has for each arc the place of its street in `streets`, from 1 on, or 0 for none. `side` is the side of the
-    road that is driven on, `right` or `left`."""
+    """The streets of a graph. `of_arcs` has for each arc the place of its street in `streets`, from
+    1 on, or 0 for none. `side` is the side of the road that is driven on, `right` or `left`."""
 
     streets: list[Street]
     of_arcs: list[int]
@@ -37,7 +38,8 @@ class Streets(NamedTuple):
 
 
 def write_streets(target: Target, found: Streets, comments: Iterable[str] = ()) -> None:
-    """Writes streets (`.names`): a line `s {..}` for each, an object of JSON without empty fields, and then a line `a STREET` for each arc, in order.
+    """Writes streets (`.names`): a line `s {..}` for each, an object of JSON without empty fields,
+    and then a line `a STREET` for each arc, in order.
 
     Parameters
     ----------
@@ -79,7 +81,8 @@ def read_streets(source: Source, arcs: int) -> Streets:
     Raises
     ------
     FileFault
-        The file isn't of this kind, or belongs to another graph; the message names it, and the line if there is one.
+        The file isn't of this kind, or belongs to another graph; the message names it, and the line
+        if there is one.
     """
     streets: list[Street] = []
     of_arcs: list[int] = []
@@ -97,10 +100,16 @@ def read_streets(source: Source, arcs: int) -> Streets:
                     side = SIDES[SIDES.index(line[2:].strip().removeprefix(SIDE).removesuffix("."))]
             except (ValueError, RecursionError):
                 raise FileFault(f"{name_of(source)} line {number}: not a line of streets") from None
-    if told != (len(streets), len(of_arcs)) or not all(0 <= number <= len(streets) for number in of_arcs):
-        raise FileFault(f"{name_of(source)}: cut short, or not a file of streets, whose problem line is `p aux sp names STREETS ARCS`")
+    if (
+            told != (len(streets), len(of_arcs))
+            or not all(0 <= number <= len(streets) for number in of_arcs)):
+        raise FileFault(
+            f"{name_of(source)}: cut short, or not a file of streets, whose problem line is `p "
+            "aux sp names STREETS ARCS`")
     if len(of_arcs) != arcs:
-        raise FileFault(f"{name_of(source)}: streets of {len(of_arcs):,} arcs, where the graph has {arcs:,}: they are those of another graph")
+        raise FileFault(
+            f"{name_of(source)}: streets of {len(of_arcs):,} arcs, where the graph has {arcs:,}: "
+            "they are those of another graph")
     return Streets(streets, of_arcs, side)
 
 
@@ -114,6 +123,8 @@ def told_of(line: str) -> tuple[int, int]:
 
 def street_in(value: Any) -> Street:
     """The street of an object of JSON, whose fields are all strings."""
-    if not isinstance(value, dict) or not all(key in FIELDS and isinstance(text, str) for key, text in value.items()):
+    if (
+            not isinstance(value, dict)
+            or not all(key in FIELDS and isinstance(text, str) for key, text in value.items())):
         raise ValueError
     return Street(**value)

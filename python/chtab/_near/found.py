@@ -66,11 +66,9 @@ class Near:
 
     def _repr_html_(self) -> str:
         first = zip(
-            self.sources[self.owners()[:SHOWN]], self.targets[self.places[:SHOWN]], self.weights
-        )
+            self.sources[self.owners()[:SHOWN]], self.targets[self.places[:SHOWN]], self.weights)
         return table_text(
-            repr(self), [dict(zip(("source", "target", "weight"), row)) for row in first]
-        )
+            repr(self), [dict(zip(("source", "target", "weight"), row)) for row in first])
 
     def owners(self) -> NDArray[numpy.int64]:
         """Returns the place of the source of each target.
@@ -158,13 +156,8 @@ class Nearest(OnMap, Columns):
 
     @classmethod
     def of(
-        cls,
-        places: NDArray[numpy.int64],
-        weights: NDArray,
-        sources: NDArray,
-        targets: NDArray,
-        layers: Layers,
-        at: NDArray | None = None,
+        cls, places: NDArray[numpy.int64], weights: NDArray, sources: NDArray, targets: NDArray,
+        layers: Layers, at: NDArray | None = None,
     ) -> Nearest:
         """The columns, with the labels of the question."""
         found = cls(places, weights, places == NO_WALK)
@@ -174,8 +167,7 @@ class Nearest(OnMap, Columns):
     def __repr__(self) -> str:
         return (
             f"<the nearest {self.places.shape[1]:,} of {len(self.targets):,} targets of "
-            f"{len(self.sources):,} sources>"
-        )
+            f"{len(self.sources):,} sources>")
 
     def labels(self, place: int) -> NDArray:
         """Returns the labels of the targets at a rank, None where there is no target.
@@ -193,8 +185,7 @@ class Nearest(OnMap, Columns):
         is_there = ~self.mask[:, place]
         for row, label in zip(
             numpy.flatnonzero(is_there).tolist(),
-            self.targets[self.places[is_there, place]].tolist(),
-        ):
+            self.targets[self.places[is_there, place]].tolist()):
             found[row] = label
         return found
 
@@ -215,9 +206,8 @@ class Nearest(OnMap, Columns):
         import pandas
 
         rows, count = self.places.shape
-        owners, ranks = numpy.repeat(numpy.arange(rows), count), numpy.tile(
-            numpy.arange(1, count + 1), rows
-        )
+        owners, ranks = (
+            numpy.repeat(numpy.arange(rows), count), numpy.tile(numpy.arange(1, count + 1), rows))
         places, mask = self.places.reshape(-1), self.mask.reshape(-1)
         targets = numpy.full(len(places), None, object)
         targets[~mask] = self.targets[places[~mask]]
@@ -253,25 +243,19 @@ class Nearest(OnMap, Columns):
         else:
             at = [
                 self.layers.coordinates.of(node)
-                for node in self.layers.labels.nodes_of("sources", sources).tolist()
-            ]
+                for node in self.layers.labels.nodes_of("sources", sources).tolist()]
         values = zip(
-            sources, at, self.labels(0), self.weights[:, 0].tolist(), self.mask[:, 0].tolist()
-        )
+            sources, at, self.labels(0), self.weights[:, 0].tolist(), self.mask[:, 0].tolist())
         return [
             geojson.feature(
                 place,
                 {"source": source, "target": target, "weight": None if is_masked else weight},
-                "Point",
-            )
-            for source, place, target, weight, is_masked in values
-        ]
+                "Point") for source, place, target, weight, is_masked in values]
 
     def _repr_html_(self) -> str:
         rows = zip(self.sources[:SHOWN].tolist(), self.labels(0), self.weights[:, 0].tolist())
         return table_text(
-            repr(self), [dict(zip(("source", "target", "weight"), row)) for row in rows]
-        )
+            repr(self), [dict(zip(("source", "target", "weight"), row)) for row in rows])
 
 
 def masked(values: NDArray, mask: NDArray[numpy.bool_]) -> Any:
@@ -279,7 +263,5 @@ def masked(values: NDArray, mask: NDArray[numpy.bool_]) -> Any:
     import pandas
 
     return (
-        pandas.arrays.IntegerArray(values.copy(), mask.copy())
-        if values.dtype == numpy.int64
-        else numpy.where(mask, numpy.nan, values)
-    )
+        pandas.arrays.IntegerArray(values.copy(), mask.copy()) if values.dtype == numpy.int64
+        else numpy.where(mask, numpy.nan, values))

@@ -75,8 +75,7 @@ class Asked:
     def labels_of(self, nodes: Integers | Spots) -> LabelArray:
         """The labels of nodes, or the places of spots in their list."""
         return (
-            numpy.arange(len(nodes)) if isinstance(nodes, Spots) else self.layers.labels.of(nodes)
-        )
+            numpy.arange(len(nodes)) if isinstance(nodes, Spots) else self.layers.labels.of(nodes))
 
     def labels(self) -> tuple[LabelArray, LabelArray]:
         """The labels of sources and targets."""

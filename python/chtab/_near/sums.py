@@ -94,15 +94,13 @@ def shares_of(decay: Callable[[Any], Any], weights: Weights) -> Floats:
     shares = numpy.asarray(decay(weights), float)
     if shares.shape not in ((), weights.shape):
         raise ValueError(
-            f"decay gave the shape {shares.shape} for weights of the shape {weights.shape}"
-        )
+            f"decay gave the shape {shares.shape} for weights of the shape {weights.shape}")
     place = columns.first_of(~((shares >= 0) & (shares < numpy.inf)))
     if place is not None:
         weight = numpy.broadcast_to(weights, shares.shape or weights.shape).flat[place]
         raise ValueError(
             f"decay gave {shares.flat[place]} for the weight {weight}: a share is a number from 0 "
-            "on"
-        )
+            "on")
     return numpy.broadcast_to(shares, weights.shape)
 
 
@@ -110,10 +108,7 @@ def shares_of(decay: Callable[[Any], Any], weights: Weights) -> Floats:
 
 
 def values_in(
-    values: Any,
-    targets: Any,
-    nodes_of: Callable[[str, Any], Integers],
-    all_nodes: Integers,
+    values: Any, targets: Any, nodes_of: Callable[[str, Any], Integers], all_nodes: Integers,
     with_zeros: bool = False,
 ) -> tuple[Integers, Floats, list[Any] | None]:
     """The targets and their values: nodes (l,) and float64 (l, c), with the names of the columns,
@@ -126,10 +121,8 @@ def values_in(
         values, targets = row_index.matched(("values", "targets"), (values, targets))
     if targets is None and hasattr(values, "keys"):
         targets, values = (
-            (values.index, values)
-            if hasattr(values, "index")
-            else ([*values.keys()], [*values.values()])
-        )
+            (values.index, values) if hasattr(values, "index")
+            else ([*values.keys()], [*values.values()]))
     nodes = all_nodes if targets is None else nodes_of("targets", targets)
     if numpy.ndim(values) == 0:
         one = values[()] if isinstance(values, numpy.ndarray) else values
@@ -138,9 +131,7 @@ def values_in(
     found = numpy.column_stack(
         [
             numpy.zeros((len(nodes), 0)),
-            *(column_in(*each, nodes, targets is None) for each in columns_of(values, names)),
-        ]
-    )
+            *(column_in(*each, nodes, targets is None) for each in columns_of(values, names))])
     if targets is not None or with_zeros:
         return nodes, found, names
     is_some = (found != 0).any(axis=1)
@@ -153,10 +144,8 @@ def columns_of(values: Any, names: list[Any] | None) -> list[tuple[str, Any]]:
         return [(f"values[{name!r}]", values.iloc[:, place]) for place, name in enumerate(names)]
     if numpy.ndim(values) == 2:
         rows = (
-            numpy.array(values, object)
-            if isinstance(values, list | tuple)
-            else numpy.asarray(values)
-        )
+            numpy.array(values, object) if isinstance(values, list | tuple)
+            else numpy.asarray(values))
         return [(f"values[:, {place}]", rows[:, place]) for place in range(rows.shape[1])]
     return [("values", values)]
 
@@ -170,9 +159,7 @@ def column_in(name: str, column: Any, nodes: Integers, are_all: bool) -> Floats:
     if len(found) != len(nodes):
         raise DataFault(
             f"{name} has {len(found):,} rows, and there are {len(nodes):,} "
-            f"{'nodes' if are_all else 'targets'}",
-            name,
-        )
+            f"{'nodes' if are_all else 'targets'}", name)
     return found
 
 
@@ -189,11 +176,8 @@ def aggregates(
     if asked.kind == "median":
         return medians(engine, question, asked, workers, progress)
     if (
-        isinstance(question, NearQuestion)
-        and workers == 1
-        and progress is None
-        and are_counted(question, asked)
-    ):
+        isinstance(question, NearQuestion) and workers == 1 and progress is None
+        and are_counted(question, asked)):
         return blocks.sums(engine, question, asked.values.astype(numpy.uint64), asked.limits)
 
     def make(block: blocks.Block, portions: Portions) -> State:
@@ -219,8 +203,7 @@ def are_counted(question: Question, asked: Asked) -> bool:
     enough to be exact as a float."""
     values = asked.values
     is_plain = (
-        asked.kind == "sum" and asked.share is None and 0 < len(question.targets) <= blocks.LENGTH
-    )
+        asked.kind == "sum" and asked.share is None and 0 < len(question.targets) <= blocks.LENGTH)
     return is_plain and bool(
         (values >= 0).all() and (values == numpy.floor(values)).all() and values.sum() <= EXACT
     )
@@ -242,15 +225,11 @@ def state_of(rows: near_rows.Rows, asked: Asked) -> State:
         near, values = owners[is_near], asked.values[rows.places[is_near]]
         if asked.kind in ("min", "max"):
             extremes(
-                state[0][:, :, place],
-                near,
-                values,
-                numpy.minimum if asked.kind == "min" else numpy.maximum,
-            )
+                state[0][:, :, place], near, values,
+                numpy.minimum if asked.kind == "min" else numpy.maximum)
             continue
         shares = (
-            numpy.ones(len(near)) if asked.share is None else asked.share(weights[is_near], given)
-        )
+            numpy.ones(len(near)) if asked.share is None else asked.share(weights[is_near], given))
         for column in range(values.shape[1]):
             parts = PARTS[asked.kind](near, values[:, column], shares, len(rows))
             for array, part in zip(state, parts):
@@ -278,17 +257,14 @@ def joined_moments(first: State, second: State) -> State:
     whole = total + other
     apart = other_mean - mean
     return (
-        whole,
-        mean + quotient(apart * other, whole, 0.0),
-        squares + other_squares + quotient(apart**2 * total * other, whole, 0.0),
-    )
+        whole, mean + quotient(apart * other, whole, 0.0),
+        squares + other_squares + quotient(apart**2 * total * other, whole, 0.0))
 
 
 def quotient(above: NDArray[Any], below: NDArray[Any], otherwise: float = numpy.nan) -> Floats:
     """The quotient where the divisor is not 0."""
     return numpy.divide(
-        above, below, out=numpy.full(numpy.shape(above), otherwise), where=below != 0
-    )
+        above, below, out=numpy.full(numpy.shape(above), otherwise), where=below != 0)
 
 
 def added(first: State, second: State) -> State:
@@ -300,9 +276,7 @@ PARTS: dict[str, Callable[..., State]] = {
     "sum": lambda owners, values, shares, count: [numpy.bincount(owners, values * shares, count)],
     "count": lambda owners, values, shares, count: [numpy.bincount(owners, shares, count)],
     "mean": lambda owners, values, shares, count: [
-        numpy.bincount(owners, values * shares, count),
-        numpy.bincount(owners, shares, count),
-    ],
+        numpy.bincount(owners, values * shares, count), numpy.bincount(owners, shares, count)],
     "std": moments,
 }
 JOINED: dict[str, Callable[[State, State], State]] = {
@@ -354,6 +328,5 @@ def medians_of(out: Floats, rows: near_rows.Rows, asked: Asked) -> None:
             values = asked.values[rows.places[is_near], column]
             values = values[numpy.lexsort([values, near])]
             low, high = (
-                firsts[is_some] + step // 2 for step in (counts[is_some] - 1, counts[is_some])
-            )
+                firsts[is_some] + step // 2 for step in (counts[is_some] - 1, counts[is_some]))
             out[is_some, column, place] = (values[low] + values[high]) / 2

@@ -1,5 +1,5 @@
-"""Arcs, places, and the roads between nodes: spots on roads, trips between them, routes, and what is
-reached.
+"""Arcs, places, and the roads between nodes: spots on roads, trips between them, routes, and what
+is reached.
 
 | module | what it holds |
 |---|---|

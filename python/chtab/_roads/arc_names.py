@@ -23,10 +23,9 @@ if TYPE_CHECKING:
 WAY = re.compile(r"way/(-?\d+)", re.ASCII)
 NAMES = (
     "a row, (source, target), (source, target, key), {node, node}, (node,), spots of `snap`, "
-    "'way/NUMBER' or a street"
-)
-# The kinds of names: rows, spots, ways and streets; those of both directions between two nodes; and by
-# their lengths those that name nodes.
+    "'way/NUMBER' or a street")
+# The kinds of names: rows, spots, ways and streets; those of both directions between two nodes; and
+# by their lengths those that name nodes.
 ROW, SPOTS, WAYS, STREETS, BOTH = "row", "spots", "ways", "streets", "both"
 NODE, PAIR, EDGE, OTHER = "node", "pair", "edge", "other"
 BY_NODES = {1: NODE, 2: PAIR, 3: EDGE}
@@ -88,8 +87,7 @@ class ArcNames:
     def by_node(self) -> Groups:
         return Groups.of(
             numpy.concatenate([self.tails[self.between], self.heads[self.between]]),
-            numpy.tile(self.between, 2),
-        )
+            numpy.tile(self.between, 2))
 
     def key_of(self, tails: Integers, heads: Integers) -> Integers:
         """A number for each pair of crossings."""
@@ -104,8 +102,7 @@ class ArcNames:
         if isinstance(given, numpy.ndarray) and given.ndim == 1 and given.dtype.kind in "iu":
             return self.of_rows(name, numpy.arange(len(given)), given)
         return self.of_list(
-            name, given.tolist() if isinstance(given, numpy.ndarray) else list(given)
-        )
+            name, given.tolist() if isinstance(given, numpy.ndarray) else list(given))
 
     def of_list(self, name: str, names: Sequence[Any]) -> Found:
         """The arcs of names, in the order of these."""
@@ -125,14 +122,11 @@ class ArcNames:
         }
         found = all_of(
             functools.partial(
-                finders[kind], name, numpy.array(places), [names[place] for place in places]
-            )
-            for kind, places in by_kind.items()
-        )
+                finders[kind], name, numpy.array(places), [names[place] for place in places])
+            for kind, places in by_kind.items())
         arcs, places = (
             numpy.concatenate([numpy.zeros(0, numpy.int64), *column])
-            for column in (zip(*found) if found else ((), ()))
-        )
+            for column in (zip(*found) if found else ((), ())))
         order = numpy.argsort(places, kind="stable")
         return Found(arcs[order], places[order])
 
@@ -148,16 +142,12 @@ class ArcNames:
             except DataFault as fault:
                 raise DataFault(
                     f"{fault}; values in the order of rows are an array, as `to_numpy()` gives it",
-                    name,
-                    fault.row,
-                ) from None
+                    name, fault.row) from None
         levels = [numpy.asarray(index.get_level_values(level)) for level in range(index.nlevels)]
         if len(levels) not in (2, 3):
             raise DataFault(
                 f"{name} has an index of {len(levels)} levels; those of arcs are source and "
-                "target, or these and key",
-                name,
-            )
+                "target, or these and key", name)
         return self.of_ends(name, numpy.arange(len(index)), *levels)
 
     def rows_of_index(self, name: str, index: Any) -> Found | None:
@@ -174,13 +164,11 @@ class ArcNames:
         if not row_index.is_of_levels(index) or index.nlevels > 3:
             return False
         sources, targets, *keys = (
-            numpy.asarray(index.get_level_values(level)) for level in range(index.nlevels)
-        )
+            numpy.asarray(index.get_level_values(level)) for level in range(index.nlevels))
         try:
             tails, heads = (
                 self.layers.crossings[self.layers.labels.nodes_of("index", ends)]
-                for ends in (sources, targets)
-            )
+                for ends in (sources, targets))
         except (ValueError, TypeError):
             return False
         are_same = (self.tails == tails[self.rows]) & (self.heads == heads[self.rows])
@@ -194,17 +182,13 @@ class ArcNames:
         """The arcs of rows. A row whose arcs are closed has none."""
         count = self.row_labels.count
         column = (
-            rows
-            if isinstance(rows, numpy.ndarray)
-            else numpy.array([row if 0 <= row < count else -1 for row in rows], numpy.int64)
-        )
+            rows if isinstance(rows, numpy.ndarray)
+            else numpy.array([row if 0 <= row < count else -1 for row in rows], numpy.int64))
         outside = columns.first_of((column < 0) | (column >= count))
         if outside is not None:
             raise refused(
-                name,
-                int(places[outside]),
-                f"there is no row {rows[outside]} of arcs; they are from 0 to {count - 1:,}",
-            )
+                name, int(places[outside]),
+                f"there is no row {rows[outside]} of arcs; they are from 0 to {count - 1:,}")
         self.row_labels.see_that_plain(name, places, column)
         return self.by_row.of_each(column).through(places)
 
@@ -215,8 +199,7 @@ class ArcNames:
     def of_nodes(self, name: str, places: Integers, names: Sequence[Any]) -> Found:
         """The arcs to and from nodes."""
         return self.by_node.of_each(
-            self.crossings_of(name, places, [label for label, in names])
-        ).through(places)
+            self.crossings_of(name, places, [label for label, in names])).through(places)
 
     def of_both(self, name: str, places: Integers, names: Sequence[Any]) -> Found:
         """The arcs between two nodes in either direction, of which there may be one alone."""
@@ -237,11 +220,7 @@ class ArcNames:
         return self.of_ends(name, places, sources, targets, *map(objects_in, keys))
 
     def of_ends(
-        self,
-        name: str,
-        places: Integers,
-        sources: Any,
-        targets: Any,
+        self, name: str, places: Integers, sources: Any, targets: Any,
         keys: LabelArray | None = None,
     ) -> Found:
         """The arcs from nodes to others; with keys all arcs of the rows of these edges, which lead
@@ -249,25 +228,18 @@ class ArcNames:
         def named(place: int) -> str:
             return quoted(
                 tuple(
-                    column[place:place + 1].tolist()[0]
-                    if isinstance(column, numpy.ndarray)
-                    else column[place]
-                    for column in parts
-                )
-            )
+                    column[place:place + 1].tolist()[0] if isinstance(column, numpy.ndarray)
+                    else column[place] for column in parts))
 
         parts = [sources, targets] + [keys] * (keys is not None)
         tails, heads = all_of(
-            functools.partial(self.crossings_of, name, places, ends) for ends in (sources, targets)
-        )
+            functools.partial(self.crossings_of, name, places, ends) for ends in (sources, targets))
         found = self.by_ends.of_each(self.key_of(tails, heads))
         if keys is not None and len(places):
             if self.keys is None:
                 raise refused(
-                    name,
-                    int(places[0]),
-                    f"{named(0)} has a key, and the arcs of the network have none",
-                )
+                    name, int(places[0]),
+                    f"{named(0)} has a key, and the arcs of the network have none")
             is_its = are_equal(self.keys[self.rows[found.items]], keys[found.places])
             found = Found(found.items[is_its], found.places[is_its])
         missing = columns.first_of(found.counts(len(places)) == 0)
@@ -282,10 +254,8 @@ class ArcNames:
         """The keys of rows, or None."""
         labelling = self.layers.labelling
         return (
-            None
-            if labelling is None or labelling.keys is None
-            else columns.objects_of(labelling.keys)
-        )
+            None if labelling is None or labelling.keys is None
+            else columns.objects_of(labelling.keys))
 
     def crossings_of(self, name: str, places: Integers, labels: Any) -> Integers:
         """The crossings of labels of nodes. A crossing has several nodes if turns are restricted,
@@ -303,19 +273,16 @@ class ArcNames:
         # One of them is refused: the first of these is looked for.
         nodes = numpy.zeros(len(places), numpy.int64)
         for number, (place, label) in enumerate(
-            zip(places.tolist(), labels.tolist() if isinstance(labels, numpy.ndarray) else labels)
-        ):
+            zip(places.tolist(), labels.tolist() if isinstance(labels, numpy.ndarray) else labels)):
             try:
                 [nodes[number]] = own.nodes_of(name, [label])
             except ValueError as fault:
                 raise refused(name, place, str(fault).removeprefix(f"{name}[0]: ")) from None
             except TypeError:
                 raise refused(
-                    name,
-                    place,
+                    name, place,
                     f"{quoted(label)} is no label; labels are "
-                    f"{getattr(own, 'kind', columns.INTEGERS)}",
-                ) from None
+                    f"{getattr(own, 'kind', columns.INTEGERS)}") from None
         return nodes
 
     def of_spots(self, name: str, places: Integers, given: Sequence[Spots]) -> Found:
@@ -326,17 +293,14 @@ class ArcNames:
             found, are_here = roads.same_points(spots)
             for index in numpy.flatnonzero(~are_here)[:1]:
                 raise refused(
-                    name,
-                    place,
+                    name, place,
                     f"spot {index} lies on no road of this network: `snap` of this one gives its "
-                    "own",
-                )
+                    "own")
             own.append(found)
         owners = numpy.repeat(places, [len(spots) for spots in own])
         numbers, parts, sides = (
             numpy.concatenate([getattr(spots, part) for spots in own])
-            for part in ("roads", "parts", "sides")
-        )
+            for part in ("roads", "parts", "sides"))
         is_at_end = (parts == 0) | (parts == 1)
         along = Groups.of(
             roads.road_of[roads.road_of != NONE], numpy.flatnonzero(roads.road_of != NONE)
@@ -357,28 +321,21 @@ class ArcNames:
             # with the number 0.
             found = Groups.of(ways[parts], parts).of_each(
                 numpy.array(
-                    [number if abs(number) < 2**63 else 0 for number in numbers], numpy.int64
-                )
-            )
+                    [number if abs(number) < 2**63 else 0 for number in numbers], numpy.int64))
         elif labelling is not None and labelling.ways is not None:
             found = self.of_items(self.layers.rows_by_way, numbers, self.by_row)
         else:
             why = (
                 "`osm_to_gr.py` writes a file of ways beside its graph, and edges of osmnx have "
-                "`osmid`"
-            )
+                "`osmid`")
             raise refused(
-                name,
-                int(places[0]),
-                f"nothing says which arcs are parts of way {numbers[0]} of OpenStreetMap: {why}",
-            )
+                name, int(places[0]),
+                f"nothing says which arcs are parts of way {numbers[0]} of OpenStreetMap: {why}")
         missing = columns.first_of(found.counts(len(places)) == 0)
         if missing is not None:
             raise refused(
-                name,
-                int(places[missing]),
-                f"no arc is a part of way {numbers[missing]} of OpenStreetMap",
-            )
+                name, int(places[missing]),
+                f"no arc is a part of way {numbers[missing]} of OpenStreetMap")
         return found.through(places)
 
     def of_streets(self, name: str, places: Integers, names: Sequence[str]) -> Found:
@@ -386,11 +343,9 @@ class ArcNames:
         streets = self.layers.streets
         if streets is None:
             raise refused(
-                name,
-                int(places[0]),
+                name, int(places[0]),
                 f"{quoted(names[0])} names no arc, as streets have no names here; names are "
-                f"{NAMES}",
-            )
+                f"{NAMES}")
         by_name: dict[str, list[int]] = {}
         for number, street in enumerate(streets.streets, 1):
             for word in {street.name, *street.ref.split(", ")} - {""}:
@@ -399,10 +354,8 @@ class ArcNames:
         missing = columns.first_of(found.counts(len(places)) == 0)
         if missing is not None:
             raise refused(
-                name,
-                int(places[missing]),
-                f"no street of the map is called {quoted(names[missing])}",
-            )
+                name, int(places[missing]),
+                f"no street of the map is called {quoted(names[missing])}")
         return found.through(places)
 
     def of_items(
@@ -413,8 +366,7 @@ class ArcNames:
         numbers = [numbers_by.get(each, []) for each in wanted]
         owners = numpy.repeat(numpy.arange(len(wanted)), [*map(len, numbers)])
         return arcs.of_each(
-            numpy.array([number for own in numbers for number in own], numpy.int64)
-        ).through(owners)
+            numpy.array([number for own in numbers for number in own], numpy.int64)).through(owners)
 
     # Columns with a value for each row.
 
@@ -438,21 +390,16 @@ class ArcNames:
         twice = columns.first_of(place_of[found.items] != found.places)
         if twice is not None:
             raise refused(
-                name,
-                int(found.places[twice]),
-                f"there is another value for row {found.items[twice]}",
-            )
+                name, int(found.places[twice]),
+                f"there is another value for row {found.items[twice]}")
         lacking = columns.first_of(place_of[self.rows] < 0)
         if lacking is not None:
             counts = (
-                f"{name} has {len(column):,} rows, and there are {len(place_of):,} rows of arcs"
-            )
+                f"{name} has {len(column):,} rows, and there are {len(place_of):,} rows of arcs")
             raise DataFault(f"{counts}: row {self.rows[lacking]} has no value", name)
         return (
-            column
-            if numpy.array_equal(place_of, numpy.arange(len(column)))
-            else column.iloc[numpy.maximum(place_of, 0)]
-        )
+            column if numpy.array_equal(place_of, numpy.arange(len(column)))
+            else column.iloc[numpy.maximum(place_of, 0)])
 
 
 def all_of(calls: Iterable[Callable[[], Any]]) -> list[Any]:

@@ -46,14 +46,18 @@ def edges_of(layers: Layers, measure: Measure) -> geopandas.GeoDataFrame:
     }
     lines = [
         None if road == NONE else LineString(roads.lines.of(road)[::-1 if back else 1])
-        for road, back in zip(own.tolist(), is_back.tolist())
-    ]
+        for road, back in zip(own.tolist(), is_back.tolist())]
     return with_geometry(pandas.DataFrame(columns), lines)
 
 
-def edges_with_flows(layers: Layers, measure: Measure, flows: Any, widest: float) -> geopandas.GeoDataFrame:
-    """The same rows with the flow on each, and a width in proportion, up to the widest. Flows go by rows."""
-    if isinstance(widest, bool) or not isinstance(widest, numbers.Real) or not 0 < float(widest) < math.inf:
+def edges_with_flows(
+    layers: Layers, measure: Measure, flows: Any, widest: float,
+) -> geopandas.GeoDataFrame:
+    """The same rows with the flow on each, and a width in proportion, up to the widest. Flows go by
+    rows."""
+    if (
+            isinstance(widest, bool) or not isinstance(widest, numbers.Real)
+            or not 0 < float(widest) < math.inf):
         raise ValueError(f"widest is a number above 0, not {widest!r}")
     frame = edges_of(layers, measure)
     own = values_of_rows(layers, flows, "flows")[frame["row"].to_numpy(numpy.int64)].astype(float)
@@ -66,15 +70,22 @@ def edges_with_flows(layers: Layers, measure: Measure, flows: Any, widest: float
     return frame.assign(**widths)[names]
 
 
-def drawn_edges(frame: geopandas.GeoDataFrame, ax: Any, style: Mapping[str, Any]) -> matplotlib.axes.Axes:
+def drawn_edges(
+    frame: geopandas.GeoDataFrame, ax: Any, style: Mapping[str, Any],
+) -> matplotlib.axes.Axes:
     """Draws rows with flows as lines of their widths, and all roads thin below."""
     has_line = frame[frame.geometry.notna()]
-    features = [{"geometry": {"type": "LineString", "coordinates": list(line.coords)}, "properties": {"flow": flow}} for line, flow in zip(
-        has_line.geometry, has_line["flow"])]
+    features = [
+        {
+            "geometry": {"type": "LineString", "coordinates": list(line.coords)},
+            "properties": {"flow": flow},
+        } for line, flow in zip(has_line.geometry, has_line["flow"])]
     ax = drawn(features, "flow", ax, {"linewidths": 0.4, "alpha": 0.5})
     busy = has_line["flow"].to_numpy() > 0
     some = [feature for feature, is_busy in zip(features, busy) if is_busy]
-    return drawn(some, "flow", ax, {"linewidths": has_line["width"].to_numpy()[busy], **style}) if some else ax
+    return (
+        drawn(some, "flow", ax, {"linewidths": has_line["width"].to_numpy()[busy], **style}) if some
+        else ax)
 
 
 def nodes_of(layers: Layers, values: Any) -> geopandas.GeoDataFrame:
@@ -97,8 +108,7 @@ def nodes_of(layers: Layers, values: Any) -> geopandas.GeoDataFrame:
     elif len(found) != len(index):
         text = (
             f"values has {len(found):,} rows, and there are {len(index):,} nodes: those of "
-            "`crossings`"
-        )
+            "`crossings`")
         raise DataFault(text, "values")
     elif list(found.columns) == [0]:
         found = found.set_axis(["value"], axis=1)
@@ -112,8 +122,7 @@ def components_of(layers: Layers) -> Integers:
     the next one, and so on."""
     nodes = layers.all_nodes
     tails, heads = (
-        nodes.searchsorted(layers.crossings[numpy.asarray(column)]) for column in layers.graph[1:3]
-    )
+        nodes.searchsorted(layers.crossings[numpy.asarray(column)]) for column in layers.graph[1:3])
     return by_size(len(nodes), tails, heads, "strong")
 
 
@@ -144,7 +153,5 @@ def warn_of_parts(count: int, tails: Integers, heads: Integers) -> None:
             f"the lines make {int(found.max()) + 1:,} parts between which no line leads, of which "
             "the "
             f"largest has {share:.0%} of the nodes: lines meet at their ends alone, so cut them "
-            "where they "
-            "cross; `components()` says which node is in which part"
-        )
+            "where they " "cross; `components()` says which node is in which part")
         warnings.warn(text, UserWarning, stacklevel=5)

@@ -33,12 +33,8 @@ def arcs_of_arrays(
 
 
 def arcs_of_sparse(
-    matrix: Any,
-    places: tuple[Any, Any, Any],
-    scale: float | None,
-    unit: str | None,
-    both_ways: bool,
-    like: Network | None,
+    matrix: Any, places: tuple[Any, Any, Any], scale: float | None, unit: str | None,
+    both_ways: bool, like: Network | None,
 ) -> arc_columns.Arcs:
     """The arcs of a sparse matrix of scipy."""
     if not hasattr(matrix, "tocsr") or matrix.ndim != 2 or matrix.shape[0] != matrix.shape[1]:
@@ -49,8 +45,7 @@ def arcs_of_sparse(
     if like is not None and nodes is None:
         nodes = like.labels
     known = columns.column_labels_in(
-        "nodes", numpy.arange(rows.shape[0]) if nodes is None else nodes
-    )
+        "nodes", numpy.arange(rows.shape[0]) if nodes is None else nodes)
     if len(known) != rows.shape[0]:
         text = f"nodes has {len(known):,} rows, and the matrix {rows.shape[0]:,}"
         raise DataFault(text, "nodes")
@@ -74,13 +69,11 @@ def nodes_in_order(nodes: Any, x: Any, y: Any) -> list[Any]:
     """The labels and places of nodes. Columns of pandas are put into the order of the first one's
     index, or of the labels if these are an Index."""
     nodes, x, y = row_index.matched(
-        ("nodes", "x", "y"), [listed(column) for column in (nodes, x, y)]
-    )
+        ("nodes", "x", "y"), [listed(column) for column in (nodes, x, y)])
     if hasattr(nodes, "get_indexer") and nodes.is_unique:
         x, y = (
             column.iloc[column.index.get_indexer(nodes)] if is_of_labels(column, nodes) else column
-            for column in (x, y)
-        )
+            for column in (x, y))
     return [nodes, x, y]
 
 
@@ -88,11 +81,8 @@ def is_of_labels(column: Any, labels: Any) -> bool:
     """Whether the index of a column has just these labels, in any order."""
     index = row_index.index_of(column)
     return (
-        index is not None
-        and len(index) == len(labels)
-        and index.is_unique
-        and bool(index.isin(labels).all())
-    )
+        index is not None and len(index) == len(labels) and index.is_unique
+        and bool(index.isin(labels).all()))
 
 
 @contextlib.contextmanager
@@ -114,14 +104,10 @@ def see_that_same_nodes(labels: NDArray[Any], own: NDArray[Any]) -> None:
     if len(own) != len(labels):
         raise DataFault(f"like has {len(labels):,} nodes, and there are {len(own):,} here", "nodes")
     apart = next(
-        row for row, (one, other) in enumerate(zip(own.tolist(), labels.tolist())) if one != other
-    )
+        row for row, (one, other) in enumerate(zip(own.tolist(), labels.tolist())) if one != other)
     raise DataFault(
         f"node {columns.quoted(own[apart])} is {columns.quoted(labels[apart])} in like: both "
-        "networks have the same nodes",
-        "nodes",
-        apart,
-    )
+        "networks have the same nodes", "nodes", apart)
 
 
 def with_nodes_of(given: arc_columns.Columns, like: Any) -> arc_columns.Columns:
@@ -141,10 +127,8 @@ def with_turns_of(arcs: arc_columns.Arcs, like: Any) -> arc_columns.Arcs:
     """The same arcs with what a network says of nodes where turns are restricted: which of them are
     one crossing, and where trips end. Arcs that don't lead to where trips end are refused."""
     if (
-        arcs.places is None
-        or like._layers.paths["coordinates"] is None
-        or not like.coordinates.turns()
-    ):
+        arcs.places is None or like._layers.paths["coordinates"] is None
+        or not like.coordinates.turns()):
         return arcs
     ends = like._layers.ends
     is_met = numpy.zeros(len(ends), bool)
@@ -155,8 +139,7 @@ def with_turns_of(arcs: arc_columns.Arcs, like: Any) -> arc_columns.Arcs:
         text = (
             "turns are restricted in like, where trips to the node {} end at the node {}, and no "
             "arc leads there from it here: give the arcs of "
-            "`like.graph` with other weights, or leave `like` out"
-        )
+            "`like.graph` with other weights, or leave `like` out")
         raise DataFault(text.format(*map(columns.quoted, labels)), "targets")
     return dataclasses.replace(arcs, turns=like.coordinates.turns())
 
@@ -167,6 +150,5 @@ def warn_of_scale(scale: float, level: int) -> None:
     text = (
         f"weights were multiplied by {scale:g}, and limits and answers are these whole numbers; "
         "name the unit of your weights, as unit='minutes', "
-        "for limits and answers in it, as later versions will have them, or give raw=True"
-    )
+        "for limits and answers in it, as later versions will have them, or give raw=True")
     warnings.warn(text, FutureWarning, stacklevel=level)

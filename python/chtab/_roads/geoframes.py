@@ -27,10 +27,7 @@ def in_degrees(frame: geopandas.GeoDataFrame) -> geopandas.GeoDataFrame:
 
 
 def columns_of_geodataframe(
-    edges: Any,
-    nodes: Any,
-    names: tuple[str, str, str | None],
-    both_ways: Any,
+    edges: Any, nodes: Any, names: tuple[str, str, str | None], both_ways: Any,
     more: Mapping[str, Any],
 ) -> arc_columns.Columns:
     """The columns of a frame with a line for each arc, and further ones of `arc_columns.Columns`.
@@ -52,8 +49,7 @@ def columns_of_geodataframe(
     elif any(has_ends) or nodes is not None:
         raise DataFault(
             f"the frame has no columns {source!r} and {target!r} for the ends of lines",
-            source if has_ends[1] else target,
-        )
+            source if has_ends[1] else target)
     else:
         (sources, targets), own = by_ends(lines)
         of_arcs |= own
@@ -68,16 +64,8 @@ def columns_of_geodataframe(
     if not any(has_ends):
         warn_of_parts(len(of_arcs["nodes"]), sources, targets)
     return arc_columns.Columns(
-        sources,
-        targets,
-        weights,
-        geometry=lines,
-        names=named,
-        keys=keys,
-        ways=ways,
-        index=edges.index,
-        **of_arcs,
-    )
+        sources, targets, weights, geometry=lines, names=named, keys=keys, ways=ways,
+        index=edges.index, **of_arcs)
 
 
 def of_nodes(nodes: Any) -> dict[str, Any]:
@@ -95,11 +83,9 @@ def by_ends(lines: Any) -> tuple[tuple[Integers, Integers], dict[str, Any]]:
     ends = numpy.round([(line[0], line[-1]) for line in lines], 6).reshape(-1, 2)
     places, found = numpy.unique(ends, axis=0, return_inverse=True)
     sources, targets = found.reshape(-1, 2).T + 1
-    return (sources, targets), {
-        "nodes": numpy.arange(1, len(places) + 1),
-        "x": places[:, 0],
-        "y": places[:, 1],
-    }
+    return (
+        (sources, targets),
+        {"nodes": numpy.arange(1, len(places) + 1), "x": places[:, 0], "y": places[:, 1]})
 
 
 def lengths_of(lines: Any) -> NDArray[Any]:

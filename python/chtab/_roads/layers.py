@@ -50,12 +50,8 @@ class Layers:
     """
 
     def __init__(
-        self,
-        path: str,
-        coordinates: str | None = None,
-        bends: str | None = None,
-        labelling: str | None = None,
-        asked: measures.Asked = measures.Asked(),
+        self, path: str, coordinates: str | None = None, bends: str | None = None,
+        labelling: str | None = None, asked: measures.Asked = measures.Asked(),
     ) -> None:
         base = os.path.splitext(path)[0]
         self.path, self.asked = path, asked
@@ -75,13 +71,11 @@ class Layers:
         self.lock = threading.RLock()
 
     def __reduce__(self) -> tuple[Any, ...]:
-        return Layers, (
-            self.path,
-            self.paths["coordinates"],
-            self.paths["bends"],
-            self.paths["labelling"],
-            self.asked,
-        )
+        return (
+            Layers,
+            (
+                self.path, self.paths["coordinates"], self.paths["bends"], self.paths["labelling"],
+                self.asked))
 
     def read(self, name: str, make: Callable[[], Any]) -> Any:
         with self.lock:
@@ -105,8 +99,7 @@ class Layers:
         def make() -> files.Graph:
             found = files.read_graph(self.path)
             return found._replace(
-                **{name: fixed(getattr(found, name)) for name in ("tails", "heads", "weights")}
-            )
+                **{name: fixed(getattr(found, name)) for name in ("tails", "heads", "weights")})
 
         return self.read_file("graph", make)
 
@@ -118,8 +111,7 @@ class Layers:
         if path is None:
             return None
         return self.read_file(
-            "streets", functools.partial(files.read_streets, path, files.count_arcs(self.path))
-        )
+            "streets", functools.partial(files.read_streets, path, files.count_arcs(self.path)))
 
     @property
     def ways(self) -> Integers | None:
@@ -130,10 +122,8 @@ class Layers:
             return None
         return numpy.asarray(
             self.read_file(
-                "ways", functools.partial(files.read_ways, path, files.count_arcs(self.path))
-            ),
-            numpy.int64,
-        )
+                "ways", functools.partial(files.read_ways, path, files.count_arcs(self.path))),
+            numpy.int64)
 
     @property
     def rows_by_way(self) -> dict[int, list[int]]:
@@ -167,8 +157,7 @@ class Layers:
         """The nodes that are no copies of others: a node for each crossing."""
         return self.read(
             "all nodes",
-            lambda: numpy.flatnonzero(self.crossings == numpy.arange(len(self.crossings)))[1:],
-        )
+            lambda: numpy.flatnonzero(self.crossings == numpy.arange(len(self.crossings)))[1:])
 
     @property
     def ends(self) -> Integers:
@@ -199,14 +188,12 @@ class Layers:
         if max(nodes) > files.count_nodes(self.path):
             raise files.FileFault(
                 f"{self.paths['coordinates']}: node {max(nodes):,} is not in {self.path}: these "
-                "are the places of another graph"
-            )
+                "are the places of another graph")
 
     def ends_of(self, nodes: Integers) -> Integers:
         """The nodes where trips to some nodes end, in their shape."""
         return (
-            numpy.where(self.ends[nodes] > 0, self.ends[nodes], nodes) if self.has_turns else nodes
-        )
+            numpy.where(self.ends[nodes] > 0, self.ends[nodes], nodes) if self.has_turns else nodes)
 
     @property
     def has_turns(self) -> bool:
@@ -218,8 +205,7 @@ class Layers:
         """Which arcs are along no road: they lead from a node to the one where trips to it end, and
         are a part of no way."""
         tails, heads = (
-            numpy.array(column, numpy.int64) for column in (self.graph.tails, self.graph.heads)
-        )
+            numpy.array(column, numpy.int64) for column in (self.graph.tails, self.graph.heads))
         ways = self.ways
         return (self.ends[tails] == heads) & (
             numpy.array(self.graph.weights, numpy.int64) == 0 if ways is None else ways == 0
@@ -236,8 +222,7 @@ class Layers:
         labelling = self.labelling
         if labelling is not None and labelling.arcs is not None:
             return self.read(
-                "rows of arcs", functools.partial(numpy.array, labelling.arcs, numpy.int64)
-            )[arcs]
+                "rows of arcs", functools.partial(numpy.array, labelling.arcs, numpy.int64))[arcs]
         return arcs if labelling is None or not labelling.rows else arcs % labelling.rows
 
     @property
@@ -245,10 +230,8 @@ class Layers:
         """The number of rows of arcs, including those whose arcs are closed."""
         labelling = self.labelling
         return (
-            files.count_arcs(self.path)
-            if labelling is None or labelling.rows is None
-            else labelling.rows
-        )
+            files.count_arcs(self.path) if labelling is None or labelling.rows is None
+            else labelling.rows)
 
     @property
     def row_labels(self) -> RowLabels:
@@ -263,8 +246,7 @@ class Layers:
                 is_known = labelling is None or labelling.rows is not None
                 return RowLabels(None if is_known else row_index.UNKNOWN, self.row_count)
             return RowLabels(
-                columns.column_labels_in("index", labelling.row_labels), self.row_count
-            )
+                columns.column_labels_in("index", labelling.row_labels), self.row_count)
 
         return self.read("labels of rows", make)
 
@@ -274,15 +256,13 @@ class Layers:
         path = self.paths["coordinates"] or ""
         if not path:
             raise ChtabError(
-                f"{self.path} has no file of coordinates beside it; name one by `coordinates`"
-            )
+                f"{self.path} has no file of coordinates beside it; name one by `coordinates`")
 
         def make() -> files.Coordinates:
             found = files.read_coordinates(path)
             self.see_that_node(len(found.longitudes))
             return found._replace(
-                longitudes=fixed(found.longitudes), latitudes=fixed(found.latitudes)
-            )
+                longitudes=fixed(found.longitudes), latitudes=fixed(found.latitudes))
 
         return self.read_file("coordinates", make)
 
@@ -304,10 +284,8 @@ class Layers:
             base, labelling, asked = files.read_unit(self.path), self.labelling, self.asked
             own = (None, None) if labelling is None else (labelling.unit, labelling.scale)
             return (
-                measures.Measure(base)
-                if asked.raw
-                else measures.asked_for(asked.unit, asked.scale, base, *own)
-            )
+                measures.Measure(base) if asked.raw
+                else measures.asked_for(asked.unit, asked.scale, base, *own))
 
         return self.read_file("measure", make)
 
@@ -350,8 +328,7 @@ class Layers:
             if max(found, default=0) >= arcs or min(found, default=0) < 0:
                 raise files.FileFault(
                     f"{path}: an arc is not from 1 to {arcs:,}: these are the points of another "
-                    "graph"
-                )
+                    "graph")
             return found
 
         return self.read_file("bends", make)
@@ -363,8 +340,7 @@ class Layers:
             heads = iter(numpy.asarray(self.graph.heads)[arcs].tolist())
             return [
                 [self.coordinates.of(node) for node in (start, *itertools.islice(heads, count))]
-                for start, count in zip(starts.tolist(), counts.tolist())
-            ]
+                for start, count in zip(starts.tolist(), counts.tolist())]
         from chtab._roads.lines import tidied
 
         return [line for line, _ in tidied(self.roads.lines_of(starts, counts, arcs))]
@@ -374,8 +350,7 @@ def layers_of(opened: Opening, known: Mapping[str, Any] | None = None) -> Layers
     """The layers of an opening, together with those that are known already. Labels and the unit are
     read now, because the file of the graph may be replaced later."""
     layers = Layers(
-        opened.setting.graph, opened.coordinates, opened.bends, opened.labelling, opened.asked
-    )
+        opened.setting.graph, opened.coordinates, opened.bends, opened.labelling, opened.asked)
     layers.kept.update(known or {})
     layers.labels, layers.measure
     return layers

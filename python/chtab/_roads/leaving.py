@@ -13,16 +13,16 @@ NONE = -1
 
 
 class Ways(NamedTuple):
-    """The nodes where trips leave roads, or arrive, and the weights of the whole road: a row for each
-    road, in the order that `Spots` have."""
+    """The nodes where trips leave roads, or arrive, and the weights of the whole road: a row for
+    each road, in the order that `Spots` have."""
 
     nodes: Integers
     weights: Integers
 
 
 class BothWays(NamedTuple):
-    """The ways out of roads, in the first `outs` columns, and those into them, in the others; and for
-    each column whether its nodes are those of the road's last place."""
+    """The ways out of roads, in the first `outs` columns, and those into them, in the others; and
+    for each column whether its nodes are those of the road's last place."""
 
     nodes: Integers
     weights: Integers
@@ -41,8 +41,9 @@ def both_ways(out: Ways, into: Ways) -> BothWays:
 def ways_of(
     roads: Integers, sides: Integers, nodes: Integers, weights: Integers, count: int,
 ) -> Ways:
-    """The ways of `count` roads. Each arc is given by its road, the end of this road (0 or 1) at which its node is, the node, and the weight. Of
-    several arcs with one node, the least weight counts."""
+    """The ways of `count` roads. Each arc is given by its road, the end of this road (0 or 1) at
+    which its node is, the node, and the weight. Of several arcs with one node, the least weight
+    counts."""
     order = numpy.lexsort([weights, nodes, sides, roads])
     keys = numpy.column_stack([roads, sides, nodes])[order]
     is_new = numpy.append(True, (keys[1:] != keys[:-1]).any(axis=1))[:len(keys)]
@@ -57,9 +58,9 @@ def ways_of(
 
 
 class Few(NamedTuple):
-    """A spot by itself, in plain numbers: where it is, how far from its place, its road, the part of
-    it, and its metres; and the nodes out of it, which are the first `width`, and into it, with what
-    is added there."""
+    """A spot by itself, in plain numbers: where it is, how far from its place, its road, the part
+    of it, and its metres; and the nodes out of it, which are the first `width`, and into it, with
+    what is added there."""
 
     longitude: float
     latitude: float

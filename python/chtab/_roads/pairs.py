@@ -113,10 +113,7 @@ def are_counts(values: NDArray[Any], most: int) -> bool:
     """Whether values are whole numbers from 0 on, of which the sum of any `most` is exact as a
     float."""
     if (
-        values.ndim != 1
-        or values.dtype.kind not in "iu"
-        or not len(values)
-        or int(values.min()) < 0
-    ):
+        values.ndim != 1 or values.dtype.kind not in "iu" or not len(values)
+        or int(values.min()) < 0):
         return False
     return int(values.max()) * most <= EXACT

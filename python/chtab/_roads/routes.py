@@ -43,8 +43,7 @@ class Routes(showing.OnMap, collections.abc.Sequence):
         self.pairs, self.paths, self.layers = pairs, paths, layers
         self.heads, self.arc_weights = (
             numpy.asarray(column)[paths.arcs]
-            for column in (layers.graph.heads, layers.graph.weights)
-        )
+            for column in (layers.graph.heads, layers.graph.weights))
         self.firsts = numpy.append(0, numpy.cumsum(paths.counts))
         sums = numpy.diff(numpy.append(0, numpy.cumsum(self.arc_weights))[self.firsts])
         if (sums != paths.weights)[paths.weights >= 0].any():
@@ -61,24 +60,12 @@ class Routes(showing.OnMap, collections.abc.Sequence):
         heads = labels.of(self.heads).tolist()
         weights = measure.in_unit(self.arc_weights).tolist()
         found = zip(
-            sources,
-            targets,
-            self.paths.weights.tolist(),
-            self.firsts.tolist(),
-            self.firsts[1:].tolist(),
-        )
+            sources, targets, self.paths.weights.tolist(), self.firsts.tolist(),
+            self.firsts[1:].tolist())
         return [
-            Answer(source, target, None, None, None)
-            if weight < 0
-            else Answer(
-                source,
-                target,
-                measure.one(weight),
-                [source, *heads[first:last]],
-                weights[first:last],
-            )
-            for source, target, weight, first, last in found
-        ]
+            Answer(source, target, None, None, None) if weight < 0 else Answer(
+                source, target, measure.one(weight), [source, *heads[first:last]],
+                weights[first:last]) for source, target, weight, first, last in found]
 
     def __len__(self) -> int:
         return len(self.pairs)
@@ -100,8 +87,7 @@ class Routes(showing.OnMap, collections.abc.Sequence):
         found = numpy.split(self.layers.rows_of(self.paths.arcs), self.firsts[1:-1])
         return [
             rows if weight >= 0 else None
-            for rows, weight in zip(found, self.paths.weights.tolist())
-        ]
+            for rows, weight in zip(found, self.paths.weights.tolist())]
 
     def edges(self) -> list[list[tuple] | None]:
         """Returns the arcs of the routes by their nodes, as networkx and osmnx name edges.
@@ -122,10 +108,8 @@ class Routes(showing.OnMap, collections.abc.Sequence):
                 continue
             ends = zip(answer.nodes, answer.nodes[1:])
             found.append(
-                [(*pair, keys[row]) for pair, row in zip(ends, rows.tolist())]
-                if keys
-                else list(ends)
-            )
+                [(*pair, keys[row]) for pair, row in zip(ends, rows.tolist())] if keys
+                else list(ends))
         return found
 
     def to_frame(self, metres: bool = False) -> pandas.DataFrame:
@@ -203,13 +187,10 @@ class Routes(showing.OnMap, collections.abc.Sequence):
         is_there = self.paths.weights >= 0
         lines = iter(
             self.layers.lines_of(
-                self.pairs[is_there, 0], self.paths.counts[is_there], self.paths.arcs
-            )
-        )
+                self.pairs[is_there, 0], self.paths.counts[is_there], self.paths.arcs))
         return geojson.collection(
             geojson.query_feature(place, each, next(lines) if each.nodes else None, names or {})
-            for place, each in enumerate(self)
-        )
+            for place, each in enumerate(self))
 
     def to_geodataframe(self) -> geopandas.GeoDataFrame:
         """Returns the routes as a GeoDataFrame.
@@ -287,8 +268,7 @@ class TripRoutes(showing.OnMap, list):
             place), `weight` and `metres`. Where there is no way the geometry and both are null.
         """
         return geojson.collection(
-            each.to_geojson({"query": place}) for place, each in enumerate(self)
-        )
+            each.to_geojson({"query": place}) for place, each in enumerate(self))
 
     def to_frame(self) -> pandas.DataFrame:
         """Returns the trips as a frame.
@@ -307,10 +287,9 @@ class TripRoutes(showing.OnMap, list):
         import pandas
 
         return (
-            pandas.DataFrame([each._replace(line=None) for each in self], columns=Trip._fields)
-            .drop(columns="line")
-            .rename_axis("query")
-        )
+            pandas.DataFrame(
+                [each._replace(line=None) for each in self],
+                columns=Trip._fields) .drop(columns="line") .rename_axis("query"))
 
     def to_geodataframe(self) -> geopandas.GeoDataFrame:
         """Returns the trips as a GeoDataFrame.

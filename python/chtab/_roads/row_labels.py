@@ -49,9 +49,8 @@ class RowLabels:
             return None
         places = numpy.arange(len(wanted))
         if self.labels is None:
-            is_here = wanted.dtype == numpy.int64 and bool(
-                ((wanted >= 0) & (wanted < self.count)).all()
-            )
+            is_here = (
+                wanted.dtype == numpy.int64 and bool(((wanted >= 0) & (wanted < self.count)).all()))
             return Found(wanted, places) if is_here else None
         if wanted.dtype == self.labels.dtype and numpy.array_equal(wanted, self.labels):
             return Found(places, places)
@@ -62,11 +61,9 @@ class RowLabels:
             raise refused(name, missing, self.why_missing(label_of(wanted, missing)))
         if missing is None and several is not None:
             raise refused(
-                name,
-                several,
+                name, several,
                 f"{counts[several]} rows of the frame are called "
-                f"{quoted(label_of(wanted, several))}",
-            )
+                f"{quoted(label_of(wanted, several))}")
         return found if missing is None else None
 
     def matched(self, labels: LabelArray, wanted: LabelArray) -> Found:
@@ -84,8 +81,7 @@ class RowLabels:
             return f"no row of the frame is called {quoted(label)}"
         return (
             f"nothing says which row is called {quoted(label)}: give an array, or a list, in the "
-            "order of rows"
-        )
+            "order of rows")
 
     def see_that_plain(self, name: str, places: Integers, rows: Integers) -> None:
         """Refuses the first number of a row that is also what another row is called."""
@@ -93,19 +89,15 @@ class RowLabels:
             return
         own = numpy.append(self.labels, numpy.full(max(self.count - len(self.labels), 0) + 1, -1))
         either = columns.first_of(
-            numpy.isin(rows, self.labels) & (own[numpy.minimum(rows, len(own) - 1)] != rows)
-        )
+            numpy.isin(rows, self.labels) & (own[numpy.minimum(rows, len(own) - 1)] != rows))
         if either is not None:
             row = int(rows[either])
             hint = (
                 f"frame.index[[{row}]] of your frame is row {row}, and pandas.Index([{row}]) the "
-                "row that is called so"
-            )
+                "row that is called so")
             raise refused(
-                name,
-                int(places[either]),
-                f"{row} is the number of a row, and what another one is called: {hint}",
-            )
+                name, int(places[either]),
+                f"{row} is the number of a row, and what another one is called: {hint}")
 
 
 def label_of(labels: LabelArray, place: int) -> Any:

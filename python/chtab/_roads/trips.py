@@ -62,9 +62,8 @@ class Trips:
         pairs, added = ways_between(starts, ends)
         is_there = (pairs > 0).all(axis=2)
         between = self.engine.distances(pairs[is_there])
-        best = totals(added, is_there, between, self.roads.along(starts, ends)).min(
-            axis=1, initial=FAR
-        )
+        best = totals(
+            added, is_there, between, self.roads.along(starts, ends)).min(axis=1, initial=FAR)
         return numpy.where(best < FAR, best, NO_WALK)
 
     def table(self, starts: Spots, ends: Spots, within: int | None = None) -> Integers:
@@ -89,11 +88,8 @@ class Trips:
         trips = [Trip(None, None, None, []) for _ in range(len(found))]
         for leg, first, last in zip(there, firsts, firsts[1:]):
             trips[leg] = Trip(
-                int(found.weights[leg]),
-                float(found.metres[leg]),
-                places[first:last],
-                listed(found.nodes(leg)),
-            )
+                int(found.weights[leg]), float(found.metres[leg]), places[first:last],
+                listed(found.nodes(leg)))
         return trips
 
     def reach(self, spot: Spots, within: int | None = None) -> Integers:
@@ -113,14 +109,12 @@ class Trips:
         if not len(nodes) or own is not None and own < 0:
             return found
         for start, rows in blocks.rows_by(
-            self.engine, NearQuestion(None, nodes, within=own, is_from=True)
-        ):
+            self.engine, NearQuestion(None, nodes, within=own, is_from=True)):
             owners = start + rows.owners()
             for place, more in enumerate(added.tolist()):
                 is_its = rows.places == place
                 found[owners[is_its]] = numpy.minimum(
-                    found[owners[is_its]], rows.weights[is_its] + more
-                )
+                    found[owners[is_its]], rows.weights[is_its] + more)
         return found
 
     def isochrones(self, spot: Spots, limits: Sequence[int]) -> list[Any]:
@@ -146,9 +140,7 @@ def see_that_one(spot: Spots) -> None:
     """Refuses anything but a single spot."""
     if not isinstance(spot, Spots):
         raise TypeError(
-            f"reach starts at a spot, as `snap` gives one, not at {type(spot).__name__}"
-        )
+            f"reach starts at a spot, as `snap` gives one, not at {type(spot).__name__}")
     if len(spot) != 1:
         raise ValueError(
-            f"reach starts at one spot, not at {len(spot)}: take one of them, as spots[:1]"
-        )
+            f"reach starts at one spot, not at {len(spot)}: take one of them, as spots[:1]")

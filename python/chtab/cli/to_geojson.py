@@ -40,7 +40,8 @@ def words_of(arguments: Sequence[str]) -> argparse.Namespace:
 
 
 def write_table(path: Path, names: Mapping[int, str], text: Source, out: IO[str]) -> None:
-    """Writes a table as CSV. `path` names the list of its targets, `names` has the names of nodes."""
+    """Writes a table as CSV. `path` names the list of its targets, `names` has the names of
+    nodes."""
     def called(node: int) -> str | int:
         return names.get(node, node)
 
