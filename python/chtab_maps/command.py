@@ -29,7 +29,8 @@ import argparse
 import sys
 from collections.abc import Sequence
 
-from chtab import cli, files
+import chtab_tools as cli
+from chtab import files
 from chtab_maps import converting, profiles
 from chtab_maps.ways import CLASSES
 

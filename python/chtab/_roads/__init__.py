@@ -20,5 +20,4 @@ is reached.
 | `legs` | the best ways between spots |
 | `routes` | routes and trips as callers get them |
 | `reach` | polygons of what is reached |
-| `picture` | drawings of all of these |
 """

@@ -25,7 +25,8 @@ import logging
 import os
 from collections.abc import Sequence
 
-from chtab import cli, files
+import chtab_tools as cli
+from chtab import files
 
 
 def words_of(arguments: Sequence[str]) -> argparse.Namespace:

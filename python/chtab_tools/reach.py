@@ -23,7 +23,8 @@ import json
 import sys
 from collections.abc import Sequence
 
-from chtab import cli, files
+import chtab_tools as cli
+from chtab import files
 
 
 def limits_of(word: str) -> list[int]:

@@ -91,7 +91,7 @@ def parser_of(name: str, about: str | None) -> Parser:
 def documents() -> str:
     """The folder of the documents: the one that was installed along with the package, or the one of
     a checkout."""
-    package = os.path.dirname(os.path.dirname(os.path.realpath(__file__)))
+    package = os.path.dirname(os.path.realpath(__file__))
     folder = os.path.abspath(os.path.join(package, "../../../../share/doc/chtab/docs"))
     return f"{folder}/" if os.path.isdir(folder) else "docs/"
 

@@ -30,8 +30,9 @@ import argparse
 import sys
 from collections.abc import Sequence
 
-from chtab import cli, files
-from chtab._roads import picture
+import chtab_tools as cli
+from chtab import files
+from chtab_tools import svg
 
 # The files of each kind after OUT, the last of which is optional.
 FILES = {"network": (), "routes": ("TEXT",), "reach": ("TARGETS.ss", "TEXT"), "near": ("TEXT",)}
@@ -84,22 +85,22 @@ def reach_of(words: argparse.Namespace) -> tuple[int, dict[int, int]]:
 def main(arguments: Sequence[str]) -> None:
     """Writes the picture that the arguments ask for to standard output."""
     words = words_of(arguments)
-    network = picture.Network(
+    network = svg.Network(
         files.read_graph(words.out + ".gr"), files.read_coordinates(words.out + ".co"), words.size)
     names = files.read_names(words.names) if words.names else {}
-    legend: picture.Legend = []
+    legend: svg.Legend = []
     if words.kind == "network":
-        shapes = picture.roads(network)
+        shapes = svg.roads(network)
     elif words.kind == "routes":
-        shapes, legend = picture.draw_routes(network, list(files.read_routes(words.text)), names)
+        shapes, legend = svg.draw_routes(network, list(files.read_routes(words.text)), names)
     elif words.kind == "near":
         nearest = {source: row[0] for source, row in files.read_near(words.text) if row}
-        shapes, legend = picture.draw_near(
+        shapes, legend = svg.draw_near(
             network, nearest, words.limit, words.bands, words.is_from)
     else:
-        shapes, legend = picture.draw_reach(
+        shapes, legend = svg.draw_reach(
             network, *reach_of(words), words.limit, words.bands, names)
-    picture.write(network, words.title, shapes, legend, sys.stdout)
+    svg.write(network, words.title, shapes, legend, sys.stdout)
 
 
 def command() -> None:

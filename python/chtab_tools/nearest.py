@@ -22,7 +22,8 @@ import argparse
 import sys
 from collections.abc import Sequence
 
-from chtab import cli, files
+import chtab_tools as cli
+from chtab import files
 from chtab._engine.progress import Progress
 from chtab.errors import TooFar
 from chtab._roads import nearest

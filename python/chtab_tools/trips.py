@@ -26,7 +26,8 @@ import sys
 from collections.abc import Sequence
 from typing import IO, TYPE_CHECKING
 
-from chtab import cli, files
+import chtab_tools as cli
+from chtab import files
 from chtab._files import geojson
 
 if TYPE_CHECKING:
