@@ -40,8 +40,7 @@ def send_package(client: Any) -> None:
 
 
 class Tasks:
-    """Tasks of a cluster, and their values as they come. What is still under way is ended with
-    them."""
+    """Tasks of a cluster, and their values as they come; those under way end with it."""
 
     def __init__(self, client: Any) -> None:
         import distributed
@@ -56,8 +55,7 @@ class Tasks:
         self.completed.add(future)
 
     def __iter__(self) -> Iterator[tuple[Any, Any]]:
-        """Yields what was started with the value of its call. A call that starts meanwhile
-        follows."""
+        """Yields each task with its value, those that are begun meanwhile too."""
         for future in self.completed:
             yield self.begun.pop(future), future.result()
 

@@ -59,8 +59,7 @@ class Folder:
 
 
 def watched(path: str) -> subprocess.Popen[bytes] | None:
-    """Starts the shell that removes a folder when this process is gone; None if none can be
-    started."""
+    """Starts the shell that removes a folder when this process is gone; None if it can't start."""
     words = ["/bin/sh", "-c", SCRIPT, "chtab", path]
     with contextlib.suppress(OSError):
         return subprocess.Popen(

@@ -26,8 +26,7 @@ FOLLOWED: weakref.WeakSet[Followed] = weakref.WeakSet()
 
 
 def follow(thing: Followed) -> None:
-    """Calls `thing.leave_parent()` in each process that is forked from this one, as long as the
-    object exists."""
+    """Calls `thing.leave_parent()` in each forked process, as long as the object exists."""
     FOLLOWED.add(thing)
 
 

@@ -24,8 +24,7 @@ Value = TypeVar("Value")
 
 
 class Course:
-    """A call under way: its result, and a lock that is held until it ends. All of it is made before
-    the call, because memory may be short later."""
+    """A call under way: its result, and a lock until it ends, made while there is memory."""
 
     def __init__(self) -> None:
         self.value: Any = None

@@ -22,22 +22,7 @@ LACKING = "the program chtab is neither beside this package nor beside the scrip
 
 
 def program_of(path: Path | None = None) -> str:
-    """The path of the program.
-
-    These are tried in order: the one that the caller names; that of the checkout or installation
-    that the package is in; the one that pip or Debian's package installed along with the package;
-    the one beside the running script; `chtab` on the path.
-
-    Parameters
-    ----------
-    path : str or path, optional
-        The program, if the caller names it.
-
-    Raises
-    ------
-    ChtabError
-        There is none.
-    """
+    """The path of the program: the caller's, or one of `candidates`, or `chtab` on the path."""
     if path is not None:
         return os.path.abspath(path)
     for found in candidates():

@@ -25,8 +25,7 @@ ASKED_SECONDS = 1.0
 def progress_of(
     asked: Asked, name: str, total: int | None, things: str, is_told: bool = True,
 ) -> Progress:
-    """The progress of a call of a network, by its argument `progress`: None means `is_told`, and a
-    callable gets the counts."""
+    """The progress of a call by its argument `progress`: None means `is_told`."""
     if callable(asked):
         return Progress(name, total, things, is_told=False, call=asked)
     if asked is not None and not isinstance(asked, bool):

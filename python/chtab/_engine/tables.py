@@ -129,8 +129,7 @@ def on_cluster(
 
 
 def make(setting: Setting, sources: Any, targets: Any, out: Path, choices: Choices) -> int:
-    """Writes the table of these nodes to OUT (.csv or .npy), which appears once it is complete.
-    Returns the number of its blocks."""
+    """Writes the table of these nodes to OUT (.csv or .npy); the number of its blocks."""
     out = pathlib.Path(out)
     if out.suffix not in (".csv", ".npy"):
         raise Failed("OUT has to end in .csv or .npy")

@@ -26,8 +26,7 @@ NAMES = "sources", "targets", "weights"
 
 @dataclass(frozen=True)
 class Columns:
-    """The columns of a network, as callers give them; `Network.from_arrays` explains each. `names`
-    are the names of the first three."""
+    """The columns of a network as callers give them; `Network.from_arrays` explains each."""
 
     sources: Column
     targets: Column
@@ -114,8 +113,7 @@ def arcs_of(given: Columns) -> Arcs:
 
 
 def rows_back(both_ways: Any, rows: int) -> Integers:
-    """The rows that lead back too: all or none by a truth value, or some of them by a column of
-    these."""
+    """The rows that lead back too, by a truth value or by a column of these."""
     if isinstance(both_ways, bool | numpy.bool_):
         return numpy.arange(rows if both_ways else 0)
     if isinstance(both_ways, str):
@@ -189,9 +187,7 @@ def whole_weights(
     name: str, weights: NDArray[Any], scale: float | None, most: int,
     hint: str = "; `unit` or `scale` says how it becomes one",
 ) -> tuple[Integers, float]:
-    """The weights of a graph, int64, none above `most`, and the largest difference between one of
-    them and the given weight times the scale. Without a scale a fraction is refused, with a
-    hint."""
+    """The weights of a graph, none above `most`, and their largest rounding in its unit."""
     see_that_weights(name, weights)
     if weights.dtype == numpy.int64 and isinstance(scale, int | None):
         factor = 1 if scale is None else scale

@@ -48,8 +48,7 @@ def first_of(marks: ArrayLike) -> int | None:
 
 
 def array_of(name: str, column: Column) -> NDArray[Any]:
-    """The array of a column. A list becomes an array of objects, so that numpy converts no value of
-    it."""
+    """The array of a column; that of a list has objects, so that numpy converts no value."""
     if isinstance(column, numpy.ma.MaskedArray):
         see_that_there(name, numpy.ma.getmaskarray(column), "is masked")
         column = column.data
@@ -107,26 +106,12 @@ def kind_of(kind: type) -> str | None:
 
 
 def are_whole(column: NDArray[Any]) -> Marks:
-    """Which numbers of a column of floats are whole, and small enough that each whole number has
-    its own float."""
+    """Which floats are whole, and small enough to be no other whole number's float."""
     return (column == numpy.floor(column)) & (abs(column) <= EXACT)
 
 
 def labels_in(name: str, column: Column) -> LabelArray:
-    """The labels of a column, of any shape.
-
-    Returns
-    -------
-    array of int64 or object
-        Integers, as objects if one of them has more than 64 bits; or objects of `str`, or of
-        `tuple`.
-
-    Raises
-    ------
-    DataFault
-        A value is no label, such as 1.5 or NaN, or there are several kinds of labels. The message
-        names the first such value.
-    """
+    """The labels of a column of any shape: int64, or objects of one kind. Others are refused."""
     array = array_of(name, column)
     if array.size == 0:
         return array.astype(numpy.int64)
@@ -154,8 +139,7 @@ def labels_in(name: str, column: Column) -> LabelArray:
 
 
 def column_labels_in(name: str, column: Column) -> LabelArray:
-    """The labels of a single column, which may be tuples: a list of tuples is one column here, not
-    several."""
+    """The labels of a single column; a list of tuples is one column here, not several."""
     if isinstance(column, list | tuple) and isinstance(next(iter(column), None), tuple):
         return tuples_in(name, column)
     labels = labels_in(name, column)
@@ -164,8 +148,7 @@ def column_labels_in(name: str, column: Column) -> LabelArray:
 
 
 def tuples_in(name: str, column: Iterable[Any]) -> LabelArray:
-    """The labels of a column of tuples, objects. The parts of each are integers, strings or
-    floats."""
+    """The labels of a column of tuples, whose parts are integers, strings or floats."""
     values = list(column)
     see_that_labels(name, values)
     for row, value in enumerate(values):
@@ -183,15 +166,13 @@ def tuples_in(name: str, column: Iterable[Any]) -> LabelArray:
 
 
 def whole_as_integer(value: Any) -> Any:
-    """A whole float as an integer, and any other value unchanged. Ids become floats in pandas if a
-    column ever lacked some of them."""
+    """A whole float as an integer, as ids are in pandas where a column ever lacked some."""
     is_float = isinstance(value, float | numpy.floating)
     return int(value) if is_float and float(value).is_integer() and abs(value) <= EXACT else value
 
 
 def no_label(name: str, array: NDArray[Any]) -> DataFault:
-    """The fault of an array that has no labels, about its first NaN, its first value that is not
-    whole, or its first value."""
+    """The fault of the first NaN, the first value that is not whole, or the first value."""
     place = None
     if array.dtype.kind == "f":
         place = first_of(numpy.isnan(array))
@@ -203,8 +184,7 @@ def no_label(name: str, array: NDArray[Any]) -> DataFault:
 
 
 def see_that_labels(name: str, values: Sequence[object], width: int = 1) -> set[type]:
-    """The types of a list of labels, `width` of which are in a row. Refuses the first value that is
-    no label, or of another kind."""
+    """The types of labels, `width` in a row. Refuses the first that is none, or of another kind."""
     types = set(map(type, values))
     kinds = set(map(kind_of, types))
     if len(kinds) < 2 and None not in kinds:
@@ -239,8 +219,7 @@ def objects_of(values: Sequence[Any]) -> LabelArray:
 
 
 def integers_like(name: str, array: NDArray[Any], values: Iterable[Any]) -> LabelArray:
-    """Integers in the shape of an array, as int64 if all of them fit. Refuses integers of too many
-    bits."""
+    """Integers in the shape of an array, int64 if all fit. Those of too many bits are refused."""
     # Converted to Python's integers, because numpy would convert numbers past 2^63 to others.
     values = list(map(int, values))
     with contextlib.suppress(OverflowError):
@@ -258,8 +237,7 @@ def integers_like(name: str, array: NDArray[Any], values: Iterable[Any]) -> Labe
 
 
 def durations_in(name: str, column: Column) -> Any:
-    """The milliseconds of a column of durations, as `numpy.longdouble`; None for any other
-    column."""
+    """The milliseconds of a column of durations, `numpy.longdouble`; None for any other."""
     array = array_of(name, column)
     if (
         array.dtype == object and array.ndim == 1 and array.size

@@ -20,12 +20,7 @@ Line: TypeAlias = "Floats"
 
 
 def lines_in(name: str, column: Any, rows: int) -> list[Line | None] | None:
-    """The lines of a column, each as an array of at least two longitudes and latitudes (n, 2), or
-    None; None if there is no column.
-
-    A line is one of shapely, or a list of pairs. Further numbers of a point, such as heights, are
-    ignored.
-    """
+    """The lines of a column, arrays (n, 2) of places in degrees or None; None for no column."""
     if column is None:
         return None
     given = list(column)
@@ -77,8 +72,7 @@ def bends_of(
     lines: Sequence[Line | None], tails: Integers, heads: Integers,
     places: tuple[Floats, Floats] | None,
 ) -> dict[int, list[Point]]:
-    """The points between the ends of each arc, if its line has some: {arc: [(longitude, latitude),
-    ..]}. A line that leads from the head of its arc to the tail is reversed."""
+    """The points between the ends of each arc that has some; its line may lead the other way."""
     if places is None:
         raise DataFault(
             "geometry is given and places are not: `nodes`, `x` and `y` are needed too", "geometry")

@@ -22,8 +22,7 @@ COLUMNS_AT_ONCE = 1 << 16
 
 @contextlib.contextmanager
 def reading(source: Source, mode: str = "r") -> Iterator[Any]:
-    """Opens the file of a path, or takes an open file or lines as they are. Bytes that are no text
-    are a fault of the file."""
+    """Opens the file of a path, or takes an open file or lines. A fault if these are no text."""
     opened: Any = (
         open(source, mode) if isinstance(source, (str, os.PathLike))
         else contextlib.nullcontext(source))
@@ -51,8 +50,7 @@ def name_of(source: Source) -> str:
 def columns(
     source: Source, letter: bytes, count: int,
 ) -> tuple[list[array.array[int]], list[bytes]]:
-    """The `count` columns of numbers in all lines that start with a letter; and the comments and
-    problem lines, as bytes."""
+    """The columns of numbers in lines that start with a letter; comments and problem lines."""
     heads: list[bytes] = []
 
     def items(file: Iterable[bytes]) -> Iterator[bytes]:
@@ -87,16 +85,14 @@ def write_comments(file: IO[str], comments: Iterable[str]) -> None:
 
 
 def write_rows(file: IO[str], form: str, rows: Iterable[Iterable[Any]]) -> None:
-    """Writes a line of this form for each row of numbers. Formatting many lines at a time takes
-    half as long."""
+    """Writes a line of this form for each row of numbers, many at a time."""
     rows = iter(rows)
     while some := list(itertools.islice(rows, ROWS_AT_ONCE)):
         file.write(form * len(some) % tuple(itertools.chain.from_iterable(some)))
 
 
 def write_columns(file: IO[str], form: str, numbers: Sequence[Any]) -> None:
-    """Writes a line of this form for each row of columns, which are arrays of whole numbers. They
-    become lists part by part."""
+    """Writes a line of this form for each row of columns, which become lists part by part."""
     for start in range(0, len(numbers[0]), COLUMNS_AT_ONCE):
         write_rows(
             file, form,

@@ -16,8 +16,7 @@ WAYS = "osmid"
 
 
 def ways_in(column: Iterable[Any]) -> list[list[int]] | None:
-    """The numbers of the ways of each edge; None unless each edge has a number or a list of
-    numbers."""
+    """The ways of each edge; None unless each has a number or a list of numbers."""
     ways = [
         list(way) if isinstance(way, list | tuple | set | numpy.ndarray) else [way]
         for way in column]
@@ -58,8 +57,7 @@ def columns_of_frame(
 
 
 def marks_of(frame: Any, both_ways: Any) -> Any:
-    """The marks of rows that lead both ways, for a truth value or a column of a frame, or the name
-    of this column."""
+    """The marks of rows that lead both ways, in a column of the frame or by its name."""
     column = column_of(frame, both_ways) if isinstance(both_ways, str) else both_ways
     if row_index.index_of(column) is not None:
         _, column = row_index.matched(("the frame", "both_ways"), (frame, column))
@@ -70,8 +68,7 @@ def arcs_of_networkx(
     graph: Any, weight: str, scale: float | str | None, unit: str | None,
     places: tuple[str | None, str | None], geometry: str | None,
 ) -> arc_columns.Arcs:
-    """The arcs of a graph, with the weights of an attribute of its edges, and with places and lines
-    if its nodes and edges have them."""
+    """The arcs of a graph by the attributes of its edges, and places and lines if it has some."""
     nodes, edges = list(graph.nodes), list(graph.edges(data=weight))
     columns.see_that_labels("nodes", list(map(columns.whole_as_integer, nodes)))
     sources, targets, weights = (list(column) for column in zip(*edges)) if edges else ([], [], [])

@@ -16,8 +16,7 @@ if TYPE_CHECKING:
 def feature(
     line: Sequence[Any] | None, properties: Mapping[str, Any], kind: str = "LineString",
 ) -> Geojson:
-    """A feature, without a geometry if `line` is None. A line of one point has it twice, because
-    the format wants two."""
+    """A feature, None for no geometry. A line of one point has it twice, as lines need two."""
     if kind == "LineString" and line is not None and len(line) == 1:
         line = [*line, *line]
     return {
@@ -28,8 +27,7 @@ def feature(
 
 
 def line_text(line: Sequence[Point] | None, properties: Mapping[str, Any]) -> str:
-    """The text of a feature with a line of places in millionths of a degree, made in a third of the
-    time that `json` takes."""
+    """The text of a feature with its line in millionths of a degree, quicker than by `json`."""
     if not line:
         return json.dumps(feature(None, properties))
     if len(line) == 1:
@@ -44,8 +42,7 @@ def collection(features: Iterable[Geojson]) -> Geojson:
 
 
 def route_feature(answer: files.Answer, line: Sequence[Point], names: Mapping[Any, str]) -> Geojson:
-    """A route of `files.read_routes` along a line of places, with the names of its first and last
-    node if `names` has them."""
+    """A route of `files.read_routes` along a line of places, with names of its ends."""
     properties = {
         "from": answer.source,
         "to": answer.target,
@@ -58,8 +55,7 @@ def route_feature(answer: files.Answer, line: Sequence[Point], names: Mapping[An
 def query_feature(
     query: int, answer: files.Answer, line: Sequence[Point] | None, names: Mapping[Any, str],
 ) -> Geojson:
-    """The answer to the query at a place of the list, along a line of places; None if no path leads
-    there."""
+    """The answer to a query along a line of places; None if no path leads there."""
     properties = {"query": query, "source": answer.source, "target": answer.target}
     properties |= {
         "from": answer.source,
@@ -83,8 +79,7 @@ def named(
 def write_routes(
     source: Source, coordinates: files.Coordinates, names: Mapping[int, str], out: IO[str],
 ) -> None:
-    """Writes the routes of a text, one feature in each line, and holds no more than one at a
-    time."""
+    """Writes the routes of a text, one feature in each line, one after the other."""
     between = '{"type": "FeatureCollection", "features": [\n'
     for answer in files.read_routes(source):
         line = [coordinates.of(node) for node in answer.nodes or ()]

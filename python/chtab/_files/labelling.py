@@ -100,8 +100,7 @@ def with_tuples(labels: Any) -> Any:
 
 
 def are_labels(labels: Any) -> bool:
-    """Whether labels are in a list, and all integers, all strings, or all tuples of integers,
-    strings and floats."""
+    """Whether these are a list of integers, of strings, or of tuples of these and of floats."""
     if not isinstance(labels, list):
         return False
     kinds = set(map(type, labels))

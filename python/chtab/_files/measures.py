@@ -52,16 +52,7 @@ class Asked:
 
 @dataclass(frozen=True)
 class Measure:
-    """The unit of the answers and limits of a network.
-
-    Parameters
-    ----------
-    unit : str
-        The name of the unit; empty if it isn't known.
-    factor : int or float
-        How many of the graph's weights make one of the unit. With 1 answers are whole numbers, and
-        otherwise floats.
-    """
+    """The unit of answers and limits: `factor` of the graph's weights make one `unit`."""
 
     unit: str = ""
     factor: float = 1
@@ -74,8 +65,7 @@ class Measure:
     # Limits.
 
     def limit(self, name: str, given: Limit) -> int | None:
-        """The largest weight of the graph whose answer is at most a limit; None for no limit, which
-        infinity is too."""
+        """The largest weight of the graph whose answer is within a limit; None for no limit."""
         if given is None or isinstance(given, float | numpy.floating) and given == numpy.inf:
             return None
         if self.is_whole:
@@ -156,8 +146,7 @@ def microseconds(duration: Any) -> Fraction:
 
 
 def whole_limit(name: str, limit: Any) -> int:
-    """The largest whole number up to a limit, which admits the same weights. numpy compares it
-    exactly, unlike most other numbers."""
+    """The largest whole number up to a limit, which admits the same weights."""
     if not 0 <= limit <= MOST:
         raise ValueError(f"{name} is {limit!r}: a limit is from 0 to 2^60")
     # `math.floor` would make a float of a number of numpy first.
@@ -175,16 +164,14 @@ def unit_in(unit: Any) -> str | None:
 
 
 def scale_of(unit: str | None, scale: float | None) -> float | None:
-    """The factor for weights in a unit: the given scale, or the one that makes whole milliseconds
-    or millimetres; None if nothing is known."""
+    """The scale given, or that of whole milliseconds or millimetres; None for neither."""
     if scale is not None or unit is None:
         return scale
     return TIMES[unit] if unit in TIMES else FINE * LENGTHS[unit] if unit in LENGTHS else None
 
 
 def base_of(unit: str | None, scale: float | None) -> str:
-    """The unit of a graph's weights, if weights in a unit were multiplied by a scale: a name of
-    `BASES`, or empty."""
+    """The unit in `BASES` of weights in a unit times a scale, or empty."""
     return next(
         (
             base for base, units in BASES.items()

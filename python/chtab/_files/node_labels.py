@@ -43,8 +43,7 @@ class Numbers:
         return self.known
 
     def nodes_of(self, name: str, given: Any) -> Integers:
-        """The nodes of an array of numbers, of any shape. Numbers out of range are refused; whole
-        floats are taken."""
+        """The nodes of numbers of any shape, whole floats too. Those out of range are refused."""
         if isinstance(given, numpy.ma.MaskedArray):
             given = columns.array_of(name, given)
         column = numpy.asarray(given)
@@ -60,8 +59,7 @@ class Numbers:
         return column.astype(numpy.int64)
 
     def few(self, labels: Iterable[Any]) -> list[int] | None:
-        """The nodes of a short list of labels, as a list; None if one of them needs a closer
-        look."""
+        """The nodes of a short list of labels; None if one of them needs a closer look."""
         labels = [int(label) if type(label) is numpy.int64 else label for label in labels]
         return (
             labels if all(type(label) is int and 0 < label <= self.count for label in labels)
@@ -136,8 +134,7 @@ class Labels:
         return self.by_label
 
     def nodes_of(self, name: str, given: Any) -> Integers:
-        """The nodes of labels, an array of int64 in the shape of the argument. Raises a `DataFault`
-        if no node has a label."""
+        """The nodes of labels in the shape of these. Labels of no node are refused."""
         labels = (
             self.tuples_of(name, given) if self.kind == TUPLES else columns.labels_in(name, given))
         nodes = self.found(labels)
@@ -173,8 +170,7 @@ class Labels:
         return numpy.where(values[place] == labels, nodes[place], 0)
 
     def few(self, labels: Iterable[Any]) -> list[int] | None:
-        """The nodes of a short list of labels, as a list; None if one of them needs a closer
-        look."""
+        """The nodes of a short list of labels; None if one of them needs a closer look."""
         labels = [int(label) if type(label) is numpy.int64 else label for label in labels]
         if self.values.dtype == object:
             found = [
@@ -227,8 +223,7 @@ def doubled(name: str, labels: Sequence[Label]) -> DataFault:
 def labels_of_ends(
     names: Sequence[str], sources: LabelArray, targets: LabelArray
 ) -> tuple[Labels, Integers]:
-    """The labels in either of two columns, in ascending order, and the nodes of both columns, int64
-    (2, m)."""
+    """The labels in either of two columns in ascending order, and the nodes of both (2, m)."""
     kinds = [
         columns.kind_of(type(values[:1].tolist()[0])) for values in (sources, targets)
         if len(values)]
@@ -245,8 +240,7 @@ def labels_of_ends(
 
 
 def ordered(labels: Sequence[Label]) -> tuple[LabelArray, Integers]:
-    """The different labels of a list in ascending order, as an array of objects, and the place of
-    each item of the list among them."""
+    """The labels of a list in ascending order, each once, and the place of each item there."""
     numbers: dict[Label, int] = collections.defaultdict(itertools.count().__next__)
     found = numpy.fromiter(map(numbers.__getitem__, labels), numpy.int64, len(labels))
     known = list(numbers)

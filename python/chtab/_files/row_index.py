@@ -18,8 +18,7 @@ UNKNOWN: LabelArray = numpy.zeros(0, numpy.int64)
 
 
 def labels_in(index: Any) -> LabelArray:
-    """The labels of an index of pandas, in order: integers, strings or tuples. Raises a `DataFault`
-    for other labels, such as dates."""
+    """The labels of an index of pandas in order. Others, such as dates, are refused."""
     return columns.column_labels_in("index", list(index) if is_of_levels(index) else index)
 
 
@@ -34,8 +33,7 @@ def are_numbers(labels: LabelArray, count: int) -> bool:
 
 
 def kept(index: Any, rows: int) -> LabelArray | None:
-    """The labels of the index of a caller's rows; None if they are 0, 1, .., or if there is no
-    index, and `UNKNOWN` if they can't be kept."""
+    """The labels of rows; None for 0, 1, .. or no index, `UNKNOWN` if they can't be kept."""
     if index is None:
         return None
     try:

@@ -127,8 +127,7 @@ def values_of(features: Sequence[Geojson], name: str) -> Floats:
 
 
 def drawn(features: Sequence[Geojson], name: str, ax: Any, style: Mapping[str, Any]) -> Any:
-    """Draws features in axes of matplotlib, with one collection each for points, lines and
-    polygons."""
+    """Draws features by matplotlib: a collection each for points, lines and polygons."""
     from matplotlib import pyplot
 
     if ax is None:
@@ -204,8 +203,7 @@ def explored(features: Sequence[Geojson], name: str, style: Mapping[str, Any]) -
 
 
 def geodataframe(collection: dict) -> geopandas.GeoDataFrame:
-    """The features of a collection of GeoJSON as rows, in longitudes and latitudes, with None for a
-    missing geometry."""
+    """The features of a collection as rows in degrees, None for a missing geometry."""
     import geopandas
     from shapely.geometry import shape
 

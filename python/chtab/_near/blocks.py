@@ -36,8 +36,7 @@ Question: TypeAlias = NearQuestion | SpotQuestion
 
 @dataclass(frozen=True)
 class Block:
-    """A block: the rows of some sources among some of the targets, with the places where both
-    start, and their question."""
+    """The rows of some sources among some targets, the places where both start, their question."""
 
     row: int
     column: int
@@ -62,8 +61,7 @@ def cut(question: NearQuestion, nodes: int, workers: int = 1) -> Iterator[Block]
 def parts_of(
     sources: Integers | None, nodes: int, most: int, workers: int,
 ) -> Sequence[tuple[int, Integers | None]]:
-    """The sources in parts, each with the place at which it starts. A row has at most this many
-    pairs."""
+    """The sources in parts with their first places; a row has at most so many pairs."""
     if sources is None and workers == 1 and nodes * most <= PAIRS:
         return [(0, None)] if nodes else []
     sources = numpy.arange(1, nodes + 1) if sources is None else sources
@@ -128,8 +126,7 @@ def side_by_side(engine: InProcess, found: Iterable[Block], make: Make, workers:
 
 
 def on_cluster(engine: InProcess, found: Iterable[Block], make: Make, client: Any) -> Made:
-    """Makes blocks by the workers of a cluster, which send rows. The values are made in this
-    process, one after the other."""
+    """Makes blocks by the workers of a cluster, which send rows; values are made here."""
     deadline, left = deadlines.current(engine.setting.timeout), iter(found)
     with cluster.Tasks(client) as tasks:
         def begin() -> None:

@@ -111,8 +111,7 @@ class NearRows:
         return True
 
     def has_few(self) -> bool:
-        """Whether the rows of all nodes have few enough pairs for a sweep. If the bound of a row is
-        too large, a sample of nodes decides."""
+        """Whether a sweep's rows have few pairs: by their bound, or else by a sample of nodes."""
         enough, most = max(SWEPT, FEW * self.nodes), self.question.most()
         if self.nodes * most <= enough:
             return True

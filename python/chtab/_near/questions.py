@@ -27,8 +27,7 @@ DIRECTIONS = "to", "from"
 
 @dataclass(frozen=True)
 class Asked:
-    """The nodes or spots of a question, as its caller named them: sources, None for all nodes, and
-    targets."""
+    """The sources, None for all nodes, and the targets of a question."""
 
     trips: Trips
     sources: Integers | Spots | None
@@ -41,8 +40,7 @@ class Asked:
         return self.trips.layers
 
     def near(self, count: int | None, within: int | None) -> blocks.Question:
-        """The question to the library, with those nodes where trips end in place of the ones that
-        trips lead to. A row has at most all targets."""
+        """The question to the library, where trips end at other nodes with these."""
         most = max(1, len(self.targets))
         count = None if count is None else min(blocks.count_in("count", count), most)
         sources, targets, layers = self.sources, self.targets, self.layers
@@ -57,8 +55,7 @@ class Asked:
         return NearQuestion(sources, targets, count, within, self.is_from)
 
     def spots_of(self, nodes: Integers | Spots, side: int) -> Spots:
-        """Spots at nodes, or spots as they are. Those of sources and of targets are on no road
-        together."""
+        """Spots at nodes, or spots as they are. Nodes of both sides are on no road together."""
         if isinstance(nodes, Spots):
             return nodes
         return self.layers.roads.at_nodes(nodes, self.layers.ends_of(nodes), side)
@@ -87,8 +84,7 @@ class Asked:
 
 
 class Values(NamedTuple):
-    """The question of an aggregate: its nodes, the values of targets (l, c), the names of their
-    columns or None, and whether the caller gave several columns."""
+    """The question of an aggregate: nodes, values (l, c), names of columns or None, if several."""
 
     asked: Asked
     values: Floats
@@ -97,8 +93,7 @@ class Values(NamedTuple):
 
 
 class Limits(NamedTuple):
-    """Limits in the unit of the graph and in that of the caller, as they were given, and whether
-    that was a list."""
+    """Limits of the graph, of the caller, as they were given; and whether that was a list."""
 
     whole: list[int]
     numbers: list[Any]
@@ -114,8 +109,7 @@ def asked(trips: Trips, sources: Any, targets: Any, direction: str) -> Asked:
 
 
 def sources_in(trips: Trips, sources: Any) -> Integers | Spots | None:
-    """The nodes of labels, or spots; for None all nodes that are no copies, or None where none
-    is."""
+    """The nodes of labels, or spots; for None all nodes, None for these where none is a copy."""
     if sources is None:
         return trips.layers.all_nodes if trips.layers.has_turns else None
     return ends_in(trips, "sources", sources)

@@ -14,8 +14,7 @@ if TYPE_CHECKING:
 
 @dataclass(frozen=True)
 class Rows:
-    """Rows, one after the other. Row i has the places and weights `offsets[i]` to `offsets[i + 1] -
-    1`, all int64."""
+    """Row i has the places and weights `offsets[i]` to `offsets[i + 1] - 1`, all int64."""
 
     offsets: Integers
     places: Integers

@@ -71,8 +71,7 @@ class Asked(NamedTuple):
 
 
 def share_by(decay: Decay, kind: str, limits: Sequence[Any]) -> Share | None:
-    """A function that gives the share of a value that counts at each of some weights within a
-    limit."""
+    """The share of a value that counts at each of some weights within a limit."""
     if decay is not None and kind not in DECAYING:
         raise ValueError(f"the {kind} has no decay; {', '.join(DECAYING)} have one")
     if decay in (LINEAR, EXPONENTIAL) and 0 in limits:
@@ -199,8 +198,7 @@ def aggregates(
 
 
 def are_counted(question: Question, asked: Asked) -> bool:
-    """Whether values are summed as whole numbers: none is below 0, and the sum of all is small
-    enough to be exact as a float."""
+    """Whether values are summed as whole numbers, whose sums are exact as floats."""
     values = asked.values
     is_plain = (
         asked.kind == "sum" and asked.share is None and 0 < len(question.targets) <= blocks.LENGTH)

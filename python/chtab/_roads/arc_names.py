@@ -45,14 +45,7 @@ def kind_of(name: Any) -> str:
 
 
 class ArcNames:
-    """Finds the arcs that names stand for, all names of a kind together. What is refused names its
-    place in the list.
-
-    Parameters
-    ----------
-    layers : Layers
-        The files of the network.
-    """
+    """Finds the arcs that names stand for, all of a kind together. A fault names its place."""
 
     def __init__(self, layers: Layers) -> None:
         self.layers, self.rows, self.row_labels = layers, layers.rows, layers.row_labels
@@ -131,8 +124,7 @@ class ArcNames:
         return Found(arcs[order], places[order])
 
     def of_index(self, name: str, index: Any) -> Found:
-        """The arcs that the labels of an index of pandas name: rows of the frame, or else as a list
-        names them."""
+        """The arcs that an index of pandas names: rows of the frame, or else as a list does."""
         rows = self.rows_of_index(name, index)
         if rows is not None:
             return self.by_row.of_each(rows.items).through(rows.places)
@@ -151,16 +143,14 @@ class ArcNames:
         return self.of_ends(name, numpy.arange(len(index)), *levels)
 
     def rows_of_index(self, name: str, index: Any) -> Found | None:
-        """The rows that the labels of an index of pandas name. None if these are other names of
-        arcs."""
+        """The rows that the labels of an index of pandas name; None if these are other names."""
         found = self.row_labels.found(name, index)
         if found is None and len(index) == self.row_labels.count and self.are_in_order(index):
             found = Found(numpy.arange(len(index)), numpy.arange(len(index)))
         return found
 
     def are_in_order(self, index: Any) -> bool:
-        """Whether an index has the ends of each row that has an arc, and its key if rows have keys,
-        in the order of rows."""
+        """Whether an index has the ends of rows with arcs, and keys if there are some, in order."""
         if not row_index.is_of_levels(index) or index.nlevels > 3:
             return False
         sources, targets, *keys = (
@@ -223,8 +213,7 @@ class ArcNames:
         self, name: str, places: Integers, sources: Any, targets: Any,
         keys: LabelArray | None = None,
     ) -> Found:
-        """The arcs from nodes to others; with keys all arcs of the rows of these edges, which lead
-        back too in a graph without directions."""
+        """The arcs from nodes to others; with keys all arcs of the rows of these edges."""
         def named(place: int) -> str:
             return quoted(
                 tuple(
@@ -258,8 +247,7 @@ class ArcNames:
             else columns.objects_of(labelling.keys))
 
     def crossings_of(self, name: str, places: Integers, labels: Any) -> Integers:
-        """The crossings of labels of nodes. A crossing has several nodes if turns are restricted,
-        and is called by the first."""
+        """The crossings of labels; one of several nodes is called by the first."""
         return self.layers.crossings[self.nodes_of(name, places, labels)]
 
     def nodes_of(self, name: str, places: Integers, labels: Any) -> Integers:
@@ -286,8 +274,7 @@ class ArcNames:
         return nodes
 
     def of_spots(self, name: str, places: Integers, given: Sequence[Spots]) -> Found:
-        """The arcs along the roads of spots, in the directions in which trips may leave these; for
-        a spot at a crossing, all arcs of the crossing."""
+        """The arcs along roads of spots, in open directions; at a crossing, all of its arcs."""
         roads, own = self.layers.roads, []
         for place, spots in zip(places.tolist(), given):
             found, are_here = roads.same_points(spots)
@@ -361,8 +348,7 @@ class ArcNames:
     def of_items(
         self, numbers_by: dict[Any, list[int]], wanted: Sequence[Any], arcs: Groups
     ) -> Found:
-        """The arcs of what has several numbers each, such as the rows of a way or the streets of a
-        name."""
+        """The arcs of what has several numbers each, as a way has rows and a name has streets."""
         numbers = [numbers_by.get(each, []) for each in wanted]
         owners = numpy.repeat(numpy.arange(len(wanted)), [*map(len, numbers)])
         return arcs.of_each(
@@ -371,14 +357,7 @@ class ArcNames:
     # Columns with a value for each row.
 
     def in_rows(self, name: str, column: Any) -> Any:
-        """A column, or a frame of columns, with a value for each row, in the order of rows: one of
-        pandas is put in that order by its index. Rows without arcs need no value.
-
-        Raises
-        ------
-        DataFault
-            The index names no rows, a row twice, or not all of them.
-        """
+        """Values of rows in their order: a column of pandas goes by its index, or is refused."""
         if not hasattr(column, "iloc"):
             return column
         found = self.rows_of_index(name, column.index)
@@ -403,8 +382,7 @@ class ArcNames:
 
 
 def all_of(calls: Iterable[Callable[[], Any]]) -> list[Any]:
-    """The values of some calls. If several refuse something, the first of it by its place in the
-    list is the fault."""
+    """The values of some calls; of several faults, the first by its place in the list."""
     values, faults = [], []
     for call in calls:
         try:

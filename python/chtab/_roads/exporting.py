@@ -53,8 +53,7 @@ def edges_of(layers: Layers, measure: Measure) -> geopandas.GeoDataFrame:
 def edges_with_flows(
     layers: Layers, measure: Measure, flows: Any, widest: float,
 ) -> geopandas.GeoDataFrame:
-    """The same rows with the flow on each, and a width in proportion, up to the widest. Flows go by
-    rows."""
+    """The same rows with flows, and widths in proportion up to the widest."""
     if (
             isinstance(widest, bool) or not isinstance(widest, numbers.Real)
             or not 0 < float(widest) < math.inf):
@@ -89,8 +88,7 @@ def drawn_edges(
 
 
 def nodes_of(layers: Layers, values: Any) -> geopandas.GeoDataFrame:
-    """A row for each crossing, with its label as index, values in columns, and its place in
-    degrees."""
+    """A row for each crossing by its label: columns of values, and its place in degrees."""
     import pandas
     from shapely.geometry import Point
 
@@ -118,8 +116,7 @@ def nodes_of(layers: Layers, values: Any) -> geopandas.GeoDataFrame:
 
 
 def components_of(layers: Layers) -> Integers:
-    """The strongly connected component of each crossing: 0 for those of the largest, 1 for those of
-    the next one, and so on."""
+    """The strongly connected component of each crossing, 0 for the largest, 1 for the next, .."""
     nodes = layers.all_nodes
     tails, heads = (
         nodes.searchsorted(layers.crossings[numpy.asarray(column)]) for column in layers.graph[1:3])
@@ -127,8 +124,7 @@ def components_of(layers: Layers) -> Integers:
 
 
 def by_size(count: int, tails: Integers, heads: Integers, kind: str) -> Integers:
-    """The component of each of so many nodes, numbered by size. Of equally large ones, the one with
-    the least node comes first."""
+    """The component of each node, numbered by size, and by their least nodes."""
     from scipy.sparse import coo_matrix
     from scipy.sparse.csgraph import connected_components
 
@@ -141,8 +137,7 @@ def by_size(count: int, tails: Integers, heads: Integers, kind: str) -> Integers
 
 
 def warn_of_parts(count: int, tails: Integers, heads: Integers) -> None:
-    """Warns if lines that meet at their ends make a network that falls apart, as where lines cross
-    in the middle of others. Without scipy nothing is said."""
+    """Warns if lines that meet at their ends make a network that falls apart, if scipy is there."""
     try:
         found = by_size(count, tails - 1, heads - 1, "weak")
     except ImportError:

@@ -21,8 +21,7 @@ def arcs_of_arrays(
     ends: tuple[Any, Any, Any], places: tuple[Any, Any, Any], scale: float | None, unit: str | None,
     both_ways: Any, geometry: Any, like: Network | None,
 ) -> arc_columns.Arcs:
-    """The arcs of columns: sources, targets and weights, and the labels, longitudes and latitudes
-    of nodes or None."""
+    """The arcs of columns: sources, targets, weights; and labels and places of nodes or None."""
     names = *arc_columns.NAMES, "both_ways", "geometry"
     rows = row_index.matched(names, [listed(column) for column in (*ends, both_ways, geometry)])
     index = next(filter(lambda own: own is not None, map(row_index.index_of, rows)), None)
@@ -66,8 +65,7 @@ def listed(column: Any) -> Any:
 
 
 def nodes_in_order(nodes: Any, x: Any, y: Any) -> list[Any]:
-    """The labels and places of nodes. Columns of pandas are put into the order of the first one's
-    index, or of the labels if these are an Index."""
+    """The labels and places of nodes, columns of pandas in the order of the first one."""
     nodes, x, y = row_index.matched(
         ("nodes", "x", "y"), [listed(column) for column in (nodes, x, y)])
     if hasattr(nodes, "get_indexer") and nodes.is_unique:
@@ -87,8 +85,7 @@ def is_of_labels(column: Any, labels: Any) -> bool:
 
 @contextlib.contextmanager
 def known_to_be_closed(network: Any) -> Iterator[None]:
-    """Raises the fault of a closed network where its files are gone because it was closed
-    meanwhile."""
+    """Raises the fault of a closed network where its files went with it."""
     try:
         yield
     except FileNotFoundError:
@@ -111,8 +108,7 @@ def see_that_same_nodes(labels: NDArray[Any], own: NDArray[Any]) -> None:
 
 
 def with_nodes_of(given: arc_columns.Columns, like: Any) -> arc_columns.Columns:
-    """The same columns with the nodes of a network, where they name none: its labels, and its
-    places where these are not given."""
+    """The same columns with the labels of a network, and its places if none are given."""
     if like is None or given.nodes is not None:
         return given
     given = dataclasses.replace(given, nodes=like.labels)
@@ -145,8 +141,7 @@ def with_turns_of(arcs: arc_columns.Arcs, like: Any) -> arc_columns.Arcs:
 
 
 def warn_of_scale(scale: float, level: int) -> None:
-    """Warns that limits and answers are whole numbers, as in version 1.1, and not in the unit of
-    the weights that were given."""
+    """Warns that limits and answers are whole numbers, and not in the unit of the weights."""
     text = (
         f"weights were multiplied by {scale:g}, and limits and answers are these whole numbers; "
         "name the unit of your weights, as unit='minutes', "

@@ -21,8 +21,7 @@ if TYPE_CHECKING:
 
 
 def in_degrees(frame: geopandas.GeoDataFrame) -> geopandas.GeoDataFrame:
-    """A GeoDataFrame in longitudes and latitudes. A frame without a coordinate system is taken to
-    be in degrees."""
+    """A GeoDataFrame in degrees, which one without a coordinate system is taken to be."""
     return frame if frame.crs is None or frame.crs == DEGREES else frame.to_crs(DEGREES)
 
 
@@ -69,8 +68,7 @@ def columns_of_geodataframe(
 
 
 def of_nodes(nodes: Any) -> dict[str, Any]:
-    """The labels and places of a frame of points, whose index has the labels; nothing if there is
-    no frame."""
+    """The labels and places of a frame of points; nothing if there is no frame."""
     if nodes is None:
         return {}
     points = in_degrees(nodes).geometry
@@ -78,8 +76,7 @@ def of_nodes(nodes: Any) -> dict[str, Any]:
 
 
 def by_ends(lines: Any) -> tuple[tuple[Integers, Integers], dict[str, Any]]:
-    """The nodes at the ends of lines, as labels from 1 on, in millionths of a degree; and these
-    nodes with their places."""
+    """The nodes at the ends of lines in millionths of a degree, from 1 on, with their places."""
     ends = numpy.round([(line[0], line[-1]) for line in lines], 6).reshape(-1, 2)
     places, found = numpy.unique(ends, axis=0, return_inverse=True)
     sources, targets = found.reshape(-1, 2).T + 1

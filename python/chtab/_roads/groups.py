@@ -13,8 +13,7 @@ if TYPE_CHECKING:
 
 
 class Found(NamedTuple):
-    """Items that were found, such as arcs, and for each the place of what stands for it among those
-    that were looked for."""
+    """Items that were found, and for each the place of what it was found for."""
 
     items: Integers
     places: Integers

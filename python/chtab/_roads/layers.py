@@ -33,21 +33,7 @@ NO_TURNS = files.Coordinates(array.array("d"), array.array("d"), [])
 
 
 class Layers:
-    """The files of a network. Several threads may share it. Pickled, it has the names of the files
-    alone.
-
-    Parameters
-    ----------
-    path : str
-        The graph (`.gr`).
-    coordinates, bends : str, optional
-        The files of the nodes' places and of the points between them; by default those beside the
-        graph, if they exist.
-    labelling : str, optional
-        The file of the nodes' labels; by default nodes are called by their numbers.
-    asked : measures.Asked
-        What the caller said about the unit of limits and answers.
-    """
+    """The files of a network, which threads may share; pickled, it has their names alone."""
 
     def __init__(
         self, path: str, coordinates: str | None = None, bends: str | None = None,
@@ -84,8 +70,7 @@ class Layers:
             return self.kept[name]
 
     def read_file(self, name: str, make: Callable[[], Any]) -> Any:
-        """Does the same for a file, and refuses it if one of the files was changed since the
-        network was opened."""
+        """Reads a file, and refuses it if one of the files has changed since they were opened."""
         def read() -> Any:
             found = make()
             self.stamps.see_that_same()
@@ -105,8 +90,7 @@ class Layers:
 
     @property
     def streets(self) -> files.Streets | None:
-        """What the arcs are called, as `files.read_streets` gives it; None if no file of names is
-        beside the graph."""
+        """What the arcs are called; None without a file of names beside the graph."""
         path = self.paths["streets"]
         if path is None:
             return None
@@ -115,8 +99,7 @@ class Layers:
 
     @property
     def ways(self) -> Integers | None:
-        """The way of OpenStreetMap that each arc is a part of, as `files.read_ways` gives it; None
-        if no file of ways is beside the graph."""
+        """The way of each arc in OpenStreetMap; None without a file of ways beside the graph."""
         path = self.paths["ways"]
         if path is None:
             return None
@@ -127,8 +110,7 @@ class Layers:
 
     @property
     def rows_by_way(self) -> dict[int, list[int]]:
-        """The ways of OpenStreetMap of the caller's rows, each with its rows. A row may have
-        several ways."""
+        """The rows of each way of OpenStreetMap; a row may have several ways."""
         def make() -> dict[int, list[int]]:
             labelling = self.labelling
             found: dict[int, list[int]] = {}
@@ -141,8 +123,7 @@ class Layers:
 
     @property
     def crossings(self) -> Integers:
-        """The crossing of each node, by the number of its first node, from place 1 on. A crossing
-        has several nodes if turns are restricted there."""
+        """The first node of each node's crossing, from place 1 on."""
         def make() -> Integers:
             found = numpy.arange(files.count_nodes(self.path) + 1)
             for copy, node in self.turns.copies().items():
@@ -161,8 +142,7 @@ class Layers:
 
     @property
     def ends(self) -> Integers:
-        """The node where trips to each node end, from place 1 on, as `files.Coordinates.ends` gives
-        it; 0 if they end at the node itself."""
+        """The node where trips to each node end, from place 1 on; 0 for the node itself."""
         def make() -> Integers:
             found = numpy.zeros(files.count_nodes(self.path) + 1, numpy.int64)
             for node, end in self.turns.ends().items():
@@ -202,8 +182,7 @@ class Layers:
 
     @property
     def are_inner(self) -> Marks:
-        """Which arcs are along no road: they lead from a node to the one where trips to it end, and
-        are a part of no way."""
+        """Which arcs only lead to where trips end: they are along no road, and of no way."""
         tails, heads = (
             numpy.array(column, numpy.int64) for column in (self.graph.tails, self.graph.heads))
         ways = self.ways
@@ -213,8 +192,7 @@ class Layers:
 
     @property
     def rows(self) -> Integers:
-        """For each arc the row of the caller's columns that it is of, from 0 on; of a graph of
-        files its line."""
+        """The row of the caller's columns of each arc, from 0 on; of a file its line."""
         return self.read("rows", lambda: self.rows_of(numpy.arange(len(self.graph.tails))))
 
     def rows_of(self, arcs: Integers) -> Integers:
@@ -268,8 +246,7 @@ class Layers:
 
     @property
     def labelling(self) -> files.Labelling | None:
-        """What `files.read_labels` gives, None if the nodes of the network are called by their
-        numbers."""
+        """What `files.read_labels` gives; None if nodes are called by their numbers."""
         path = self.paths["labelling"]
         if path is None:
             return None
@@ -319,8 +296,7 @@ class Layers:
 
     @property
     def bends(self) -> dict[int, list[Point]]:
-        """The points of arcs between their ends, as `files.read_bends` gives them; none without a
-        file of these."""
+        """The points of arcs between their ends; none without a file of these."""
         def make() -> dict[int, list[Point]]:
             path = self.paths["bends"]
             found = {} if path is None else files.read_bends(path)
@@ -347,8 +323,7 @@ class Layers:
 
 
 def layers_of(opened: Opening, known: Mapping[str, Any] | None = None) -> Layers:
-    """The layers of an opening, together with those that are known already. Labels and the unit are
-    read now, because the file of the graph may be replaced later."""
+    """The layers of an opening and what is known, with labels and the unit of these files."""
     layers = Layers(
         opened.setting.graph, opened.coordinates, opened.bends, opened.labelling, opened.asked)
     layers.kept.update(known or {})

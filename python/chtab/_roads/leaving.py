@@ -13,16 +13,14 @@ NONE = -1
 
 
 class Ways(NamedTuple):
-    """The nodes where trips leave roads, or arrive, and the weights of the whole road: a row for
-    each road, in the order that `Spots` have."""
+    """The nodes where trips leave roads, or arrive, and the weights of the whole roads, in rows."""
 
     nodes: Integers
     weights: Integers
 
 
 class BothWays(NamedTuple):
-    """The ways out of roads, in the first `outs` columns, and those into them, in the others; and
-    for each column whether its nodes are those of the road's last place."""
+    """The ways out of roads in `outs` columns, and those into them; which have the last place."""
 
     nodes: Integers
     weights: Integers

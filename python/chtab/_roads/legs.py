@@ -32,9 +32,7 @@ FEW = 128
 
 
 def ways_between(starts: Spots, ends: Spots) -> tuple[Integers, Integers]:
-    """The ways from spot k of `starts` to spot k of `ends`: pairs of nodes (n, m, 2), in which
-    `NONE` stands for a missing node, and the weight that is added to the distance of each pair (n,
-    m)."""
+    """The ways from spot k to spot k: pairs of nodes (n, m, 2), and what is added to each."""
     outs, ins = numpy.broadcast_arrays(starts.out_nodes[:, :, None], ends.in_nodes[:, None, :])
     added = starts.out_weights[:, :, None] + ends.in_weights[:, None, :]
     count = outs.shape[1] * outs.shape[2]
@@ -44,8 +42,7 @@ def ways_between(starts: Spots, ends: Spots) -> tuple[Integers, Integers]:
 
 
 def totals(added: Integers, is_there: Marks, between: Integers, along: Integers) -> Integers:
-    """The weights of all ways (n, m + 1), the last of which is along a single road; `FAR` where
-    there is no way."""
+    """The weights of all ways (n, m + 1), the last along a single road; `FAR` for no way."""
     weights = numpy.full((len(added), added.shape[1] + 1), FAR)
     weights[:, :-1][is_there] = numpy.where(between >= 0, between + added[is_there], FAR)
     weights[:, -1] = numpy.where(along >= 0, along, FAR)
@@ -66,8 +63,7 @@ class Trace(NamedTuple):
 
 
 class Traces(NamedTuple):
-    """The traces of several legs, one after the other: trace k has the places from `firsts[k]` to
-    before `firsts[k + 1]`."""
+    """The traces of several legs: trace k has the places `firsts[k]` to `firsts[k + 1] - 1`."""
 
     places: Floats
     weights: Integers
@@ -200,8 +196,7 @@ def traced(roads: Roads, pieces: Pieces, totals: Integers) -> Traces:
 
 
 def nodes_of_places(roads: Roads, pieces: Pieces, counts: Integers, cuts: Integers) -> Integers:
-    """The nodes of the places of some pieces, each of which has so many, 0 at bends; legs are cut
-    at `cuts`."""
+    """The nodes of the places of pieces, `counts` of each, 0 at bends; legs are cut at `cuts`."""
     found, lasts = numpy.zeros(int(counts.sum()), numpy.int64), numpy.cumsum(counts)
     before = numpy.append(0, pieces.heads[:-1])[:len(counts)]
     with_places = counts > 0
@@ -247,8 +242,7 @@ def weights_of_ways(trips: Trips, starts: Spots, ends: Spots) -> Integers:
 
 
 def best_ways(trips: Trips, starts: Spots, ends: Spots) -> tuple[Integers, Integers]:
-    """The least weights of the ways from spot k to spot k, `FAR` where there is none, and which way
-    has it."""
+    """The least weights of the ways from spot k to spot k, `FAR` for none, and their numbers."""
     weights = weights_of_ways(trips, starts, ends)
     return weights.min(axis=1, initial=FAR), weights.argmin(axis=1)
 
@@ -256,8 +250,7 @@ def best_ways(trips: Trips, starts: Spots, ends: Spots) -> tuple[Integers, Integ
 def table_ways(
     trips: Trips, starts: Spots, ends: Spots, within: int | None = None,
 ) -> tuple[Integers, Integers]:
-    """The least weights of the ways from each spot to each (k, l), `FAR` where there is none (of at
-    most `within`), and which way this is."""
+    """The least weights of the ways from each spot to each (k, l), `FAR` for none; which."""
     (outs, out_place), (ins, in_place) = (
         different_nodes(starts.out_nodes), different_nodes(ends.in_nodes))
     nodes = node_weights(trips, outs, ins, within)
@@ -280,8 +273,7 @@ def table_ways(
 
 
 def different_nodes(nodes: Integers) -> tuple[Integers, Integers]:
-    """The nodes of spots (n, m) in one column, where each occurs once if there are many, and the
-    place of each node there (n, m)."""
+    """The nodes of spots (n, m), each once if there are many, and their places there (n, m)."""
     if nodes.size <= FEW:
         return nodes.reshape(-1), numpy.arange(nodes.size).reshape(nodes.shape)
     found, places = numpy.unique(nodes, return_inverse=True)
@@ -289,8 +281,7 @@ def different_nodes(nodes: Integers) -> tuple[Integers, Integers]:
 
 
 def node_weights(trips: Trips, outs: Integers, ins: Integers, within: int | None) -> Integers:
-    """The weights from each node of one column to each of another, `NOWHERE` if there is no way, or
-    if one of them is missing."""
+    """The weights from each node to each, `NOWHERE` if no way leads, or if one is missing."""
     is_out, is_in = outs > 0, ins > 0
     if is_out.all() and is_in.all():
         found = trips.engine.table(outs, ins, within)
@@ -316,8 +307,7 @@ def least_of(
 
 
 def stay_on_roads(roads: Roads, starts: Spots, ends: Spots, best: Integers, ways: Integers) -> None:
-    """Puts the weights along single roads where they are less than the best ones, and the number of
-    this way beside them."""
+    """Puts the weights along single roads in place of larger ones, with this way's number."""
     rows, columns = (starts.roads[:, None] == ends.roads).nonzero()
     along = roads.along_roads(starts, rows, ends, columns)
     is_less = (along >= 0) & (along < best[rows, columns])
@@ -327,8 +317,7 @@ def stay_on_roads(roads: Roads, starts: Spots, ends: Spots, best: Integers, ways
 
 
 def legs_between(trips: Trips, starts: Spots, ends: Spots) -> Legs:
-    """The legs from spot k of `starts` to spot k of `ends`. Distances show which way is the best,
-    and only its route is asked for."""
+    """The legs from spot k of `starts` to spot k of `ends`; of their ways the best has a route."""
     best, ways = best_ways(trips, starts, ends)
     return legs_by(trips, starts, ends, best, ways)
 
@@ -367,8 +356,7 @@ class Between(NamedTuple):
     in_weights: Integers
 
     def see_that_right(self, between: Integers, best: Integers) -> None:
-        """Raises a `ProgramFault` if a walk of this weight does not make its way as heavy as it
-        is."""
+        """Refuses walks whose weights do not make their ways as heavy as they are."""
         if (between + self.out_weights + self.in_weights != best)[self.is_walk].any():
             raise mismatch()
 
@@ -376,8 +364,7 @@ class Between(NamedTuple):
 def between_nodes(
     starts: Spots, rows: Integers, ends: Spots, columns: Integers, best: Integers, ways: Integers,
 ) -> Between:
-    """What these ways from some of the spots `starts` to as many of `ends`, of these weights, lead
-    over."""
+    """What these ways of these weights lead over, from some of the spots to as many others."""
     half, width = starts.out_nodes.shape[1] // 2, ends.in_nodes.shape[1]
     is_walk = (best < FAR) & (ways < starts.out_nodes.shape[1] * width)
     outs, intos = numpy.divmod(ways if is_walk.all() else numpy.where(is_walk, ways, 0), width)
@@ -388,8 +375,7 @@ def between_nodes(
 
 
 def walked(trips: Trips, starts: Spots, ends: Spots, best: Integers, ways: Integers) -> Walked:
-    """The walks of these ways from spot to spot, of these weights. A route that weighs something
-    else is no answer to what was asked."""
+    """The walks of these ways of these weights. Routes that weigh something else are refused."""
     legs = numpy.arange(len(best))
     over = between_nodes(starts, legs, ends, legs, best, ways)
     counts, arcs = numpy.zeros(len(best), numpy.int64), numpy.zeros(0, numpy.int64)

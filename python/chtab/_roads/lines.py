@@ -68,8 +68,7 @@ def tidied(lines: Sequence[Floats]) -> list[tuple[list[Point], float]]:
 
 
 class OnLine(NamedTuple):
-    """A point of a line: the line, the part of it where the point is, from 0 to 1, and its
-    longitude and latitude."""
+    """A point of a line: the line, its part there, from 0 to 1, and longitude and latitude."""
 
     line: int
     part: float
@@ -161,16 +160,14 @@ class Lines:
             places[order], counts, numpy.where(lengths[owners] > 0, shares, order == lasts[owners]))
 
     def between(self, before: Integers, lasts: Integers, parts: Floats) -> Floats:
-        """The points at parts of lines, each between the place `before` it and the next one, or at
-        the last place of its line."""
+        """The points at parts of lines, between a place and the next one or at the last one."""
         after = numpy.minimum(before + 1, lasts)
         wide = self.parts[after] - self.parts[before]
         shares = (parts - self.parts[before]) / numpy.where(wide > 0, wide, 1)
         return self.places[before] + shares[:, None] * (self.places[after] - self.places[before])
 
     def joined(self, lines: Integers, is_back: Marks) -> Floats:
-        """The places of some lines one after the other (n, 2), in reverse order where `is_back` is
-        True."""
+        """The places of some lines one after the other (n, 2), reversed where `is_back` is True."""
         counts = self.firsts[lines + 1] - self.firsts[lines]
         which = ranges(self.firsts[lines], counts)
         return self.places[numpy.where(numpy.repeat(is_back, counts), numpy.repeat(2 * self.firsts[lines] + counts - 1, counts) - which, which)]
@@ -202,8 +199,7 @@ class Lines:
     def nearest_some(
         self, longitude: float, latitude: float, most: int,
     ) -> tuple[Integers, Floats, Floats, Floats]:
-        """The nearest points of the nearest lines to one place, at most `most` of them, the nearest
-        first."""
+        """The nearest points of at most `most` of the lines nearest to one place, in order."""
         steps, shares, at = self.index.nearest_some(
             mercator([longitude], [latitude]), most, self.firsts)
         lines = numpy.searchsorted(self.firsts, steps, "right") - 1
@@ -338,8 +334,7 @@ class Pieces:
         return among.reshape(-1)[best], along.reshape(-1)[best], unsure
 
     def within(self, places: Floats, distances: Floats) -> Any:
-        """The pieces with a point within a distance of each place, and some others; a point of a
-        piece is at most `reach` from its middle."""
+        """The pieces with a point within a distance of each place, and some others."""
         return self.tree.query_ball_point(places, distances * (1 + 1e-9) + self.reach + 1e-12)
 
     def feet(self, steps: Integers, places: Floats) -> tuple[Floats, Floats]:
@@ -361,8 +356,7 @@ class Pieces:
     def nearest_some(
         self, place: Floats, most: int, firsts: Integers,
     ) -> tuple[Integers, Floats, Floats]:
-        """The nearest step of each of the nearest lines to one place, at most `most` of them, the
-        nearest first. Lines start at `firsts`."""
+        """The nearest step of each of the lines nearest to a place, which start at `firsts`."""
         def best_of(steps: Integers) -> tuple[Integers, Floats, Floats]:
             """The nearest step of each line, in order; of equally near ones the first."""
             shares, apart = self.feet(steps, place)
@@ -386,8 +380,7 @@ class Pieces:
     def nearest_fitting(
         self, place: Floats, fits: Callable[[Integers], Marks],
     ) -> tuple[Integers, Floats, Floats]:
-        """The nearest step to one place among those for which `fits` holds, which takes an array of
-        steps."""
+        """The nearest step to one place among those for which `fits` holds, by arrays of these."""
         count, found = 16, numpy.zeros(0, int)
         while not len(found):
             distances, near = self.tree.query(place[0], min(count, len(self.steps)))

@@ -66,8 +66,7 @@ def start_samples(network_roads: Roads, spot: Spots, spacing: float) -> tuple[Fl
 
 
 def grid_of(at: Floats, weights: Floats, width: float) -> tuple[Floats, Floats]:
-    """The least weight in each square, and the corner of the first square. Four empty squares are
-    added on each side."""
+    """The least weight in each square, four empty ones on each side, and the first corner."""
     corner = at.min(axis=0) - 4 * width
     square = ((at - corner) / width).astype(int)
     grid = numpy.full(square.max(axis=0) + 5, numpy.inf)

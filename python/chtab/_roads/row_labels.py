@@ -15,15 +15,7 @@ if TYPE_CHECKING:
 
 
 class RowLabels:
-    """What the rows of a network are called in the frame that it was made of.
-
-    Parameters
-    ----------
-    labels : array of labels or None
-        As `row_index.kept` gives them. Rows after these were added, and have no label.
-    count : int
-        How many rows there are.
-    """
+    """What the first rows of a network are called in the caller's frame, as `kept` gives it."""
 
     def __init__(self, labels: LabelArray | None, count: int) -> None:
         self.labels, self.count = labels, count

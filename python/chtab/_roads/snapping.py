@@ -47,8 +47,7 @@ NANOMETRE = 1e-9
 
 
 def places_in(longitudes: Column, latitudes: Column) -> list[Floats]:
-    """Two columns of degrees that go together. Raises a `DataFault` if a value is no degree, such
-    as NaN."""
+    """Two columns of degrees that go together; what is no degree is refused."""
     names = "longitudes", "latitudes"
     columns = row_index.matched(names, (longitudes, latitudes))
     found = [
@@ -58,8 +57,7 @@ def places_in(longitudes: Column, latitudes: Column) -> list[Floats]:
 
 
 def metres_in(max_metres: float | None) -> float:
-    """The largest distance of a place from its road or node: a number from 0 on, or None for any
-    distance."""
+    """The largest distance of a place from its road or node; infinity for None."""
     if max_metres is None:
         return math.inf
     if isinstance(max_metres, bool) or not isinstance(max_metres, numbers.Real):
@@ -74,8 +72,7 @@ def metres_in(max_metres: float | None) -> float:
 def see_that_near(
     longitudes: Floats, latitudes: Floats, metres: Floats, max_metres: float, what: str,
 ) -> None:
-    """Raises a `TooFar` with the places that are farther than `max_metres` from each road, or
-    node."""
+    """Refuses places that are farther than `max_metres` from each road, or node."""
     far = numpy.flatnonzero(~(metres <= max_metres)).tolist()
     if far:
         text = far_text(longitudes[far[0]], latitudes[far[0]], metres[far[0]], what, max_metres)
@@ -247,8 +244,7 @@ class Roads:
     def find_roads(
         self, tails: Integers, heads: Integers, bends: Mapping[int, Sequence[Point]],
     ) -> None:
-        """Finds the roads by the crossings at both ends of arcs: first those without bends, then
-        the others."""
+        """Finds the roads by the crossings at both ends of arcs, those without bends first."""
         bent = {arc: points for arc, points in bends.items() if arc < len(tails)}
         firsts, lasts = self.straight(tails, heads, list(bent))
         more = self.bent(tails, heads, bent, len(firsts))
@@ -293,8 +289,7 @@ class Roads:
                 [point for key in roads for point in key[2:]], numpy.float64).reshape(-1, 2))
 
     def find_ways(self) -> None:
-        """Finds the nodes where trips leave each road and arrive, and the least weights of both
-        directions."""
+        """Finds the nodes where trips leave roads and arrive, and the least weights both ways."""
         kept = self.road_of != NONE
         roads, is_back, weights = self.road_of[kept], self.is_back[kept], self.weights[kept]
         out = ways_of(roads, (~is_back).astype(int), self.heads[kept], weights, len(self))
@@ -323,8 +318,7 @@ class Roads:
     def find(
         self, longitudes: Column, latitudes: Column, max_metres: float | None = 1_000.0,
     ) -> Spots:
-        """Takes places to roads. Raises a `TooFar` with the places that are farther than
-        `max_metres` from each road."""
+        """Takes places to roads; those farther than `max_metres` from each are refused."""
         most = metres_in(max_metres)
         longitudes, latitudes = places_in(longitudes, latitudes)
         spots = self.find_any(longitudes, latitudes)
@@ -432,8 +426,7 @@ class Roads:
             ends[:, None], nothing.copy(), sides, places, self.origin)
 
     def find_some(self, longitude: float, latitude: float, most: int) -> Spots:
-        """Takes one place to each of its nearest roads, at most `most` of them, the nearest
-        first."""
+        """Takes one place to at most `most` of its nearest roads, the nearest first."""
         if not len(self):
             raise ChtabError("the graph has no road between two places")
         found = self.lines.nearest_some(longitude, latitude, most)
@@ -456,8 +449,7 @@ class Roads:
     def spots(
         self, places: Floats, longitudes: Floats, latitudes: Floats, roads: Integers, parts: Floats,
     ) -> Spots:
-        """Makes the spots of places, with the ways out of them and into them, and rounds the
-        weights of these."""
+        """Makes the spots of places with their ways out and in, whose weights are rounded."""
         metres = metres_between(places[:, 0], places[:, 1], longitudes, latitudes)
         ways, outs = self.ways, self.ways.outs
         nodes, weights = ways.nodes.take(roads, axis=0), ways.weights.take(roads, axis=0)
@@ -518,8 +510,7 @@ class Roads:
         return found
 
     def along(self, starts: Spots, ends: Spots) -> Integers:
-        """The weights from spots to others along the road that both are on, `NONE` if they aren't
-        on one, or if no arc leads that way."""
+        """The weights along the road that both spots are on, `NONE` if there is no such way."""
         found = numpy.full(len(starts), NONE)
         [same] = (starts.roads == ends.roads).nonzero()
         found[same] = self.along_roads(starts, same, ends, same)
@@ -528,8 +519,7 @@ class Roads:
     def along_roads(
         self, starts: Spots, rows: Integers, ends: Spots, columns: Integers,
     ) -> Integers:
-        """The same from some spots of one list to as many of another, each pair of which is on one
-        road."""
+        """The same from some spots of one list to as many of another, both on one road."""
         roads, parts = starts.roads[rows], ends.parts[columns] - starts.parts[rows]
         is_forward = parts >= 0
         weights = numpy.where(is_forward, self.forward[roads], self.backward[roads])
@@ -580,8 +570,7 @@ class Roads:
             for each in range(len(starts))]
 
     def segments(self) -> tuple[Integers, Floats, Floats]:
-        """The straight pieces of all arcs along roads: their arcs, both ends in degrees (n, 4), and
-        the parts of the arc at both ends (n, 2)."""
+        """The straight pieces of arcs along roads: arcs, ends (n, 4), parts of these (n, 2)."""
         if self.pieces is None:
             arcs = numpy.flatnonzero(self.road_of != NONE)
             roads, lines = self.road_of[arcs], self.lines

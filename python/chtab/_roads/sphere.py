@@ -29,8 +29,7 @@ def points(longitudes: ArrayLike, latitudes: ArrayLike) -> Floats:
 
 
 def metres(chord: float) -> float:
-    """The metres along the earth between two points whose straight distance on a sphere of radius 1
-    is `chord`."""
+    """The metres along the earth of a straight distance on a sphere of radius 1."""
     return 2 * RADIUS * math.asin(min(1.0, chord / 2))
 
 

@@ -27,15 +27,7 @@ BATCH = 256
 
 
 class Trips:
-    """Trips on one network.
-
-    Parameters
-    ----------
-    engine : InProcess
-        What answers questions between nodes.
-    layers : Layers
-        The files of the network: its roads, and the labels of its nodes.
-    """
+    """Trips on one network: `engine` answers between nodes, `layers` has its roads and labels."""
 
     def __init__(self, engine: InProcess, layers: Layers) -> None:
         self.engine, self.layers = engine, layers
@@ -102,8 +94,7 @@ class Trips:
         return numpy.where(found <= limit, found, NO_WALK)
 
     def from_nodes(self, nodes: Integers, added: Integers, within: int | None) -> Integers:
-        """The least weights at which all nodes are reached over some nodes, each with an added
-        weight; `FAR` if a node is not reached."""
+        """The least weights at which nodes are reached over some; `FAR` for unreached ones."""
         found = numpy.full(len(self.roads.places), FAR)
         own = None if within is None else within - int(added.min(initial=0))
         if not len(nodes) or own is not None and own < 0:
@@ -118,8 +109,7 @@ class Trips:
         return found
 
     def isochrones(self, spot: Spots, limits: Sequence[int]) -> list[Any]:
-        """The answer of `Network.isochrones`: polygons for limits in the unit of the graph, in
-        descending order."""
+        """The polygons of `Network.isochrones` for limits of the graph in descending order."""
         from chtab._roads import reach
 
         return reach.polygons(self.roads, spot, self.reach(spot, limits[0]), limits)
