@@ -56,7 +56,7 @@ def words_of(arguments: Sequence[str]) -> argparse.Namespace:
 def main(arguments: Sequence[str]) -> None:
     """Makes the table that the arguments ask for, and prints its size."""
     words = words_of(arguments)
-    from chtab._engine import tables
+    from chtab_tools import tables
     from chtab._engine.opening import Running
 
     if words.scheduler:

@@ -11,7 +11,6 @@ process.
 | `library` | the calls of the library, by ctypes |
 | `interruptible` | long calls of the library, which Ctrl-C breaks off |
 | `walks` | routes of many queries in flat arrays |
-| `tables` | tables in files, in blocks |
 | `cluster` | questions by the workers of a cluster of Dask |
 | `folders` | temporary folders, which are removed with what keeps them |
 | `deadlines` | until when an answer has to be there |

@@ -12,12 +12,13 @@ from collections.abc import Callable, Iterator
 from typing import TYPE_CHECKING, Any
 
 if TYPE_CHECKING:
-    from chtab._engine.in_process import InProcess
     from chtab._engine.opening import Setting
 
 # The clients whose workers have this package, and what a worker keeps.
 KNOWN: weakref.WeakSet[Any] = weakref.WeakSet()
 KEPT, LOCK = "chtab_engines", threading.Lock()
+# The packages whose functions workers call.
+PACKAGES = "chtab", "chtab_tools"
 
 
 def threads_of(client: Any) -> int:
@@ -26,15 +27,15 @@ def threads_of(client: Any) -> int:
 
 
 def send_package(client: Any) -> None:
-    """Sends the code of this package to all workers, also to those that join later."""
+    """Sends the code of the package and of its commands to all workers, also to later ones."""
     if client in KNOWN:
         return
-    folder = pathlib.Path(__file__).parent.parent
+    root = pathlib.Path(__file__).parent.parent.parent
     with tempfile.TemporaryDirectory() as kept:
         path = os.path.join(kept, "chtab.zip")
         with zipfile.ZipFile(path, "w") as archive:
-            for source in folder.rglob("*.py"):
-                archive.write(source, f"chtab/{source.relative_to(folder)}")
+            for source in (file for name in PACKAGES for file in (root / name).rglob("*.py")):
+                archive.write(source, source.relative_to(root))
         client.upload_file(path)
     KNOWN.add(client)
 

@@ -2,7 +2,6 @@
 as arrays of numpy."""
 from __future__ import annotations
 
-import array
 import csv
 import itertools
 from collections.abc import Iterable, Iterator

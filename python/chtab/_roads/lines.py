@@ -7,7 +7,7 @@ the nearest on the ground.
 from __future__ import annotations
 
 import math
-from collections.abc import Callable, Sequence
+from collections.abc import Sequence
 from typing import TYPE_CHECKING, Any, NamedTuple
 
 import numpy
@@ -196,31 +196,6 @@ class Lines:
                 math.degrees(math.atan(math.sinh(y))))
             for line, low, high, (_, share, (x, y)) in zip(lines, before, after, found)]
 
-    def nearest_some(
-        self, longitude: float, latitude: float, most: int,
-    ) -> tuple[Integers, Floats, Floats, Floats]:
-        """The nearest points of at most `most` of the lines nearest to one place, in order."""
-        steps, shares, at = self.index.nearest_some(
-            mercator([longitude], [latitude]), most, self.firsts)
-        lines = numpy.searchsorted(self.firsts, steps, "right") - 1
-        return (
-            lines, self.parts[steps] + shares * (self.parts[steps + 1] - self.parts[steps]),
-            *degrees(*at.T))
-
-    def nearest_facing(
-        self, longitude: float, latitude: float, fits: Callable[[Integers], Marks],
-    ) -> tuple[Integers, Floats, tuple[Floats, Floats]]:
-        """The nearest step to a place among those for which `fits` holds, the position of the
-        nearest point along it, from 0 to 1, and that point; in arrays of one item, or of none if
-        there is no such step."""
-        steps, shares, at = self.index.nearest_fitting(mercator([longitude], [latitude]), fits)
-        return steps, shares, degrees(*at.T)
-
-    def bearings(self, steps: Integers) -> Floats:
-        """The directions in which steps lead, in degrees clockwise from north."""
-        rows = self.index.rows.take(steps, axis=0)
-        return numpy.degrees(numpy.arctan2(rows[:, 2], rows[:, 3])) % 360
-
 
 def foot(
     x: float, y: float, step: int, row: Sequence[float],
@@ -352,47 +327,3 @@ class Pieces:
         """The points of the plane so far along steps."""
         rows = self.rows.take(steps, axis=0)
         return rows[:, :2] + rows[:, 2:4] * shares[:, None]
-
-    def nearest_some(
-        self, place: Floats, most: int, firsts: Integers,
-    ) -> tuple[Integers, Floats, Floats]:
-        """The nearest step of each of the lines nearest to a place, which start at `firsts`."""
-        def best_of(steps: Integers) -> tuple[Integers, Floats, Floats]:
-            """The nearest step of each line, in order; of equally near ones the first."""
-            shares, apart = self.feet(steps, place)
-            lines = numpy.searchsorted(firsts, steps, "right")
-            order = numpy.lexsort([steps, apart])
-            order = order[numpy.sort(numpy.unique(lines[order], return_index=True)[1])][:most]
-            return steps[order], shares[order], apart[order]
-
-        count, found = 4 * most, numpy.zeros(0, numpy.int64)
-        while len(found) < most:
-            distances, near = self.tree.query(place[0], min(count, len(self.steps)))
-            found, _, apart = best_of(self.steps[numpy.atleast_1d(near)])
-            if count >= len(self.steps):
-                break
-            count *= 2
-        # A point as near as the last of these may be on a piece whose middle is farther away.
-        [near] = self.within(place, numpy.sqrt(apart[-1:]))
-        steps, shares, _ = best_of(self.steps[numpy.asarray(near, int)])
-        return steps, shares, self.at(steps, shares)
-
-    def nearest_fitting(
-        self, place: Floats, fits: Callable[[Integers], Marks],
-    ) -> tuple[Integers, Floats, Floats]:
-        """The nearest step to one place among those for which `fits` holds, by arrays of these."""
-        count, found = 16, numpy.zeros(0, int)
-        while not len(found):
-            distances, near = self.tree.query(place[0], min(count, len(self.steps)))
-            distances, steps = (
-                numpy.atleast_1d(distances), numpy.unique(self.steps[numpy.atleast_1d(near)]))
-            steps = steps[fits(steps)]
-            shares, apart = self.feet(steps, place)
-            # The steps that were not checked are at least this far away.
-            least = numpy.inf if count >= len(self.steps) else distances[-1] - self.reach
-            found = numpy.lexsort([steps, apart])[:1]
-            found = found[numpy.sqrt(apart[found]) <= least]
-            if count >= len(self.steps):
-                break
-            count *= 4
-        return steps[found], shares[found], self.at(steps[found], shares[found])

@@ -38,8 +38,6 @@ FORWARD, BACKWARD = 1, 2
 AT_END = 1.0
 # Spots of two networks that are at most this many metres apart are at the same point.
 SAME = 0.01
-# The least part of a road between its end and a spot that is not at the end.
-INSIDE = 1e-9
 # Up to so many places are taken to roads one by one: to call numpy takes longer.
 FEW = 3
 # Metres in a nanometre.
@@ -172,22 +170,6 @@ class Spots:
         return replace(
             parts[0],
             **{name: numpy.concatenate([each[name] for each in columns]) for name in columns[0]})
-
-
-def one_sided(spots: Spots, sides: Integers) -> Spots:
-    """The same spots, which trips leave and reach only in some directions of their roads."""
-    # Who drives forward comes from `first` and goes to `last`.
-    backward, forward = ((sides & side == 0)[:, None] for side in (BACKWARD, FORWARD))
-    # A road may have more nodes into it than out of it.
-    closed = numpy.repeat(numpy.hstack([backward, forward]), spots.out_nodes.shape[1] // 2, axis=1)
-    shut = numpy.repeat(numpy.hstack([forward, backward]), spots.in_nodes.shape[1] // 2, axis=1)
-    out_nodes, out_weights = (
-        numpy.where(closed, NONE, column) for column in (spots.out_nodes, spots.out_weights))
-    in_nodes, in_weights = (
-        numpy.where(shut, NONE, column) for column in (spots.in_nodes, spots.in_weights))
-    return replace(
-        spots, out_nodes=out_nodes, out_weights=out_weights, in_nodes=in_nodes,
-        in_weights=in_weights, sides=sides)
 
 
 def digest_of(*columns: NDArray[Any]) -> bytes:
@@ -425,14 +407,6 @@ class Roads:
             x, y, numpy.zeros(count), numbers, numpy.zeros(count), starts[:, None], nothing,
             ends[:, None], nothing.copy(), sides, places, self.origin)
 
-    def find_some(self, longitude: float, latitude: float, most: int) -> Spots:
-        """Takes one place to at most `most` of its nearest roads, the nearest first."""
-        if not len(self):
-            raise ChtabError("the graph has no road between two places")
-        found = self.lines.nearest_some(longitude, latitude, most)
-        return self.spots_at(
-            numpy.full(len(found[0]), longitude), numpy.full(len(found[0]), latitude), *found)
-
     def spots_at(
         self, longitudes: Column, latitudes: Column, roads: Integers, parts: Floats, xs: Floats,
         ys: Floats,
@@ -475,39 +449,6 @@ class Roads:
         for there, first, width in (begins, 0, outs), (stops, outs, nodes.shape[1] - outs):
             column = first + numpy.where(is_first, 0, width // 2)
             nodes[at_node, column], weights[at_node, column] = there, 0
-
-    def find_facing(
-        self, longitude: float, latitude: float, bearing: float, within: float,
-        but: Sequence[int] = (),
-    ) -> Spots:
-        """Takes one place to the nearest point at which a road leads in a direction, in degrees
-        clockwise from north, or at most `within` degrees off it, on any road but some. Trips leave
-        the spot and arrive at it in that direction alone. If no road leads that way, there are no
-        spots."""
-        def fits(steps: Integers) -> Marks:
-            found = self.facing(steps, bearing, within) > 0
-            return (
-                found & ~numpy.isin(numpy.searchsorted(self.lines.firsts, steps, "right") - 1, but)
-                if but else found)
-
-        steps, share, at = self.lines.nearest_facing(longitude, latitude, fits)
-        roads = numpy.searchsorted(self.lines.firsts, steps, "right") - 1
-        before, after = self.lines.parts[steps], self.lines.parts[steps + 1]
-        # A spot at an end of its road would be left by any other road.
-        parts = (before + share * (after - before)).clip(INSIDE, 1 - INSIDE)
-        places = numpy.column_stack(
-            [numpy.full(len(steps), longitude), numpy.full(len(steps), latitude)])
-        return one_sided(self.spots(places, *at, roads, parts), self.facing(steps, bearing, within))
-
-    def facing(self, steps: Integers, bearing: float, within: float) -> Integers:
-        """For each step of a line, the open directions along its road that lead in a direction."""
-        leads = self.lines.bearings(steps)
-        roads = numpy.searchsorted(self.lines.firsts, steps, "right") - 1
-        found = numpy.zeros(len(steps), numpy.int64)
-        for side, off, weights in (FORWARD, 0, self.forward), (BACKWARD, 180, self.backward):
-            is_near = abs((leads + off - bearing + 180) % 360 - 180) <= within
-            found |= numpy.where(is_near & (weights[roads] != NONE), side, 0)
-        return found
 
     def along(self, starts: Spots, ends: Spots) -> Integers:
         """The weights along the road that both spots are on, `NONE` if there is no such way."""
