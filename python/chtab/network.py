@@ -14,7 +14,9 @@ index: they may be in any order if they have the same labels, and are refused ot
 """
 from __future__ import annotations
 
+import difflib
 import functools
+import inspect
 import os
 from collections.abc import Callable, Iterable, Mapping
 from typing import TYPE_CHECKING, Any, Literal, Self, TypeVar, cast
@@ -73,6 +75,21 @@ def timed(call: Call) -> Call:
     return cast(Call, within_time)
 
 
+def with_hints(call: Call) -> Call:
+    """Decorates a call with many arguments: for a misspelt one the nearest is named."""
+    known = list(inspect.signature(call).parameters)[1:]
+
+    @functools.wraps(call)
+    def hinting(*given: Any, **named: Any) -> Any:
+        for name in set(named).difference(known):
+            near = difflib.get_close_matches(name, known, 1, 0.5) or known
+            text = f"{call.__name__} has no argument {name!r}; it has {', '.join(near)}"
+            raise TypeError(text)
+        return call(*given, **named)
+
+    return cast(Call, hinting)
+
+
 class Network:
     """A road network. `Network.open` opens files; `Network.from_arrays`, `from_frame`,
     `from_geodataframe`, `from_networkx` and `from_sparse` make a network of your own arcs.
@@ -105,6 +122,7 @@ class Network:
     # Networks of files, and of a caller's own arcs.
 
     @classmethod
+    @with_hints
     def open(
         cls, graph: str | os.PathLike, saved: str | os.PathLike | None = None, *,
         coordinates: str | os.PathLike | None = None, bends: str | os.PathLike | None = None,
@@ -173,6 +191,7 @@ class Network:
         return network
 
     @classmethod
+    @with_hints
     def from_arrays(
         cls, sources: ArrayLike, targets: ArrayLike, weights: ArrayLike, *,
         nodes: ArrayLike | None = None, x: ArrayLike | None = None, y: ArrayLike | None = None,
@@ -260,6 +279,7 @@ class Network:
         return cls._made(arcs, folder, running)
 
     @classmethod
+    @with_hints
     def from_frame(
         cls, frame: pandas.DataFrame, source: str = "source", target: str = "target",
         weight: str = "weight", *, geometry: str | None = None, nodes: ArrayLike | None = None,
@@ -319,6 +339,7 @@ class Network:
         return cls._made(from_arcs.arcs_like(given, like), folder, running)
 
     @classmethod
+    @with_hints
     def from_networkx(
         cls, graph: networkx.Graph, weight: str = "travel_time", scale: float | str | None = "auto",
         *, unit: str | None = None, x: str | None = "x", y: str | None = "y",
@@ -381,6 +402,7 @@ class Network:
         return cls._made(arcs, folder, running)
 
     @classmethod
+    @with_hints
     def from_geodataframe(
         cls, edges: geopandas.GeoDataFrame, nodes: geopandas.GeoDataFrame | None = None,
         source: str = "u", target: str = "v", weight: str | None = None, *,
@@ -440,6 +462,7 @@ class Network:
         return cls._made(from_arcs.arcs_like(given, like), folder, running)
 
     @classmethod
+    @with_hints
     def from_sparse(
         cls, matrix: scipy.sparse.spmatrix, *, nodes: ArrayLike | None = None,
         x: ArrayLike | None = None, y: ArrayLike | None = None, scale: float | None = None,

@@ -72,7 +72,7 @@ def answers_as_owed(network, draw, labels, least):
     assert [part.tolist() for part in found[:2]] == dense_owed(rows_owed(turned, own, targets, count or 3, within), width), question
     assert found.places.shape == (len(own), width) and numpy.array_equal(found.mask, found.places < 0)
     values, limits = draw.integers(-5, 9, len(targets)), [within or 7, 3]
-    sums = network.accessibility(values, limits, *given, direction=direction)
+    sums = network.accessibility(values, limits, sources=given[0], targets=given[1], direction=direction)
     wanted = [sums_owed(turned, own, targets, values.tolist(), limit) for limit in limits]
     assert sums.shape == (len(own), 2) and sums.T.tolist() == wanted, (question, sums, wanted)
 

@@ -207,7 +207,7 @@ def test_what_is_not_a_question_is_refused():
     with chtab.Network.open(FIRST, program=PROGRAM) as network:
         for pairs, told in ([(1, 4)], "node 4 is not from 1 to 3"), ([(0, 1)], "node 0"), ([1, 2, 3], "shape (n, 2)"), ([(1.5, 2)], "whole number"):
             raises(ValueError, network.distances, pairs, told=told)
-        raises(ValueError, network.table, [1], [2], -1, told="limit")
+        raises(ValueError, lambda: network.table([1], [2], within=-1), told="limit")
         assert network.distances([]).shape == (0,) and network.table([], [1]).shape == (0, 1) and len(network.routes([])) == 0
         raises(chtab.ChtabError, lambda: network.coordinates, told="no file of coordinates")
     raises(chtab.ChtabError, network.distances, [(1, 2)], told="closed")

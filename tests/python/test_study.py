@@ -36,9 +36,9 @@ def test_answers_are_in_the_unit_of_the_weights():
         near = network.near(["inn"], ["mill", "farm", "school"], within=2.5)
         assert (near.weights.tolist(), near.targets[near.places].tolist()) == ([1.25, 2.5], ["farm", "mill"])
         assert network.nearest_targets(["inn"], ["mill", "farm"], count=2).weights.tolist() == [[1.25, 2.5]]
-        assert network.accessibility({"mill": 10, "farm": 1}, [1.25, 2.5], ["inn"]).tolist() == [[1, 11]]
-        assert network.accessibility({"mill": 10}, 5, ["inn"], decay="linear").tolist() == [5.0]
-        assert network.accessibility({"mill": 10}, 5, ["inn"], decay=lambda minutes: minutes).tolist() == [25.0]
+        assert network.accessibility({"mill": 10, "farm": 1}, [1.25, 2.5], sources=["inn"]).tolist() == [[1, 11]]
+        assert network.accessibility({"mill": 10}, 5, sources=["inn"], decay="linear").tolist() == [5.0]
+        assert network.accessibility({"mill": 10}, 5, sources=["inn"], decay=lambda minutes: minutes).tolist() == [25.0]
 
 
 def test_units_are_known_or_told():
@@ -325,9 +325,9 @@ def test_frames_of_values_make_frames():
     with of_minutes() as network:
         one = network.accessibility(values, 2.5)
         assert one.loc["inn"].to_dict() == {"jobs": 11.0, "is open": 1.0} and one.index.tolist() == network.labels.tolist()
-        several = network.accessibility(values, [1.25, 2.5], ["inn"])
+        several = network.accessibility(values, [1.25, 2.5], sources=["inn"])
         assert several.loc["inn", ("jobs", 1.25)] == 1 and several.loc["inn", ("is open", 2.5)] == 1 and several.columns.names == [None, "within"]
-        assert network.accessibility(values["jobs"], 2.5, ["inn"]).tolist() == [11] and network.accessibility({"mill": True}, 2.5, ["inn"]).tolist() == [1]
+        assert network.accessibility(values["jobs"], 2.5, sources=["inn"]).tolist() == [11] and network.accessibility({"mill": True}, 2.5, sources=["inn"]).tolist() == [1]
         fault = raises(chtab.DataFault, lambda: network.accessibility(values.assign(jobs=[1, numpy.nan]), 2.5), told="values['jobs'][1]")
         assert fault.row == 1
 

@@ -12,7 +12,7 @@ import numpy
 
 from chtab.errors import DataFault
 from chtab._files import columns, edge_lines, measures, row_index
-from chtab._files.columns import refused, quoted
+from chtab._files.columns import refuse, quoted
 from chtab._files.node_labels import Labels, Numbers, labels_of_ends, labels_of_nodes
 
 if TYPE_CHECKING:
@@ -99,12 +99,10 @@ def arcs_of(given: Columns) -> Arcs:
         places = edge_lines.ends_of(lines, tails, heads, labels)
     bends = {} if lines is None else edge_lines.bends_of(lines, tails, heads, places)
     if len(back):
-        bends |= {
-            rows + place: bends[row][::-1] for place, row in enumerate(back.tolist())
-            if row in bends}
-        tails, heads = (
-            numpy.concatenate([tails, heads[back]]), numpy.concatenate([heads, tails[back]]))
-        weights = numpy.concatenate([weights, weights[back]])
+        some = ((place, row) for place, row in enumerate(back.tolist()) if row in bends)
+        bends |= {rows + place: bends[row][::-1] for place, row in some}
+        tails, heads = numpy.append(tails, heads[back]), numpy.append(heads, tails[back])
+        weights = numpy.append(weights, weights[back])
     of_arcs = None if len(back) in (0, rows) else numpy.append(numpy.arange(rows), back)
     return Arcs(
         labels, tails, heads, weights, scale, rounding, unit, places, bends, rows, of_arcs,
@@ -116,16 +114,13 @@ def rows_back(both_ways: Any, rows: int) -> Integers:
     """The rows that lead back too, by a truth value or by a column of these."""
     if isinstance(both_ways, bool | numpy.bool_):
         return numpy.arange(rows if both_ways else 0)
-    if isinstance(both_ways, str):
-        raise DataFault(
-            f"both_ways is True, False, or a column of these, not {quoted(both_ways)}", "both_ways")
     marks = columns.array_of("both_ways", both_ways)
-    place = columns.first_of(
-        [not isinstance(value, bool | numpy.bool_) for value in marks.reshape(-1).tolist()])
+    values = [] if isinstance(both_ways, str) else marks.reshape(-1).tolist()
+    place = columns.first_of([not isinstance(value, bool | numpy.bool_) for value in values])
     if place is not None or marks.ndim != 1:
-        what = quoted(both_ways) if place is None else quoted(marks.reshape(-1)[place])
-        raise DataFault(
-            f"both_ways is True, False, or a column of these, not {what}", "both_ways", place)
+        what = quoted(both_ways) if place is None else quoted(values[place])
+        text = f"both_ways is True, False, or a column of these, not {what}"
+        raise DataFault(text, "both_ways", place)
     if len(marks) != rows:
         raise DataFault(
             f"both_ways has {len(marks):,} rows, and there are {rows:,} rows of arcs", "both_ways")
@@ -133,11 +128,7 @@ def rows_back(both_ways: Any, rows: int) -> Integers:
 
 
 def weights_in(given: Columns) -> tuple[NDArray[Any], float | None, float | None, str | None]:
-    """The given weights, the factor that makes them whole, how many of the graph's weights make one
-    of the caller's unit, and that unit.
-
-    Durations become milliseconds here, whatever the unit of answers is.
-    """
+    """Weights, durations as milliseconds; their factor, that of answers, and the caller's unit."""
     scale, unit = scale_in(given.scale), measures.unit_in(given.unit)
     durations = columns.durations_in(given.names[2], given.weights)
     if durations is None:
@@ -157,10 +148,8 @@ def nodes_of(given: Columns, sources: LabelArray, targets: LabelArray) -> tuple[
     """The labels of all nodes, and the nodes of both columns of labels."""
     if given.nodes is None:
         return labels_of_ends(given.names, sources, targets)
-    labels = labels_of_nodes("nodes", given.nodes)
-    return labels, [
-        labels.nodes_of(name, column) for name, column in zip(given.names, (sources, targets))
-    ]
+    labels, ends = labels_of_nodes("nodes", given.nodes), zip(given.names, (sources, targets))
+    return labels, [labels.nodes_of(name, column) for name, column in ends]
 
 
 def see_that_in_limits(nodes: int, arcs: int) -> None:
@@ -176,9 +165,8 @@ def scale_in(scale: float | None) -> float | None:
     """A scale: a whole number, a float, or None."""
     if scale is None:
         return None
-    if (
-        isinstance(scale, bool) or not isinstance(scale, numbers.Real)
-        or not (math.isfinite(scale) and scale > 0)):
+    is_number = isinstance(scale, numbers.Real) and not isinstance(scale, bool)
+    if not is_number or not 0 < scale < math.inf:
         raise DataFault(f"scale is a number above 0, not {quoted(scale)}", "scale")
     return int(scale) if int(scale) == scale else float(scale)
 
@@ -197,29 +185,21 @@ def whole_weights(
     whole: NDArray[Any] = numpy.rint(scaled)
     see_that_small(name, weights, whole <= most)
     apart = abs(whole - scaled)
-    place = columns.first_of(apart > 0) if scale is None else None
-    if place is not None:
-        raise refused(name, place, f"{weights[place]} is not a whole number{hint}")
+    if scale is None:
+        refuse(name, apart > 0, lambda row: f"{weights[row]} is not a whole number{hint}")
     return whole.astype(numpy.int64), float(apart.max(initial=0))
 
 
 def see_that_weights(name: str, weights: NDArray[Any]) -> None:
     """Refuses the first weight that is below 0 or not finite."""
-    place = columns.first_of(~((weights >= 0) & (weights < numpy.inf)))
-    if place is not None:
-        raise refused(
-            name, place,
-            f"{weights[place]} is {'below 0' if -numpy.inf < weights[place] < 0 else 'no weight'}")
+    refuse(name, ~((weights >= 0) & (weights < numpy.inf)), lambda row: (
+        f"{weights[row]} is {'below 0' if -numpy.inf < weights[row] < 0 else 'no weight'}"))
 
 
 def see_that_small(name: str, weights: NDArray[Any], is_small: Marks) -> None:
     """Refuses the first weight that is too large."""
-    place = columns.first_of(~is_small)
-    if place is not None:
-        raise refused(
-            name, place,
-            f"{weights[place]} is too large: as in the graph, times the number of nodes, it is "
-            "more than 2^60")
+    text = "is too large: as in the graph, times the number of nodes, it is more than 2^60"
+    refuse(name, ~is_small, lambda row: f"{weights[row]} {text}")
 
 
 def places_in(given: Columns, count: int) -> tuple[Floats, Floats] | None:
@@ -229,8 +209,7 @@ def places_in(given: Columns, count: int) -> tuple[Floats, Floats] | None:
     for name, column in ("nodes", given.nodes), ("x", given.x), ("y", given.y):
         if column is None:
             raise DataFault(f"{name} is not given: `nodes`, `x` and `y` go together", name)
-    x, y = columns.degrees_in("x", cast("Column", given.x), 180), columns.degrees_in(
-        "y", cast("Column", given.y), 90
-    )
+    x = columns.degrees_in("x", cast("Column", given.x), 180)
+    y = columns.degrees_in("y", cast("Column", given.y), 90)
     columns.see_that_long(["nodes", "x", "y"], [range(count), x, y])
     return x, y

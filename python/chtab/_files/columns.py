@@ -9,7 +9,7 @@ from __future__ import annotations
 import contextlib
 import datetime
 import reprlib
-from collections.abc import Iterable, Sequence, Sized
+from collections.abc import Callable, Iterable, Sequence, Sized
 from typing import TYPE_CHECKING, Any
 
 import numpy
@@ -27,6 +27,7 @@ MOST_BITS = 4_096
 # Up to this number each whole number is a float that is no other one's: 2^53 + 1 becomes 2^53.
 EXACT = 2**53 - 1
 INTEGERS, STRINGS, TUPLES = "integers", "strings", "tuples"
+NO_LABEL = "is no label; a label is an integer, a string or a tuple"
 
 
 def quoted(value: object) -> str:
@@ -45,6 +46,13 @@ def first_of(marks: ArrayLike) -> int | None:
     marks = numpy.reshape(marks, -1)
     place = int(marks.argmax()) if marks.size else 0
     return place if marks.size and marks[place] else None
+
+
+def refuse(name: str, wrong: ArrayLike, text: Callable[[int], str]) -> None:
+    """Refuses the first row of a column that is marked as wrong, with a text about it."""
+    place = first_of(wrong)
+    if place is not None:
+        raise refused(name, place, text(place))
 
 
 def array_of(name: str, column: Column) -> NDArray[Any]:
@@ -100,9 +108,9 @@ def is_integer(kind: type) -> bool:
 
 def kind_of(kind: type) -> str | None:
     """The kind of labels that values of a type are; None if they are no labels."""
-    return (
-        STRINGS if issubclass(kind, str) else TUPLES if issubclass(kind, tuple) else INTEGERS
-        if is_integer(kind) else None)
+    if issubclass(kind, str | tuple):
+        return STRINGS if issubclass(kind, str) else TUPLES
+    return INTEGERS if is_integer(kind) else None
 
 
 def are_whole(column: NDArray[Any]) -> Marks:
@@ -151,18 +159,16 @@ def tuples_in(name: str, column: Iterable[Any]) -> LabelArray:
     """The labels of a column of tuples, whose parts are integers, strings or floats."""
     values = list(column)
     see_that_labels(name, values)
+    def is_part(part: Any) -> bool:
+        return isinstance(part, str) or is_number(type(part)) and part == part
+
     for row, value in enumerate(values):
-        if not all(is_number(type(part)) or isinstance(part, str) for part in value) or any(
-            part != part for part in value
-        ):
-            raise refused(
-                name, row,
-                f"{quoted(value)} is no label; the parts of a tuple are integers, floats and "
-                "strings")
-    return objects_of(
-        [
-            tuple(part.item() if isinstance(part, numpy.generic) else part for part in value)
-            for value in values])
+        if not all(map(is_part, value)):
+            text = "is no label; the parts of a tuple are integers, floats and strings"
+            raise refused(name, row, f"{quoted(value)} {text}")
+    return objects_of([
+        tuple(part.item() if isinstance(part, numpy.generic) else part for part in value)
+        for value in values])
 
 
 def whole_as_integer(value: Any) -> Any:
@@ -173,14 +179,10 @@ def whole_as_integer(value: Any) -> Any:
 
 def no_label(name: str, array: NDArray[Any]) -> DataFault:
     """The fault of the first NaN, the first value that is not whole, or the first value."""
-    place = None
-    if array.dtype.kind == "f":
-        place = first_of(numpy.isnan(array))
-        place = first_of(~are_whole(array)) if place is None else place
-    value = array.reshape(-1)[place or 0]
-    return refused(
-        name, row_of(array, place or 0),
-        f"{quoted(value)} is no label; a label is an integer, a string or a tuple")
+    is_float = array.dtype.kind == "f"
+    marks = (numpy.isnan(array), ~are_whole(array)) if is_float else ()
+    place = next((place for place in map(first_of, marks) if place is not None), 0)
+    return refused(name, row_of(array, place), f"{quoted(array.reshape(-1)[place])} {NO_LABEL}")
 
 
 def see_that_labels(name: str, values: Sequence[object], width: int = 1) -> set[type]:
@@ -190,16 +192,12 @@ def see_that_labels(name: str, values: Sequence[object], width: int = 1) -> set[
     if len(kinds) < 2 and None not in kinds:
         return types
     first = kind_of(type(values[0]))
-    place = (
-        0 if first is None
-        else next(place for place, value in enumerate(values) if kind_of(type(value)) != first))
+    others = (place for place, value in enumerate(values) if kind_of(type(value)) != first)
+    place = 0 if first is None else next(others)
+    text = f"the label {quoted(values[place])} is not one of {first}, as those before it"
     if kind_of(type(values[place])) is None:
-        raise refused(
-            name, place // width,
-            f"{quoted(values[place])} is no label; a label is an integer, a string or a tuple")
-    raise refused(
-        name, place // width,
-        f"the label {quoted(values[place])} is not one of {first}, as those before it")
+        text = f"{quoted(values[place])} {NO_LABEL}"
+    raise refused(name, place // width, text)
 
 
 def objects_like(array: NDArray[Any], values: Iterable[object]) -> LabelArray:
@@ -224,12 +222,10 @@ def integers_like(name: str, array: NDArray[Any], values: Iterable[Any]) -> Labe
     values = list(map(int, values))
     with contextlib.suppress(OverflowError):
         return numpy.array(values, numpy.int64).reshape(array.shape)
-    place = next(
-        (place for place, value in enumerate(values) if value.bit_length() > MOST_BITS), None)
-    if place is not None:
-        raise refused(
-            name, row_of(array, place),
-            f"{quoted(values[place])} is no label; one has at most {MOST_BITS:,} bits")
+    large = first_of([value.bit_length() > MOST_BITS for value in values])
+    if large is not None:
+        text = f"{quoted(values[large])} is no label; one has at most {MOST_BITS:,} bits"
+        raise refused(name, row_of(array, large), text)
     return objects_like(array, values)
 
 
@@ -238,14 +234,11 @@ def integers_like(name: str, array: NDArray[Any], values: Iterable[Any]) -> Labe
 
 def durations_in(name: str, column: Column) -> Any:
     """The milliseconds of a column of durations, `numpy.longdouble`; None for any other."""
-    array = array_of(name, column)
-    if (
-        array.dtype == object and array.ndim == 1 and array.size
-        and isinstance(array[0], datetime.timedelta | numpy.timedelta64)):
+    array, durations = array_of(name, column), (datetime.timedelta, numpy.timedelta64)
+    is_column = array.dtype == object and array.ndim == 1 and array.size
+    if is_column and isinstance(array[0], durations):
         for row, value in enumerate(array.tolist()):
-            if not isinstance(value, datetime.timedelta | numpy.timedelta64 | int) or isinstance(
-                value, bool
-            ):
+            if not isinstance(value, (*durations, int)) or isinstance(value, bool):
                 raise refused(name, row, f"{quoted(value)} is no duration, as those before it")
         array = numpy.array([numpy.timedelta64(value) for value in array], "timedelta64[ns]")
     if array.dtype.kind != "m":
@@ -256,19 +249,12 @@ def durations_in(name: str, column: Column) -> Any:
 
 
 def numbers_in(name: str, column: Column, with_booleans: bool = False) -> NDArray[Any]:
-    """The numbers of a column: int64 or `numpy.longdouble`. `with_booleans` takes True and False as
-    1 and 0.
-
-    On most machines a `longdouble` holds each whole number of 64 bits, and the product of a float
-    and a thousand.
-    """
+    """The numbers of a column, perhaps with booleans as 1 and 0: int64 or `numpy.longdouble`."""
+    # A `longdouble` mostly holds each whole number of 64 bits, and a float times a thousand.
     array = array_of(name, column)
     see_that_flat(name, array)
-    if with_booleans and (
-        array.dtype == bool or array.dtype == object and {*map(type, array)} <= {bool, numpy.bool_}
-    ):
-        return array.astype(numpy.int64)
-    if array.size == 0:
+    are_booleans = {*map(type, array)} <= {bool, numpy.bool_} if array.dtype == object else False
+    if array.size == 0 or with_booleans and (array.dtype == bool or are_booleans):
         return array.astype(numpy.int64)
     if array.dtype.kind == "O":
         return numbers_of_objects(name, array.tolist())
@@ -276,9 +262,8 @@ def numbers_in(name: str, column: Column, with_booleans: bool = False) -> NDArra
         raise refused(name, 0, f"{quoted(array[0])} is neither an integer nor a float")
     if array.dtype.kind == "f":
         return array.astype(numpy.longdouble)
-    place = first_of(array > numpy.uint64(GREATEST)) if array.dtype.kind == "u" else None
-    if place is not None:
-        raise refused(name, place, f"{array[place]} is too large")
+    if array.dtype.kind == "u":
+        refuse(name, array > numpy.uint64(GREATEST), lambda row: f"{array[row]} is too large")
     return array.astype(numpy.int64)
 
 
@@ -287,23 +272,16 @@ def numbers_of_objects(name: str, values: Sequence[Any]) -> NDArray[Any]:
     kinds = set(map(type, values))
     if not all(map(is_number, kinds)):
         place = next(place for place, value in enumerate(values) if not is_number(type(value)))
-        raise refused(
-            name, place,
-            "there is none" if values[place] is None
-            else f"{quoted(values[place])} is neither an integer nor a float")
+        text = f"{quoted(values[place])} is neither an integer nor a float"
+        raise refused(name, place, "there is none" if values[place] is None else text)
     if kinds == {float}:
         return numpy.array(values).astype(numpy.longdouble)
     if all(map(is_integer, kinds)):
         with contextlib.suppress(OverflowError):
             return numpy.array([*map(int, values)], numpy.int64)
-    large = next(
-        (
-            place for place, value in enumerate(values)
-            if is_integer(type(value)) and not LEAST <= int(value) <= GREATEST), None)
-    if large is not None:
-        raise refused(
-            name, large,
-            f"{quoted(values[large])} is {'too large' if values[large] > 0 else 'below 0'}")
+    is_large = [is_integer(type(each)) and not LEAST <= int(each) <= GREATEST for each in values]
+    refuse(name, is_large, lambda row: (
+        f"{quoted(values[row])} is {'too large' if values[row] > 0 else 'below 0'}"))
     return numpy.array([*map(numpy.longdouble, values)], numpy.longdouble)
 
 
@@ -315,7 +293,6 @@ def degrees_in(name: str, column: Column, most: int) -> Floats:
     """The degrees of a column, or of a single number, from -`most` to `most`, float64."""
     values: Any = [column] if numpy.ndim(column) == 0 else column
     degrees = numbers_in(name, values).astype(float)
-    place = first_of(~(abs(degrees) <= most))
-    if place is not None:
-        raise refused(name, place, f"{degrees[place]:.12g} is not from -{most} to {most} degrees")
+    refuse(name, ~(abs(degrees) <= most), lambda row: (
+        f"{degrees[row]:.12g} is not from -{most} to {most} degrees"))
     return degrees

@@ -36,18 +36,15 @@ def line_in(name: str, row: int, line: Any) -> Line | None:
         return None
     kind = getattr(line, "geom_type", "LineString")
     if kind != "LineString":
-        raise refused(
-            name, row,
-            f"a {kind} is no line; `explode()` of geopandas makes lines of lines of several parts")
+        text = "is no line; `explode()` of geopandas makes lines of lines of several parts"
+        raise refused(name, row, f"a {kind} {text}")
     try:
         places = numpy.array(list(getattr(line, "coords", line)), float)[:, :2]
     except (TypeError, ValueError, IndexError):
         raise refused(name, row, f"{quoted(line)} is no line of longitudes and latitudes") from None
     if len(places) < 2 or not (abs(places) <= (180, 90)).all():
-        raise refused(
-            name, row,
-            "a line has two points or more, of longitudes from -180 to 180 and latitudes from "
-            "-90 to 90 degrees")
+        text = "a line has two points or more, of longitudes from -180 to 180 and latitudes from"
+        raise refused(name, row, f"{text} -90 to 90 degrees")
     return places
 
 
@@ -62,9 +59,8 @@ def ends_of(
     lacking = numpy.flatnonzero(numpy.isnan(places[:, 0]))
     if len(lacking):
         label = labels.values[lacking[:1]].tolist()[0]
-        raise DataFault(
-            f"no line leads to the node {quoted(label)}, so that it has no place: give `nodes`, "
-            "`x` and `y`", "geometry")
+        text = f"no line leads to the node {quoted(label)}, so that it has no place"
+        raise DataFault(f"{text}: give `nodes`, `x` and `y`", "geometry")
     return places[:, 0], places[:, 1]
 
 

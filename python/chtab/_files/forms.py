@@ -23,9 +23,9 @@ COLUMNS_AT_ONCE = 1 << 16
 @contextlib.contextmanager
 def reading(source: Source, mode: str = "r") -> Iterator[Any]:
     """Opens the file of a path, or takes an open file or lines. A fault if these are no text."""
-    opened: Any = (
-        open(source, mode) if isinstance(source, (str, os.PathLike))
-        else contextlib.nullcontext(source))
+    opened: Any = contextlib.nullcontext(source)
+    if isinstance(source, str | os.PathLike):
+        opened = open(source, mode)
     with opened as file:
         try:
             yield file
@@ -36,10 +36,10 @@ def reading(source: Source, mode: str = "r") -> Iterator[Any]:
 @contextlib.contextmanager
 def writing(target: Target, mode: str = "w") -> Iterator[IO[Any]]:
     """Takes an open file as it is, or makes the file of a path anew."""
-    opened: Any = (
-        contextlib.nullcontext(target) if hasattr(target, "write")
-        else open(cast("Path", target), mode))
-    with opened as file:
+    if hasattr(target, "write"):
+        yield cast(IO[Any], target)
+        return
+    with open(cast("Path", target), mode) as file:
         yield file
 
 
@@ -58,9 +58,8 @@ def columns(
             words = line.split()
             if words[:1] == [letter]:
                 if len(words) != count + 1:
-                    raise FileFault(
-                        f"{name_of(source)} line {number}: not `{letter.decode()}` and {count} "
-                        f"number{'s' * (count > 1)}")
+                    wanted = f"`{letter.decode()}` and {count} number{'s' * (count > 1)}"
+                    raise FileFault(f"{name_of(source)} line {number}: not {wanted}")
                 yield from words[1:]
             elif line[:1] in (b"c", b"p"):
                 heads.append(line)
@@ -70,10 +69,18 @@ def columns(
             numbers = array.array("q", map(int, items(file)))
         except OverflowError:
             raise FileFault(f"{name_of(source)}: a number is too large") from None
+        except FileFault:
+            raise
         except ValueError as fault:
-            raise fault if isinstance(fault, FileFault) else FileFault(
-                f"{name_of(source)}: {fault}") from None
+            raise FileFault(f"{name_of(source)}: {fault}") from None
     return [numbers[place::count] for place in range(count)], heads
+
+
+def see_that_of_graph(source: Source, what: str, own: int, arcs: int) -> None:
+    """Refuses a file for another number of arcs than those of a graph."""
+    if own != arcs:
+        text = f"{what} of {own:,} arcs, where the graph has {arcs:,}"
+        raise FileFault(f"{name_of(source)}: {text}: they are those of another graph")
 
 
 def comments_of(heads: Iterable[bytes]) -> list[str]:
@@ -94,9 +101,8 @@ def write_rows(file: IO[str], form: str, rows: Iterable[Iterable[Any]]) -> None:
 def write_columns(file: IO[str], form: str, numbers: Sequence[Any]) -> None:
     """Writes a line of this form for each row of columns, which become lists part by part."""
     for start in range(0, len(numbers[0]), COLUMNS_AT_ONCE):
-        write_rows(
-            file, form,
-            zip(*(column[start:start + COLUMNS_AT_ONCE].tolist() for column in numbers)))
+        some = slice(start, start + COLUMNS_AT_ONCE)
+        write_rows(file, form, zip(*(column[some].tolist() for column in numbers)))
 
 
 @contextlib.contextmanager

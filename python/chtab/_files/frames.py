@@ -17,28 +17,22 @@ WAYS = "osmid"
 
 def ways_in(column: Iterable[Any]) -> list[list[int]] | None:
     """The ways of each edge; None unless each has a number or a list of numbers."""
-    ways = [
-        list(way) if isinstance(way, list | tuple | set | numpy.ndarray) else [way]
-        for way in column]
-    if not all(
-        columns.is_integer(kind) for kind in {type(number) for way in ways for number in way}):
-        return None
-    return [list(map(int, way)) for way in ways]
+    kinds = list, tuple, set, numpy.ndarray
+    ways = [list(way) if isinstance(way, kinds) else [way] for way in column]
+    are_numbers = all(map(columns.is_integer, {type(number) for way in ways for number in way}))
+    return [list(map(int, way)) for way in ways] if are_numbers else None
 
 
 def column_of(frame: Any, name: str) -> Any:
     """The column of a frame, or the level of its index, with a name."""
     if name in frame.columns:
         return frame[name]
-    if name in getattr(getattr(frame, "index", None), "names", ()):
+    levels = getattr(getattr(frame, "index", None), "names", ())
+    if name in levels:
         return frame.index.get_level_values(name)
-    known = ", ".join(
-        map(
-            repr,
-            [*frame.columns, *filter(None, getattr(getattr(frame, "index", None), "names", ()))]))
-    raise DataFault(
-        f"the frame has no column {name!r}; it has {known}; reset_index() makes columns of an "
-        "index without a name", str(name))
+    known = ", ".join(map(repr, [*frame.columns, *filter(None, levels)]))
+    text = f"the frame has no column {name!r}; it has {known}; reset_index() makes columns of an"
+    raise DataFault(f"{text} index without a name", str(name))
 
 
 def columns_of_frame(
@@ -73,9 +67,8 @@ def arcs_of_networkx(
     columns.see_that_labels("nodes", list(map(columns.whole_as_integer, nodes)))
     sources, targets, weights = (list(column) for column in zip(*edges)) if edges else ([], [], [])
     x, y = places_of(graph, nodes, places)
-    lines = (
-        None if geometry is None or x is None
-        else [line for _, _, line in graph.edges(data=geometry)])
+    has_lines = geometry is not None and x is not None
+    lines = [line for _, _, line in graph.edges(data=geometry)] if has_lines else None
     # Without a unit these are the seconds and metres of osmnx, in thousandths.
     own = 1000 if unit is None else None
     if not isinstance(scale, str) or scale != "auto":
@@ -112,11 +105,8 @@ def located(fault: DataFault, graph: Any, nodes: Sequence[Any], edges: Sequence[
         where = f"node {quoted(nodes[fault.row])}"
     else:
         where = "the edge from {} to {}".format(*map(quoted, edges[fault.row][:2]))
-    hint = ""
-    if (
-        fault.column in ("x", "y", "geometry") and "crs" in graph.graph
-        and "4326" not in str(graph.graph["crs"])):
-        hint = (
-            f"; the graph's places are of {graph.graph['crs']}: `osmnx.project_graph(graph, "
-            "to_crs=4326)` gives degrees")
+    crs, hint = str(graph.graph.get("crs", "4326")), ""
+    if fault.column in ("x", "y", "geometry") and "4326" not in crs:
+        hint = f"; the graph's places are of {crs}: `osmnx.project_graph(graph, to_crs=4326)` gives"
+        hint += " degrees"
     return DataFault(f"{fault}, of {where}{hint}", fault.column, fault.row)

@@ -41,9 +41,9 @@ def query_feature(
     query: int, answer: files.Answer, line: Sequence[Point] | None, names: Mapping[Any, str],
 ) -> Geojson:
     """The answer to a query along a line of places; None if no path leads there."""
-    ends = {"source": answer.source, "target": answer.target, "from": answer.source}
-    arcs = answer.nodes and len(answer.nodes) - 1
-    properties = {"query": query, **ends, "to": answer.target, "weight": answer.weight, "arcs": arcs}
+    source, target, arcs = answer.source, answer.target, answer.nodes and len(answer.nodes) - 1
+    ends = {"source": source, "target": target, "from": source, "to": target}
+    properties = {"query": query, **ends, "weight": answer.weight, "arcs": arcs}
     return feature(line, named(properties, answer, names))
 
 
@@ -51,7 +51,5 @@ def named(
     properties: dict[str, Any], answer: files.Answer, names: Mapping[Any, str],
 ) -> dict[str, Any]:
     """Properties, together with the names of the first and last node if they have names."""
-    own = {
-        key: names[node] for key, node in (("from_name", answer.source), ("to_name", answer.target))
-        if names.get(node)}
-    return {**properties, **own}
+    ends = ("from_name", answer.source), ("to_name", answer.target)
+    return {**properties, **{key: names[node] for key, node in ends if names.get(node)}}

@@ -59,21 +59,21 @@ class Coordinates(NamedTuple):
     def ends(self) -> dict[int, int]:
         """The nodes where trips end whose target is a node with restricted turns: {target: node}.
         All other trips end at their target."""
-        return {
-            int(found[1]): int(found[2]) for found in map(END.fullmatch, self.comments) if found}
+        return self.pairs(END)
 
     def copies(self) -> dict[int, int]:
         """The copies of nodes with restricted turns, those where trips end among them: {copy:
         node}."""
-        found = {
-            int(found[1]): int(found[2]) for found in map(COPY.fullmatch, self.comments) if found}
-        return found | {end: node for node, end in self.ends().items()}
+        return self.pairs(COPY) | {end: node for node, end in self.ends().items()}
+
+    def pairs(self, form: re.Pattern[str]) -> dict[int, int]:
+        """The pairs of nodes in comments of a form."""
+        matches = map(form.fullmatch, self.comments)
+        return {int(found[1]): int(found[2]) for found in matches if found}
 
     def turns(self) -> list[str]:
         """The comments from which `ends` and `copies` are read."""
-        return [
-            comment for comment in self.comments
-            if END.fullmatch(comment) or COPY.fullmatch(comment)]
+        return [each for each in self.comments if END.fullmatch(each) or COPY.fullmatch(each)]
 
     def known(self) -> list[int]:
         """The nodes that have a place, in order."""
@@ -115,9 +115,7 @@ def read_graph(source: Source) -> Graph:
     if problem[:2] != [b"p", b"sp"] or len(problem) != 4 or not problem[2].isdigit():
         raise FileFault(f"{name_of(source)}: not a graph, whose problem line is `p sp N M`")
     nodes = int(problem[2])
-    if len(tails) and not (
-        1 <= min(min(tails), min(heads)) and max(max(tails), max(heads)) <= nodes
-    ):
+    if len(tails) and (min(min(tails), min(heads)) < 1 or max(max(tails), max(heads)) > nodes):
         raise FileFault(f"{name_of(source)}: an arc has a node that is not from 1 to {nodes}")
     return Graph(nodes, tails, heads, weights, unit_of(lines))
 
@@ -146,10 +144,9 @@ def read_unit(path: Path) -> str:
 
 def unit_of(lines: Iterable[bytes]) -> str:
     """The unit that comments among some lines name; empty if none does."""
-    told = [
-        comment.split()[-1].strip(".") for comment in comments_of(lines)
-        if comment.startswith("Weights are ")]
-    return told[0] if told and told[0] in UNITS else ""
+    comments = (each for each in comments_of(lines) if each.startswith("Weights are "))
+    unit = next(comments, ".").split()[-1].strip(".")
+    return unit if unit in UNITS else ""
 
 
 def count_arcs(path: Path) -> int:
@@ -199,10 +196,9 @@ def counts_in(path: Path) -> tuple[int, int]:
     with open(path, "rb") as file:
         for line in file:
             words = line.split()
-            if (
-                words[:2] == [b"p", b"sp"] and len(words) == 4 and words[2].isdigit()
-                and words[3].isdigit()):
-                return int(words[2]), int(words[3])
+            counts = [int(word) for word in words[2:] if word.isdigit()]
+            if words[:2] == [b"p", b"sp"] and len(words) == 4 and len(counts) == 2:
+                return counts[0], counts[1]
     raise FileFault(f"{path}: not a graph, whose problem line is `p sp N M`")
 
 

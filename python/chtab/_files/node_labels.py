@@ -47,23 +47,20 @@ class Numbers:
         if isinstance(given, numpy.ma.MaskedArray):
             given = columns.array_of(name, given)
         column = numpy.asarray(given)
-        if column.size and not (
-            column.dtype.kind in "iu" or column.dtype.kind == "f" and is_whole(column)
-        ):
+        are_numbers = column.dtype.kind in "iu" or column.dtype.kind == "f" and is_whole(column)
+        if column.size and not are_numbers:
             raise no_number(name, column, given)
         outside = columns.first_of((column < 1) | (column > self.count))
         if outside is not None:
-            row = row_of(column, outside)
-            raise columns.refused(
-                name, row, f"node {column.flat[outside]:.17g} is not from 1 to {self.count:,}")
+            text = f"node {column.flat[outside]:.17g} is not from 1 to {self.count:,}"
+            raise columns.refused(name, row_of(column, outside), text)
         return column.astype(numpy.int64)
 
     def few(self, labels: Iterable[Any]) -> list[int] | None:
         """The nodes of a short list of labels; None if one of them needs a closer look."""
         labels = [int(label) if type(label) is numpy.int64 else label for label in labels]
-        return (
-            labels if all(type(label) is int and 0 < label <= self.count for label in labels)
-            else None)
+        are_nodes = all(type(label) is int and 0 < label <= self.count for label in labels)
+        return labels if are_nodes else None
 
     def of(self, nodes: Integers) -> LabelArray:
         """The labels of an array of nodes."""
@@ -87,13 +84,12 @@ def is_whole(column: NDArray[Any]) -> bool:
 
 def no_number(name: str, column: NDArray[Any], given: Any) -> DataFault:
     """The fault of the first value that is no number of a node."""
-    values = (
-        column if column.dtype != object and not isinstance(given, list | tuple)
-        else numpy.array(given, object))
-    place = columns.first_of([not is_node(value) for value in values.reshape(-1).tolist()]) or 0
-    return columns.refused(
-        name, row_of(values, place),
-        f"{quoted(values.reshape(-1).tolist()[place])} is no node: a node is a whole number")
+    is_array = column.dtype != object and not isinstance(given, list | tuple)
+    array = column if is_array else numpy.array(given, object)
+    values = array.reshape(-1).tolist()
+    place = columns.first_of([not is_node(value) for value in values]) or 0
+    text = f"{quoted(values[place])} is no node: a node is a whole number"
+    return columns.refused(name, row_of(array, place), text)
 
 
 def is_node(value: object) -> bool:
@@ -104,13 +100,10 @@ def is_node(value: object) -> bool:
 
 
 class Labels:
-    """The labels of a caller: node k has `values[k - 1]`, int64, or objects that are all `int`, all
-    `str` or all tuples. No two are equal.
+    """The labels of a caller, no two equal: int64, or objects that are `int`, `str` or tuples."""
 
-    The index of the labels is made when it is first needed, and twice if two threads need it at a
-    time. A lock would be held for ever in a process that is forked while a thread holds it.
-    """
-
+    # An index is made when it is first needed, and twice if two threads need it at a time: a lock
+    # would be held for ever in a process that is forked while a thread holds it.
     def __init__(self, values: LabelArray) -> None:
         self.values = fixed(values.copy())
         self.in_order: tuple[LabelArray, Integers] | None = None
@@ -135,23 +128,22 @@ class Labels:
 
     def nodes_of(self, name: str, given: Any) -> Integers:
         """The nodes of labels in the shape of these. Labels of no node are refused."""
-        labels = (
-            self.tuples_of(name, given) if self.kind == TUPLES else columns.labels_in(name, given))
+        read = self.tuples_of if self.kind == TUPLES else columns.labels_in
+        labels = read(name, given)
         nodes = self.found(labels)
         place = columns.first_of(nodes == 0)
         if place is not None:
-            row, label = row_of(labels, place), labels.reshape(-1)[place:place + 1].tolist()[0]
-            raise DataFault(
-                f"{name}[{row}]: no node has the label {quoted(label)}; labels are {self.kind}",
-                name, row)
+            label = labels.reshape(-1)[place:place + 1].tolist()[0]
+            text = f"no node has the label {quoted(label)}; labels are {self.kind}"
+            raise columns.refused(name, row_of(labels, place), text)
         return nodes
 
     def tuples_of(self, name: str, given: Any) -> LabelArray:
         """Tuples in the shape of the argument: a column of labels, or rows of them."""
         items = list(given)
-        if all(
-            isinstance(item, tuple) and not (item and isinstance(item[0], tuple)) for item in items
-        ):
+        firsts = (item[0] if isinstance(item, tuple) and item else None for item in items)
+        are_tuples = all(isinstance(item, tuple) for item in items)
+        if are_tuples and not any(isinstance(first, tuple) for first in firsts):
             return columns.tuples_in(name, items)
         rows = [columns.tuples_in(name, row) for row in items]
         if len({len(row) for row in rows}) != 1:
@@ -173,15 +165,15 @@ class Labels:
         """The nodes of a short list of labels; None if one of them needs a closer look."""
         labels = [int(label) if type(label) is numpy.int64 else label for label in labels]
         if self.values.dtype == object:
-            found = [
-                self.numbers.get(label, 0) if type(label) in (int, str) else 0 for label in labels]
-            return None if 0 in found else found
+            known = [label for label in labels if type(label) in (int, str)]
+            found = [self.numbers.get(label, 0) for label in known]
+            return None if 0 in found or len(known) < len(labels) else found
         if not all(type(label) is int and LEAST <= label <= GREATEST for label in labels):
             return None
         values, nodes = self.sorted
         places = values.searchsorted(labels).tolist()
-        is_there = all(
-            place < len(values) and values[place] == label for place, label in zip(places, labels))
+        pairs = zip(places, labels)
+        is_there = all(place < len(values) and values[place] == label for place, label in pairs)
         return [int(nodes[place]) for place in places] if is_there else None
 
     def of(self, nodes: Integers) -> LabelArray:
@@ -192,9 +184,8 @@ class Labels:
         """An index of pandas with a caller's labels. Tuples make one column, not several."""
         import pandas
 
-        return (
-            pandas.Index(columns.objects_of(list(given)), name=name, tupleize_cols=False)
-            if self.kind == TUPLES else pandas.Index(given, name=name))
+        labels = columns.objects_of(list(given)) if self.kind == TUPLES else given
+        return pandas.Index(labels, name=name, tupleize_cols=False)
 
     def listed(self, nodes: list[int]) -> list[Label]:
         """The labels of a list of nodes, as a list."""
@@ -215,8 +206,8 @@ def doubled(name: str, labels: Sequence[Label]) -> DataFault:
     known: dict[Label, int] = {}
     for row, label in enumerate(labels):
         if known.setdefault(label, row) != row:
-            return columns.refused(
-                name, row, f"the label {quoted(label)} is in row {known[label]} already")
+            text = f"the label {quoted(label)} is in row {known[label]} already"
+            return columns.refused(name, row, text)
     raise AssertionError("no label is repeated")
 
 
@@ -224,14 +215,11 @@ def labels_of_ends(
     names: Sequence[str], sources: LabelArray, targets: LabelArray
 ) -> tuple[Labels, Integers]:
     """The labels in either of two columns in ascending order, and the nodes of both (2, m)."""
-    kinds = [
-        columns.kind_of(type(values[:1].tolist()[0])) for values in (sources, targets)
-        if len(values)]
+    firsts = [*sources[:1].tolist(), *targets[:1].tolist()]
+    kinds = [columns.kind_of(type(label)) for label in firsts]
     if len(set(kinds)) > 1:
-        raise columns.refused(
-            names[1], 0,
-            f"the label {quoted(targets[:1].tolist()[0])} is not one of {kinds[0]}, as those of "
-            f"{names[0]}")
+        text = f"the label {quoted(firsts[1])} is not one of {kinds[0]}, as those of {names[0]}"
+        raise columns.refused(names[1], 0, text)
     if sources.dtype == targets.dtype == numpy.int64:
         values, places = numpy.unique(numpy.concatenate([sources, targets]), return_inverse=True)
     else:
@@ -247,9 +235,8 @@ def ordered(labels: Sequence[Label]) -> tuple[LabelArray, Integers]:
     try:
         order = numpy.array(sorted(range(len(known)), key=known.__getitem__), numpy.int64)
     except TypeError:
-        raise DataFault(
-            "labels have no order, because their parts are of several kinds: give `nodes`", "nodes"
-        ) from None
+        text = "labels have no order, because their parts are of several kinds: give `nodes`"
+        raise DataFault(text, "nodes") from None
     places = numpy.empty(len(known), numpy.int64)
     places[order] = numpy.arange(len(known))
     return columns.objects_like(places, known)[order], places[found]

@@ -6,7 +6,9 @@ from collections.abc import Iterable
 from typing import TYPE_CHECKING, Any, NamedTuple
 
 from chtab.errors import FileFault
-from chtab._files.forms import name_of, reading, write_comments, write_rows, writing
+from chtab._files.forms import (
+    name_of, reading, see_that_of_graph, write_comments, write_rows, writing,
+)
 
 if TYPE_CHECKING:
     from chtab.typing import Source, Target
@@ -59,7 +61,8 @@ def write_streets(target: Target, found: Streets, comments: Iterable[str] = ()) 
         write_comments(file, [*comments, f"{SIDE}{found.side}."])
         file.write(f"p aux sp names {len(found.streets)} {len(found.of_arcs)}\n")
         for street in found.streets:
-            file.write(f"s {json.dumps({key: value for key, value in street._asdict().items() if value})}\n")
+            fields = {key: value for key, value in street._asdict().items() if value}
+            file.write(f"s {json.dumps(fields)}\n")
         write_rows(file, "a %d\n", ((number,) for number in found.of_arcs))
 
 
@@ -86,7 +89,7 @@ def read_streets(source: Source, arcs: int) -> Streets:
     """
     streets: list[Street] = []
     of_arcs: list[int] = []
-    side, told = SIDES[0], None
+    side, counts = SIDES[0], None
     with reading(source) as file:
         for number, line in enumerate(file, 1):
             try:
@@ -95,25 +98,20 @@ def read_streets(source: Source, arcs: int) -> Streets:
                 elif line.startswith("s "):
                     streets.append(street_in(json.loads(line[2:])))
                 elif line.startswith("p "):
-                    told = told_of(line)
+                    counts = counts_in(line)
                 elif line.startswith(f"c {SIDE}"):
                     side = SIDES[SIDES.index(line[2:].strip().removeprefix(SIDE).removesuffix("."))]
             except (ValueError, RecursionError):
                 raise FileFault(f"{name_of(source)} line {number}: not a line of streets") from None
-    if (
-            told != (len(streets), len(of_arcs))
-            or not all(0 <= number <= len(streets) for number in of_arcs)):
-        raise FileFault(
-            f"{name_of(source)}: cut short, or not a file of streets, whose problem line is `p "
-            "aux sp names STREETS ARCS`")
-    if len(of_arcs) != arcs:
-        raise FileFault(
-            f"{name_of(source)}: streets of {len(of_arcs):,} arcs, where the graph has {arcs:,}: "
-            "they are those of another graph")
+    are_there = all(0 <= number <= len(streets) for number in of_arcs)
+    if counts != (len(streets), len(of_arcs)) or not are_there:
+        text = "cut short, or not a file of streets, whose problem line is"
+        raise FileFault(f"{name_of(source)}: {text} `p aux sp names STREETS ARCS`")
+    see_that_of_graph(source, "streets", len(of_arcs), arcs)
     return Streets(streets, of_arcs, side)
 
 
-def told_of(line: str) -> tuple[int, int]:
+def counts_in(line: str) -> tuple[int, int]:
     """The numbers of streets and of arcs in a problem line."""
     *words, streets, arcs = line.split()
     if words != ["p", "aux", "sp", "names"]:
@@ -123,8 +121,8 @@ def told_of(line: str) -> tuple[int, int]:
 
 def street_in(value: Any) -> Street:
     """The street of an object of JSON, whose fields are all strings."""
-    if (
-            not isinstance(value, dict)
-            or not all(key in FIELDS and isinstance(text, str) for key, text in value.items())):
+    if not isinstance(value, dict) or not all(isinstance(text, str) for text in value.values()):
+        raise ValueError
+    if not set(value) <= set(FIELDS):
         raise ValueError
     return Street(**value)

@@ -6,7 +6,9 @@ from collections.abc import Iterable, Sequence
 from typing import TYPE_CHECKING
 
 from chtab.errors import FileFault
-from chtab._files.forms import columns, name_of, write_comments, write_rows, writing
+from chtab._files.forms import (
+    columns, name_of, see_that_of_graph, write_comments, write_rows, writing,
+)
 
 if TYPE_CHECKING:
     from chtab.typing import Source, Target
@@ -60,11 +62,7 @@ def read_ways(source: Source, arcs: int) -> array.array[int]:
     (numbers,), lines = columns(source, b"w", 1)
     problems = [line.split() for line in lines if line[:1] == b"p"]
     if problems != [[b"p", b"aux", b"sp", b"ways", str(len(numbers)).encode()]]:
-        raise FileFault(
-            f"{name_of(source)}: cut short, or not a file of ways, whose problem line is `p aux "
-            "sp ways ARCS`")
-    if len(numbers) != arcs:
-        raise FileFault(
-            f"{name_of(source)}: ways of {len(numbers):,} arcs, where the graph has {arcs:,}: "
-            "they are those of another graph")
+        text = "cut short, or not a file of ways, whose problem line is `p aux sp ways ARCS`"
+        raise FileFault(f"{name_of(source)}: {text}")
+    see_that_of_graph(source, "ways", len(numbers), arcs)
     return numbers

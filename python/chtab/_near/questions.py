@@ -10,8 +10,7 @@ import numpy
 
 from chtab._files.measures import MOST
 from chtab._near import blocks, sums
-from chtab._near.question import NearQuestion
-from chtab._near.spots import SpotQuestion
+from chtab._near.question import NearQuestion, Question, SpotQuestion
 from chtab._roads.pairs import nodes_in
 from chtab._roads.snapping import Spots
 
@@ -39,7 +38,7 @@ class Asked:
         """The files of the network."""
         return self.trips.layers
 
-    def near(self, count: int | None, within: int | None) -> blocks.Question:
+    def near(self, count: int | None, within: int | None) -> Question:
         """The question to the library, where trips end at other nodes with these."""
         most = max(1, len(self.targets))
         count = None if count is None else min(blocks.count_in("count", count), most)
@@ -47,7 +46,7 @@ class Asked:
         if isinstance(sources, Spots) or isinstance(targets, Spots):
             nodes = layers.all_nodes if sources is None else sources
             ends = self.spots_of(nodes, 0), self.spots_of(targets, 1)
-            return SpotQuestion(self.trips, *ends, count, within, self.is_from)
+            return SpotQuestion(*ends, count, within, self.is_from, self.trips)
         if layers.has_turns and self.is_from:
             sources = None if sources is None else layers.ends_of(sources)
         elif layers.has_turns:
@@ -62,17 +61,15 @@ class Asked:
 
     def source_labels(self) -> LabelArray:
         """The labels of sources, or the places of spots in their list."""
-        if self.sources is None:
-            nodes = self.layers.all_nodes
-            return (
-                self.layers.labels.of(nodes) if self.layers.has_turns else self.layers.labels.values
-            )
-        return self.labels_of(self.sources)
+        if self.sources is None and not self.layers.has_turns:
+            return self.layers.labels.values
+        return self.labels_of(self.layers.all_nodes if self.sources is None else self.sources)
 
     def labels_of(self, nodes: Integers | Spots) -> LabelArray:
         """The labels of nodes, or the places of spots in their list."""
-        return (
-            numpy.arange(len(nodes)) if isinstance(nodes, Spots) else self.layers.labels.of(nodes))
+        if isinstance(nodes, Spots):
+            return numpy.arange(len(nodes))
+        return self.layers.labels.of(nodes)
 
     def labels(self) -> tuple[LabelArray, LabelArray]:
         """The labels of sources and targets."""

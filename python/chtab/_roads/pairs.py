@@ -8,7 +8,7 @@ import numpy
 
 from chtab.errors import DataFault
 from chtab._files import row_index
-from chtab._files.columns import EXACT, first_of, numbers_in, refused
+from chtab._files.columns import EXACT, numbers_in, refuse
 from chtab._roads.arc_names import ArcNames
 from chtab._roads.snapping import Spots
 
@@ -69,7 +69,7 @@ def values_of_rows(layers: Layers, values: Any, name: str = "values") -> NDArray
         columns = [(name, given)]
     else:
         columns = [(f"{name}[:, {place}]", found[:, place]) for place in range(found.shape[1])]
-    made = [finite_numbers(told, column) for told, column in columns]
+    made = [finite_numbers(*column) for column in columns]
     count = layers.row_count
     if len(found) != count:
         text = f"{name} has {len(found):,} rows, and there are {count:,} rows of arcs"
@@ -83,9 +83,7 @@ def finite_numbers(name: str, column: Any) -> NDArray[Any]:
     """The numbers of a column: int64, or float64."""
     found = numbers_in(name, column)
     found = found if found.dtype == numpy.int64 else found.astype(float)
-    place = first_of(~numpy.isfinite(found))
-    if place is not None:
-        raise refused(name, place, f"{found[place]} is no value")
+    refuse(name, ~numpy.isfinite(found), lambda row: f"{found[row]} is no value")
     return found
 
 
@@ -108,8 +106,6 @@ def along(engine: InProcess, layers: Layers, values: NDArray[Any], pairs: Intege
 
 def are_counts(values: NDArray[Any], most: int) -> bool:
     """Whether values are whole numbers from 0 on, `most` of which add up exactly as floats."""
-    if (
-        values.ndim != 1 or values.dtype.kind not in "iu" or not len(values)
-        or int(values.min()) < 0):
+    if values.ndim != 1 or values.dtype.kind not in "iu" or not len(values):
         return False
-    return int(values.max()) * most <= EXACT
+    return int(values.min()) >= 0 and int(values.max()) * most <= EXACT

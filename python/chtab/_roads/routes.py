@@ -12,7 +12,6 @@ from chtab._files import geojson, showing
 from chtab.files import Answer
 
 if TYPE_CHECKING:
-    import geopandas
     import pandas
     from numpy.typing import NDArray
 
@@ -36,14 +35,14 @@ class Routes(showing.OnMap, collections.abc.Sequence):
     """
 
     # What colours a map.
-    shown_by = "weight"
+    shown_by, is_framed = "weight", True
 
     def __init__(self, pairs: Integers, paths: Paths, layers: Layers) -> None:
         # The pairs of nodes by their numbers, their paths, and the files of the network.
         self.pairs, self.paths, self.layers = pairs, paths, layers
-        self.heads, self.arc_weights = (
-            numpy.asarray(column)[paths.arcs]
-            for column in (layers.graph.heads, layers.graph.weights))
+        graph = layers.graph
+        self.heads = numpy.asarray(graph.heads)[paths.arcs]
+        self.arc_weights = numpy.asarray(graph.weights)[paths.arcs]
         self.firsts = numpy.append(0, numpy.cumsum(paths.counts))
         sums = numpy.diff(numpy.append(0, numpy.cumsum(self.arc_weights))[self.firsts])
         if (sums != paths.weights)[paths.weights >= 0].any():
@@ -192,24 +191,6 @@ class Routes(showing.OnMap, collections.abc.Sequence):
             geojson.query_feature(place, each, next(lines) if each.nodes else None, names or {})
             for place, each in enumerate(self))
 
-    def to_geodataframe(self) -> geopandas.GeoDataFrame:
-        """Returns the routes as a GeoDataFrame.
-
-        Returns
-        -------
-        geopandas.GeoDataFrame
-            A row for each pair, as `to_frame` has it, with its line in degrees (EPSG:4326), or None
-            where no path leads.
-
-        Raises
-        ------
-        ImportError
-            geopandas is not installed.
-        ChtabError
-            The network has no places of nodes.
-        """
-        return showing.with_geometry(self.to_frame(), super().to_geodataframe().geometry.to_list())
-
 
 class Trip(NamedTuple):
     """A route between two spots. `weight`, `metres` and the `line` of (longitude, latitude),
@@ -250,10 +231,9 @@ class Trip(NamedTuple):
 
 
 class TripRoutes(showing.OnMap, list):
-    """Trips in the order of their spots: a list of `Trip`, which makes frames, GeoJSON and
-    pictures."""
+    """Trips in the order of their spots: a list of `Trip`, in frames, GeoJSON and pictures."""
 
-    shown_by = "weight"
+    shown_by, is_framed = "weight", True
 
     def __repr__(self) -> str:
         return f"<{len(self):,} trips>"
@@ -286,23 +266,5 @@ class TripRoutes(showing.OnMap, list):
         """
         import pandas
 
-        return (
-            pandas.DataFrame(
-                [each._replace(line=None) for each in self],
-                columns=Trip._fields) .drop(columns="line") .rename_axis("query"))
-
-    def to_geodataframe(self) -> geopandas.GeoDataFrame:
-        """Returns the trips as a GeoDataFrame.
-
-        Returns
-        -------
-        geopandas.GeoDataFrame
-            A row for each trip, as `to_frame` has it, with its line in degrees (EPSG:4326), or None
-            where there is no way.
-
-        Raises
-        ------
-        ImportError
-            geopandas is not installed.
-        """
-        return showing.with_geometry(self.to_frame(), super().to_geodataframe().geometry.to_list())
+        rows = [(each.weight, each.metres, each.nodes) for each in self]
+        return pandas.DataFrame(rows, columns=["weight", "metres", "nodes"]).rename_axis("query")

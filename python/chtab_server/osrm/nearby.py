@@ -7,7 +7,6 @@ from typing import TYPE_CHECKING
 
 import numpy
 
-from chtab.errors import ChtabError
 from chtab._roads.lines import degrees, mercator
 from chtab._roads.snapping import BACKWARD, FORWARD, NONE, Roads, Spots
 
@@ -37,11 +36,10 @@ def one_sided(spots: Spots, sides: Integers) -> Spots:
 
 def find_some(roads: Roads, longitude: float, latitude: float, most: int) -> Spots:
     """Takes one place to at most `most` of its nearest roads, the nearest first."""
-    if not len(roads):
-        raise ChtabError("the graph has no road between two places")
+    roads.see_that_some()
     lines, place = roads.lines, mercator([longitude], [latitude])
     steps, shares, at = nearest_some(lines.index, place, most, lines.firsts)
-    numbers, parts = along_lines(roads, steps, shares)
+    numbers, parts = lines.along(steps, shares)
     longitudes, latitudes = numpy.full((2, len(steps)), [[longitude], [latitude]])
     return roads.spots_at(longitudes, latitudes, numbers, parts, *degrees(*at.T))
 
@@ -63,20 +61,12 @@ def find_facing(
 
     place = mercator([longitude], [latitude])
     steps, share, at = nearest_fitting(roads.lines.index, place, fits)
-    numbers, parts = along_lines(roads, steps, share)
+    numbers, parts = roads.lines.along(steps, share)
     # A spot at an end of its road would be left by any other road.
     parts = parts.clip(INSIDE, 1 - INSIDE)
     places = numpy.full((len(steps), 2), (longitude, latitude))
     spots = roads.spots(places, *degrees(*at.T), numbers, parts)
     return one_sided(spots, facing(roads, steps, bearing, within))
-
-
-def along_lines(roads: Roads, steps: Integers, shares: Floats) -> tuple[Integers, Floats]:
-    """The roads of steps, and the parts of these at shares of the steps."""
-    lines = roads.lines
-    before, after = lines.parts[steps], lines.parts[steps + 1]
-    numbers = numpy.searchsorted(lines.firsts, steps, "right") - 1
-    return numbers, before + shares * (after - before)
 
 
 def facing(roads: Roads, steps: Integers, bearing: float, within: float) -> Integers:
