@@ -103,7 +103,8 @@ def in_header(name, kind):
 
 def exports():
     """The parameters of each call of the library, in order, as the header declares them."""
-    found = re.findall(r'pub extern "C" fn (\w+)\((.*?)\) -> u32', (SOURCES / "handle.rt").read_text(), re.DOTALL)
+    text = "".join(path.read_text() for path in sorted(SOURCES.glob("*.rt")))
+    found = re.findall(r'pub extern "C" fn (\w+)\((.*?)\) -> u32', text, re.DOTALL)
     return {name: [part for each in re.findall(r"(\w+): ([^,\n]+)", listed) for part in in_header(*each)] for name, listed in found}
 
 
@@ -118,7 +119,7 @@ def compare_types(tally):
     text = re.sub(r"/\*.*?\*/", "", HEADER.read_text(), flags=re.DOTALL)
     declarations = {name: [] if listed == "void" else [" ".join(part.split()) for part in listed.split(",")]
                     for name, listed in re.findall(r"^uint32_t (chtab_\w+)\((.*?)\);", text, re.MULTILINE | re.DOTALL)}
-    tally.expect(declarations.keys() == exports().keys() == declared(), f"the header has {sorted(declarations)}, handle.rt {sorted(exports())}")
+    tally.expect(declarations.keys() == exports().keys() == declared(), f"the header has {sorted(declarations)}, the library {sorted(exports())}")
     for name, parameters in exports().items():
         tally.expect(declarations.get(name) == parameters, f"{name}: the header has {declarations.get(name)}, the library {parameters}")
     for name, path, own in ("chtab_found", "answers.rt", "Found"), ("chtab_fault", "faults.rt", "Fault"):
@@ -324,7 +325,7 @@ def refuse_large_flows(tally, library):
 
 
 def refuse_quickly(tally, library):
-    """What is wrong with a graph that is opened alone is told, and the handle stays."""
+    """What is wrong with a graph that is opened alone is reported, and the handle stays."""
     for graph, told in (b"", (1, 0, 4)), (LINE + b"a 1 2 3\n", (4, 0, 9)), (LINE.replace(b"p sp 3", b"p sp 2"), (3, 0, 6)):
         status, handle, fault = library.open_quick(graph)
         tally.expect((status, fault.told(), handle.is_open) == (STATUS["BAD_GRAPH"], told, 0), f"{graph} alone: {status} {fault.told()}, not {told}")

@@ -5,13 +5,13 @@ original file, even if another file has its name by then.
 """
 from __future__ import annotations
 
-import functools
 import logging
 import os
 from collections.abc import Iterator, Sequence
 from typing import IO, TYPE_CHECKING, Any, NamedTuple, Self
 
 from chtab import files
+from chtab._engine import forks
 from chtab._engine.in_process import InProcess
 from chtab.errors import ChtabError
 from chtab.network import Network
@@ -113,7 +113,7 @@ class Served:
         stored.write(name, self.sums(), self.made._replace(tiles=self.tiles))
         return name
 
-    @functools.cached_property
+    @forks.computed_once
     def tiles(self) -> Tiles:
         """The tiles of the network's map, which the page shows."""
         network = self.network

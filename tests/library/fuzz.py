@@ -78,7 +78,7 @@ class Caller:
         self.expect(self.library.close(handle) == (STATUS["OK"] if status == 0 else STATUS["CLOSED"]), "closed changed files", status)
 
     def open_arrays(self):
-        """A network of the graph's arrays, some of them changed: the first fault is told, and without one the distances are those of the graph."""
+        """A network of the graph's arrays, some of them changed: the first fault is reported, and without one the distances are those of the graph."""
         handle, nodes = self.draw.choice(self.handles), self.draw.choice((self.count, self.count, self.count, 0, 2**25 + 1))
         arrays = [[arc[0] - 1 for arc in self.arcs], [arc[1] - 1 for arc in self.arcs], [arc[2] for arc in self.arcs]]
         change = self.draw.randrange(6)

@@ -23,6 +23,7 @@ from helpers.running import PROGRAM, ROOT
 from helpers.waiting import PATIENCE, until
 import chtab
 from chtab import files
+from chtab._files import node_labels
 
 pytestmark = [needs("python3-numpy", "python3-scipy"), pytest.mark.usefixtures("program")]
 FIRST = ROOT / "examples" / "first.gr"
@@ -114,7 +115,7 @@ def test_both_executors():
                 assert sum(pool.map(wrong_tables, [network] * len(seeds()), seeds(), timeout=PATIENCE)) == 0, way
 
 
-def forked(work):
+def forked(work, patience=PATIENCE):
     """Whether a process that is forked here does some work well, in time."""
     child = os.fork()
     if not child:
@@ -123,7 +124,7 @@ def forked(work):
         except BaseException:
             traceback.print_exc()
             os._exit(2)
-    latest = time.monotonic() + PATIENCE
+    latest = time.monotonic() + patience
     while (ended := os.waitpid(child, os.WNOHANG)) == (0, 0):
         if time.monotonic() > latest:
             os.kill(child, signal.SIGKILL)
@@ -140,6 +141,29 @@ def test_processes_are_forked_while_threads_ask():
         for seed in range(6):
             assert forked(lambda: wrong_tables(network, seed) == 0 and forked(lambda: wrong_tables(network, seed) == 0))
         assert [each.result() for each in asking] == [0] * 4
+
+
+def test_a_process_is_forked_while_routes_are_computed(monkeypatch):
+    """A forked process waits for nothing that a thread of its parent computes at that moment, such as the list of routes."""
+    kind = node_labels.Numbers
+    parent, computing, over, of = os.getpid(), threading.Event(), threading.Event(), kind.of
+
+    def of_slowly(self, nodes):
+        if os.getpid() == parent:
+            computing.set()
+            over.wait(PATIENCE)
+        return of(self, nodes)
+
+    with network_of_country() as network, concurrent.futures.ThreadPoolExecutor(1) as threads:
+        monkeypatch.setattr(kind, "of", of_slowly)
+        routes = network.routes([(1, 2)])
+        asking = threads.submit(lambda: routes[0].weight)
+        try:
+            assert computing.wait(PATIENCE)
+            assert forked(lambda: wrong_tables(network, 0) == 0 and routes[0].weight >= 0, 60)
+        finally:
+            over.set()
+        assert asking.result() == routes[0].weight
 
 
 def interrupted(network, send):

@@ -1,20 +1,19 @@
-//! The handle that C holds, and the calls that it makes.
-ghost use Rattle.std.specs.Prelude.{◌≡◌, ◌↔◌, IfSome, IsSome, MatchOption, None, Some, ⊤};
+//! The handle that C holds, and the calls that answer by it.
+ghost use Rattle.std.specs.Prelude.{◌≡◌, ◌↔◌, IfSome, IsSome, IsTrue, MatchOption, None, Some, ⊤};
 ghost use Rattle.ch_hierarchy.specs.Hierarchy.{nodes_of};
 ghost use Rattle.ch_engine.specs.Lines.{IsOfSome};
-ghost use Rattle.ch_c.specs.Calls.{AreFlowsAnswered, ArePairsAnswered, ArePairSumsAnswered, ArePlacesKept, AreRoutesAnswered, AreRowsAnswered, AreSumsAnswered, AreTableFlowsAnswered, IsOpening, IsOpeningLike, IsOpeningOfArrays, IsOpeningQuickly, IsRouteAnswered, IsSaved, IsSharing, IsSwept, IsTableAnswered, OfNetwork};
+ghost use Rattle.ch_c.specs.Calls.{AreFlowsAnswered, ArePairsAnswered, ArePairSumsAnswered, ArePlacesKept, AreRoutesAnswered, AreRowsAnswered, AreSumsAnswered, AreTableFlowsAnswered, IsRouteAnswered, IsSaved, IsSwept, IsTableAnswered, OfNetwork};
 ghost use Rattle.ch_c.specs.declared.status.TheConstants.{OK};
 
 pub use crate::answers::Found;
 use crate::answers::{
-    opened, opened_like, opened_of_arrays, opened_quickly, shared, write_distances, write_flows,
-    write_route, write_route_sums, write_routes, write_saved, write_table, write_table_flows,
+    write_distances, write_flows, write_route, write_route_sums, write_routes, write_saved,
+    write_table, write_table_flows,
 };
 use crate::erased::ErasedEngine;
-use crate::faults::{Fault, tell};
 use crate::near::{keep_places, sweep, write_rows, write_sums};
 use crate::raw_box::RawBox;
-use crate::status::{CLOSED, IS_OPEN, NO_MEMORY, OK};
+use crate::status::{CLOSED, OK};
 use ch_engine::Engine;
 use std::alloc::Global;
 use std::mem;
@@ -32,6 +31,13 @@ pub struct Handle {
 }
 
 impl Handle {
+    /// Returns whether an engine is there.
+    pub(crate) fn is_open(&self) -> bool
+        ensures { IsTrue result ↔ IsSome self.now.engine.network }
+    {
+        self.is_open == 1
+    }
+
     fn closed(alloc: Global) -> Handle
         ensures { result.engine.network ≡ None }
     {
@@ -42,7 +48,7 @@ impl Handle {
     }
 
     /// Puts an engine into a closed handle. An open one would lose its engine.
-    fn put(&mut self, engine: Box<Engine, Global>)
+    pub(crate) fn put(&mut self, engine: Box<Engine, Global>)
         requires { self.old.engine.network ≡ None }
         ensures { self.new.engine.network ≡ Some engine.value }
     {
@@ -53,7 +59,7 @@ impl Handle {
     }
 
     /// Takes the engine out of an open handle, which is then closed. Returns `None` if the handle is closed already.
-    fn take(&mut self, alloc: Global) -> Option<Box<Engine, Global>>
+    pub(crate) fn take(&mut self, alloc: Global) -> Option<Box<Engine, Global>>
         ensures taken { MatchOption result (self.old.engine.network ≡ None) (λ engine. self.old.engine.network ≡ Some engine.value) }
         ensures kept { IfSome result (λ engine. IsOfSome engine.value.hierarchy engine.value.lines) }
         ensures closed { self.new.engine.network ≡ None }
@@ -75,150 +81,6 @@ pub extern "C" fn chtab_version() -> u32
     ensures { result ≡ 1003000 }
 {
     VERSION
-}
-
-/// Opens a closed handle with a graph and its saved hierarchy. The hierarchy is checked against the graph. If
-/// `saved` is empty, the hierarchy is built by depth.
-#[unsafe(no_mangle)]
-pub extern "C" fn chtab_open(
-    alloc: Global,
-    handle: &mut Handle,
-    graph: &[u8],
-    saved: &[u8],
-    fault: &mut Fault,
-) -> u32
-    ensures { IsOpening graph.now saved.now handle.old.engine.network handle.new.engine.network fault.old fault.new result }
-{
-    if handle.is_open == 1 {
-        return IS_OPEN;
-    }
-    match opened(alloc, graph, saved) {
-        Ok(engine) => {
-            handle.put(engine);
-            OK
-        }
-        Err(error) => tell(error, fault),
-    }
-}
-
-/// Opens a closed handle with the graph of `nodes` nodes where arc k leads from `tails[k]` to `heads[k]` and weighs
-/// `weights[k]`. If `saved` is empty, the hierarchy is built as by [`chtab_open_quick`].
-#[unsafe(no_mangle)]
-pub extern "C" fn chtab_open_arrays(
-    alloc: Global,
-    handle: &mut Handle,
-    nodes: u32,
-    tails: &[u32],
-    heads: &[u32],
-    weights: &[u64],
-    saved: &[u8],
-    fault: &mut Fault,
-) -> u32
-    ensures { IsOpeningOfArrays nodes tails.now heads.now weights.now saved.now handle.old.engine.network handle.new.engine.network fault.old fault.new result }
-{
-    let is_open = handle.is_open == 1;
-    if is_open {
-        return IS_OPEN;
-    }
-    match opened_of_arrays(alloc, nodes, tails, heads, weights, saved) {
-        Ok(engine) => {
-            handle.put(engine);
-            OK
-        }
-        Err(error) => tell(error, fault),
-    }
-}
-
-/// Opens a closed handle with a graph alone. The hierarchy is built in an order that takes little time to find.
-#[unsafe(no_mangle)]
-pub extern "C" fn chtab_open_quick(
-    alloc: Global,
-    handle: &mut Handle,
-    graph: &[u8],
-    fault: &mut Fault,
-) -> u32
-    ensures { IsOpeningQuickly graph.now handle.old.engine.network handle.new.engine.network fault.old fault.new result }
-{
-    let is_open = handle.is_open == 1;
-    if is_open {
-        return IS_OPEN;
-    }
-    match opened_quickly(alloc, graph) {
-        Ok(engine) => {
-            handle.put(engine);
-            OK
-        }
-        Err(error) => tell(error, fault),
-    }
-}
-
-/// Opens a closed handle with a graph, such as the roads of an open handle with new weights. The hierarchy is built in the
-/// order of that handle's hierarchy, and the last `fresh` per cent of the nodes are ordered afresh, by depth.
-#[unsafe(no_mangle)]
-pub extern "C" fn chtab_open_like(
-    alloc: Global,
-    second: &mut Handle,
-    graph: &[u8],
-    other: &mut Handle,
-    fresh: u32,
-    fault: &mut Fault,
-) -> u32
-    ensures opening { IsOpeningLike graph.now fresh other.old.engine.network second.old.engine.network second.new.engine.network fault.old fault.new result }
-    ensures same { other.new.engine.network ≡ other.old.engine.network }
-{
-    if second.is_open == 1 {
-        return IS_OPEN;
-    }
-    let Some(engine) = other.take(alloc) else {
-        return CLOSED;
-    };
-    let like = opened_like(alloc, graph, &engine, fresh);
-    other.put(engine);
-    match like {
-        Ok(engine) => {
-            second.put(engine);
-            OK
-        }
-        Err(error) => tell(error, fault),
-    }
-}
-
-/// Opens a closed handle in the network of an open one.
-#[unsafe(no_mangle)]
-pub extern "C" fn chtab_share(alloc: Global, handle: &mut Handle, other: &mut Handle) -> u32
-    ensures sharing { IsSharing handle.old.engine.network other.old.engine.network other.new.engine.network result }
-    ensures same { handle.new.engine.network ≡ handle.old.engine.network }
-{
-    if other.is_open == 1 {
-        return IS_OPEN;
-    }
-    let Some(engine) = handle.take(alloc) else {
-        return CLOSED;
-    };
-    let second = shared(alloc, &engine);
-    handle.put(engine);
-    match second {
-        Some(second) => {
-            other.put(second);
-            OK
-        }
-        None => NO_MEMORY,
-    }
-}
-
-/// Closes an open handle, and gives its memory back.
-#[unsafe(no_mangle)]
-pub extern "C" fn chtab_close(alloc: Global, handle: &mut Handle) -> u32
-    ensures status { MatchOption handle.old.engine.network (result ≡ CLOSED) (λ _. result ≡ OK) }
-    ensures closed { handle.new.engine.network ≡ None }
-{
-    match handle.take(alloc) {
-        Some(engine) => {
-            drop(engine);
-            OK
-        }
-        None => CLOSED,
-    }
 }
 
 /// Writes the number of nodes.

@@ -13,14 +13,17 @@ mod erased;
 mod faults;
 mod handle;
 mod near;
+mod opening;
 mod raw_box;
 mod status;
 
 pub use faults::Fault;
 pub use handle::{
-    Found, Handle, chtab_close, chtab_distances, chtab_flows, chtab_near_places, chtab_near_rows,
-    chtab_near_sums, chtab_near_sweep, chtab_nodes, chtab_open, chtab_open_arrays, chtab_open_like,
-    chtab_open_quick, chtab_route, chtab_route_sums, chtab_routes, chtab_save, chtab_share,
-    chtab_table, chtab_version,
+    Found, Handle, chtab_distances, chtab_flows, chtab_flows_table, chtab_near_places,
+    chtab_near_rows, chtab_near_sums, chtab_near_sweep, chtab_nodes, chtab_route, chtab_route_sums,
+    chtab_routes, chtab_save, chtab_table, chtab_version,
+};
+pub use opening::{
+    chtab_close, chtab_open, chtab_open_arrays, chtab_open_like, chtab_open_quick, chtab_share,
 };
 pub use status::numbers;

@@ -10,7 +10,11 @@ from __future__ import annotations
 import os
 import threading
 import weakref
-from typing import Protocol
+from collections.abc import Callable
+from typing import Any, Generic, Protocol, TypeVar
+
+Value = TypeVar("Value")
+
 
 class Followed(Protocol):
     """An object that has to know when its process was forked."""
@@ -34,6 +38,26 @@ def leave_parents() -> None:
     STEADY.release()
     for thing in list(FOLLOWED):
         thing.leave_parent()
+
+
+class computed_once(Generic[Value]):
+    """A property that is computed when it is first asked for, without a lock, and then kept."""
+
+    # Before Python 3.12 `functools.cached_property` holds one lock for all objects of a class while
+    # it computes, for which a process that is forked meanwhile would wait for ever. Without one, two
+    # threads that ask first at once both compute, and get the same object.
+    def __init__(self, compute: Callable[[Any], Value]) -> None:
+        self.compute, self.__doc__ = compute, compute.__doc__
+
+    def __set_name__(self, owner: type, name: str) -> None:
+        self.name = name
+
+    def __get__(self, thing: Any, owner: type) -> Value:
+        if thing is None:
+            return self  # type: ignore[return-value]
+        # The value takes the place of the property, because this class has no `__set__`.
+        kept: Value = thing.__dict__.setdefault(self.name, self.compute(thing))
+        return kept
 
 
 os.register_at_fork(

@@ -9,6 +9,7 @@ from typing import TYPE_CHECKING, Any, TypeAlias
 
 import numpy
 
+from chtab._engine.forks import computed_once
 from chtab.errors import DataFault
 from chtab._files import columns
 from chtab._files.columns import GREATEST, INTEGERS, LEAST, TUPLES, row_of, quoted
@@ -33,14 +34,11 @@ class Numbers:
 
     def __init__(self, count: int) -> None:
         self.count = count
-        self.known: LabelArray | None = None
 
-    @property
+    @computed_once
     def values(self) -> LabelArray:
         """The labels, in order of the nodes."""
-        if self.known is None:
-            self.known = fixed(numpy.arange(1, self.count + 1))
-        return self.known
+        return fixed(numpy.arange(1, self.count + 1))
 
     def nodes_of(self, name: str, given: Any) -> Integers:
         """The nodes of numbers of any shape, whole floats too. Those out of range are refused."""
@@ -102,29 +100,20 @@ def is_node(value: object) -> bool:
 class Labels:
     """The labels of a caller, no two equal: int64, or objects that are `int`, `str` or tuples."""
 
-    # An index is made when it is first needed, and twice if two threads need it at a time: a lock
-    # would be held for ever in a process that is forked while a thread holds it.
     def __init__(self, values: LabelArray) -> None:
-        self.values = fixed(values.copy())
-        self.in_order: tuple[LabelArray, Integers] | None = None
-        self.by_label: dict[Label, int] | None = None
-        self.count = len(values)
+        self.values, self.count = fixed(values.copy()), len(values)
         self.kind = columns.kind_of(type(values[0])) if len(values) else INTEGERS
 
-    @property
+    @computed_once
     def sorted(self) -> tuple[LabelArray, Integers]:
         """The labels in order and the node of each, for integers of 64 bits."""
-        if self.in_order is None:
-            order = numpy.argsort(self.values, kind="stable")
-            self.in_order = self.values[order], order + 1
-        return self.in_order
+        order = numpy.argsort(self.values, kind="stable")
+        return self.values[order], order + 1
 
-    @property
+    @computed_once
     def numbers(self) -> dict[Label, int]:
         """The node of each label, for all other labels."""
-        if self.by_label is None:
-            self.by_label = dict(zip(self.values.tolist(), range(1, len(self.values) + 1)))
-        return self.by_label
+        return dict(zip(self.values.tolist(), range(1, len(self.values) + 1)))
 
     def nodes_of(self, name: str, given: Any) -> Integers:
         """The nodes of labels in the shape of these. Labels of no node are refused."""

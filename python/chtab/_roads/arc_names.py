@@ -10,6 +10,7 @@ from typing import TYPE_CHECKING, Any
 
 import numpy
 
+from chtab._engine import forks
 from chtab.errors import DataFault
 from chtab._files import columns, row_index
 from chtab._files.columns import refused, quoted
@@ -55,30 +56,30 @@ class ArcNames:
     # Arcs by what is looked for. Arcs within a crossing, with which trips end there, are found by
     # their rows alone.
 
-    @functools.cached_property
+    @forks.computed_once
     def tails(self) -> Integers:
         """The crossings where arcs start."""
         return self.layers.crossings[numpy.array(self.layers.graph.tails, numpy.int64)]
 
-    @functools.cached_property
+    @forks.computed_once
     def heads(self) -> Integers:
         """The crossings where arcs end."""
         return self.layers.crossings[numpy.array(self.layers.graph.heads, numpy.int64)]
 
-    @functools.cached_property
+    @forks.computed_once
     def between(self) -> Integers:
         """The arcs that lead along roads."""
         return numpy.flatnonzero(~self.layers.are_inner)
 
-    @functools.cached_property
+    @forks.computed_once
     def by_row(self) -> Groups:
         return Groups.of(self.rows)
 
-    @functools.cached_property
+    @forks.computed_once
     def by_ends(self) -> Groups:
         return Groups.of(self.key_of(self.tails, self.heads)[self.between], self.between)
 
-    @functools.cached_property
+    @forks.computed_once
     def by_node(self) -> Groups:
         return Groups.of(
             numpy.concatenate([self.tails[self.between], self.heads[self.between]]),
@@ -216,7 +217,7 @@ class ArcNames:
             return arcs
         return self.by_row.of_each(self.rows[arcs.items]).through(arcs.places)
 
-    @functools.cached_property
+    @forks.computed_once
     def keys(self) -> LabelArray | None:
         """The keys of rows, or None."""
         keys = None if self.layers.labelling is None else self.layers.labelling.keys

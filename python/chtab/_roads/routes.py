@@ -2,11 +2,11 @@
 from __future__ import annotations
 
 import collections.abc
-import functools
 from typing import TYPE_CHECKING, Any, NamedTuple
 
 import numpy
 
+from chtab._engine import forks
 from chtab.errors import ProgramFault
 from chtab._files import geojson, showing
 from chtab.files import Answer
@@ -51,7 +51,7 @@ class Routes(showing.OnMap, collections.abc.Sequence):
     def __getitem__(self, place: Any) -> Any:
         return self.answers[place]
 
-    @functools.cached_property
+    @forks.computed_once
     def answers(self) -> list[Answer]:
         """The routes with the labels of their nodes and with weights in the network's unit."""
         labels, measure = self.layers.labels, self.layers.measure

@@ -1,4 +1,4 @@
-//! The jobs by which workers write near rows: those of searches from the sources, and those of a sweep.
+//! The jobs of workers that write near rows: those of searches from the sources, and those of a sweep.
 use super::lines::LineJob;
 use ch_near::{NearRoom, NearTargets, NodeRows};
 use ch_text::push_near_row;
