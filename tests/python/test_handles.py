@@ -13,7 +13,7 @@ import pytest
 
 from helpers import ways
 from helpers.commands import raises
-from helpers.handles import FIRST, FIRST_SAVED, GRAPH, handle_of, of_country, of_first
+from helpers.handles import FIRST, FIRST_SAVED, GRAPH, handle_of, of_country, of_first, route
 from helpers.in_process import growth, make
 from helpers.marks import needs
 from helpers.nearness import dense, small_portions
@@ -38,9 +38,9 @@ def test_a_closed_handle_answers_nothing():
     other = handle.share()
     handle.close()
     handle.close()
-    assert other.distances(one, one).tolist() == [0] and other.route(0, 2)[0] == 9
+    assert other.distances(one, one).tolist() == [0] and route(other, 0, 2)[0] == 9
     for each in closed, handle:
-        for call, words in (each.distances, (one, one)), (each.table, (one, one)), (each.route, (0, 1)), (each.nodes, ()), (each.share, ()), (each.save, ()), \
+        for call, words in (each.distances, (one, one)), (each.table, (one, one)), (each.routes_with_lines, (one, one, 3)), (each.nodes, ()), (each.share, ()), (each.save, ()), \
                 (each.keep_places, (one,)), (each.sweep, ()), (each.near_rows, (one, 1)):
             raises(chtab.ChtabError, call, *words, told="the network is closed")
         raises(chtab.ChtabError, library.Handle(library.loaded(make())).open_like, FIRST.read_bytes(), each, 5, told="the network is closed")

@@ -16,6 +16,7 @@ import pytest
 
 from helpers import ways
 from helpers.commands import raises
+from helpers.handles import route
 from helpers.in_process import make
 from helpers.maps import COUNTRY
 from helpers.marks import needs
@@ -205,19 +206,18 @@ def test_a_question_within_another_spoils_none():
 
     handle = library.Handle(library.loaded(make()))
     handle.open(FIRST.read_bytes(), FIRST_SAVED.read_bytes())
-    find, inner = handle.find, []
+    ask, inner = handle.ask, []
 
     def asks_in_between(*words):
-        status, handle.find = find(*words), find
-        inner.append(handle.route(1, 2))
+        status, handle.ask = ask(*words), ask
+        inner.append(route(handle, 1, 2))
         return status
 
-    for room in 1_024, 1, 2:
-        handle.find = asks_in_between
-        weight, nodes = handle.route(0, 2)
+    for _ in range(3):
+        handle.ask = asks_in_between
+        weight, nodes = route(handle, 0, 2)
         assert (weight, nodes.tolist()) == (9, [0, 1, 2]), (weight, nodes)
         assert (inner[-1][0], inner[-1][1].tolist()) == (5, [1, 2]), inner[-1]
-        handle.room = room
 
 
 def test_threads_share_one_handle():
@@ -230,13 +230,13 @@ def test_threads_share_one_handle():
     handle.open(pathlib.Path(GRAPH).read_bytes(), ways.saved_for(GRAPH).read_bytes())
     draw, wrong = numpy.random.default_rng(2), []
     asked = [draw.integers(0, handle.nodes(), (2, 30)).astype(numpy.uint32) for _ in range(4)]
-    owed = [(handle.table(*each), [handle.route(*map(int, pair))[1].tolist() for pair in each.T]) for each in asked]
+    owed = [(handle.table(*each), [route(handle, *map(int, pair))[1].tolist() for pair in each.T]) for each in asked]
 
     def work(place, until_closed):
         own, (table, routes) = asked[place], owed[place]
         try:
             while time.monotonic() < until or until_closed:
-                found = [handle.route(*map(int, pair))[1].tolist() for pair in own.T]
+                found = [route(handle, *map(int, pair))[1].tolist() for pair in own.T]
                 if not ((handle.table(*own) == table).all() and (handle.distances(*own) == table.diagonal()).all() and found == routes):
                     wrong.append(place)
         except chtab.ChtabError as fault:

@@ -39,8 +39,6 @@ KINDS = (
     "size too large", "too many lines", "too few lines", "order", "pair", "bound", "base", "middle", "arc", "lower",
 )
 GONE = "the network is closed"
-# How many nodes of a route have room at first.
-ROOM = 1_024
 # Up to this many pairs are asked for without arrays.
 FEW = 16
 
@@ -48,6 +46,7 @@ FEW = 16
 # Nodes as the library counts them, from 0 on; and unsigned numbers.
 Nodes: TypeAlias = "NDArray[numpy.uint32]"
 Unsigned: TypeAlias = "NDArray[numpy.uint64]"
+NODE, NUMBER = numpy.uint32, numpy.uint64
 
 
 class Block(ctypes.Structure):
@@ -154,6 +153,16 @@ def address(array: NDArray[Any], kind: DTypeLike, is_written: bool = False) -> i
     return found
 
 
+def column(array: NDArray[Any], kind: DTypeLike) -> tuple[int, int]:
+    """The address and the length of an array that a call reads."""
+    return address(array, kind), len(array)
+
+
+def written(array: NDArray[Any], kind: DTypeLike) -> tuple[int, int]:
+    """The same of an array that a call writes to."""
+    return address(array, kind, True), len(array)
+
+
 def nodes_of(numbers: ArrayLike, count: int) -> Nodes:
     """The nodes of numbers from 1 to `count`, as the library counts them from 0 on: uint32, contiguous. Any other number is refused."""
     numbers = numpy.asarray(numbers)
@@ -191,7 +200,7 @@ class Handle:
 
     def __init__(self, calls: ctypes.CDLL) -> None:
         self.calls, self.block, self.lock = calls, Block(), threading.RLock()
-        self.at, self.room = ctypes.byref(self.block), ROOM
+        self.at = ctypes.byref(self.block)
         # Scratch space for few distances, for one question at a time.
         self.sources, self.targets, self.weights = (ctypes.c_uint32 * FEW)(), (ctypes.c_uint32 * FEW)(), (ctypes.c_int64 * FEW)()
         self.rooms = ctypes.addressof(self.sources), ctypes.addressof(self.targets), ctypes.addressof(self.weights)
@@ -293,18 +302,22 @@ class Handle:
     def write_text(self, size: ctypes.c_uint64, text: NDArray[numpy.uint8]) -> int:
         return self.calls.chtab_save(self.at, ctypes.byref(size), address(text, numpy.uint8, True), len(text))
 
-    def distances(self, sources: Nodes, targets: Nodes) -> Integers:
-        """The distances from each source to the target beside it, columns of uint32, nodes from 0 on: int64, -1 where there is no walk."""
-        out = numpy.empty(len(sources), numpy.int64)
-        places = address(sources, numpy.uint32), address(targets, numpy.uint32), address(out, numpy.int64, True)
+    def ask(self, call: Callable[..., int], *given: Any) -> int:
+        """Makes a call with numbers and columns, each an address and a length; its status."""
+        words = [word for each in given for word in (each if type(each) is tuple else (each,))]
         with self.lock:
-            status = self.calls.chtab_distances(self.at, places[0], len(sources), places[1], len(targets), places[2], len(out))
-        see_that_done(status)
+            return call(self.at, *words)
+
+    def distances(self, sources: Nodes, targets: Nodes) -> Integers:
+        """The distances from sources to the targets beside them, nodes from 0 on; -1 for no walk."""
+        out = numpy.empty(len(sources), numpy.int64)
+        places = column(sources, NODE), column(targets, NODE)
+        see_that_done(self.ask(self.calls.chtab_distances, *places, written(out, numpy.int64)))
         return out
 
     def few_distances(self, sources: Sequence[int], targets: Sequence[int]) -> list[int] | None:
-        """The same for at most `FEW` pairs, in lists of numbers from 0 to 2^32 - 1, in a tenth of the time, because it makes and checks no array.
-        Returns None to the handler of a signal that asks in the middle of such a question, which has to use arrays."""
+        """The same for at most `FEW` pairs, in lists, in a tenth of the time, because it makes and
+        checks no array; None to the handler of a signal in the middle of such a question."""
         count = len(sources)
         with self.lock:
             if self.is_asked:
@@ -312,7 +325,9 @@ class Handle:
             try:
                 self.is_asked = True
                 self.sources[:count], self.targets[:count] = list(sources), list(targets)
-                status = self.calls.chtab_distances(self.at, self.rooms[0], count, self.rooms[1], count, self.rooms[2], count)
+                out, into, weights = self.rooms
+                status = self.calls.chtab_distances(
+                    self.at, out, count, into, count, weights, count)
                 found = self.weights[:count]
             finally:
                 self.is_asked = False
@@ -321,145 +336,104 @@ class Handle:
         return found
 
     def table(self, sources: Nodes, targets: Nodes, limit: int = NO_LIMIT) -> Integers:
-        """The distances from each source to each target (k, l), -1 where there is no walk, or none of at most `limit`."""
+        """The distances from each source to each target (k, l), -1 for no walk within the limit."""
         if not 0 <= limit <= NO_LIMIT:
             raise ValueError("a limit is a number of 64 bits")
         out = numpy.empty(len(sources) * len(targets), numpy.int64)
-        places = address(sources, numpy.uint32), address(targets, numpy.uint32), address(out, numpy.int64, True)
-        with self.lock:
-            status = self.calls.chtab_table(self.at, places[0], len(sources), places[1], len(targets), limit, places[2], len(out))
-        see_that_done(status)
+        places = column(sources, NODE), column(targets, NODE)
+        see_that_done(self.ask(self.calls.chtab_table, *places, limit, written(out, numpy.int64)))
         return out.reshape(len(sources), len(targets))
 
-    def route(self, source: int, target: int) -> tuple[int, Nodes]:
-        """The weight of a route between two nodes, from 0 on, and its nodes, uint32; -1 and no nodes where there is no walk."""
-        if not (0 <= source < 2**32 and 0 <= target < 2**32):
-            raise ValueError("a node is a number of 32 bits")
-        # The output belongs to this call, because the handler of a signal may ask before it is read.
-        found, nodes = Found(), numpy.empty(self.room, numpy.uint32)
-        with self.lock:
-            status = self.find(source, target, found, nodes)
-            if status == TOO_SHORT:
-                self.room = max(found.nodes, 2 * self.room)
-                nodes = numpy.empty(self.room, numpy.uint32)
-                status = self.find(source, target, found, nodes)
-        see_that_done(status)
-        return -1 if found.weight == NO_DISTANCE else found.weight, nodes[:found.nodes].copy()
-
-    def find(self, source: int, target: int, found: Found, nodes: Nodes) -> int:
-        """Writes the route, if its nodes fit."""
-        at = address(nodes, numpy.uint32, True)
-        return self.calls.chtab_route(self.at, source, target, ctypes.byref(found), at, len(nodes))
-
-    def routes(self, sources: Nodes, targets: Nodes, room: int) -> tuple[Integers, Integers, Nodes]:
-        """The routes from each source to the target beside it, columns of uint32, nodes from 0 on: of as many of the first pairs as fit into `room`
-        nodes. Returns their weights, int64, -1 where there is no walk; the ends of their nodes, int64; and the nodes, uint32."""
-        return self.find_many(sources, targets, numpy.empty(room, numpy.uint32), numpy.empty(0, numpy.uint32))[:3]
-
-    def routes_with_lines(self, sources: Nodes, targets: Nodes, room: int) -> tuple[Integers, Integers, Nodes, Nodes]:
-        """The same, and for each node the line of the arc that leads to it, uint32: its place among the arcs of the graph's file, from 0 on. For the
-        first node of a route it is `NO_LINE`."""
-        return self.find_many(sources, targets, numpy.empty(room, numpy.uint32), numpy.empty(room, numpy.uint32))
-
-    def find_many(self, sources: Nodes, targets: Nodes, nodes: Nodes, lines: Nodes) -> tuple[Integers, Integers, Nodes, Nodes]:
-        """Writes the routes of the first pairs, as many as fit."""
-        count = ctypes.c_uint64()
-        weights, ends = numpy.empty(len(sources), numpy.int64), numpy.empty(len(sources), numpy.int64)
-        given: list[Any] = [address(sources, numpy.uint32), len(sources), address(targets, numpy.uint32), len(targets), ctypes.byref(count)]
-        columns: list[tuple[NDArray[Any], type]] = [(weights, numpy.int64), (ends, numpy.int64), (nodes, numpy.uint32), (lines, numpy.uint32)]
-        for array, kind in columns:
-            given += [address(array, kind, True), len(array)]
-        with self.lock:
-            status = self.calls.chtab_routes(self.at, *given)
+    def routes_with_lines(
+        self, sources: Nodes, targets: Nodes, room: int,
+    ) -> tuple[Integers, Integers, Nodes, Nodes]:
+        """The routes of as many of the first pairs as fit into `room` nodes: their weights, -1 for
+        no walk, the ends of their nodes, these, and the lines of the graph's file that the arcs to
+        them have, from 0 on; for a first node `NO_LINE`."""
+        count, (weights, ends) = ctypes.c_uint64(), numpy.empty((2, len(sources)), numpy.int64)
+        nodes, lines = numpy.empty((2, room), NODE)
+        status = self.ask(
+            self.calls.chtab_routes, column(sources, NODE), column(targets, NODE),
+            ctypes.byref(count), written(weights, numpy.int64), written(ends, numpy.int64),
+            written(nodes, NODE), written(lines, NODE))
         see_that_done(OK if status == TOO_SHORT else status)
         ends = ends[:count.value]
         end = ends[-1] if len(ends) else 0
         return weights[:count.value], ends, nodes[:end], lines[:end]
 
-    def route_sums(self, sources: Nodes, targets: Nodes, values: Unsigned) -> tuple[Integers, Unsigned]:
-        """The weights of the routes from each source to the target beside it, columns of uint32, nodes from 0 on: int64, -1 where there is no walk;
-        and the sums of the values on the lines of their arcs, uint64, 0 where there is no walk. `values` has one for each arc of the graph's file.
-        Raises a `ValueError` if a sum is 2^64 or more."""
-        count = ctypes.c_uint64()
-        weights, sums = numpy.empty(len(sources), numpy.int64), numpy.empty(len(sources), numpy.uint64)
-        given: list[Any] = []
-        columns: list[tuple[NDArray[Any], type]] = [(sources, numpy.uint32), (targets, numpy.uint32), (values, numpy.uint64)]
-        for array, kind in columns:
-            given += [address(array, kind), len(array)]
-        given += [ctypes.byref(count), address(weights, numpy.int64, True), len(weights), address(sums, numpy.uint64, True), len(sums)]
-        with self.lock:
-            status = self.calls.chtab_route_sums(self.at, *given)
-        see_that_done(status)
+    def route_sums(
+        self, sources: Nodes, targets: Nodes, values: Unsigned,
+    ) -> tuple[Integers, Unsigned]:
+        """The weights of the routes of pairs, -1 for no walk, and the sums of the values of their
+        arcs, 0 for no walk; `values` has one for each arc. A sum of 2^64 is refused."""
+        count, weights = ctypes.c_uint64(), numpy.empty(len(sources), numpy.int64)
+        sums = numpy.empty(len(sources), NUMBER)
+        see_that_done(self.ask(
+            self.calls.chtab_route_sums, column(sources, NODE), column(targets, NODE),
+            column(values, NUMBER), ctypes.byref(count), written(weights, numpy.int64),
+            written(sums, NUMBER)))
         return weights, sums
 
-    def flows(self, sources: Nodes, targets: Nodes, demands: Unsigned, lines: int) -> tuple[int, Unsigned]:
-        """The number of pairs without a walk, of the sources and the targets beside them, columns of uint32, nodes from 0 on; and the flow on each of
-        the `lines` of the graph's file, uint64: the sum of the demands of the pairs whose routes take its arc. Raises a `ValueError` if a flow is more
-        than 2^63."""
+    def flows(
+        self, sources: Nodes, targets: Nodes, demands: Unsigned, lines: int,
+    ) -> tuple[int, Unsigned]:
+        """The number of pairs without a walk, and the flow on each of the `lines` of the graph: the
+        demands of the pairs whose routes take its arc. A flow of more than 2^63 is refused."""
         return self.flows_by(self.calls.chtab_flows, sources, targets, demands, lines)
 
-    def flows_table(self, sources: Nodes, targets: Nodes, demands: Unsigned, lines: int) -> tuple[int, Unsigned]:
-        """The same of each source with each target, by the demands of all cells, uint64, row after row."""
+    def flows_table(
+        self, sources: Nodes, targets: Nodes, demands: Unsigned, lines: int,
+    ) -> tuple[int, Unsigned]:
+        """The same of each source with each target, by the demands of cells row after row."""
         return self.flows_by(self.calls.chtab_flows_table, sources, targets, demands, lines)
 
-    def flows_by(self, call: Callable[..., int], sources: Nodes, targets: Nodes, demands: Unsigned, lines: int) -> tuple[int, Unsigned]:
+    def flows_by(
+        self, call: Callable[..., int], sources: Nodes, targets: Nodes, demands: Unsigned,
+        lines: int,
+    ) -> tuple[int, Unsigned]:
         """What a call of the library gives of flows."""
-        missed, flows = ctypes.c_uint64(), numpy.empty(lines, numpy.uint64)
-        given: list[Any] = []
-        columns: list[tuple[NDArray[Any], type]] = [(sources, numpy.uint32), (targets, numpy.uint32), (demands, numpy.uint64)]
-        for array, kind in columns:
-            given += [address(array, kind), len(array)]
-        given += [ctypes.byref(missed), address(flows, numpy.uint64, True), len(flows)]
-        with self.lock:
-            status = call(self.at, *given)
+        missed, flows = ctypes.c_uint64(), numpy.empty(lines, NUMBER)
+        places = column(sources, NODE), column(targets, NODE), column(demands, NUMBER)
+        status = self.ask(call, *places, ctypes.byref(missed), written(flows, NUMBER))
         if status == SUM_TOO_LARGE:
             raise ValueError("a flow is more than 2^63")
         see_that_done(status)
         return missed.value, flows
 
-    def keep_places(self, places: Nodes, limit: int = NO_LIMIT, count: int = ALL, is_from: bool = False) -> None:
-        """Searches from places, a column of uint32, nodes from 0 on, and keeps the result in place of an earlier one: for rows of at most `count`
-        places, within `limit`, by the distances to the places or from them."""
+    def keep_places(
+        self, places: Nodes, limit: int = NO_LIMIT, count: int = ALL, is_from: bool = False,
+    ) -> None:
+        """Searches from places, and keeps the result for rows of at most `count` places within the
+        limit, by the distances to the places or from them."""
         if not (0 <= limit <= NO_LIMIT and 0 <= count <= ALL):
             raise ValueError("a limit is a number of 64 bits, and a count one of 32")
-        at = address(places, numpy.uint32)
-        with self.lock:
-            status = self.calls.chtab_near_places(self.at, int(is_from), at, len(places), limit, count)
-        see_that_done(status)
+        call, own = self.calls.chtab_near_places, column(places, NODE)
+        see_that_done(self.ask(call, int(is_from), own, limit, count))
 
     def sweep(self) -> None:
         """Makes the rows of all nodes to the kept places, and keeps these rows too."""
-        with self.lock:
-            status = self.calls.chtab_near_sweep(self.at)
-        see_that_done(status)
+        see_that_done(self.ask(self.calls.chtab_near_sweep))
 
     def near_rows(self, sources: Nodes, pairs: int) -> tuple[Integers, Integers, Integers]:
-        """The rows of the first sources, a column of uint32, nodes from 0 on, to the kept places: of as many sources as fit into this many pairs.
-        Returns the end of each row, its weights and its places, int64."""
+        """The rows to the kept places of as many of the first sources as fit into so many pairs: the
+        end of each row, the weights and the places."""
         rows, ends = ctypes.c_uint64(), numpy.empty(len(sources), numpy.int64)
-        weights, places = numpy.empty(pairs, numpy.int64), numpy.empty(pairs, numpy.uint32)
-        given: list[Any] = [address(sources, numpy.uint32), len(sources), ctypes.byref(rows)]
-        columns: list[tuple[NDArray[Any], type]] = [(ends, numpy.int64), (weights, numpy.int64), (places, numpy.uint32)]
-        for array, kind in columns:
-            given += [address(array, kind, True), len(array)]
-        with self.lock:
-            status = self.calls.chtab_near_rows(self.at, *given)
+        weights, places = numpy.empty(pairs, numpy.int64), numpy.empty(pairs, NODE)
+        status = self.ask(
+            self.calls.chtab_near_rows, column(sources, NODE), ctypes.byref(rows),
+            written(ends, numpy.int64), written(weights, numpy.int64), written(places, NODE))
         see_that_done(OK if status == TOO_SHORT else status)
         ends = ends[:rows.value]
         end = ends[-1] if len(ends) else 0
         return ends, weights[:end], places[:end].astype(numpy.int64)
 
     def near_sums(self, sources: Nodes, values: Unsigned, limits: Unsigned) -> Unsigned:
-        """The sums over the rows of sources, a column of uint32, nodes from 0 on, to the kept places: for each source and each limit the sum of the
-        values of the places within the limit, uint64 (n, m). Raises a `ValueError` if a sum is 2^64 or more."""
-        count, sums = ctypes.c_uint64(), numpy.empty(len(sources) * len(limits), numpy.uint64)
-        given: list[int] = []
-        columns: list[tuple[NDArray[Any], type]] = [(sources, numpy.uint32), (values, numpy.uint64), (limits, numpy.uint64)]
-        for array, kind in columns:
-            given += [address(array, kind), len(array)]
-        with self.lock:
-            status = self.calls.chtab_near_sums(self.at, *given, ctypes.byref(count), address(sums, numpy.uint64, True), len(sums))
-        see_that_done(status)
+        """For each source and limit the sum of the values of the kept places in its row within the
+        limit (n, m). A sum of 2^64 is refused."""
+        count, sums = ctypes.c_uint64(), numpy.empty(len(sources) * len(limits), NUMBER)
+        given = column(sources, NODE), column(values, NUMBER), column(limits, NUMBER)
+        call = self.calls.chtab_near_sums
+        see_that_done(self.ask(call, *given, ctypes.byref(count), written(sums, NUMBER)))
         return sums.reshape(len(sources), len(limits))
 
 

@@ -29,12 +29,7 @@ if TYPE_CHECKING:
 
 # The files of a network in its folder.
 GRAPH, SAVED, COORDINATES, BENDS, LABELS = (
-    "network.gr",
-    "network.ch",
-    "network.co",
-    "network.bends",
-    "network.json",
-)
+    "network.gr", "network.ch", "network.co", "network.bends", "network.json")
 NAMES, STREETS, WAYS = "network.nodes", "network.names", "network.ways"
 # The text of a hierarchy mostly has fewer bytes than this for each node and arc.
 BYTES = 64
@@ -64,8 +59,7 @@ def begun(folder: Path) -> Iterator[str]:
 def see_that_free(folder: str) -> None:
     if os.path.lexists(folder) and not (os.path.isdir(folder) and not os.listdir(folder)):
         raise FileExistsError(
-            f"{folder} is there and is not empty; Network.open opens the network of a folder"
-        )
+            f"{folder} is there and is not empty; Network.open opens the network of a folder")
 
 
 def write(
@@ -76,22 +70,18 @@ def write(
     built, and where progress is reported. Returns a handle of the network if it was built in this
     process."""
     graph, saved, coordinates, bends, labels = (
-        os.path.join(folder, name) for name in (GRAPH, SAVED, COORDINATES, BENDS, LABELS)
-    )
+        os.path.join(folder, name) for name in (GRAPH, SAVED, COORDINATES, BENDS, LABELS))
     comments = [f"Weights are {arcs.base}."] * bool(arcs.base) + (
         [] if arcs.scale is None else [files.scale_comment(arcs.scale)]
     )
     with naming(graph):
         files.write_graph_columns(
-            graph, arcs.labels.count, (arcs.tails, arcs.heads, arcs.weights), comments
-        )
+            graph, arcs.labels.count, (arcs.tails, arcs.heads, arcs.weights), comments)
     with naming(coordinates):
         if arcs.places is not None:
             files.write_coordinate_columns(
-                coordinates,
-                [numpy.rint(part * 1e6).astype(numpy.int64) for part in arcs.places],
-                arcs.turns,
-            )
+                coordinates, [numpy.rint(part * 1e6).astype(numpy.int64) for part in arcs.places],
+                arcs.turns)
         if arcs.beside is not None:
             arcs.beside.copy_to(folder)
     with naming(bends):
@@ -119,20 +109,10 @@ def labelling_of(arcs: Arcs, digest: str) -> files.Labelling:
     """The content of the file of labels for arcs whose graph has this SHA-256."""
     labels = arcs.labels.values.tolist() if isinstance(arcs.labels, Labels) else None
     rows, index = (
-        None if column is None else column.tolist() for column in (arcs.arcs, arcs.index)
-    )
+        None if column is None else column.tolist() for column in (arcs.arcs, arcs.index))
     return files.Labelling(
-        labels,
-        arcs.scale,
-        arcs.rounding,
-        digest,
-        arcs.unit,
-        arcs.rows,
-        rows,
-        arcs.keys,
-        arcs.ways,
-        index,
-    )
+        labels, arcs.scale, arcs.rounding, digest, arcs.unit, arcs.rows, rows, arcs.keys, arcs.ways,
+        index)
 
 
 class Beside:
@@ -228,9 +208,7 @@ def read_labelling(path: str, graph: str) -> files.Labelling:
     the graph."""
     found = files.read_labels(path)
     if (
-        found.labels is not None
-        and len(found.labels) != files.count_nodes(graph)
-        or found.graph != digest_of(graph)
-    ):
+        found.labels is not None and len(found.labels) != files.count_nodes(graph)
+        or found.graph != digest_of(graph)):
         raise FileFault(f"{path}: not the labels of {graph}")
     return found

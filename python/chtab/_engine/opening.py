@@ -115,8 +115,7 @@ def library_of(program: str, choice: Path | bool | None) -> str:
     if found is None:
         why = (
             f"there is no {library.NAME} beside the program {program}, or it is older than the "
-            "sources"
-        )
+            "sources")
         raise ChtabError(f"{why}; in a checkout `packaging/library` makes it, by gcc")
     return found
 
