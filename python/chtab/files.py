@@ -4,13 +4,13 @@ library.
 | file | what it holds | read | write |
 |---|---|---|---|
 | `.gr` | a graph: arcs in order | `read_graph` | `write_graph` |
-| `.co` | longitudes and latitudes of nodes, in millionths of a degree | `read_coordinates` | `write_coordinates` |
+| `.co` | places of nodes in millionths of a degree | `read_coordinates` | `write_coordinates` |
 | `.bends` | the points of each arc between its ends | `read_bends` | `write_bends` |
-| `.nodes` | a line for each node: its name, in OpenStreetMap or elsewhere | `read_names` | `write_names` |
+| `.nodes` | the name of each node, in OpenStreetMap or elsewhere | `read_names` | `write_names` |
 | `.p2p` | queries: pairs of nodes | `read_queries` | `write_queries` |
 | `.ss` | a list of nodes: sources or targets | `read_list` | `write_list` |
-| `.names` | the street of each arc, and the side of the road that is driven on | `read_streets` | `write_streets` |
-| `.ways` | OpenStreetMap's number of the way that each arc is a part of | `read_ways` | `write_ways` |
+| `.names` | the street of each arc, and the driving side | `read_streets` | `write_streets` |
+| `.ways` | the number of each arc's way in OpenStreetMap | `read_ways` | `write_ways` |
 | places | a longitude, a latitude and a name in each line | `read_places` | |
 | text of `dist` | distances and routes | `read_answers` | |
 | `.json` | the owner's labels of the nodes of a network | `read_labels` | `write_labels` |

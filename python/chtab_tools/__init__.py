@@ -23,8 +23,9 @@ if TYPE_CHECKING:
 
 # The names of the commands: those of the modules in this folder, of the maps and of the service.
 NAMES = "blocks", "nearest", "osm_to_gr", "page", "picture", "reach", "to_geojson", "trips"
-SAVED = "read the hierarchy of the graph from FILE, as `chtab save` writes it, and check it; that of another graph is refused, often by " \
-    "`chtab: saved line 1: size too large`"
+SAVED = (
+    "read the hierarchy of the graph from FILE, as `chtab save` writes it, and check it; that of "
+    "another graph is refused, often by `chtab: saved line 1: size too large`")
 
 
 class Terminated(BaseException):

@@ -61,7 +61,7 @@ class Network:
             raise files.FileFault(f"the coordinate file has no node {node}")
         return self.places[node]
 
-    def told(self, weight: float) -> str:
+    def weight_text(self, weight: float) -> str:
         return f"{weight / self.share:.1f} {self.unit}" if self.unit else str(weight)
 
 
@@ -93,7 +93,8 @@ def stroke(segments: Iterable[tuple[At, ...]], colour: str, pixels: float) -> st
 
 
 def circle(at: At, colour: str, fill: str) -> str:
-    return f'<circle cx="{at[0]}" cy="{at[1]}" r="{5 * FINE}" fill="{fill}" stroke="{colour}" stroke-width="{2 * FINE}"/>'
+    place, stroke = f'cx="{at[0]}" cy="{at[1]}"', f'stroke="{colour}" stroke-width="{2 * FINE}"'
+    return f'<circle {place} r="{5 * FINE}" fill="{fill}" {stroke}/>'
 
 
 def roads(network: Network) -> list[str]:
@@ -140,7 +141,7 @@ def draw_routes(
             shapes.append(stroke(segments, colour, width))
         marks += [circle(line[0], colour, "#ffffff"), circle(line[-1], colour, colour)]
         start, end = (names.get(node, str(node)) for node in (route.source, route.target))
-        legend.append((colour, f"{start} to {end}: {network.told(route.weight or 0)}"))
+        legend.append((colour, f"{start} to {end}: {network.weight_text(route.weight or 0)}"))
     return shapes + marks, legend
 
 
@@ -188,7 +189,8 @@ def draw_bands(
     legend: Legend = []
     for place, band in reversed(list(enumerate(banded(network, graph, times, borders)))):
         shapes.append(stroke(band, colour_of(place, count), 1.6))
-        legend.insert(0, (colour_of(place, count), f"up to {network.told(borders[place + 1])}"))
+        reached = f"up to {network.weight_text(borders[place + 1])}"
+        legend.insert(0, (colour_of(place, count), reached))
     return shapes, [*legend, ("#a3a39b", "not reached")]
 
 
@@ -225,7 +227,8 @@ def draw_near(
 
 
 def text(x: float, y: float, words: str, size: int = 13) -> str:
-    return f'<text x="{x * FINE:.0f}" y="{y * FINE:.0f}" font-size="{size * FINE}">{html.escape(words)}</text>'
+    place = f'x="{x * FINE:.0f}" y="{y * FINE:.0f}"'
+    return f'<text {place} font-size="{size * FINE}">{html.escape(words)}</text>'
 
 
 def title_lines(title: str, pixels: float, size: int) -> list[str]:
@@ -249,7 +252,8 @@ def scale_bar(network: Network, left: float, bottom: float) -> list[str]:
 def legend_lines(legend: Legend, left: float, top: float) -> Iterator[str]:
     for place, (colour, words) in enumerate(legend):
         y = top + 20 * place
-        line = f'x1="{left * FINE:.0f}" x2="{(left + 22) * FINE:.0f}" y1="{(y - 4) * FINE}" y2="{(y - 4) * FINE}"'
+        line = f'x1="{left * FINE:.0f}" x2="{(left + 22) * FINE:.0f}"'
+        line += f' y1="{(y - 4) * FINE}" y2="{(y - 4) * FINE}"'
         yield f'<line {line} stroke="{colour}" stroke-width="{4 * FINE}"/>'
         yield text(left + 30, y, words)
 

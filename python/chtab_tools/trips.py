@@ -42,7 +42,10 @@ def words_of(arguments: Sequence[str]) -> argparse.Namespace:
     kinds = parser.add_mutually_exclusive_group()
     kinds.add_argument(
         "--table", action="store_true", help="write CSV with a row and a column for each place")
-    kinds.add_argument("--geojson", action="store_true", help="write a line for each trip that has a way, with both names, its weight and its metres")
+    kinds.add_argument(
+        "--geojson", action="store_true",
+        help="write a line for each trip that has a way, with both names, its weight and its "
+             "metres")
     cli.add_network(parser)
     parser.add_argument("places", metavar="PLACES", nargs="?", help="the places (standard input)")
     return parser.parse_intermixed_args(arguments)

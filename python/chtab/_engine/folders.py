@@ -19,19 +19,10 @@ SCRIPT = 'trap "" HUP INT TERM; read -r line || rm -rf -- "$1"'
 
 
 class Folder:
-    """A folder that is removed by `remove`, when this object is no longer used, at the end of the
-    interpreter, and when the process is killed. A forked process leaves it alone.
+    """A folder that is removed by `remove`, with this object, and even if the process is killed."""
 
-    For the last case a shell outlives the process. It has a process group of its own, and waits for
-    the end of a pipe, which comes when all processes that could write to the pipe are gone. Forked
-    processes therefore close their end of it.
-
-    Parameters
-    ----------
-    path : str, optional
-        Where to make it; by default among the system's temporary folders.
-    """
-
+    # If it is killed, a shell of a process group of its own outlives it, and waits for the end of a
+    # pipe: until all processes that could write to it are gone. Forked ones close their end of it.
     def __init__(self, path: str | None = None) -> None:
         if path is not None:
             os.mkdir(path)

@@ -44,8 +44,8 @@ class computed_once(Generic[Value]):
     """A property that is computed when it is first asked for, without a lock, and then kept."""
 
     # Before Python 3.12 `functools.cached_property` holds one lock for all objects of a class while
-    # it computes, for which a process that is forked meanwhile would wait for ever. Without one, two
-    # threads that ask first at once both compute, and get the same object.
+    # it computes, for which a process that is forked meanwhile would wait for ever. Without one,
+    # two threads that ask first at once both compute, and get the same object.
     def __init__(self, compute: Callable[[Any], Value]) -> None:
         self.compute, self.__doc__ = compute, compute.__doc__
 

@@ -333,7 +333,8 @@ class InProcess:
         self.in_parts(len(sources), ROUTES, ask, "routes", "pairs", progress)
         nothing: Any = numpy.zeros((3, 0), numpy.int64)
         in_order = [each for _, each in sorted(made, key=lambda each: each[0])]
-        weights, counts, lines = map(numpy.concatenate, zip(nothing, *in_order))
+        columns: Any = zip(nothing, *in_order)
+        weights, counts, lines = (numpy.concatenate(column) for column in columns)
         return Paths(weights, numpy.maximum(counts - 1, 0), lines.astype(numpy.int64))
 
     def sums(

@@ -50,11 +50,8 @@ class Alive:
 
 
 def interruptible(searches: int, call: Callable[..., Value], *words: Any) -> Value:
-    """Returns the value of a call that makes that many searches. If a signal breaks off the wait,
-    the call ends by itself later, and its value is dropped.
-
-    This doesn't use `threading.Thread`, because its `start` waits for ever if there is no memory.
-    """
+    """The value of a call of so many searches; if a signal breaks off the wait, it is dropped."""
+    # `threading.Thread` isn't used, because its `start` waits for ever if there is no memory.
     if searches < LONG or threading.current_thread() is not threading.main_thread():
         return call(*words)
     course, alive = Course(), Alive()

@@ -97,11 +97,8 @@ CALLS = {
 
 
 def beside(program: str) -> str | None:
-    """The library beside a program; None if there is none.
-
-    It is in the folder of the program (in a wheel); where `packaging/library` puts it in a checkout, unless sources of the crates are newer; or where
-    `./install` puts it, in the folder `lib` whose folder `chtab` has the program.
-    """
+    """The library beside a program, of a wheel, of `packaging/library` unless sources are newer, or
+    where `./install` puts it; None if there is none."""
     folder = os.path.dirname(os.path.realpath(program))
     places = [folder] if os.path.basename(folder) != "chtab" else [folder, os.path.dirname(folder)]
     found = [path for path in (os.path.join(place, NAME) for place in places) if os.path.isfile(path)]
@@ -180,8 +177,7 @@ def nodes_of(numbers: ArrayLike, count: int) -> Nodes:
 def columns_of(
     count: int, tails: ArrayLike, heads: ArrayLike, weights: ArrayLike,
 ) -> tuple[Nodes, Nodes, Unsigned]:
-    """The columns of arcs as the library takes them: nodes from 1 to `count` as it counts them, and
-    weights of uint64."""
+    """The columns of arcs as the library takes them: nodes from 0 on, and weights of uint64."""
     unsigned = numpy.asarray(weights).astype(numpy.uint64, order="C")
     return nodes_of(tails, count), nodes_of(heads, count), unsigned
 
@@ -462,9 +458,8 @@ def see_that_done(status: int) -> None:
 
 
 def given_bytes(saved: bytes | None) -> bytes:
-    """The bytes of a saved hierarchy, as the library takes them; none where it builds one. An empty
-    file has to be a fault, and without any bytes the library would build a hierarchy. So it gets an
-    empty line in its place."""
+    """The bytes of a saved hierarchy, none where the library builds one."""
+    # An empty file has to be a fault, and without any bytes a hierarchy would be built.
     return b"" if saved is None else saved or b"\n"
 
 

@@ -17,8 +17,9 @@ if TYPE_CHECKING:
 # `install`, or a folder of Python's packages.
 PACKAGE = pathlib.Path(__file__).parent.parent
 ABOVE = PACKAGE.resolve().parent
-LACKING = "the program chtab is neither beside this package nor beside the script that runs nor on the path; " \
-    "name it: `--program FILE` for a command, `program=` from Python"
+LACKING = (
+    "the program chtab is neither beside this package nor beside the script that runs nor on the "
+    "path; name it: `--program FILE` for a command, `program=` from Python")
 
 
 def program_of(path: Path | None = None) -> str:

@@ -47,33 +47,25 @@ class Columns:
 
 @dataclass(frozen=True)
 class Arcs:
-    """The arcs of a graph: arc k leads from node `tails[k]` to node `heads[k]` and has the weight
-    `weights[k]`, all int64.
-
-    The weights are those of the caller times `scale`, rounded by at most `rounding`, and `unit` is
-    the unit of the caller's weights, or None. `places` are the longitudes and latitudes of the
-    nodes in degrees, or None. `bends` has the points of arcs between their ends, as
-    `files.read_bends` gives them. `rows` is the number of the caller's rows; arc k belongs to row
-    `arcs[k]`, or to row k modulo `rows`. `keys` has the keys of rows, `ways` their ways of
-    OpenStreetMap, and `index` their labels, as `row_index.kept` gives them. `base` is the unit of
-    the graph's weights, and `beside` has further files of the network that are copied, or is None.
-    `turns` are the comments about nodes where turns are restricted, as `files.Coordinates.turns`
-    gives them.
-    """
+    """The arcs of a graph between nodes from 1 on, and what a network knows of them."""
 
     labels: Labels | Numbers
     tails: Integers
     heads: Integers
     weights: Integers
+    # The caller's weights, in this unit, were multiplied by `scale`, and rounded by so much.
     scale: float | None
     rounding: float
     unit: str | None
+    # Longitudes and latitudes of nodes in degrees, and points of arcs between their ends.
     places: tuple[Floats, Floats] | None
     bends: dict[int, list[Point]]
+    # The number of the caller's rows, and the row of each arc if it isn't arc modulo `rows`.
     rows: int
     arcs: Integers | None = None
     keys: list[Any] | None = None
     ways: list[list[int]] | None = None
+    # The unit of the graph, files that are copied, what rows are called, comments about turns.
     base: str = ""
     beside: Any = None
     index: LabelArray | None = None

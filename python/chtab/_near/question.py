@@ -145,9 +145,8 @@ class NearRows:
             start += len(ends)
 
     def sums(self, values: NDArray[numpy.uint64], limits: Sequence[int]) -> Floats:
-        """For each source, column and limit the sum of the values of the targets within the limit,
-        float64 (n, c, m). The values are whole numbers, uint64 (l, c), and the sum of each column
-        is small enough to be exact as a float."""
+        """For each source, column and limit the sum of the values (l, c) of the targets within it
+        (n, c, m); the values are whole numbers, whose sums are exact as floats."""
         columns = [numpy.ascontiguousarray(column) for column in values.T]
         within = numpy.array(limits, numpy.uint64)
         found = numpy.zeros((len(self.sources), len(columns), len(limits)))

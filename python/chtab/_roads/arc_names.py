@@ -109,9 +109,11 @@ class ArcNames:
             BOTH: self.of_both, NODE: self.of_nodes, PAIR: self.of_tuples, EDGE: self.of_tuples,
             OTHER: self.of_others,
         }
-        found = all_of(
-            functools.partial(finders[kind], name, numpy.array(own), [names[place] for place in own])
+        calls = (
+            functools.partial(
+                finders[kind], name, numpy.array(own), [names[place] for place in own])
             for kind, own in by_kind.items())
+        found = all_of(calls)
         arcs, places = (numpy.concatenate(column) for column in zip(NOTHING, *found))
         order = numpy.argsort(places, kind="stable")
         return Found(arcs[order], places[order])

@@ -108,7 +108,8 @@ def components_of(layers: Layers) -> Integers:
     """The strongly connected component of each crossing, 0 for the largest, 1 for the next, .."""
     nodes = layers.all_nodes
     ends = (layers.crossings[numpy.asarray(column)] for column in layers.graph[1:3])
-    return by_size(len(nodes), *map(nodes.searchsorted, ends), "strong")
+    tails, heads = (nodes.searchsorted(column) for column in ends)
+    return by_size(len(nodes), tails, heads, "strong")
 
 
 def by_size(count: int, tails: Integers, heads: Integers, kind: str) -> Integers:

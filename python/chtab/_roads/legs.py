@@ -82,16 +82,14 @@ class Traces(NamedTuple):
 
 
 class Pieces(NamedTuple):
-    """What legs lead along, one leg after the other: roads from one part to another, and their
-    weights. An arc that leads along no road has the road `NONE`. Those of leg k are from
-    `firsts[k]` to before `firsts[k + 1]`. `arcs` has the arc of each, `NONE` if it is a part of a
-    road at the start or the end of a leg, and `heads` the node at its end, 0 at the end of a
-    leg."""
+    """What legs lead along: leg k over the pieces `firsts[k]` to `firsts[k + 1] - 1`."""
 
+    # Roads, `NONE` for an arc along none, from one part to another, and the weights.
     roads: Integers
     starts: Floats
     ends: Floats
     weights: Integers
+    # The arcs, `NONE` on the first and last road of a leg; and the nodes behind, 0 at its end.
     arcs: Integers
     heads: Integers
     firsts: Integers
@@ -99,12 +97,8 @@ class Pieces(NamedTuple):
 
 @dataclass(frozen=True)
 class Legs:
-    """The best ways from spot k of `starts` to spot k of `ends`.
-
-    Leg k has the weight `weights[k]`, -1 if there is no way, and the length `metres[k]`. It is walk
-    k of `walks` over `arcs`, from the end `leaves[k]` of the first spot's road (0 at its first
-    place, 1 at its last) to the end `arrives[k]` of the last spot's; or it stays on a single road.
-    """
+    """The best ways from spot k of `starts` to spot k of `ends`, of a weight -1 if there is none:
+    over walks between ends of roads, as `Between` has them, or along single roads."""
 
     roads: Roads
     starts: Spots

@@ -34,8 +34,9 @@ class RowLabels:
             return None
         places = numpy.arange(len(wanted))
         if self.labels is None:
-            are_here = (wanted >= 0) & (wanted < self.count) if wanted.dtype != object else False
-            return Found(wanted, places) if numpy.all(are_here) else None
+            if wanted.dtype == object or not ((wanted >= 0) & (wanted < self.count)).all():
+                return None
+            return Found(wanted, places)
         if wanted.dtype == self.labels.dtype and numpy.array_equal(wanted, self.labels):
             return Found(places, places)
         found = self.matched(self.labels, wanted)
