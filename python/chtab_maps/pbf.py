@@ -180,11 +180,11 @@ def read(path: str, name: str, survey: Survey, progress: Progress) -> None:
     command = [sys.executable, unpacking.__file__, path]
     with subprocess.Popen(command, stdout=subprocess.PIPE, stderr=subprocess.PIPE) as child:
         try:
-            for text in texts_of(cast(IO[bytes], child.stdout)):
-                lines.take(text)
-                progress.step(text.count(b"\n") - 1)
-            lines = cast(
-                IO[bytes], child.stderr).read().decode("utf-8", "replace").strip().splitlines()
+            for part in texts_of(cast(IO[bytes], child.stdout)):
+                lines.take(part)
+                progress.step(part.count(b"\n") - 1)
+            text = cast(IO[bytes], child.stderr).read().decode("utf-8", "replace")
+            errors = text.strip().splitlines()
         except BaseException:
             child.kill()
             raise
@@ -195,4 +195,4 @@ def read(path: str, name: str, survey: Survey, progress: Progress) -> None:
     if child.returncode:
         raise FileFault(
             f"{name}: cut short or spoilt: "
-            f"{lines[-1] if lines else f'reading it ended with status {child.returncode}'}")
+            f"{errors[-1] if errors else f'reading it ended with status {child.returncode}'}")

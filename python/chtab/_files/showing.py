@@ -26,7 +26,7 @@ class OnMap:
 
     shown_by = ""
     # Whether `to_frame` has a row for each feature.
-    is_framed = False
+    _is_framed = False
 
     if TYPE_CHECKING:
         def to_geojson(self) -> Geojson:
@@ -56,7 +56,7 @@ class OnMap:
             The network has no places of nodes.
         """
         found = geodataframe(self.to_geojson())
-        if self.is_framed:
+        if self._is_framed:
             return with_geometry(self.to_frame(), found.geometry.to_list())
         return found
 

@@ -35,7 +35,7 @@ class Routes(showing.OnMap, collections.abc.Sequence):
     """
 
     # What colours a map.
-    shown_by, is_framed = "weight", True
+    shown_by, _is_framed = "weight", True
 
     def __init__(self, pairs: Integers, paths: Paths, layers: Layers) -> None:
         # The pairs of nodes by their numbers, their paths, and the files of the network.
@@ -233,7 +233,7 @@ class Trip(NamedTuple):
 class TripRoutes(showing.OnMap, list):
     """Trips in the order of their spots: a list of `Trip`, in frames, GeoJSON and pictures."""
 
-    shown_by, is_framed = "weight", True
+    shown_by, _is_framed = "weight", True
 
     def __repr__(self) -> str:
         return f"<{len(self):,} trips>"
