@@ -1,7 +1,8 @@
 """The library for C in this process, by ctypes: `include/chtab.h` describes its calls.
 
-C trusts its caller. Everything is therefore checked here before a call: each array is one of numpy, with the right type of numbers, contiguous,
-aligned for these numbers, and as long as the call assumes; outputs are writable; and nodes are numbers of 32 bits.
+C trusts its caller. Everything is therefore checked here before a call: each array is one of numpy,
+with the right type of numbers, contiguous, aligned for these numbers, and as long as the call
+assumes; outputs are writable; and nodes are numbers of 32 bits.
 """
 from __future__ import annotations
 
@@ -101,7 +102,8 @@ def beside(program: str) -> str | None:
     where `./install` puts it; None if there is none."""
     folder = os.path.dirname(os.path.realpath(program))
     places = [folder] if os.path.basename(folder) != "chtab" else [folder, os.path.dirname(folder)]
-    found = [path for path in (os.path.join(place, NAME) for place in places) if os.path.isfile(path)]
+    found = [
+        path for path in (os.path.join(place, NAME) for place in places) if os.path.isfile(path)]
     # The program is that of a checkout itself, or what it builds.
     own = os.path.join("crates", "chtab", "out")
     checkout = folder.removesuffix(os.sep + own) if folder.endswith(own) else folder
@@ -113,7 +115,8 @@ def is_up_to_date(made: str, checkout: str) -> bool:
     """Whether the library of a checkout exists, and no source of its crates is newer."""
     if not os.path.isfile(made):
         return False
-    files = glob.iglob(os.path.join(glob.escape(checkout), "crates", "*", "src", "**", "*.rt"), recursive=True)
+    files = glob.iglob(
+        os.path.join(glob.escape(checkout), "crates", "*", "src", "**", "*.rt"), recursive=True)
     # Crates of tests are in no library.
     sources = (path for path in files if f"_checks{os.sep}" not in path.removeprefix(checkout))
     return max(map(os.path.getmtime, sources), default=0) <= os.path.getmtime(made)
@@ -121,7 +124,8 @@ def is_up_to_date(made: str, checkout: str) -> bool:
 
 @functools.cache
 def loaded(path: str) -> ctypes.CDLL:
-    """The calls of the library at a path. Raises a `ChtabError` if it can't be loaded, or has another version."""
+    """The calls of the library at a path. Raises a `ChtabError` if it can't be loaded, or has
+    another version."""
     try:
         with forks.STEADY:
             calls = ctypes.CDLL(path)
@@ -133,15 +137,20 @@ def loaded(path: str) -> ctypes.CDLL:
     except (OSError, AttributeError) as fault:
         raise ChtabError(f"{path} is not chtab's library for C: {fault}") from None
     if version != VERSION:
-        raise ChtabError(f"{path} is of another version than this package: {version}, not {VERSION}")
+        raise ChtabError(
+            f"{path} is of another version than this package: {version}, not {VERSION}")
     return calls
 
 
 def address(array: NDArray[Any], kind: DTypeLike, is_written: bool = False) -> int:
     """The address of the numbers of an array. An array that C would misread is refused."""
-    if type(array) is not numpy.ndarray or array.dtype != kind or array.ndim != 1 or not (array.flags.c_contiguous and array.flags.aligned):
-        what = f"{array.dtype} of shape {array.shape}" if isinstance(array, numpy.ndarray) else type(array).__name__
-        raise TypeError(f"the library takes a column of {numpy.dtype(kind)} in one piece, not {what}")
+    is_column = type(array) is numpy.ndarray and array.dtype == kind and array.ndim == 1
+    if not is_column or not (array.flags.c_contiguous and array.flags.aligned):
+        what = type(array).__name__
+        if isinstance(array, numpy.ndarray):
+            what = f"{array.dtype} of shape {array.shape}"
+        text = f"the library takes a column of {numpy.dtype(kind)} in one piece, not {what}"
+        raise TypeError(text)
     if is_written and not array.flags.writeable:
         raise TypeError("the library writes to an array that may be written to")
     found = array.ctypes.data
@@ -161,7 +170,8 @@ def written(array: NDArray[Any], kind: DTypeLike) -> tuple[int, int]:
 
 
 def nodes_of(numbers: ArrayLike, count: int) -> Nodes:
-    """The nodes of numbers from 1 to `count`, as the library counts them from 0 on: uint32, contiguous. Any other number is refused."""
+    """The nodes of numbers from 1 to `count`, as the library counts them from 0 on: uint32,
+    contiguous. Any other number is refused."""
     numbers = numpy.asarray(numbers)
     if numbers.dtype != numpy.int64:
         if numbers.size and numbers.dtype.kind not in "iu":
@@ -189,36 +199,35 @@ def close(call: Callable[[Any], int], block: Block, owner: int) -> None:
 
 
 class Handle:
-    """A network in this process, with scratch space for one question at a time; calls of several threads wait for one another.
-
-    It is closed by `close`, and when it is no longer used. It can't be copied or pickled.
-    """
+    """A network in this process, with scratch space for one question at a time, for which threads
+    wait. It is closed by `close`, and when it is no longer used."""
 
     def __init__(self, calls: ctypes.CDLL) -> None:
         self.calls, self.block, self.lock = calls, Block(), threading.RLock()
         self.at = ctypes.byref(self.block)
         # Scratch space for few distances, for one question at a time.
-        self.sources, self.targets, self.weights = (ctypes.c_uint32 * FEW)(), (ctypes.c_uint32 * FEW)(), (ctypes.c_int64 * FEW)()
-        self.rooms = ctypes.addressof(self.sources), ctypes.addressof(self.targets), ctypes.addressof(self.weights)
+        self.sources, self.targets = (ctypes.c_uint32 * FEW)(), (ctypes.c_uint32 * FEW)()
+        self.weights = (ctypes.c_int64 * FEW)()
+        rooms: tuple[Any, ...] = (self.sources, self.targets, self.weights)
+        self.rooms = [ctypes.addressof(room) for room in rooms]
         self.is_asked = False
-        # From here on the handle is closed, whatever breaks this off, but not at the end of the interpreter, when threads may still be in a call.
+        # From here on the handle is closed, whatever breaks this off, but not at the end of the
+        # interpreter, when threads may still be in a call.
         weakref.finalize(self, close, calls.chtab_close, self.block, os.getpid()).atexit = False
 
     def __reduce__(self) -> NoReturn:
         raise TypeError("a handle is neither copied nor pickled")
 
     def open(self, graph: bytes, saved: bytes | None = None) -> None:
-        """Opens the network of a graph and its saved hierarchy, given as the bytes of both files. Without `saved` the library builds a hierarchy,
-        in an order that takes little time to find.
-
-        Raises a `ProgramFault` if a file is refused.
-        """
+        """Opens the network of a graph and its saved hierarchy, the bytes of both files. Without
+        `saved` the library builds one. A file that is refused is a `ProgramFault`."""
         if type(graph) is not bytes or saved is not None and type(saved) is not bytes:
             raise TypeError("files are bytes")
         given, fault = given_bytes(saved), Fault()
         with self.lock:
             if saved is None:
-                status = self.calls.chtab_open_quick(self.at, graph, len(graph), ctypes.byref(fault))
+                status = self.calls.chtab_open_quick(
+                    self.at, graph, len(graph), ctypes.byref(fault))
             else:
                 words = graph, len(graph), given, len(given), ctypes.byref(fault)
                 status = self.calls.chtab_open(self.at, *words)
@@ -227,23 +236,17 @@ class Handle:
     def open_arrays(
         self, nodes: int, tails: Nodes, heads: Nodes, weights: Unsigned, saved: bytes | None = None,
     ) -> None:
-        """Opens the network of a graph that is given as columns, and of its saved hierarchy, as
-        `open` takes it: arc k leads from `tails[k]` to `heads[k]`, nodes from 0 on, and weighs
-        `weights[k]`.
-
-        Raises a `ProgramFault` if the graph or the file is refused.
-        """
+        """Does the same for a graph in columns: arc k leads from `tails[k]` to `heads[k]`, nodes
+        from 0 on, and weighs `weights[k]`."""
         if saved is not None and type(saved) is not bytes:
             raise TypeError("files are bytes")
         are_long = len(tails) == len(heads) == len(weights)
         if type(nodes) is not int or not 0 <= nodes < 2**32 or not are_long:
             raise ValueError("a graph has a number of nodes, and columns of one length")
-        ends = address(tails, numpy.uint32), len(tails), address(heads, numpy.uint32), len(heads)
-        columns = *ends, address(weights, numpy.uint64), len(weights)
+        columns = column(tails, NODE), column(heads, NODE), column(weights, NUMBER)
         given, fault = given_bytes(saved), Fault()
-        words = *columns, given, len(given), ctypes.byref(fault)
-        with self.lock:
-            status = self.calls.chtab_open_arrays(self.at, nodes, *words)
+        words = nodes, *columns, given, len(given), ctypes.byref(fault)
+        status = self.ask(self.calls.chtab_open_arrays, *words)
         see_that_opened(status, fault, saved)
 
     def open_like(self, graph: bytes, other: Handle, fresh: int) -> None:
@@ -273,7 +276,8 @@ class Handle:
         return other
 
     def close(self) -> None:
-        """Closes the handle, once the call that is under way has ended. Further calls are refused."""
+        """Closes the handle, once the call that is under way has ended. Further calls are
+        refused."""
         with self.lock:
             self.calls.chtab_close(self.at)
 
@@ -285,7 +289,8 @@ class Handle:
         return count.value
 
     def save(self, room: int = 0) -> bytes:
-        """The hierarchy, the bytes that `chtab save` writes for it. They are made once if they fit into a room of so many bytes, and otherwise twice."""
+        """The hierarchy, the bytes that `chtab save` writes for it. They are made once if they fit
+        into a room of so many bytes, and otherwise twice."""
         size, text = ctypes.c_uint64(), numpy.empty(room, numpy.uint8)
         with self.lock:
             status = self.write_text(size, text)
@@ -296,7 +301,8 @@ class Handle:
         return text[:size.value].tobytes()
 
     def write_text(self, size: ctypes.c_uint64, text: NDArray[numpy.uint8]) -> int:
-        return self.calls.chtab_save(self.at, ctypes.byref(size), address(text, numpy.uint8, True), len(text))
+        return self.calls.chtab_save(
+            self.at, ctypes.byref(size), address(text, numpy.uint8, True), len(text))
 
     def ask(self, call: Callable[..., int], *given: Any) -> int:
         """Makes a call with numbers and columns, each an address and a length; its status."""
@@ -305,7 +311,8 @@ class Handle:
             return call(self.at, *words)
 
     def distances(self, sources: Nodes, targets: Nodes) -> Integers:
-        """The distances from sources to the targets beside them, nodes from 0 on; -1 for no walk."""
+        """The distances from sources to the targets beside them, nodes from 0 on; -1 for no
+        walk."""
         out = numpy.empty(len(sources), numpy.int64)
         places = column(sources, NODE), column(targets, NODE)
         see_that_done(self.ask(self.calls.chtab_distances, *places, written(out, numpy.int64)))
@@ -411,8 +418,8 @@ class Handle:
         see_that_done(self.ask(self.calls.chtab_near_sweep))
 
     def near_rows(self, sources: Nodes, pairs: int) -> tuple[Integers, Integers, Integers]:
-        """The rows to the kept places of as many of the first sources as fit into so many pairs: the
-        end of each row, the weights and the places."""
+        """The rows to the kept places of as many of the first sources as fit into so many pairs:
+        the end of each row, the weights and the places."""
         rows, ends = ctypes.c_uint64(), numpy.empty(len(sources), numpy.int64)
         weights, places = numpy.empty(pairs, numpy.int64), numpy.empty(pairs, NODE)
         status = self.ask(
@@ -439,22 +446,20 @@ def see_that_done(status: int) -> None:
         raise ChtabError(GONE)
     if status == NO_MEMORY:
         raise ProgramFault("chtab: out of memory", 3)
-    if status == NODE_RANGE:
-        raise ValueError("a node is not one of the network")
-    if status == LENGTHS:
-        raise ValueError("the lengths of columns don't fit")
-    if status == TOO_LARGE:
-        raise ValueError("a table has at most 65,536 sources and as many targets, and so many places are kept")
-    if status == NO_PLACES:
-        raise ValueError("no places are kept")
-    if status == SUM_TOO_LARGE:
-        raise ValueError("a sum is 2^64 or more")
-    if status == OTHER_NODES:
-        raise ValueError("the graph has another number of nodes")
-    if status == FRESH_RANGE:
-        raise ValueError("more than 100 per cent of the nodes would be ordered afresh")
+    if status in REFUSED:
+        raise ValueError(REFUSED[status])
     if status:
         raise ProgramFault(f"chtab's library answered {status}", 0)
+
+
+# What calls refuse, by their statuses.
+REFUSED = {
+    NODE_RANGE: "a node is not one of the network", LENGTHS: "the lengths of columns don't fit",
+    TOO_LARGE: "a table has at most 65,536 sources and as many targets, and so many places are kept",
+    NO_PLACES: "no places are kept", SUM_TOO_LARGE: "a sum is 2^64 or more",
+    OTHER_NODES: "the graph has another number of nodes",
+    FRESH_RANGE: "more than 100 per cent of the nodes would be ordered afresh",
+}
 
 
 def given_bytes(saved: bytes | None) -> bytes:
@@ -477,7 +482,8 @@ def fault_of(status: int, fault: Fault) -> ProgramFault:
     if status not in (BAD_GRAPH, BAD_SAVED, WRONG_SAVED):
         see_that_done(status)
     if status == WRONG_SAVED:
-        return ProgramFault(f"chtab: saved hierarchy refused: {kind}", 1, kind=kind, place=fault.place)
+        return ProgramFault(
+            f"chtab: saved hierarchy refused: {kind}", 1, kind=kind, place=fault.place)
     if status == BAD_GRAPH and not fault.line:
         text = f"chtab: graph arc {fault.place}: {kind}"
         return ProgramFault(text, 1, kind=kind, place=fault.place)
